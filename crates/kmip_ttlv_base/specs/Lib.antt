@@ -1,0 +1,12 @@
+pub use Rattle.kmip_ttlv_types.specs.ItemTypes
+pub use Rattle.kmip_ttlv_types.specs.Leaves
+pub use Rattle.kmip_ttlv_types.specs.Items
+pub use Rattle.kmip_ttlv_types.specs.Trees
+pub use Rattle.kmip_ttlv_types.specs.Places
+pub use Rattle.kmip_ttlv_types.specs.Names
+pub use Rattle.kmip_ttlv_types.specs.TypeTexts
+pub use Rattle.kmip_ttlv_types.specs.FieldTexts
+pub mod Values
+pub mod Forms
+pub mod Gives
+pub mod Errors

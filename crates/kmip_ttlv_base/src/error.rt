@@ -1,0 +1,291 @@
+//! Why a call refuses, and where.
+
+ghost use Rattle.std.specs.Prelude.{◌≡◌, Some, None, IfSome, IfNone, option_map};
+ghost use Rattle.kmip_ttlv_base.specs.Errors.{Kind, out_of_memory, Location, unknown, kind_of, view_of_kind, location_of, view_of_location, is_nowhere, tags_of};
+ghost use Rattle.kmip_ttlv_base.specs.declared.error.ErrorKind.TheVariants.{IoError as IoErrorKind, MalformedTtlv as MalformedKind, SerdeError as SerdeKind, OutOfMemory as MemoryKind};
+
+use crate::types::{ByteOffset, FieldType, TtlvTag, TtlvType};
+use std::alloc::{AllocError, AllocFailed, Allocator, Global};
+use std::io;
+
+/// What reading and writing answer.
+pub type Result<T, A = Global> = std::result::Result<T, Error<A>>;
+
+/// Why a value is not written or bytes are not read, and where.
+#[derive(Drop)]
+#[derive_where(Debug)]
+pub struct Error<A: Allocator = Global> {
+    kind: ErrorKind<A>,
+    location: ErrorLocation<A>,
+}
+
+/// Why a value is not written or bytes are not read.
+#[derive(Drop)]
+#[derive_where(Debug)]
+pub enum ErrorKind<A: Allocator = Global> {
+    /// The reader or the writer failed, or the input ended too early (kind UnexpectedEof).
+    IoError(io::Error),
+    /// A message is longer than the limit that was set: its length in bytes, header included.
+    ResponseSizeExceedsLimit(usize),
+    /// The bytes are no TTLV.
+    MalformedTtlv(MalformedTtlvError),
+    /// The bytes, or the value, don't agree with what the type says of itself.
+    SerdeError(SerdeError<A>),
+    /// Memory was refused.
+    OutOfMemory,
+    /// A length that four bytes can't hold, or more than 2^64 - 1 bytes in all.
+    LengthOverflow,
+}
+
+/// How bytes are no TTLV.
+#[derive(Clone, Copy, Debug, PartialEq, Eq)]
+pub enum MalformedTtlvError {
+    /// The code of no type.
+    InvalidType(u8),
+    /// A length, in bytes, that no value of this type has.
+    InvalidLength {
+        expected: u32,
+        actual: u32,
+        typ: TtlvType,
+    },
+    /// Content that is no value of this type.
+    InvalidValue {
+        typ: TtlvType,
+    },
+    /// An item goes past the end of the structure around it: that end.
+    Overflow {
+        field_end: ByteOffset,
+    },
+    /// A field where another one is due.
+    UnexpectedTtlvField {
+        expected: FieldType,
+        actual: FieldType,
+    },
+    /// An item of another type than a Structure.
+    UnexpectedType {
+        expected: TtlvType,
+        actual: TtlvType,
+    },
+    /// No call answers this: each type from 01 to 0A is supported.
+    UnsupportedType(u8),
+    /// A serializer that refused before.
+    UnknownStructureLength,
+}
+
+/// How bytes, or a value, don't agree with what the type says of itself.
+#[derive(Drop)]
+#[derive_where(Debug)]
+pub enum SerdeError<A: Allocator = Global> {
+    /// A variant's name, where it is no number.
+    InvalidVariant(&'static str),
+    /// A variant's whole name, where it begins as a rule and is none.
+    InvalidVariantMatcherSyntax(String<A>),
+    /// A name that is no tag.
+    InvalidTag(String<A>),
+    /// An item in a struct that has no fields.
+    MissingIdentifier,
+    /// Another cause, in words.
+    Other(String<A>),
+    /// An item with another tag than the wanted one.
+    UnexpectedTag {
+        expected: TtlvTag,
+        actual: TtlvTag,
+    },
+    /// An item of another type than the wanted one.
+    UnexpectedType {
+        expected: TtlvType,
+        actual: TtlvType,
+    },
+    /// A value of a Rust type that isn't written: the type's name.
+    UnsupportedRustType(&'static str),
+}
+
+/// Where a refusal stands: an offset in bytes from the first byte, the tags of the structures
+/// around it, the outermost first, and the item's tag and type, as far as they are known.
+#[derive(Drop)]
+#[derive_where(Debug)]
+pub struct ErrorLocation<A: Allocator = Global> {
+    offset: Option<ByteOffset>,
+    parent_tags: Option<Vec<TtlvTag, A>>,
+    tag: Option<TtlvTag>,
+    typ: Option<TtlvType>,
+}
+
+impl<A: Allocator> Error<A> {
+    pub fn new(kind: ErrorKind<A>, location: ErrorLocation<A>) -> Error<A>
+        ensures kind { kind_of result ≡ kind }
+        ensures location { location_of result ≡ location }
+    {
+        Error { kind, location }
+    }
+
+    /// Why the call refused.
+    pub fn kind(&self) -> &ErrorKind<A>
+        ensures { result.now ≡ kind_of self.now }
+    {
+        &self.kind
+    }
+
+    /// Where the refusal stands.
+    pub fn location(&self) -> &ErrorLocation<A>
+        ensures { result.now ≡ location_of self.now }
+    {
+        &self.location
+    }
+
+    /// The kind and the location.
+    pub fn into_parts(self) -> (ErrorKind<A>, ErrorLocation<A>)
+        ensures kind { result.0 ≡ kind_of self }
+        ensures location { result.1 ≡ location_of self }
+    {
+        let Error { kind, location } = self;
+        (kind, location)
+    }
+
+    /// Want of memory, which has the unknown location.
+    pub fn out_of_memory() -> Error<A>
+        ensures kind { kind_of result ≡ MemoryKind }
+        ensures location { view_of_location (location_of result) ≡ unknown }
+    {
+        Error {
+            kind: ErrorKind::OutOfMemory,
+            location: ErrorLocation::unknown(),
+        }
+    }
+}
+
+impl<A: Allocator> From<AllocError> for Error<A> {
+    ghost use Rattle.kmip_ttlv_base.specs.Errors.{IsMemory};
+
+    ghost from_gives = { λ _ e. IsMemory e };
+
+    fn from(_error: AllocError) -> Error<A> {
+        Error::out_of_memory()
+    }
+}
+
+impl<T: Drop, A: Allocator> From<AllocFailed<T>> for Error<A> {
+    ghost use Rattle.kmip_ttlv_base.specs.Errors.{IsMemory};
+
+    ghost from_gives = { λ _ e. IsMemory e };
+
+    fn from(_error: AllocFailed<T>) -> Error<A> {
+        Error::out_of_memory()
+    }
+}
+
+impl<A: Allocator> From<io::Error> for ErrorKind<A> {
+    ghost from_gives = { λ e k. k ≡ IoErrorKind e };
+
+    fn from(error: io::Error) -> ErrorKind<A> {
+        ErrorKind::IoError(error)
+    }
+}
+
+impl<A: Allocator> From<MalformedTtlvError> for ErrorKind<A> {
+    ghost from_gives = { λ e k. k ≡ MalformedKind e };
+
+    fn from(error: MalformedTtlvError) -> ErrorKind<A> {
+        ErrorKind::MalformedTtlv(error)
+    }
+}
+
+impl<A: Allocator> From<SerdeError<A>> for ErrorKind<A> {
+    ghost from_gives = { λ e k. k ≡ SerdeKind e };
+
+    fn from(error: SerdeError<A>) -> ErrorKind<A> {
+        ErrorKind::SerdeError(error)
+    }
+}
+
+impl<A: Allocator> ErrorLocation<A> {
+    /// No place.
+    pub fn unknown() -> ErrorLocation<A>
+        ensures { view_of_location result ≡ unknown }
+    {
+        ErrorLocation {
+            offset: None,
+            parent_tags: None,
+            tag: None,
+            typ: None,
+        }
+    }
+
+    /// A place, of which each part is known or not. The parents are outermost first.
+    pub fn at(
+        offset: Option<ByteOffset>,
+        parent_tags: Option<Vec<TtlvTag, A>>,
+        tag: Option<TtlvTag>,
+        typ: Option<TtlvType>,
+    ) -> ErrorLocation<A>
+        ensures { view_of_location result ≡ record { offset = option_map (λ o. o.0) offset; parents = tags_of parent_tags; tag = tag; typ = typ } }
+    {
+        ErrorLocation {
+            offset,
+            parent_tags,
+            tag,
+            typ,
+        }
+    }
+
+    /// Whether no part is known.
+    pub fn is_unknown(&self) -> bool
+        ensures { result ≡ is_nowhere (view_of_location self.now) }
+    {
+        self.offset.is_none()
+            && self.parent_tags().is_empty()
+            && self.tag.is_none()
+            && self.typ.is_none()
+    }
+
+    /// The offset, in bytes from the first byte.
+    pub fn offset(&self) -> Option<ByteOffset>
+        ensures { option_map (λ o. o.0) result ≡ (view_of_location self.now).offset }
+    {
+        self.offset
+    }
+
+    /// The tags of the structures around, the outermost first.
+    pub fn parent_tags(&self) -> &[TtlvTag]
+        ensures { result.now ≡ (view_of_location self.now).parents }
+    {
+        match &self.parent_tags {
+            Some(tags) => tags.as_slice(),
+            None => &[],
+        }
+    }
+
+    /// The item's tag.
+    pub fn tag(&self) -> Option<TtlvTag>
+        ensures { result ≡ (view_of_location self.now).tag }
+    {
+        self.tag
+    }
+
+    /// The item's type.
+    pub fn typ(&self) -> Option<TtlvType>
+        ensures { result ≡ (view_of_location self.now).typ }
+    {
+        self.typ
+    }
+
+    /// The parts that `at` takes.
+    pub fn into_parts(
+        self,
+    ) -> (
+        Option<ByteOffset>,
+        Option<Vec<TtlvTag, A>>,
+        Option<TtlvTag>,
+        Option<TtlvType>,
+    )
+        ensures { view_of_location self ≡ record { offset = option_map (λ o. o.0) result.0; parents = tags_of result.1; tag = result.2; typ = result.3 } }
+    {
+        let ErrorLocation {
+            offset,
+            parent_tags,
+            tag,
+            typ,
+        } = self;
+        (offset, parent_tags, tag, typ)
+    }
+}

@@ -1,0 +1,66 @@
+//! Why a low-level call refuses.
+
+ghost use Rattle.std.specs.Prelude.{◌≡◌};
+ghost use Rattle.kmip_ttlv_types.specs.declared.error.Error.TheVariants.{OutOfMemory, IoError};
+
+use crate::field::FieldType;
+use crate::typ::TtlvType;
+use std::alloc::{AllocError, AllocFailed, Allocator, Global};
+use std::io;
+
+/// Why a low-level call refuses. It doesn't say where: `kmip_ttlv_base::error` adds the place.
+#[derive(Drop)]
+#[derive_where(Debug)]
+pub enum Error<A: Allocator = Global> {
+    /// The reader or the writer failed, or the input ended too early (kind UnexpectedEof).
+    IoError(io::Error),
+    /// A text is no tag: the whole text.
+    InvalidTtlvTag(String<A>),
+    /// A field that the state machine does not accept now.
+    UnexpectedTtlvField {
+        expected: FieldType,
+        actual: FieldType,
+    },
+    /// No call answers this: each type from 01 to 0A is supported.
+    UnsupportedTtlvType(u8),
+    /// The code of no type.
+    InvalidTtlvType(u8),
+    /// A length, in bytes, that no value of this type has.
+    InvalidTtlvValueLength {
+        expected: u32,
+        actual: u32,
+        typ: TtlvType,
+    },
+    /// Bytes that are no value of this type.
+    InvalidTtlvValue(TtlvType),
+    /// A call that the state machine's mode rules out.
+    InvalidStateMachineOperation,
+    /// Memory was refused.
+    OutOfMemory,
+    /// A length that four bytes can't hold.
+    LengthOverflow,
+}
+
+impl<A: Allocator> From<io::Error> for Error<A> {
+    ghost from_gives = { λ x e. e ≡ IoError x };
+
+    fn from(error: io::Error) -> Error<A> {
+        Error::IoError(error)
+    }
+}
+
+impl<A: Allocator> From<AllocError> for Error<A> {
+    ghost from_gives = { λ _ e. e ≡ OutOfMemory };
+
+    fn from(_error: AllocError) -> Error<A> {
+        Error::OutOfMemory
+    }
+}
+
+impl<T: Drop, A: Allocator> From<AllocFailed<T>> for Error<A> {
+    ghost from_gives = { λ _ e. e ≡ OutOfMemory };
+
+    fn from(_error: AllocFailed<T>) -> Error<A> {
+        Error::OutOfMemory
+    }
+}

@@ -1,0 +1,22 @@
+//! The parts of the TTLV encoding: tags, types and lengths of items.
+//!
+//! The wire is that of OASIS KMIP 1.0, section 9.1. Definitions that every layer above speaks of
+//! stand in specs/: the types of items, what a leaf may hold, items with their texts, trees with
+//! their canonical bytes, names of tags.
+#![tactic(auto)]
+
+mod error;
+mod field;
+mod names;
+mod tag;
+mod typ;
+
+pub use error::Error;
+pub use field::{ByteOffset, FieldType};
+pub use names::number;
+use std::alloc::{Allocator, Global};
+pub use tag::TtlvTag;
+pub use typ::TtlvType;
+
+/// What a low-level call answers.
+pub type Result<T, A = Global> = std::result::Result<T, Error<A>>;

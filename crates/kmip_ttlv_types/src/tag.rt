@@ -1,0 +1,137 @@
+//! The tag of an item.
+
+ghost use Rattle.std.specs.Prelude.{◌≡◌, ℕ, ◌≤◌, ◌^◌, ◌++◌, IfNone, IfSome, IfOk, IfErr, Some, None, string_bytes};
+ghost use Rattle.std.specs.Int.{bytes_high_first};
+ghost use Rattle.kmip_ttlv_types.specs.Names.{tag_of, IsNamed};
+
+use crate::error::Error;
+use crate::names::number;
+use std::alloc::Allocator;
+use std::fmt;
+use std::marker::Model;
+use std::ops::Deref;
+
+/// The tag of an item: a number of three bytes (KMIP 1.0, section 9.1.1.1).
+#[derive(Clone, Copy, PartialEq, Eq, Hash)]
+pub struct TtlvTag(u32);
+
+impl Model for TtlvTag {
+    ghost use Rattle.std.specs.Prelude.{ℕ, ◌<◌, ◌^◌, refl};
+
+    ghost Value = { ℕ };
+
+    ghost view = { λ t. t.0 };
+
+    ghost invariant = { λ t. t.0 < 2 ^ 24 };
+
+    ghost inverse = { λ n. record { 0 = n } };
+}
+
+impl TtlvTag {
+    /// The tag of a number below 2^24.
+    pub fn from_number(n: u32) -> Option<TtlvTag>
+        ensures some { IfSome result (λ t. t ≡ n) }
+        ensures none { IfNone result (2 ^ 24 ≤ n) }
+    {
+        if n < 0x100_0000 {
+            Some(TtlvTag(n))
+        } else {
+            None
+        }
+    }
+
+    /// The tag that a name is, where it is one. Takes no memory.
+    #[tactic(auto, unfolding(crate::specs::Names::tag_of))]
+    pub fn from_name(name: &str) -> Option<TtlvTag>
+        ensures { result ≡ tag_of name.now }
+    {
+        TtlvTag::from_number(number(name)?)
+    }
+
+    /// The tag that a text is: a number, as `number` reads it, below 2^24.
+    ///
+    /// InvalidTtlvTag with the whole text where it is none.
+    pub fn from_str<A: Allocator>(alloc: A, text: &str) -> Result<TtlvTag, Error<A>>
+        ensures { IsNamed text.now result }
+    {
+        match TtlvTag::from_name(text) {
+            Some(tag) => Ok(tag),
+            None => Err(Error::InvalidTtlvTag(String::from_str(alloc, text)?)),
+        }
+    }
+}
+
+impl Deref for TtlvTag {
+    type Target = u32;
+
+    ghost deref_gives = { λ t n. n ≡ t };
+
+    fn deref(&self) -> &u32 {
+        &self.0
+    }
+}
+
+impl From<[u8; 3]> for TtlvTag {
+    ghost use Rattle.std.specs.Prelude.{[], ◌∷◌};
+    ghost use Rattle.std.specs.Int.{w32, from_be_bytes};
+
+    ghost from_gives = { λ bytes t. t ≡ from_be_bytes w32 (0 ∷ bytes) };
+
+    fn from(bytes: [u8; 3]) -> TtlvTag {
+        let [a, b, c] = bytes;
+        TtlvTag(u32::from_be_bytes([0, a, b, c]))
+    }
+}
+
+impl From<&[u8; 3]> for TtlvTag {
+    ghost use Rattle.std.specs.Prelude.{[], ◌∷◌};
+    ghost use Rattle.std.specs.Int.{w32, from_be_bytes};
+
+    ghost from_gives = { λ bytes t. t ≡ from_be_bytes w32 (0 ∷ bytes.now) };
+
+    fn from(bytes: &[u8; 3]) -> TtlvTag {
+        let [a, b, c] = *bytes;
+        TtlvTag(u32::from_be_bytes([0, a, b, c]))
+    }
+}
+
+impl From<TtlvTag> for [u8; 3] {
+    ghost from_gives = { λ t bytes. bytes ≡ bytes_high_first 3 t };
+
+    fn from(tag: TtlvTag) -> [u8; 3] {
+        let [_, a, b, c] = tag.0.to_be_bytes();
+        [a, b, c]
+    }
+}
+
+impl From<&TtlvTag> for [u8; 3] {
+    ghost from_gives = { λ t bytes. bytes ≡ bytes_high_first 3 t.now };
+
+    fn from(tag: &TtlvTag) -> [u8; 3] {
+        let [_, a, b, c] = tag.0.to_be_bytes();
+        [a, b, c]
+    }
+}
+
+/// `0x` and six uppercase digits.
+impl fmt::Display for TtlvTag {
+    fn fmt<W: fmt::Write>(&self, f: &mut fmt::Formatter<W>) -> fmt::Result {
+        let number = self.0;
+        write!(f, "0x{number:06X}")
+    }
+}
+
+/// `0x` and uppercase digits without leading zeros.
+impl fmt::Debug for TtlvTag {
+    fn fmt<W: fmt::Write>(&self, f: &mut fmt::Formatter<W>) -> fmt::Result {
+        let number = self.0;
+        write!(f, "0x{number:X}")
+    }
+}
+
+/// Uppercase digits without leading zeros; a width and a fill by zeros are kept.
+impl fmt::UpperHex for TtlvTag {
+    fn fmt<W: fmt::Write>(&self, f: &mut fmt::Formatter<W>) -> fmt::Result {
+        fmt::UpperHex::fmt(&self.0, f)
+    }
+}

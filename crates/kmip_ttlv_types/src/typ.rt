@@ -1,0 +1,105 @@
+//! The type of an item.
+
+ghost use Rattle.std.specs.Prelude.{◌≡◌, Some, IfOk, MatchResult};
+ghost use Rattle.kmip_ttlv_types.specs.ItemTypes.{code, type_of};
+ghost use Rattle.kmip_ttlv_types.specs.TypeTexts.{type_text, IsTypeOf};
+
+use crate::error::Error;
+use std::fmt;
+
+/// The type of an item (KMIP 1.0, section 9.1.1.2). Its code is one byte on the wire.
+#[derive(Clone, Copy, Debug, PartialEq, Eq)]
+pub enum TtlvType {
+    Structure,
+    Integer,
+    LongInteger,
+    BigInteger,
+    Enumeration,
+    Boolean,
+    TextString,
+    ByteString,
+    DateTime,
+    Interval,
+}
+
+impl TtlvType {
+    /// The type of a code from 01 to 0A.
+    pub fn from_code(code: u8) -> Option<TtlvType>
+        ensures { result ≡ type_of code }
+    {
+        match code {
+            1 => Some(TtlvType::Structure),
+            2 => Some(TtlvType::Integer),
+            3 => Some(TtlvType::LongInteger),
+            4 => Some(TtlvType::BigInteger),
+            5 => Some(TtlvType::Enumeration),
+            6 => Some(TtlvType::Boolean),
+            7 => Some(TtlvType::TextString),
+            8 => Some(TtlvType::ByteString),
+            9 => Some(TtlvType::DateTime),
+            10 => Some(TtlvType::Interval),
+            _ => None,
+        }
+    }
+
+    /// The code that stands for this type on the wire.
+    pub fn code(self) -> u8
+        ensures { result ≡ code self }
+    {
+        match self {
+            TtlvType::Structure => 1,
+            TtlvType::Integer => 2,
+            TtlvType::LongInteger => 3,
+            TtlvType::BigInteger => 4,
+            TtlvType::Enumeration => 5,
+            TtlvType::Boolean => 6,
+            TtlvType::TextString => 7,
+            TtlvType::ByteString => 8,
+            TtlvType::DateTime => 9,
+            TtlvType::Interval => 10,
+        }
+    }
+}
+
+impl TryFrom<u8> for TtlvType {
+    type Error = Error;
+
+    ghost try_from_gives = { λ c r. IsTypeOf c r };
+
+    /// The type of a code.
+    ///
+    /// InvalidTtlvType for every code but 01 to 0A.
+    fn try_from(code: u8) -> Result<TtlvType, Error> {
+        TtlvType::from_code(code).ok_or(Error::InvalidTtlvType(code))
+    }
+}
+
+impl From<TtlvType> for [u8; 1] {
+    ghost use Rattle.std.specs.Prelude.{[], ◌∷◌};
+
+    ghost from_gives = { λ t bytes. bytes ≡ code t ∷ [] };
+
+    fn from(typ: TtlvType) -> [u8; 1] {
+        [typ.code()]
+    }
+}
+
+/// The name, and the code in brackets, as `Integer (0x02)`.
+impl fmt::Display for TtlvType {
+    ghost output = { λ t. Some (type_text t) };
+
+    fn fmt<W: fmt::Write>(&self, f: &mut fmt::Formatter<W>) -> fmt::Result {
+        f.write_str(match self {
+            TtlvType::Structure => "Structure (0x01)",
+            TtlvType::Integer => "Integer (0x02)",
+            TtlvType::LongInteger => "LongInteger (0x03)",
+            TtlvType::BigInteger => "BigInteger (0x04)",
+            TtlvType::Enumeration => "Enumeration (0x05)",
+            TtlvType::Boolean => "Boolean (0x06)",
+            TtlvType::TextString => "TextString (0x07)",
+            TtlvType::ByteString => "ByteString (0x08)",
+            TtlvType::DateTime => "DateTime (0x09)",
+            TtlvType::Interval => "Interval (0x0A)",
+        })
+    }
+}
