@@ -10,6 +10,7 @@ use std::alloc::{AllocError, Allocator, Global};
 
 /// A value that is to be written, or that was read.
 #[derive(Drop)]
+#[derive_where(Debug, PartialEq)]
 pub enum Data<A: Allocator = Global> {
     Bool(bool),
     I8(i8),
@@ -53,6 +54,7 @@ pub enum Data<A: Allocator = Global> {
 
 /// What a type is read by. It is finite: no shape contains itself.
 #[derive(Drop)]
+#[derive_where(Debug, PartialEq)]
 #[cycle(shapes)]
 pub enum Shape<A: Allocator = Global> {
     /// A Structure whose fields come in this order; with `deny_unknown` nothing may follow them.
@@ -83,6 +85,7 @@ pub enum Shape<A: Allocator = Global> {
 
 /// A field of a struct: its name is the name of its tag.
 #[derive(Drop)]
+#[derive_where(Debug, PartialEq)]
 #[cycle(shapes)]
 pub struct FieldShape<A: Allocator = Global> {
     pub name: &'static str,
@@ -91,6 +94,7 @@ pub struct FieldShape<A: Allocator = Global> {
 
 /// A variant of an enum: its name is a rule, where it begins with `if `, or a number.
 #[derive(Drop)]
+#[derive_where(Debug, PartialEq)]
 #[cycle(shapes)]
 pub struct VariantShape<A: Allocator = Global> {
     pub name: &'static str,
@@ -99,6 +103,7 @@ pub struct VariantShape<A: Allocator = Global> {
 
 /// What a variant contains.
 #[derive(Drop)]
+#[derive_where(Debug, PartialEq)]
 #[cycle(shapes)]
 pub enum VariantContent<A: Allocator = Global> {
     Unit,
