@@ -6,3 +6,4 @@ pub mod Places
 pub mod Names
 pub mod TypeTexts
 pub mod FieldTexts
+pub mod Streams

@@ -8,6 +8,7 @@
 mod error;
 mod field;
 mod names;
+pub mod stream;
 mod tag;
 mod typ;
 
