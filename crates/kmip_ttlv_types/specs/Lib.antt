@@ -6,4 +6,6 @@ pub mod Places
 pub mod Names
 pub mod TypeTexts
 pub mod FieldTexts
+pub mod Digits
 pub mod Streams
+pub mod Headers

@@ -5,15 +5,19 @@
 //! their canonical bytes, names of tags.
 #![tactic(auto)]
 
+mod digits;
 mod error;
 mod field;
+mod length;
 mod names;
+mod numbers;
 pub mod stream;
 mod tag;
 mod typ;
 
 pub use error::Error;
 pub use field::{ByteOffset, FieldType};
+pub use length::TtlvLength;
 pub use names::number;
 use std::alloc::{Allocator, Global};
 pub use tag::TtlvTag;
