@@ -1,3 +1,5 @@
 pub mod Numerals
 pub mod Taken
 pub mod Bytes
+pub mod LeafReading
+pub mod LeafWriting

@@ -9,3 +9,4 @@ pub mod FieldTexts
 pub mod Digits
 pub mod Streams
 pub mod Headers
+pub mod Primitives
