@@ -3,3 +3,4 @@ pub mod Taken
 pub mod Bytes
 pub mod LeafReading
 pub mod LeafWriting
+pub mod Padding

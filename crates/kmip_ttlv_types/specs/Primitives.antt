@@ -1,6 +1,6 @@
 -- What reading and writing a leaf's value did: its length, content and padding (KMIP 1.0, 9.1.1).
-use Rattle.std.specs.Prelude.{◌≡◌, ◌≢◌, ℕ, ◌+◌, ◌^◌, ◌≤◌, ◌<◌, List, [], ◌∷◌, ◌++◌, length, take, drop, replicate, Bool, true, false, IsTrue, ◌⊎◌, nat_lt, if◌then◌else◌, Option, Some, IfSome, Result, Ok, Err}
-use Rattle.std.specs.Int.{w32, to_be_bytes, from_be_bytes}
+use Rattle.std.specs.Prelude.{◌≡◌, ◌≢◌, ℕ, ◌+◌, ◌^◌, ◌≤◌, ◌<◌, List, [], ◌∷◌, ◌++◌, length, take, drop, replicate, Bool, true, false, IsTrue, ◌⊎◌, nat_lt, if◌then◌else◌, Option, Some, IfSome, Result, Ok, Err, refl}
+use Rattle.std.specs.Int.{w32, w64, to_be_bytes, from_be_bytes}
 use Rattle.std.specs.Io.KnownBytes.{Appends, Consumes, Keeps}
 use Rattle.std.specs.IoError.{error_kind}
 use Rattle.std.specs.declared.io.Error.{Error as IoFault}
@@ -8,7 +8,7 @@ use Rattle.std.specs.declared.io.ErrorKind.TheVariants.{UnexpectedEof}
 use Rattle.kmip_ttlv_types.specs.declared.error.Error.{Error}
 use Rattle.kmip_ttlv_types.specs.declared.error.Error.TheVariants as errors
 use Rattle.kmip_ttlv_types.specs.declared.typ.TtlvType.{TtlvType}
-use Rattle.kmip_ttlv_types.specs.declared.typ.TtlvType.TheVariants.{BigInteger}
+use Rattle.kmip_ttlv_types.specs.declared.typ.TtlvType.TheVariants.{BigInteger, Boolean}
 use Rattle.kmip_ttlv_types.specs.ItemTypes.{code, fixed_length, pad_len}
 use Rattle.kmip_ttlv_types.specs.Leaves.{is_valid}
 use Rattle.kmip_ttlv_types.specs.Streams.{AppendsFront, ConsumesUpTo, Lacks, UsesRoom, IsTight}
@@ -120,3 +120,19 @@ ReadsLeaf typ bytes_of takes_memory can_fail old new (Err (errors.IoError e)) =
     (IsTrue can_fail ⊎ ((error_kind e ≡ UnexpectedEof) × IfSome old (IsCut typ))) × StaysWithin old new
 ReadsLeaf typ bytes_of takes_memory can_fail old new (Err errors.OutOfMemory) = IsTrue takes_memory × StaysWithin old new
 ReadsLeaf typ bytes_of takes_memory can_fail old new (Err _) = ⊥
+
+-- the content of a Boolean
+abbrev pub boolean_bytes : Bool → List ℕ
+boolean_bytes b = to_be_bytes w64 (if b then 1 else 0)
+
+pub boolean_bytes-valid : (b : Bool) → is_valid Boolean (boolean_bytes b) ≡ true
+boolean_bytes-valid true = refl
+boolean_bytes-valid false = refl
+
+-- k bytes were read for a value of a type whose length is k; or n is another length, and nothing was
+-- taken; or they did not come
+abbrev pub ReadsFixed : {A : Type 0} → TtlvType → ℕ → (can_fail : Bool) → (old new : Option (List ℕ)) → ℕ → Result (List ℕ) (Error A) → Type 0
+ReadsFixed typ k can_fail old new n (Ok bytes) = (n ≡ k) × Consumes old new bytes
+ReadsFixed typ k can_fail old new n (Err (errors.InvalidTtlvValueLength expected actual t)) = (t ≡ typ) × (actual ≡ n) × (expected ≡ k) × (n ≢ k) × Keeps old new
+ReadsFixed typ k can_fail old new n (Err (errors.IoError e)) = (n ≡ k) × Lacks can_fail old n e × ConsumesUpTo old new n
+ReadsFixed typ k can_fail old new n (Err _) = ⊥

@@ -1,7 +1,6 @@
 //! The trait of the primitives: values that are read and written with their length and padding.
 
-ghost use Rattle.std.specs.Prelude.{◌≡◌, ◌≢◌, ℕ, List, [], ◌∷◌, ◌++◌, Bool, true, ◌+◌, ◌<◌, ◌^◌, length, replicate, IfOk, Result, Ok, Err};
-ghost use Rattle.std.specs.Int.{w32, to_be_bytes};
+ghost use Rattle.std.specs.Prelude.{◌≡◌, ℕ, List, Bool, true, ◌++◌, ◌<◌, length, replicate, IfOk, length as length'};
 ghost use Rattle.kmip_ttlv_types.specs.declared.typ.TtlvType.{TtlvType};
 ghost use Rattle.kmip_ttlv_types.specs.ItemTypes.{pad_len};
 ghost use Rattle.kmip_ttlv_types.specs.Leaves.{is_valid};
@@ -126,4 +125,22 @@ pub trait SerializableTtlvType: HasTtlvType + Sized + Drop {
         let length = self.write_length_and_value(dst)?;
         Self::write_pad_bytes(dst, length)
     }
+}
+
+// Writes two slices, one after the other.
+pub fn send_both<S: Sink>(dst: &mut S, first: &[u8], second: &[u8]) -> Result<()>
+    ensures { Writes (first.now ++ second.now) (S.held dst.old) (S.held dst.new) (S.room dst.old) (S.room dst.new) result }
+{
+    dst.send(first)?;
+    dst.send(second)?;
+    Ok(())
+}
+
+// Writes a length, and a content of that length.
+#[tactic(auto, unfolding(crate::specs::Primitives::length_and_content))]
+pub fn write_slice<S: Sink>(dst: &mut S, length: u32, content: &[u8]) -> Result<()>
+    requires { length ≡ length' content.now }
+    ensures { Writes (length_and_content content.now) (S.held dst.old) (S.held dst.new) (S.room dst.old) (S.room dst.new) result }
+{
+    send_both(dst, &length.to_be_bytes(), content)
 }
