@@ -10,3 +10,4 @@ pub mod Digits
 pub mod Streams
 pub mod Headers
 pub mod Primitives
+pub mod Machine

@@ -10,6 +10,7 @@ mod error;
 mod field;
 mod fixed;
 mod length;
+mod machine;
 mod names;
 mod numbers;
 mod primitive;
@@ -24,6 +25,7 @@ pub use fixed::{
     TtlvBoolean, TtlvDateTime, TtlvEnumeration, TtlvInteger, TtlvInterval, TtlvLongInteger,
 };
 pub use length::TtlvLength;
+pub use machine::{TtlvStateMachine, TtlvStateMachineMode};
 pub use names::number;
 pub use primitive::{HasTtlvType, SerializableTtlvType};
 use std::alloc::{Allocator, Global};
