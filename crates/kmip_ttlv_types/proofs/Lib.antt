@@ -4,3 +4,4 @@ pub mod Bytes
 pub mod LeafReading
 pub mod LeafWriting
 pub mod Padding
+pub mod ReadBack

@@ -11,3 +11,4 @@ pub mod Streams
 pub mod Headers
 pub mod Primitives
 pub mod Machine
+pub mod Laws

@@ -9,6 +9,7 @@ mod digits;
 mod error;
 mod field;
 mod fixed;
+pub mod laws;
 mod length;
 mod machine;
 mod names;
