@@ -86,7 +86,7 @@ module _ {T : Type 0} (typ : TtlvType) (bytes_of : T → List ℕ) (tm : Bool) (
   unfolding length_and_content
   outcome None (Ok w) (leaf, good) = absurd leaf.consumes
   outcome (Some ys) (Ok w) (leaf, good) = let h = value_there w ys leaf in (h.0, ap Some h.1)
-  outcome new (Err (errors.InvalidTtlvValueLength expected actual t)) (same, (there, is, fixed, differs), within) =
+  outcome new (Err (errors.InvalidTtlvValueLength expected actual t)) (same, (long, is, fixed, differs), within) =
       absurd (wrong_length typ (length content) expected actual (length-valid typ content valid) (sym (n_is content zeros rest low) ∙ is) fixed differs)
   outcome new (Err (errors.InvalidTtlvValue t)) (same, (can, enough, invalid), within) =
       let bad : is_valid typ content ≡ false = ap (is_valid typ) (sym (content_is content zeros rest low)) ∙ invalid in absurd (true_not_false (sym valid ∙ bad))

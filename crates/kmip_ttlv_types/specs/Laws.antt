@@ -9,7 +9,9 @@ use Rattle.kmip_ttlv_types.specs.declared.machine.TtlvStateMachineMode.TheVarian
 use Rattle.kmip_ttlv_types.specs.declared.typ.TtlvType.{TtlvType}
 use Rattle.kmip_ttlv_types.specs.ItemTypes.{pad_len}
 use Rattle.kmip_ttlv_types.specs.Machine.{State, Step, step}
-use Rattle.kmip_ttlv_types.specs.Primitives.{content_of, length_and_content, ReadsLeaf}
+use Rattle.kmip_ttlv_types.specs.Primitives.{content_of, length_and_content, leaf_rest, ReadsLeaf}
+use Rattle.kmip_ttlv_types.specs.Trees.{leaf_bytes}
+use Rattle.std.specs.Int.{bytes_high_first}
 
 -- what is written of a value after its type
 abbrev pub written_rest : TtlvType → List ℕ → List ℕ
@@ -31,3 +33,12 @@ ReadsEachField = (s : State) (given : FieldType) (t : Step) → s.mode ≡ Deser
 abbrev pub SkipsIgnoredTags : Type 0
 SkipsIgnoredTags = (s : State) (given : FieldType) (t : Step) → s.mode ≡ Serializing → step s given ≡ Some t
     → (t.answer ≡ false) ↔ ((s.ignores ≡ true) × (s.due ≡ Typ) × (given ≡ Tag))
+
+-- a content and its padding are a multiple of eight bytes
+abbrev pub PadsToEight : Type 0
+PadsToEight = (n : ℕ) → (n + pad_len n) % 8 ≡ 0
+
+-- a leaf is a multiple of eight bytes: its tag, and what is written after it
+abbrev pub LeavesAreTagAndRest : Type 0
+LeavesAreTagAndRest = (tag : ℕ) (typ : TtlvType) (content : List ℕ)
+    → (leaf_bytes tag typ content ≡ bytes_high_first 3 tag ++ leaf_rest typ content) × (length (leaf_bytes tag typ content) % 8 ≡ 0)
