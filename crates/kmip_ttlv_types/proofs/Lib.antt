@@ -5,3 +5,4 @@ pub mod LeafReading
 pub mod LeafWriting
 pub mod Padding
 pub mod ReadBack
+pub mod InMemory

@@ -10,7 +10,7 @@ use Rattle.kmip_ttlv_types.specs.declared.typ.TtlvType.{TtlvType}
 use Rattle.kmip_ttlv_types.specs.declared.typ.TtlvType.TheVariants.{Structure, Integer, LongInteger, BigInteger, Enumeration, Boolean, TextString, ByteString, DateTime, Interval}
 use Rattle.kmip_ttlv_types.specs.ItemTypes.{pad_len, fixed_length}
 use Rattle.kmip_ttlv_types.specs.Leaves.{is_valid}
-use Rattle.kmip_ttlv_types.specs.Laws.{IsReadBack, written_rest}
+use Rattle.kmip_ttlv_types.specs.Laws.{IsReadBack, ReadsWholeLeaves, written_rest}
 use Rattle.kmip_ttlv_types.specs.Primitives.{content_of, length_and_content, CanHaveLength, ReadsLeaf, ConsumesLeaf, IsCut, HasWrongLength, HasWrongContent, stated_length, stated_content}
 use Rattle.kmip_ttlv_types.proofs.LeafReading.{stated, length-valid}
 
@@ -107,3 +107,8 @@ read_back typ bytes_of tm v valid low rest new result =
     let content : List ℕ = content_of typ (bytes_of v) in
     let zero : ℕ = 0 in
     outcome typ bytes_of tm content (replicate (pad_len (length content)) zero) rest low (length-replicate (pad_len (length content)) zero) (content-valid typ (bytes_of v) valid) new result
+
+-- each whole leaf is read
+pub whole_leaves : {T : Type 0} (typ : TtlvType) (bytes_of : T → List ℕ) (tm : Bool) → ReadsWholeLeaves typ bytes_of tm
+unfolding length_and_content
+whole_leaves typ bytes_of tm content pad rest low padded valid new result = outcome typ bytes_of tm content pad rest low padded valid new result

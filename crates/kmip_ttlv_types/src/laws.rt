@@ -2,7 +2,7 @@
 //! a function that uses them over any primitive.
 
 ghost use Rattle.std.specs.Prelude.{◌≡◌, IfOk};
-ghost use Rattle.kmip_ttlv_types.specs.Laws.{IsReadBack, ReadsEachField, SkipsIgnoredTags, PadsToEight, LeavesAreTagAndRest};
+ghost use Rattle.kmip_ttlv_types.specs.Laws.{IsReadBack, ReadsWholeLeaves, ReadsHeaders, WritesWhereRoom, ReadsEachField, SkipsIgnoredTags, PadsToEight, LeavesAreTagAndRest};
 ghost use Rattle.kmip_ttlv_types.specs.Primitives.{content_of};
 
 use crate::Result;
@@ -19,6 +19,25 @@ use std::alloc::Allocator;
 /// follows.
 pub fn what_was_written_is_read_back<T: SerializableTtlvType>(value: &T)
     ensures { IsReadBack T.HasTtlvType.TTLV_TYPE T.SerializableTtlvType.value_bytes T.SerializableTtlvType.takes_memory value.now }
+{
+}
+
+/// A whole leaf in memory is read, whatever its padding: want of memory is the only refusal, and comes
+/// only where reading takes memory.
+pub fn a_whole_leaf_in_memory_is_read<T: SerializableTtlvType>()
+    ensures { ReadsWholeLeaves T.HasTtlvType.TTLV_TYPE T.SerializableTtlvType.value_bytes T.SerializableTtlvType.takes_memory }
+{
+}
+
+/// A tag, a type and a length are read from memory that has their bytes, save a byte that is no type.
+pub fn headers_in_memory_are_read()
+    ensures { ReadsHeaders }
+{
+}
+
+/// What goes into memory that has the room is written, save a length that four bytes can't hold.
+pub fn memory_with_room_is_written()
+    ensures { WritesWhereRoom }
 {
 }
 
