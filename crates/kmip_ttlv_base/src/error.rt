@@ -1,12 +1,15 @@
 //! Why a call refuses, and where.
 
 ghost use Rattle.std.specs.Prelude.{◌≡◌, Some, None, IfSome, IfNone, option_map};
-ghost use Rattle.kmip_ttlv_base.specs.Errors.{Kind, out_of_memory, Location, unknown, kind_of, view_of_kind, location_of, view_of_location, is_nowhere, tags_of};
+ghost use Rattle.kmip_ttlv_base.specs.Errors.{Kind, out_of_memory, Location, unknown, kind_of, view_of_kind, location_of, view_of_location, is_nowhere, tags_of, only_offset, only_small_offset, IsOverflow, IsKindOf};
+ghost use Rattle.std.specs.Io.Cursor.{cursor_position};
 ghost use Rattle.kmip_ttlv_base.specs.declared.error.ErrorKind.TheVariants.{IoError as IoErrorKind, MalformedTtlv as MalformedKind, SerdeError as SerdeKind, OutOfMemory as MemoryKind};
 
+use crate::types;
 use crate::types::{ByteOffset, FieldType, TtlvTag, TtlvType};
 use std::alloc::{AllocError, AllocFailed, Allocator, Global};
 use std::io;
+use std::io::Cursor;
 
 /// What reading and writing answer.
 pub type Result<T, A = Global> = std::result::Result<T, Error<A>>;
@@ -198,6 +201,63 @@ impl<A: Allocator> From<SerdeError<A>> for ErrorKind<A> {
     }
 }
 
+impl MalformedTtlvError {
+    /// An item that goes past the end of the structure around it: that end.
+    pub fn overflow<T: Into<ByteOffset>>(field_end: T) -> MalformedTtlvError
+        ensures { IsOverflow T.converts field_end result }
+    {
+        MalformedTtlvError::Overflow {
+            field_end: field_end.into(),
+        }
+    }
+}
+
+impl<A: Allocator> ErrorKind<A> {
+    /// The kind that a low-level refusal is. A text is copied into memory of `alloc`, and where that
+    /// is refused the kind is OutOfMemory.
+    pub fn from_types<B: Allocator>(alloc: A, error: types::Error<B>) -> ErrorKind<A>
+        ensures { IsKindOf error (view_of_kind result) }
+    {
+        use MalformedTtlvError as Malformed;
+        match error {
+            types::Error::IoError(e) => ErrorKind::IoError(e),
+            types::Error::InvalidTtlvTag(name) => match String::from_str(alloc, name.as_str()) {
+                Ok(name) => ErrorKind::SerdeError(SerdeError::InvalidTag(name)),
+                Err(_) => ErrorKind::OutOfMemory,
+            },
+            types::Error::UnexpectedTtlvField { expected, actual } => {
+                ErrorKind::MalformedTtlv(Malformed::UnexpectedTtlvField { expected, actual })
+            }
+            types::Error::UnsupportedTtlvType(code) => {
+                ErrorKind::MalformedTtlv(Malformed::UnsupportedType(code))
+            }
+            types::Error::InvalidTtlvType(code) => {
+                ErrorKind::MalformedTtlv(Malformed::InvalidType(code))
+            }
+            types::Error::InvalidTtlvValueLength {
+                expected,
+                actual,
+                typ,
+            } => ErrorKind::MalformedTtlv(Malformed::InvalidLength {
+                expected,
+                actual,
+                typ,
+            }),
+            types::Error::InvalidTtlvValue(typ) => {
+                ErrorKind::MalformedTtlv(Malformed::InvalidValue { typ })
+            }
+            types::Error::InvalidStateMachineOperation => {
+                match String::from_str(alloc, "Internal error: invalid state machine operaiton") {
+                    Ok(words) => ErrorKind::SerdeError(SerdeError::Other(words)),
+                    Err(_) => ErrorKind::OutOfMemory,
+                }
+            }
+            types::Error::OutOfMemory => ErrorKind::OutOfMemory,
+            types::Error::LengthOverflow => ErrorKind::LengthOverflow,
+        }
+    }
+}
+
 impl<A: Allocator> ErrorLocation<A> {
     /// No place.
     pub fn unknown() -> ErrorLocation<A>
@@ -287,5 +347,107 @@ impl<A: Allocator> ErrorLocation<A> {
             typ,
         } = self;
         (offset, parent_tags, tag, typ)
+    }
+}
+
+/// The offset alone.
+impl<A: Allocator> From<ByteOffset> for ErrorLocation<A> {
+    ghost from_gives = { λ x l. view_of_location l ≡ only_offset x.0 };
+
+    fn from(offset: ByteOffset) -> ErrorLocation<A> {
+        ErrorLocation::at(Some(offset), None, None, None)
+    }
+}
+
+/// The offset alone.
+impl<A: Allocator> From<u8> for ErrorLocation<A> {
+    ghost from_gives = { λ x l. view_of_location l ≡ only_offset x };
+
+    fn from(offset: u8) -> ErrorLocation<A> {
+        ErrorLocation::from(ByteOffset(u64::from(offset)))
+    }
+}
+
+/// The offset alone.
+impl<A: Allocator> From<u16> for ErrorLocation<A> {
+    ghost from_gives = { λ x l. view_of_location l ≡ only_offset x };
+
+    fn from(offset: u16) -> ErrorLocation<A> {
+        ErrorLocation::from(ByteOffset(u64::from(offset)))
+    }
+}
+
+/// The offset alone.
+impl<A: Allocator> From<u32> for ErrorLocation<A> {
+    ghost from_gives = { λ x l. view_of_location l ≡ only_offset x };
+
+    fn from(offset: u32) -> ErrorLocation<A> {
+        ErrorLocation::from(ByteOffset(u64::from(offset)))
+    }
+}
+
+/// The offset alone.
+impl<A: Allocator> From<u64> for ErrorLocation<A> {
+    ghost from_gives = { λ x l. view_of_location l ≡ only_offset x };
+
+    fn from(offset: u64) -> ErrorLocation<A> {
+        ErrorLocation::from(ByteOffset(offset))
+    }
+}
+
+/// The offset alone, or no place where it is the greatest number.
+impl<A: Allocator> From<usize> for ErrorLocation<A> {
+    ghost from_gives = { λ x l. view_of_location l ≡ only_small_offset x };
+
+    fn from(offset: usize) -> ErrorLocation<A> {
+        match ByteOffset::try_from(offset) {
+            Ok(offset) => ErrorLocation::from(offset),
+            Err(()) => ErrorLocation::unknown(),
+        }
+    }
+}
+
+/// The cursor's position alone.
+impl<T: Drop, A: Allocator> From<Cursor<T>> for ErrorLocation<A> {
+    ghost from_gives = { λ x l. view_of_location l ≡ only_offset (cursor_position x) };
+
+    fn from(cursor: Cursor<T>) -> ErrorLocation<A> {
+        ErrorLocation::from(ByteOffset(cursor.position()))
+    }
+}
+
+/// The cursor's position alone.
+impl<T, A: Allocator> From<&Cursor<T>> for ErrorLocation<A> {
+    ghost from_gives = { λ x l. view_of_location l ≡ only_offset (cursor_position x.now) };
+
+    fn from(cursor: &Cursor<T>) -> ErrorLocation<A> {
+        ErrorLocation::from(ByteOffset(cursor.position()))
+    }
+}
+
+/// The cursor's position alone.
+impl<T, A: Allocator> From<&mut Cursor<T>> for ErrorLocation<A> {
+    ghost from_gives = { λ x l. view_of_location l ≡ only_offset (cursor_position x.now) };
+
+    fn from(cursor: &mut Cursor<T>) -> ErrorLocation<A> {
+        ErrorLocation::from(ByteOffset(cursor.position()))
+    }
+}
+
+/// The same place, its parents in memory of the same allocator. An AllocError where memory is refused.
+impl<A: Allocator + Clone> Clone for ErrorLocation<A> {
+    ghost is_clone = { λ l m. view_of_location m ≡ view_of_location l };
+
+    fn clone(&self) -> std::result::Result<ErrorLocation<A>, AllocError> {
+        let parent_tags = match &self.parent_tags {
+            Some(tags) => Some(Vec::from_slice(tags.allocator().clone()?, tags.as_slice())?),
+            None => None,
+        };
+        Ok(ErrorLocation {
+            offset: self.offset,
+            parent_tags,
+            tag: self.tag,
+            typ: self.typ,
+        })
     }
 }
