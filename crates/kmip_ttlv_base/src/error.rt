@@ -2,12 +2,15 @@
 
 ghost use Rattle.std.specs.Prelude.{◌≡◌, Some, None, IfSome, IfNone, option_map};
 ghost use Rattle.kmip_ttlv_base.specs.Errors.{Kind, out_of_memory, Location, unknown, kind_of, view_of_kind, location_of, view_of_location, is_nowhere, tags_of, only_offset, only_small_offset, IsOverflow, IsKindOf};
+ghost use Rattle.kmip_ttlv_base.specs.LocationTexts.{location_text};
 ghost use Rattle.std.specs.Io.Cursor.{cursor_position};
 ghost use Rattle.kmip_ttlv_base.specs.declared.error.ErrorKind.TheVariants.{IoError as IoErrorKind, MalformedTtlv as MalformedKind, SerdeError as SerdeKind, OutOfMemory as MemoryKind};
 
+use crate::location::{write_parents, write_position, write_tag, write_type};
 use crate::types;
 use crate::types::{ByteOffset, FieldType, TtlvTag, TtlvType};
 use std::alloc::{AllocError, AllocFailed, Allocator, Global};
+use std::fmt;
 use std::io;
 use std::io::Cursor;
 
@@ -451,3 +454,88 @@ impl<A: Allocator + Clone> Clone for ErrorLocation<A> {
         })
     }
 }
+
+/// `Unknown`, or the known parts in this order, with a comma and a space between: the offset, the tags
+/// around, the item's tag and its type.
+impl<A: Allocator> fmt::Display for ErrorLocation<A> {
+    ghost output = { λ l. Some (location_text (view_of_location l)) };
+
+    fn fmt<W: fmt::Write>(&self, f: &mut fmt::Formatter<W>) -> fmt::Result {
+        if self.is_unknown() {
+            return f.write_str("Unknown");
+        }
+        let is_first = write_position(f, self.offset)?;
+        let is_first = write_parents(f, is_first, self.parent_tags())?;
+        let is_first = write_tag(f, is_first, self.tag)?;
+        write_type(f, is_first, self.typ)?;
+        Ok(())
+    }
+}
+
+impl fmt::Display for MalformedTtlvError {
+    fn fmt<W: fmt::Write>(&self, f: &mut fmt::Formatter<W>) -> fmt::Result {
+        match self {
+            MalformedTtlvError::InvalidType(code) => write!(f, "invalid type 0x{code:02X}"),
+            MalformedTtlvError::InvalidLength {
+                expected,
+                actual,
+                typ,
+            } => write!(f, "length {actual} of {typ} where {expected} is expected"),
+            MalformedTtlvError::InvalidValue { typ } => write!(f, "invalid value of {typ}"),
+            MalformedTtlvError::Overflow { field_end } => {
+                let end = field_end.0;
+                write!(f, "an item passes the end at {end} of the structure around it")
+            }
+            MalformedTtlvError::UnexpectedTtlvField { expected, actual } => {
+                write!(f, "field {actual} where {expected} is expected")
+            }
+            MalformedTtlvError::UnexpectedType { expected, actual } => {
+                write!(f, "type {actual} where {expected} is expected")
+            }
+            MalformedTtlvError::UnsupportedType(code) => {
+                write!(f, "unsupported type 0x{code:02X}")
+            }
+            MalformedTtlvError::UnknownStructureLength => f.write_str("unknown structure length"),
+        }
+    }
+}
+
+impl<A: Allocator> fmt::Display for SerdeError<A> {
+    fn fmt<W: fmt::Write>(&self, f: &mut fmt::Formatter<W>) -> fmt::Result {
+        match self {
+            SerdeError::InvalidVariant(name) => write!(f, "the variant {name} is no number"),
+            SerdeError::InvalidVariantMatcherSyntax(name) => {
+                write!(f, "the variant {name} is no rule")
+            }
+            SerdeError::InvalidTag(name) => write!(f, "the name {name} is no tag"),
+            SerdeError::MissingIdentifier => f.write_str("an item in a struct without fields"),
+            SerdeError::Other(words) => write!(f, "{words}"),
+            SerdeError::UnexpectedTag { expected, actual } => {
+                write!(f, "tag {actual} where {expected} is expected")
+            }
+            SerdeError::UnexpectedType { expected, actual } => {
+                write!(f, "type {actual} where {expected} is expected")
+            }
+            SerdeError::UnsupportedRustType(name) => write!(f, "values of {name} aren't written"),
+        }
+    }
+}
+
+/// The kind in words, and the place in brackets where it matters.
+impl<A: Allocator> fmt::Display for Error<A> {
+    fn fmt<W: fmt::Write>(&self, f: &mut fmt::Formatter<W>) -> fmt::Result {
+        let location = &self.location;
+        match &self.kind {
+            ErrorKind::IoError(e) => write!(f, "IO error {e} (at {location})"),
+            ErrorKind::ResponseSizeExceedsLimit(size) => {
+                write!(f, "Response size {size} exceeds the configured limit")
+            }
+            ErrorKind::MalformedTtlv(e) => write!(f, "Malformed TTLV: {e} (at {location})"),
+            ErrorKind::SerdeError(e) => write!(f, "Serde error : {e} (at {location})"),
+            ErrorKind::OutOfMemory => f.write_str("Out of memory"),
+            ErrorKind::LengthOverflow => write!(f, "Length overflow (at {location})"),
+        }
+    }
+}
+
+impl<A: Allocator> std::error::Error for Error<A> {}
