@@ -1,13 +1,17 @@
 -- Why a call refuses and where, without where it lies in memory.
-use Rattle.std.specs.Prelude.{◌≡◌, ℕ, Bool, true, false, List, [], ◌∷◌, Option, Some, None, option_map, string_bytes, is_none, ◌&&◌}
+use Rattle.std.specs.Prelude.{◌≡◌, ℕ, Bool, true, false, List, [], ◌∷◌, Option, Some, None, option_map, string_bytes, is_none, ◌&&◌, ◌⊎◌, ◌-◌, ◌^◌, ◌==◌, if◌then◌else◌, codes}
 use Rattle.std.specs.declared.vec.Vec.{Vec}
 use Rattle.std.specs.IoError.{error_kind}
 use Rattle.std.specs.declared.io.ErrorKind.{ErrorKind as IoKind}
 use Rattle.kmip_ttlv_types.specs.declared.typ.TtlvType.{TtlvType}
+use Rattle.kmip_ttlv_types.specs.declared.field.ByteOffset.{ByteOffset}
+use Rattle.kmip_ttlv_types.specs.declared.error.Error.{Error as LowError}
+use Rattle.kmip_ttlv_types.specs.declared.error.Error.TheVariants as lows
 use Rattle.kmip_ttlv_base.specs.declared.error.Error.{Error}
 use Rattle.kmip_ttlv_base.specs.declared.error.ErrorKind.{ErrorKind}
 use Rattle.kmip_ttlv_base.specs.declared.error.ErrorKind.TheVariants as kinds
 use Rattle.kmip_ttlv_base.specs.declared.error.MalformedTtlvError.{MalformedTtlvError}
+use Rattle.kmip_ttlv_base.specs.declared.error.MalformedTtlvError.TheVariants as malforms
 use Rattle.kmip_ttlv_base.specs.declared.error.SerdeError.{SerdeError}
 use Rattle.kmip_ttlv_base.specs.declared.error.SerdeError.TheVariants as serdes
 use Rattle.kmip_ttlv_base.specs.declared.error.ErrorLocation.{ErrorLocation}
@@ -85,3 +89,33 @@ location_of e = e.location
 pub record IsMemory {A : Type 0} (e : Error A) : Type 0 where
   pub kind : kind_of e ≡ kinds.OutOfMemory
   pub location : view_of_location (location_of e) ≡ unknown
+
+-- an offset alone
+abbrev pub only_offset : ℕ → Location
+only_offset n = record { offset = Some n; parents = []; tag = None; typ = None }
+
+-- an offset alone, or no place where the number is the greatest of 64 bits
+abbrev pub only_small_offset : ℕ → Location
+only_small_offset n = if n == 2 ^ 64 - 1 then unknown else only_offset n
+
+-- an item that goes past the end that was converted from x
+abbrev pub IsOverflow : {T : Type 0} → (T → ByteOffset → Type 0) → T → MalformedTtlvError → Type 0
+IsOverflow converts x (malforms.Overflow o) = converts x o
+IsOverflow converts x _ = ⊥
+
+-- the text of an operation that the state machine's mode rules out
+abbrev pub invalid_operation : List ℕ
+invalid_operation = codes "Internal error: invalid state machine operaiton"
+
+-- the kind that a low-level refusal is; where a text is copied, memory may be refused
+abbrev pub IsKindOf : {B : Type 0} → LowError B → Kind → Type 0
+IsKindOf (lows.IoError e) k = k ≡ io_error (error_kind e)
+IsKindOf (lows.InvalidTtlvTag text) k = (k ≡ mismatch (invalid_tag (string_bytes text))) ⊎ (k ≡ out_of_memory)
+IsKindOf (lows.UnexpectedTtlvField expected actual) k = k ≡ malformed (malforms.UnexpectedTtlvField expected actual)
+IsKindOf (lows.UnsupportedTtlvType code) k = k ≡ malformed (malforms.UnsupportedType code)
+IsKindOf (lows.InvalidTtlvType code) k = k ≡ malformed (malforms.InvalidType code)
+IsKindOf (lows.InvalidTtlvValueLength expected actual typ) k = k ≡ malformed (malforms.InvalidLength expected actual typ)
+IsKindOf (lows.InvalidTtlvValue typ) k = k ≡ malformed (malforms.InvalidValue typ)
+IsKindOf lows.InvalidStateMachineOperation k = (k ≡ mismatch (other_cause invalid_operation)) ⊎ (k ≡ out_of_memory)
+IsKindOf lows.OutOfMemory k = k ≡ out_of_memory
+IsKindOf lows.LengthOverflow k = k ≡ length_overflow

@@ -10,3 +10,4 @@ pub mod Values
 pub mod Forms
 pub mod Gives
 pub mod Errors
+pub mod LocationTexts

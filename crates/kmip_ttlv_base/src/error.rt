@@ -1,12 +1,18 @@
 //! Why a call refuses, and where.
 
 ghost use Rattle.std.specs.Prelude.{◌≡◌, Some, None, IfSome, IfNone, option_map};
-ghost use Rattle.kmip_ttlv_base.specs.Errors.{Kind, out_of_memory, Location, unknown, kind_of, view_of_kind, location_of, view_of_location, is_nowhere, tags_of};
+ghost use Rattle.kmip_ttlv_base.specs.Errors.{Kind, out_of_memory, Location, unknown, kind_of, view_of_kind, location_of, view_of_location, is_nowhere, tags_of, only_offset, only_small_offset, IsOverflow, IsKindOf};
+ghost use Rattle.kmip_ttlv_base.specs.LocationTexts.{location_text};
+ghost use Rattle.std.specs.Io.Cursor.{cursor_position};
 ghost use Rattle.kmip_ttlv_base.specs.declared.error.ErrorKind.TheVariants.{IoError as IoErrorKind, MalformedTtlv as MalformedKind, SerdeError as SerdeKind, OutOfMemory as MemoryKind};
 
+use crate::location::{write_parents, write_position, write_tag, write_type};
+use crate::types;
 use crate::types::{ByteOffset, FieldType, TtlvTag, TtlvType};
 use std::alloc::{AllocError, AllocFailed, Allocator, Global};
+use std::fmt;
 use std::io;
+use std::io::Cursor;
 
 /// What reading and writing answer.
 pub type Result<T, A = Global> = std::result::Result<T, Error<A>>;
@@ -198,6 +204,63 @@ impl<A: Allocator> From<SerdeError<A>> for ErrorKind<A> {
     }
 }
 
+impl MalformedTtlvError {
+    /// An item that goes past the end of the structure around it: that end.
+    pub fn overflow<T: Into<ByteOffset>>(field_end: T) -> MalformedTtlvError
+        ensures { IsOverflow T.converts field_end result }
+    {
+        MalformedTtlvError::Overflow {
+            field_end: field_end.into(),
+        }
+    }
+}
+
+impl<A: Allocator> ErrorKind<A> {
+    /// The kind that a low-level refusal is. A text is copied into memory of `alloc`, and where that
+    /// is refused the kind is OutOfMemory.
+    pub fn from_types<B: Allocator>(alloc: A, error: types::Error<B>) -> ErrorKind<A>
+        ensures { IsKindOf error (view_of_kind result) }
+    {
+        use MalformedTtlvError as Malformed;
+        match error {
+            types::Error::IoError(e) => ErrorKind::IoError(e),
+            types::Error::InvalidTtlvTag(name) => match String::from_str(alloc, name.as_str()) {
+                Ok(name) => ErrorKind::SerdeError(SerdeError::InvalidTag(name)),
+                Err(_) => ErrorKind::OutOfMemory,
+            },
+            types::Error::UnexpectedTtlvField { expected, actual } => {
+                ErrorKind::MalformedTtlv(Malformed::UnexpectedTtlvField { expected, actual })
+            }
+            types::Error::UnsupportedTtlvType(code) => {
+                ErrorKind::MalformedTtlv(Malformed::UnsupportedType(code))
+            }
+            types::Error::InvalidTtlvType(code) => {
+                ErrorKind::MalformedTtlv(Malformed::InvalidType(code))
+            }
+            types::Error::InvalidTtlvValueLength {
+                expected,
+                actual,
+                typ,
+            } => ErrorKind::MalformedTtlv(Malformed::InvalidLength {
+                expected,
+                actual,
+                typ,
+            }),
+            types::Error::InvalidTtlvValue(typ) => {
+                ErrorKind::MalformedTtlv(Malformed::InvalidValue { typ })
+            }
+            types::Error::InvalidStateMachineOperation => {
+                match String::from_str(alloc, "Internal error: invalid state machine operaiton") {
+                    Ok(words) => ErrorKind::SerdeError(SerdeError::Other(words)),
+                    Err(_) => ErrorKind::OutOfMemory,
+                }
+            }
+            types::Error::OutOfMemory => ErrorKind::OutOfMemory,
+            types::Error::LengthOverflow => ErrorKind::LengthOverflow,
+        }
+    }
+}
+
 impl<A: Allocator> ErrorLocation<A> {
     /// No place.
     pub fn unknown() -> ErrorLocation<A>
@@ -289,3 +352,190 @@ impl<A: Allocator> ErrorLocation<A> {
         (offset, parent_tags, tag, typ)
     }
 }
+
+/// The offset alone.
+impl<A: Allocator> From<ByteOffset> for ErrorLocation<A> {
+    ghost from_gives = { λ x l. view_of_location l ≡ only_offset x.0 };
+
+    fn from(offset: ByteOffset) -> ErrorLocation<A> {
+        ErrorLocation::at(Some(offset), None, None, None)
+    }
+}
+
+/// The offset alone.
+impl<A: Allocator> From<u8> for ErrorLocation<A> {
+    ghost from_gives = { λ x l. view_of_location l ≡ only_offset x };
+
+    fn from(offset: u8) -> ErrorLocation<A> {
+        ErrorLocation::from(ByteOffset(u64::from(offset)))
+    }
+}
+
+/// The offset alone.
+impl<A: Allocator> From<u16> for ErrorLocation<A> {
+    ghost from_gives = { λ x l. view_of_location l ≡ only_offset x };
+
+    fn from(offset: u16) -> ErrorLocation<A> {
+        ErrorLocation::from(ByteOffset(u64::from(offset)))
+    }
+}
+
+/// The offset alone.
+impl<A: Allocator> From<u32> for ErrorLocation<A> {
+    ghost from_gives = { λ x l. view_of_location l ≡ only_offset x };
+
+    fn from(offset: u32) -> ErrorLocation<A> {
+        ErrorLocation::from(ByteOffset(u64::from(offset)))
+    }
+}
+
+/// The offset alone.
+impl<A: Allocator> From<u64> for ErrorLocation<A> {
+    ghost from_gives = { λ x l. view_of_location l ≡ only_offset x };
+
+    fn from(offset: u64) -> ErrorLocation<A> {
+        ErrorLocation::from(ByteOffset(offset))
+    }
+}
+
+/// The offset alone, or no place where it is the greatest number.
+impl<A: Allocator> From<usize> for ErrorLocation<A> {
+    ghost from_gives = { λ x l. view_of_location l ≡ only_small_offset x };
+
+    fn from(offset: usize) -> ErrorLocation<A> {
+        match ByteOffset::try_from(offset) {
+            Ok(offset) => ErrorLocation::from(offset),
+            Err(()) => ErrorLocation::unknown(),
+        }
+    }
+}
+
+/// The cursor's position alone.
+impl<T: Drop, A: Allocator> From<Cursor<T>> for ErrorLocation<A> {
+    ghost from_gives = { λ x l. view_of_location l ≡ only_offset (cursor_position x) };
+
+    fn from(cursor: Cursor<T>) -> ErrorLocation<A> {
+        ErrorLocation::from(ByteOffset(cursor.position()))
+    }
+}
+
+/// The cursor's position alone.
+impl<T, A: Allocator> From<&Cursor<T>> for ErrorLocation<A> {
+    ghost from_gives = { λ x l. view_of_location l ≡ only_offset (cursor_position x.now) };
+
+    fn from(cursor: &Cursor<T>) -> ErrorLocation<A> {
+        ErrorLocation::from(ByteOffset(cursor.position()))
+    }
+}
+
+/// The cursor's position alone.
+impl<T, A: Allocator> From<&mut Cursor<T>> for ErrorLocation<A> {
+    ghost from_gives = { λ x l. view_of_location l ≡ only_offset (cursor_position x.now) };
+
+    fn from(cursor: &mut Cursor<T>) -> ErrorLocation<A> {
+        ErrorLocation::from(ByteOffset(cursor.position()))
+    }
+}
+
+/// The same place, its parents in memory of the same allocator. An AllocError where memory is refused.
+impl<A: Allocator + Clone> Clone for ErrorLocation<A> {
+    ghost is_clone = { λ l m. view_of_location m ≡ view_of_location l };
+
+    fn clone(&self) -> std::result::Result<ErrorLocation<A>, AllocError> {
+        let parent_tags = match &self.parent_tags {
+            Some(tags) => Some(Vec::from_slice(tags.allocator().clone()?, tags.as_slice())?),
+            None => None,
+        };
+        Ok(ErrorLocation {
+            offset: self.offset,
+            parent_tags,
+            tag: self.tag,
+            typ: self.typ,
+        })
+    }
+}
+
+/// `Unknown`, or the known parts in this order, with a comma and a space between: the offset, the tags
+/// around, the item's tag and its type.
+impl<A: Allocator> fmt::Display for ErrorLocation<A> {
+    ghost output = { λ l. Some (location_text (view_of_location l)) };
+
+    fn fmt<W: fmt::Write>(&self, f: &mut fmt::Formatter<W>) -> fmt::Result {
+        if self.is_unknown() {
+            return f.write_str("Unknown");
+        }
+        let is_first = write_position(f, self.offset)?;
+        let is_first = write_parents(f, is_first, self.parent_tags())?;
+        let is_first = write_tag(f, is_first, self.tag)?;
+        write_type(f, is_first, self.typ)?;
+        Ok(())
+    }
+}
+
+impl fmt::Display for MalformedTtlvError {
+    fn fmt<W: fmt::Write>(&self, f: &mut fmt::Formatter<W>) -> fmt::Result {
+        match self {
+            MalformedTtlvError::InvalidType(code) => write!(f, "invalid type 0x{code:02X}"),
+            MalformedTtlvError::InvalidLength {
+                expected,
+                actual,
+                typ,
+            } => write!(f, "length {actual} of {typ} where {expected} is expected"),
+            MalformedTtlvError::InvalidValue { typ } => write!(f, "invalid value of {typ}"),
+            MalformedTtlvError::Overflow { field_end } => {
+                let end = field_end.0;
+                write!(f, "an item passes the end at {end} of the structure around it")
+            }
+            MalformedTtlvError::UnexpectedTtlvField { expected, actual } => {
+                write!(f, "field {actual} where {expected} is expected")
+            }
+            MalformedTtlvError::UnexpectedType { expected, actual } => {
+                write!(f, "type {actual} where {expected} is expected")
+            }
+            MalformedTtlvError::UnsupportedType(code) => {
+                write!(f, "unsupported type 0x{code:02X}")
+            }
+            MalformedTtlvError::UnknownStructureLength => f.write_str("unknown structure length"),
+        }
+    }
+}
+
+impl<A: Allocator> fmt::Display for SerdeError<A> {
+    fn fmt<W: fmt::Write>(&self, f: &mut fmt::Formatter<W>) -> fmt::Result {
+        match self {
+            SerdeError::InvalidVariant(name) => write!(f, "the variant {name} is no number"),
+            SerdeError::InvalidVariantMatcherSyntax(name) => {
+                write!(f, "the variant {name} is no rule")
+            }
+            SerdeError::InvalidTag(name) => write!(f, "the name {name} is no tag"),
+            SerdeError::MissingIdentifier => f.write_str("an item in a struct without fields"),
+            SerdeError::Other(words) => write!(f, "{words}"),
+            SerdeError::UnexpectedTag { expected, actual } => {
+                write!(f, "tag {actual} where {expected} is expected")
+            }
+            SerdeError::UnexpectedType { expected, actual } => {
+                write!(f, "type {actual} where {expected} is expected")
+            }
+            SerdeError::UnsupportedRustType(name) => write!(f, "values of {name} aren't written"),
+        }
+    }
+}
+
+/// The kind in words, and the place in brackets where it matters.
+impl<A: Allocator> fmt::Display for Error<A> {
+    fn fmt<W: fmt::Write>(&self, f: &mut fmt::Formatter<W>) -> fmt::Result {
+        let location = &self.location;
+        match &self.kind {
+            ErrorKind::IoError(e) => write!(f, "IO error {e} (at {location})"),
+            ErrorKind::ResponseSizeExceedsLimit(size) => {
+                write!(f, "Response size {size} exceeds the configured limit")
+            }
+            ErrorKind::MalformedTtlv(e) => write!(f, "Malformed TTLV: {e} (at {location})"),
+            ErrorKind::SerdeError(e) => write!(f, "Serde error : {e} (at {location})"),
+            ErrorKind::OutOfMemory => f.write_str("Out of memory"),
+            ErrorKind::LengthOverflow => write!(f, "Length overflow (at {location})"),
+        }
+    }
+}
+
+impl<A: Allocator> std::error::Error for Error<A> {}

@@ -3,6 +3,7 @@
 #![tactic(auto)]
 
 pub mod error;
+mod location;
 pub mod shape;
 
 pub use kmip_ttlv_types as types;

@@ -6,3 +6,9 @@ pub mod Places
 pub mod Names
 pub mod TypeTexts
 pub mod FieldTexts
+pub mod Digits
+pub mod Streams
+pub mod Headers
+pub mod Primitives
+pub mod Machine
+pub mod Laws

@@ -1,9 +1,13 @@
 //! The fields of an item, and places among bytes.
 
-ghost use Rattle.std.specs.Prelude.{◌≡◌, Some};
+ghost use Rattle.std.specs.Prelude.{◌≡◌, ◌≢◌, ◌-◌, ◌^◌, Some, MatchResult};
+ghost use Rattle.std.specs.Io.Cursor.{cursor_position};
+ghost use Rattle.kmip_ttlv_types.specs.declared.field.FieldType.TheVariants.{Tag};
 ghost use Rattle.kmip_ttlv_types.specs.FieldTexts.{field_text};
 
 use std::fmt;
+use std::io::Cursor;
+use std::ops::Deref;
 
 /// A field of an item, or several that are written or read at once.
 #[derive(Clone, Copy, Debug, PartialEq, Eq)]
@@ -14,6 +18,15 @@ pub enum FieldType {
     Value,
     LengthAndValue,
     TypeAndLengthAndValue,
+}
+
+/// The first field of an item: its tag.
+impl Default for FieldType {
+    ghost is_default = { λ f. f ≡ Tag };
+
+    fn default() -> FieldType {
+        FieldType::Tag
+    }
 }
 
 /// The variant's name, `Type` for `Typ`.
@@ -35,3 +48,62 @@ impl fmt::Display for FieldType {
 /// A place among bytes: the offset, in bytes, from the first byte.
 #[derive(Clone, Copy, Debug, PartialEq, Eq)]
 pub struct ByteOffset(pub u64);
+
+impl Deref for ByteOffset {
+    type Target = u64;
+
+    ghost deref_gives = { λ o n. n ≡ o.0 };
+
+    fn deref(&self) -> &u64 {
+        &self.0
+    }
+}
+
+impl From<u64> for ByteOffset {
+    ghost from_gives = { λ n o. o.0 ≡ n };
+
+    fn from(offset: u64) -> ByteOffset {
+        ByteOffset(offset)
+    }
+}
+
+impl From<&u64> for ByteOffset {
+    ghost from_gives = { λ n o. o.0 ≡ n.now };
+
+    fn from(offset: &u64) -> ByteOffset {
+        ByteOffset(*offset)
+    }
+}
+
+/// The cursor's position.
+impl<T: Drop> From<Cursor<T>> for ByteOffset {
+    ghost from_gives = { λ c o. o.0 ≡ cursor_position c };
+
+    fn from(cursor: Cursor<T>) -> ByteOffset {
+        ByteOffset(cursor.position())
+    }
+}
+
+/// The cursor's position.
+impl<T> From<&Cursor<T>> for ByteOffset {
+    ghost from_gives = { λ c o. o.0 ≡ cursor_position c.now };
+
+    fn from(cursor: &Cursor<T>) -> ByteOffset {
+        ByteOffset(cursor.position())
+    }
+}
+
+impl TryFrom<usize> for ByteOffset {
+    type Error = ();
+
+    ghost try_from_gives = { λ n r. MatchResult r (λ o. (o.0 ≡ n) × (n ≢ 2 ^ 64 - 1)) (λ _. n ≡ 2 ^ 64 - 1) };
+
+    /// Every number is an offset but the greatest, which is refused.
+    fn try_from(offset: usize) -> Result<ByteOffset, ()> {
+        let offset = offset as u64;
+        if offset == u64::MAX {
+            return Err(());
+        }
+        Ok(ByteOffset(offset))
+    }
+}

@@ -5,16 +5,32 @@
 //! their canonical bytes, names of tags.
 #![tactic(auto)]
 
+mod digits;
 mod error;
 mod field;
+mod fixed;
+pub mod laws;
+mod length;
+mod machine;
 mod names;
+mod numbers;
+mod primitive;
+pub mod stream;
+mod strings;
 mod tag;
 mod typ;
 
 pub use error::Error;
 pub use field::{ByteOffset, FieldType};
+pub use fixed::{
+    TtlvBoolean, TtlvDateTime, TtlvEnumeration, TtlvInteger, TtlvInterval, TtlvLongInteger,
+};
+pub use length::TtlvLength;
+pub use machine::{TtlvStateMachine, TtlvStateMachineMode};
 pub use names::number;
+pub use primitive::{HasTtlvType, SerializableTtlvType};
 use std::alloc::{Allocator, Global};
+pub use strings::{TtlvBigInteger, TtlvByteString, TtlvTextString};
 pub use tag::TtlvTag;
 pub use typ::TtlvType;
 

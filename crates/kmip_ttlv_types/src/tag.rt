@@ -3,9 +3,14 @@
 ghost use Rattle.std.specs.Prelude.{◌≡◌, ℕ, ◌≤◌, ◌^◌, ◌++◌, IfNone, IfSome, IfOk, IfErr, Some, None, string_bytes};
 ghost use Rattle.std.specs.Int.{bytes_high_first};
 ghost use Rattle.kmip_ttlv_types.specs.Names.{tag_of, IsNamed};
+ghost use Rattle.kmip_ttlv_types.specs.Digits.{tag_text};
+ghost use Rattle.kmip_ttlv_types.specs.Headers.{ReadsNumber, Writes};
 
+use crate::digits::{six_of, write_digits};
 use crate::error::Error;
 use crate::names::number;
+use crate::numbers::triple_of;
+use crate::stream::{Sink, Source, fill_all};
 use std::alloc::Allocator;
 use std::fmt;
 use std::marker::Model;
@@ -58,6 +63,28 @@ impl TtlvTag {
             Some(tag) => Ok(tag),
             None => Err(Error::InvalidTtlvTag(String::from_str(alloc, text)?)),
         }
+    }
+
+    /// Takes the three bytes of a tag.
+    ///
+    /// IoError where they don't come: of the kind UnexpectedEof where the input ends before that.
+    pub fn read<S: Source>(src: &mut S) -> Result<TtlvTag, Error>
+        ensures { ReadsNumber (bytes_high_first 3) 3 S.can_fail (S.left src.old) (S.left src.new) result }
+    {
+        let mut bytes = [0u8; 3];
+        fill_all(src, &mut bytes)?;
+        Ok(TtlvTag(triple_of(&bytes)))
+    }
+
+    /// Writes the three bytes of the tag.
+    ///
+    /// IoError where that fails; a beginning may have been written.
+    pub fn write<S: Sink>(&self, dst: &mut S) -> Result<(), Error>
+        ensures { Writes (bytes_high_first 3 self.now) (S.held dst.old) (S.held dst.new) (S.room dst.old) (S.room dst.new) result }
+    {
+        let bytes: [u8; 3] = self.into();
+        dst.send(&bytes)?;
+        Ok(())
     }
 }
 
@@ -115,9 +142,10 @@ impl From<&TtlvTag> for [u8; 3] {
 
 /// `0x` and six uppercase digits.
 impl fmt::Display for TtlvTag {
+    ghost output = { λ t. Some (tag_text t) };
+
     fn fmt<W: fmt::Write>(&self, f: &mut fmt::Formatter<W>) -> fmt::Result {
-        let number = self.0;
-        write!(f, "0x{number:06X}")
+        write_digits(f, &six_of(self.0))
     }
 }
 

@@ -1,10 +1,12 @@
 //! The type of an item.
 
-ghost use Rattle.std.specs.Prelude.{◌≡◌, Some, IfOk, MatchResult};
+ghost use Rattle.std.specs.Prelude.{◌≡◌, Some, IfOk, MatchResult, [], ◌∷◌};
 ghost use Rattle.kmip_ttlv_types.specs.ItemTypes.{code, type_of};
 ghost use Rattle.kmip_ttlv_types.specs.TypeTexts.{type_text, IsTypeOf};
+ghost use Rattle.kmip_ttlv_types.specs.Headers.{ReadsType, Writes};
 
 use crate::error::Error;
+use crate::stream::{Sink, Source, fill_all};
 use std::fmt;
 
 /// The type of an item (KMIP 1.0, section 9.1.1.2). Its code is one byte on the wire.
@@ -58,6 +60,28 @@ impl TtlvType {
             TtlvType::DateTime => 9,
             TtlvType::Interval => 10,
         }
+    }
+
+    /// Takes the byte of a type's code.
+    ///
+    /// InvalidTtlvType with that byte where it is no type's code; IoError where none comes: of the
+    /// kind UnexpectedEof where the input ends.
+    pub fn read<S: Source>(src: &mut S) -> Result<TtlvType, Error>
+        ensures { ReadsType S.can_fail (S.left src.old) (S.left src.new) result }
+    {
+        let mut byte = [0u8; 1];
+        fill_all(src, &mut byte)?;
+        TtlvType::try_from(byte[0])
+    }
+
+    /// Writes the byte of the type's code.
+    ///
+    /// IoError where that fails.
+    pub fn write<S: Sink>(&self, dst: &mut S) -> Result<(), Error>
+        ensures { Writes (code self.now ∷ []) (S.held dst.old) (S.held dst.new) (S.room dst.old) (S.room dst.new) result }
+    {
+        dst.send(&[self.code()])?;
+        Ok(())
     }
 }
 

@@ -1,0 +1,70 @@
+-- What several reads or writes, one after the other, did to known bytes.
+use Rattle.std.proofs.Common.{◌≡◌, ℕ, ◌+◌, ◌-◌, ◌<◌, ◌≤◌, List, [], ◌++◌, Option, None, Some, Result, Ok, Err, IfOk, IfSome, length, take, drop, sym, ap, ◌∙◌, subst, arith, take-add, take_all, length-append, length-drop, append-nil, drop_at, length-take-le, refl, le_refl}
+use Rattle.std.proofs.lemmas.List.{take-append-le}
+use Rattle.std.specs.Io.{ReadsAtMost}
+use Rattle.std.specs.Io.KnownBytes.{Appends, Consumes, IsAtEnd, Keeps}
+use Rattle.std.proofs.KnownBytes.{Consumes-trans, Appends-trans}
+use Rattle.kmip_ttlv_types.specs.Streams.{IsShort, AppendsFront, ConsumesUpTo}
+
+take-append_more : (xs ys : List ℕ) (n : ℕ) → take (length xs + n) (xs ++ ys) ≡ xs ++ take n ys
+take-append_more xs ys n =
+    take-add (length xs) n (xs ++ ys) ∙ ap (λ l. l ++ take n (drop (length xs) (xs ++ ys))) (take-append-le (length xs) xs ys (le_refl _) ∙ take_all (length xs) xs (le_refl _))
+    ∙ ap (λ l. xs ++ take n l) (drop_at xs ys (length xs) refl)
+
+-- a list was filled up to f, and then by n more
+pub Consumes-more : (a b c : Option (List ℕ)) (xs ys : List ℕ) (f n : ℕ) → take f ys ≡ take f xs → Consumes a b (take f xs)
+    → Consumes b c (take n (drop f ys)) → Consumes a c (take (f + n) ys)
+Consumes-more a b c xs ys f n front before read =
+    subst (Consumes a c) (ap (λ l. l ++ take n (drop f ys)) (sym front) ∙ sym (take-add f n ys)) (Consumes-trans a b c _ _ before read)
+
+-- a reader that gave fewer than m bytes and is at its end had fewer than m
+pub IsShort-at_end : (a b : Option (List ℕ)) (bs : List ℕ) (m : ℕ) → Consumes a b bs → IsAtEnd b → length bs < m → IsShort a m
+IsShort-at_end None b bs m taken end low = tt
+IsShort-at_end (Some x) None bs m taken end low = absurd taken
+IsShort-at_end (Some x) (Some y) bs m taken end low =
+    let same : x ≡ bs = taken ∙ ap (λ l. bs ++ l) end ∙ append-nil bs in
+    subst (λ (l : List ℕ). length l < m) (sym same) low
+
+-- what was read into the part stands after the front
+pub Consumes-in_place : {E : Type 0} (a b : Option (List ℕ)) (r : Result ℕ E) (front part rest : List ℕ) (at : ℕ) → length front ≡ at → ReadsAtMost r part
+    → IfOk r (λ n. Consumes a b (take n part)) → IfOk r (λ n. Consumes a b (take n (drop at (front ++ (part ++ rest)))))
+Consumes-in_place a b (Ok n) front part rest at long fits read =
+    subst (Consumes a b) (sym (ap (take n) (drop_at front (part ++ rest) at long) ∙ take-append-le n part rest fits.0)) read
+Consumes-in_place a b (Err e) front part rest at long fits read = tt
+
+-- the n bytes of the slice `&all[at..]`, after the first `at`
+pub take-slice_end : (all : List ℕ) (at n : ℕ) → take at all ++ take n (take (length all - at) (drop at all)) ≡ take (at + n) all
+take-slice_end all at n =
+    let same : length (drop at all) ≤ length all - at = omega (arith, length-drop at all) in
+    ap (λ l. take at all ++ take n l) (take_all (length all - at) (drop at all) same) ∙ sym (take-add at n all)
+
+-- a front of the first part is a front of the whole
+pub AppendsFront-first : (a b : Option (List ℕ)) (xs ys : List ℕ) → AppendsFront a b xs → AppendsFront a b (xs ++ ys)
+AppendsFront-first a b xs ys front = record {
+  count = front.count;
+  within = omega (arith, front.within, length-append xs ys);
+  appends = subst (Appends a b) (sym (take-append-le front.count xs ys front.within)) front.appends;
+}
+
+-- the first part, and then a front of the second
+pub AppendsFront-second : (a b c : Option (List ℕ)) (xs ys : List ℕ) → Appends a b xs → AppendsFront b c ys → AppendsFront a c (xs ++ ys)
+AppendsFront-second a b c xs ys first front = record {
+  count = length xs + front.count;
+  within = omega (arith, front.within, length-append xs ys);
+  appends = subst (Appends a c) (sym (take-append_more xs ys front.count)) (Appends-trans a b c _ _ first front.appends);
+}
+
+-- bytes of which too few came after others were taken
+pub IsShort-after : (a b : Option (List ℕ)) (bs : List ℕ) (m n : ℕ) → Consumes a b bs → IsShort b m → length bs + m ≤ n → IsShort a n
+IsShort-after None b bs m n taken short low = tt
+IsShort-after (Some x) None bs m n taken short low = absurd taken
+IsShort-after (Some x) (Some y) bs m n taken short low = omega (arith, ap (λ (l : List ℕ). length l) taken, length-append bs y, short)
+
+-- bytes taken after others
+pub ConsumesUpTo-after : (a b c : Option (List ℕ)) (bs : List ℕ) (m n : ℕ) → Consumes a b bs → ConsumesUpTo b c m → length bs + m ≤ n → ConsumesUpTo a c n
+ConsumesUpTo-after a b c bs m n taken more low = record {
+  bytes = bs ++ more.bytes;
+  within = omega (arith, more.within, length-append bs more.bytes);
+  consumes = Consumes-trans a b c _ _ taken more.consumes;
+}
+

@@ -1,0 +1,94 @@
+//! The length of an item's value.
+
+ghost use Rattle.std.specs.Prelude.{◌≡◌, ℕ, Some};
+ghost use Rattle.std.specs.Int.{w32, to_be_bytes};
+ghost use Rattle.kmip_ttlv_types.specs.Digits.{length_text};
+ghost use Rattle.kmip_ttlv_types.specs.Headers.{ReadsNumber, Writes};
+
+use crate::digits::{eight_of, write_digits};
+use crate::error::Error;
+use crate::numbers::word_of;
+use crate::stream::{Sink, Source, fill_all};
+use std::fmt;
+use std::marker::Model;
+use std::ops::Deref;
+
+/// The length of an item's value in bytes, padding not counted (KMIP 1.0, section 9.1.1.3).
+#[derive(Clone, Copy, PartialEq, Eq, Hash)]
+pub struct TtlvLength(u32);
+
+impl Model for TtlvLength {
+    ghost use Rattle.std.specs.Prelude.{ℕ, ◌<◌, ◌^◌};
+
+    ghost Value = { ℕ };
+
+    ghost view = { λ l. l.0 };
+
+    ghost invariant = { λ l. l.0 < 2 ^ 32 };
+
+    ghost inverse = { λ n. record { 0 = n } };
+}
+
+impl TtlvLength {
+    /// The length of a value of `n` bytes.
+    pub fn new(n: u32) -> TtlvLength
+        ensures { result ≡ n }
+    {
+        TtlvLength(n)
+    }
+
+    /// Takes the four bytes of a length.
+    ///
+    /// IoError where they don't come: of the kind UnexpectedEof where the input ends before that.
+    pub fn read<S: Source>(src: &mut S) -> Result<TtlvLength, Error>
+        ensures { ReadsNumber (to_be_bytes w32) 4 S.can_fail (S.left src.old) (S.left src.new) result }
+    {
+        let mut bytes = [0u8; 4];
+        fill_all(src, &mut bytes)?;
+        Ok(TtlvLength(word_of(&bytes)))
+    }
+
+    /// Writes the four bytes of the length.
+    ///
+    /// IoError where that fails; a beginning may have been written.
+    pub fn write<S: Sink>(&self, dst: &mut S) -> Result<(), Error>
+        ensures { Writes (to_be_bytes w32 self.now) (S.held dst.old) (S.held dst.new) (S.room dst.old) (S.room dst.new) result }
+    {
+        dst.send(&self.0.to_be_bytes())?;
+        Ok(())
+    }
+}
+
+impl Deref for TtlvLength {
+    type Target = u32;
+
+    ghost deref_gives = { λ l n. n ≡ l };
+
+    fn deref(&self) -> &u32 {
+        &self.0
+    }
+}
+
+/// `0x` and eight uppercase digits.
+impl fmt::Display for TtlvLength {
+    ghost output = { λ l. Some (length_text l) };
+
+    fn fmt<W: fmt::Write>(&self, f: &mut fmt::Formatter<W>) -> fmt::Result {
+        write_digits(f, &eight_of(self.0))
+    }
+}
+
+/// `0x` and uppercase digits without leading zeros.
+impl fmt::Debug for TtlvLength {
+    fn fmt<W: fmt::Write>(&self, f: &mut fmt::Formatter<W>) -> fmt::Result {
+        let number = self.0;
+        write!(f, "0x{number:X}")
+    }
+}
+
+/// Uppercase digits without leading zeros; a width and a fill by zeros are kept.
+impl fmt::UpperHex for TtlvLength {
+    fn fmt<W: fmt::Write>(&self, f: &mut fmt::Formatter<W>) -> fmt::Result {
+        fmt::UpperHex::fmt(&self.0, f)
+    }
+}

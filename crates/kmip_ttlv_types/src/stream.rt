@@ -1,0 +1,260 @@
+//! Bytes that come from a reader or from memory, and go to a writer or into memory.
+//!
+//! A call over a reader or a writer that is interrupted is tried again, as often as a 64-bit count
+//! allows. A reader or a writer can fail at any time; memory that has the bytes, or the room,
+//! cannot, and the contracts of `Source` and `Sink` tell the two apart.
+
+ghost use Rattle.std.specs.Prelude.{◌≡◌, ℕ, List, Bool, true, false, Option, None, Some, ◌<◌, ◌≤◌, ◌-◌, ◌+◌, ◌^◌, length, take, drop, IfOk, IfErr, OnOk, OnErr, vec_len, vec_items, vec_capacity};
+ghost use Rattle.std.specs.Io.{ReadsAtMost, WritesAtMost};
+ghost use Rattle.std.specs.Io.KnownBytes.{Appends, Consumes, IsAtEnd, Keeps};
+ghost use Rattle.kmip_ttlv_types.specs.Streams.{AppendsFront, Fills, FillsAll, Takes, UsesRoom, IsTight};
+
+use crate::error::Error;
+use std::alloc::{AllocError, Allocator, Global};
+use std::io;
+use std::io::{ErrorKind, Read, Write};
+
+/// How filling a buffer ended.
+#[derive(Drop)]
+pub enum Filled {
+    /// Each byte of the buffer came.
+    Full,
+    /// The input ended before that.
+    Ended,
+    /// Reading failed before that.
+    Failed(io::Error),
+}
+
+/// What bytes come from: any reader, or memory.
+pub trait Source {
+    // The bytes that are left, where they are known.
+    ghost left: { Self → Option (List ℕ) };
+
+    // Whether a call can fail though the bytes are there.
+    ghost can_fail: { Bool };
+
+    /// Fills the buffer as bytes come. Where that fails, some may have been taken.
+    fn fill(&mut self, buf: &mut [u8]) -> Filled
+        ensures { Fills can_fail (left self.old) (left self.new) result buf.new };
+}
+
+/// What bytes go to: any writer, or memory.
+pub trait Sink {
+    // The bytes that it was given, where they are known.
+    ghost held: { Self → Option (List ℕ) };
+
+    // How many more bytes it surely takes, where that is known.
+    ghost room: { Self → Option ℕ };
+
+    /// Gives all of the bytes. Where that fails, a beginning of them may have been given.
+    ///
+    /// A writer that takes no byte is an error of the kind WriteZero.
+    fn send(&mut self, bytes: &[u8]) -> io::Result<()>
+        ensures ok { OnOk result (Appends (held self.old) (held self.new) bytes.now) }
+        ensures err { OnErr result (AppendsFront (held self.old) (held self.new) bytes.now) }
+        ensures room { OnOk result (UsesRoom (room self.old) (room self.new) (length bytes.now)) }
+        ensures tight { OnErr result (IsTight (room self.old) (length bytes.now)) };
+}
+
+impl<R: Read> Source for R {
+    ghost left = { λ r. R.remaining r };
+
+    ghost can_fail = { true };
+
+    fn fill(&mut self, buf: &mut [u8]) -> Filled {
+        fill_from(self, buf)
+    }
+}
+
+impl<W: Write> Sink for W {
+    ghost held = { λ w. W.contents w };
+
+    ghost room = { λ _. None };
+
+    fn send(&mut self, bytes: &[u8]) -> io::Result<()> {
+        send_to(self, bytes)
+    }
+}
+
+/// Bytes in memory, as a source: it gives bytes as long as they are there.
+#[derive(Drop)]
+pub struct MemorySource<'a>(pub &'a [u8]);
+
+impl Source for MemorySource<'_> {
+    ghost left = { λ s. Some s.0.now };
+
+    ghost can_fail = { false };
+
+    fn fill(&mut self, buf: &mut [u8]) -> Filled {
+        let all: &[u8] = self.0;
+        if all.len() < buf.len() {
+            return Filled::Ended;
+        }
+        let (front, rest) = all.split_at(buf.len());
+        buf.copy_from_slice(front);
+        self.0 = rest;
+        Filled::Full
+    }
+}
+
+/// A vector, as a sink: it takes bytes as long as it has room, and where it has none it grows.
+#[derive(Drop)]
+pub struct MemorySink<A: Allocator = Global>(pub Vec<u8, A>);
+
+impl<A: Allocator> Sink for MemorySink<A> {
+    ghost held = { λ s. Some s.0.items };
+
+    ghost room = { λ s. Some (vec_capacity s.0 - vec_len s.0) };
+
+    /// An error of the kind OutOfMemory where there is no room and growth is refused.
+    fn send(&mut self, bytes: &[u8]) -> io::Result<()> {
+        self.0.extend_from_slice(bytes)?;
+        Ok(())
+    }
+}
+
+/// One read. Interrupted, it tries again, as often as a 64-bit count allows.
+pub fn read_some<R: Read>(reader: &mut R, buf: &mut [u8]) -> io::Result<usize>
+    ensures bound { ReadsAtMost result buf.new }
+    ensures ok { IfOk result (λ n. Consumes (R.remaining reader.old) (R.remaining reader.new) (take n buf.new)) }
+    ensures end { IfOk result (λ n. n ≡ 0 → 0 < length buf.old → IsAtEnd (R.remaining reader.new)) }
+    ensures err { OnErr result (Keeps (R.remaining reader.old) (R.remaining reader.new)) }
+{
+    for _ in 0..u64::MAX {
+        match reader.read(buf) {
+            Ok(n) => return Ok(n),
+            Err(e) => {
+                if e.kind() != ErrorKind::Interrupted {
+                    return Err(e);
+                }
+            }
+        }
+    }
+    Err(io::Error::from(ErrorKind::Interrupted))
+}
+
+/// One write. Interrupted, it tries again, as often as a 64-bit count allows.
+pub fn write_some<W: Write>(writer: &mut W, bytes: &[u8]) -> io::Result<usize>
+    ensures bound { WritesAtMost result bytes.now }
+    ensures ok { IfOk result (λ n. Appends (W.contents writer.old) (W.contents writer.new) (take n bytes.now)) }
+    ensures err { OnErr result (Keeps (W.contents writer.old) (W.contents writer.new)) }
+{
+    for _ in 0..u64::MAX {
+        match writer.write(bytes) {
+            Ok(n) => return Ok(n),
+            Err(e) => {
+                if e.kind() != ErrorKind::Interrupted {
+                    return Err(e);
+                }
+            }
+        }
+    }
+    Err(io::Error::from(ErrorKind::Interrupted))
+}
+
+// One read into `buf` from `at` on.
+fn read_at<R: Read>(reader: &mut R, buf: &mut [u8], at: usize) -> io::Result<usize>
+    requires { at < length buf.old }
+    ensures front { take at buf.new ≡ take at buf.old }
+    ensures fits { IfOk result (λ n. at + n ≤ length buf.new) }
+    ensures ok { IfOk result (λ n. Consumes (R.remaining reader.old) (R.remaining reader.new) (take n (drop at buf.new))) }
+    ensures end { IfOk result (λ n. n ≡ 0 → IsAtEnd (R.remaining reader.new)) }
+    ensures err { OnErr result (Keeps (R.remaining reader.old) (R.remaining reader.new)) }
+{
+    read_some(reader, &mut buf[at..])
+}
+
+// Fills `buf` as bytes come from a reader.
+fn fill_from<R: Read>(reader: &mut R, buf: &mut [u8]) -> Filled
+    ensures { Fills true (R.remaining reader.old) (R.remaining reader.new) result buf.new }
+{
+    let mut filled = 0;
+    while filled < buf.len() {
+        match read_at(reader, buf, filled) {
+            Ok(0) => return Filled::Ended,
+            Ok(n) => filled += n,
+            Err(e) => return Filled::Failed(e),
+        }
+    }
+    Filled::Full
+}
+
+// Writes all of `bytes`, or a front of them where the writer fails or takes no byte.
+fn send_to<W: Write>(writer: &mut W, bytes: &[u8]) -> io::Result<()>
+    ensures ok { OnOk result (Appends (W.contents writer.old) (W.contents writer.new) bytes.now) }
+    ensures err { OnErr result (AppendsFront (W.contents writer.old) (W.contents writer.new) bytes.now) }
+{
+    let mut sent = 0;
+    while sent < bytes.len() {
+        match write_some(writer, &bytes[sent..]) {
+            Ok(0) => return Err(io::Error::from(ErrorKind::WriteZero)),
+            Ok(n) => sent += n,
+            Err(e) => return Err(e),
+        }
+    }
+    Ok(())
+}
+
+/// Fills the buffer.
+///
+/// IoError of the kind UnexpectedEof where the input ends before that, and of the reader's kind
+/// where reading fails.
+pub fn fill_all<S: Source>(source: &mut S, buf: &mut [u8]) -> Result<(), Error>
+    ensures { FillsAll S.can_fail (S.left source.old) (S.left source.new) buf.new result }
+{
+    match source.fill(buf) {
+        Filled::Full => Ok(()),
+        Filled::Ended => Err(Error::IoError(io::Error::from(ErrorKind::UnexpectedEof))),
+        Filled::Failed(e) => Err(Error::IoError(e)),
+    }
+}
+
+/// The most bytes, 65,536, by which a buffer grows at once.
+pub const PIECE: usize = 65_536;
+
+// `more` zeros after the bytes.
+fn grow<A: Allocator>(bytes: &mut Vec<u8, A>, more: usize) -> Result<(), AllocError>
+    requires { vec_len bytes.old + more < 2 ^ 64 }
+    ensures len { OnOk result (vec_len bytes.new ≡ vec_len bytes.old + more) }
+    ensures front { OnOk result (take (vec_len bytes.old) bytes.new.items ≡ bytes.old.items) }
+{
+    bytes.reserve_exact(more)?;
+    bytes.resize(bytes.len() + more, 0)
+}
+
+// Fills the bytes from `at` on.
+fn fill_rest<S: Source, A: Allocator>(source: &mut S, bytes: &mut Vec<u8, A>, at: usize) -> Filled
+    requires { at ≤ vec_len bytes.old }
+    ensures len { vec_len bytes.new ≡ vec_len bytes.old }
+    ensures front { take at bytes.new.items ≡ take at bytes.old.items }
+    ensures rest { Fills S.can_fail (S.left source.old) (S.left source.new) result (drop at bytes.new.items) }
+{
+    let all = bytes.as_mut_slice();
+    source.fill(&mut all[at..])
+}
+
+/// Takes `len` bytes, in memory that grows by pieces as they come.
+///
+/// IoError of the kind UnexpectedEof where the input ends before that, and of the reader's kind
+/// where reading fails; OutOfMemory where memory is refused.
+pub fn take_bytes<S: Source, A: Allocator>(
+    alloc: A,
+    source: &mut S,
+    len: usize,
+) -> Result<Vec<u8, A>, Error>
+    ensures { Takes vec_items S.can_fail (S.left source.old) (S.left source.new) len result }
+{
+    let mut bytes = Vec::new(alloc);
+    while bytes.len() < len {
+        let at = bytes.len();
+        grow(&mut bytes, (len - at).min(PIECE))?;
+        match fill_rest(source, &mut bytes, at) {
+            Filled::Full => {}
+            Filled::Ended => {
+                return Err(Error::IoError(io::Error::from(ErrorKind::UnexpectedEof)));
+            }
+            Filled::Failed(e) => return Err(Error::IoError(e)),
+        }
+    }
+    Ok(bytes)
+}
