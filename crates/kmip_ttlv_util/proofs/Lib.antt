@@ -1,0 +1,9 @@
+pub mod Entries
+pub mod Loop
+pub mod Message
+pub mod PlaceLemmas
+pub mod Rest
+pub mod Stack
+pub mod Texts
+pub mod Unique
+pub mod Walked

@@ -1,0 +1,5 @@
+pub mod Outlines
+pub mod Traces
+pub mod Diagnostics
+pub mod Answer
+pub mod Printers

@@ -1,0 +1,217 @@
+//! The printers on messages and on malformed bytes.
+
+use crate::PrettyPrinter;
+use std::alloc::Global;
+use std::test::Fail;
+
+const PAST: &str = "69[6Ai\nERROR: TTLV structure content exceeds the structure length.";
+
+const VERSION: &str =
+    "420069010000002042006A0200000004000000010000000042006B02000000040000000000000000";
+
+const EMPTY_FIRST: &str = "420069010000001842006A010000000042006B02000000040000000000000000";
+
+const NESTED: &str = "420069010000001842006A010000001042006B02000000040000000000000000";
+
+const SHORT: &str = "420069010000001042006A010000000042006B02000000040000000000000000";
+
+const CREATE_RESPONSE: &str =
+    "42007B01000000C042007A0100000048420069010000002042006A0200000004000000010000000042006B020000000400000000000000004200920900000008000000004AFBE7C242000D0200000004000000010000000042000F010000006842005C0500000004000000010000000042007F0500000004000000000000000042007C010000004042005705000000040000000200000000420094070000002466633838333364652D373064322D346563652D623036332D66656465336133633539666500000000";
+
+const CREATE_REQUEST: &str = "420078010000012042007701000000384200690100000020\
+42006A0200000004000000010000000042006B02000000040000000000000000\
+42000D0200000004000000010000000042000F01000000D8\
+42005C0500000004000000010000000042007901000000C0\
+4200570500000004000000020000000042009101000000A84200080100000030\
+42000A070000001743727970746F6772617068696320416C676F726974686D00\
+42000B050000000400000003000000004200080100000030\
+42000A070000001443727970746F67726170686963204C656E67746800000000\
+42000B020000000400000080000000004200080100000030\
+42000A070000001843727970746F67726170686963205573616765204D61736B\
+42000B02000000040000000C00000000";
+
+fn byte_of(c: u8) -> u8 {
+    match c {
+        b'0'..=b'9' => c - b'0',
+        b'A'..=b'F' => c - b'A' + 10,
+        _ => 0,
+    }
+}
+
+fn bytes_of(alloc: Global, hex: &str) -> Result<Vec<u8>, Fail> {
+    let mut bytes = Vec::new(alloc);
+    let digits = hex.as_bytes();
+    for i in 0..digits.len() / 2 {
+        bytes.push(byte_of(digits[2 * i]) * 16 + byte_of(digits[2 * i + 1]))?;
+    }
+    Ok(bytes)
+}
+
+fn printer(alloc: Global, prefix: &str, closed: bool) -> Result<PrettyPrinter, Fail> {
+    let mut printer = PrettyPrinter::new(alloc);
+    printer.with_tag_prefix(String::from_str(alloc, prefix)?);
+    printer.with_closed_empty(closed);
+    Ok(printer)
+}
+
+fn shows(
+    alloc: Global,
+    closed: bool,
+    prefix: &str,
+    hex: &str,
+    text: &str,
+    count: usize,
+) -> Result<bool, Fail> {
+    let printer = printer(alloc, prefix, closed)?;
+    let bytes = bytes_of(alloc, hex)?;
+    let (counted, items) = printer.to_diag_counted(&bytes)?;
+    let shown = printer.clone()?.to_diag_string(&bytes)?;
+    Ok(shown.as_str() == text && counted.as_str() == text && items == count)
+}
+
+#[test]
+fn diagnostics(rt: HostRuntime) -> Result<(), Fail> {
+    assert!(rt; shows(rt.alloc(), false, "4200", EMPTY_FIRST, "69[6A[6Bi]]", 3)?);
+    assert!(rt; shows(rt.alloc(), false, "4200", NESTED, "69[6A[6Bi]]", 3)?);
+    assert!(rt; shows(rt.alloc(), false, "4200", "4200690100000000", "69[ERR", 2)?);
+    assert!(rt;
+        shows(
+            rt.alloc(),
+            false,
+            "4200",
+            "420069010000000842006A02000000040000000100000000",
+            PAST,
+            2
+        )?
+    );
+    assert!(rt;
+        shows(
+            rt.alloc(),
+            false,
+            "",
+            "AAAAAA0100000010BBBBBB07000000016100000000000000",
+            "AAAAAA[BBBBBBt]",
+            2
+        )?
+    );
+    assert!(rt;
+        shows(
+            rt.alloc(),
+            false,
+            "",
+            "AAAAAA0100000010BBBBBB07000000036162630000000000",
+            "AAAAAA[BBBBBBt]",
+            2
+        )?
+    );
+    assert!(rt;
+        shows(
+            rt.alloc(),
+            false,
+            "",
+            "AAAAAA0100000018BBBBBB070000000961626364656667686900000000000000",
+            "AAAAAA[BBBBBBt]",
+            2
+        )?
+    );
+    assert!(rt;
+        shows(
+            rt.alloc(),
+            false,
+            "",
+            "AAAAAA0100000010BBBBBB0700000001FF00000000000000",
+            "AAAAAA[ERR",
+            2
+        )?
+    );
+    assert!(rt; shows(rt.alloc(), false, "4200", VERSION, "69[6Ai6Bi]", 3)?);
+    assert!(rt;
+        shows(
+            rt.alloc(),
+            false,
+            "4200",
+            "42006A02000000040000000100000000",
+            "6AiERR",
+            2
+        )?
+    );
+    assert!(rt; shows(rt.alloc(), false, "4200", SHORT, "69[6A[6BiERR", 4)?);
+    assert!(rt; shows(rt.alloc(), false, "4200", "", "ERR", 1)?);
+    assert!(rt;
+        shows(
+            rt.alloc(),
+            false,
+            "",
+            "AAAAAA01FFFFFFFFBBBBBB02000000040000000300000000",
+            "AAAAAA[BBBBBBiERR",
+            3
+        )?
+    );
+    assert!(rt;
+        shows(
+            rt.alloc(),
+            false,
+            "",
+            "AAAAAA0100000010BBBBBB07FFFFFFFF6100000000000000",
+            "AAAAAA[ERR",
+            2
+        )?
+    );
+    Ok(())
+}
+
+#[test]
+fn prefixes(rt: HostRuntime) -> Result<(), Fail> {
+    let flat = "AAAAAA0100000010BBBBBB02000000040000000300000000";
+    assert!(rt; shows(rt.alloc(), false, "AAAAAA", flat, "[BBBBBBi]", 2)?);
+    assert!(rt; shows(rt.alloc(), false, "aaaaaa", flat, "AAAAAA[BBBBBBi]", 2)?);
+    assert!(rt;
+        shows(
+            rt.alloc(),
+            false,
+            "4200",
+            "420069010000001054000102000000040000000100000000",
+            "69[540001i]",
+            2
+        )?
+    );
+    assert!(rt;
+        shows(
+            rt.alloc(),
+            false,
+            "4200",
+            "420069010000001042005C05000000040000001400000000",
+            "69[5Ce14:]",
+            2
+        )?
+    );
+    assert!(rt;
+        shows(
+            rt.alloc(),
+            false,
+            "",
+            "AAAAAA0100000010BBBBBB0A000000040000000100000000",
+            "AAAAAA[BBBBBBn]",
+            2
+        )?
+    );
+    Ok(())
+}
+
+#[test]
+fn closed_empty_structures(rt: HostRuntime) -> Result<(), Fail> {
+    assert!(rt; shows(rt.alloc(), true, "4200", EMPTY_FIRST, "69[6A[]6Bi]", 3)?);
+    assert!(rt; shows(rt.alloc(), true, "4200", NESTED, "69[6A[6Bi]]", 3)?);
+    assert!(rt; shows(rt.alloc(), true, "4200", "4200690100000000", "69[]", 1)?);
+    assert!(rt;
+        shows(
+            rt.alloc(),
+            true,
+            "4200",
+            SHORT,
+            "69[6A[]6Bi\nERROR: TTLV structure content exceeds the structure length.",
+            3
+        )?
+    );
+    Ok(())
+}
