@@ -1,6 +1,7 @@
 //! The printer: a prefix, names of tags and a setting, and the texts that it makes with them.
 
 ghost use Rattle.std.specs.Prelude.{◌≡◌, ℕ, ◌+◌, ◌/◌, ◌≤◌, ◌<◌, Bool, false, Option, None, List, [], length, IfOk, string_bytes};
+ghost use Rattle.std.specs.Borrow.{sem};
 ghost use Rattle.kmip_ttlv_util.specs.Traces.{trace};
 ghost use Rattle.kmip_ttlv_util.specs.Diagnostics.{hostile};
 ghost use Rattle.kmip_ttlv_util.specs.Answer.{IsExact};
@@ -28,6 +29,8 @@ pub struct PrettyPrinter<A: Allocator = Global> {
 }
 
 impl<A: Allocator + Copy> PrettyPrinter<A> {
+    ghost use Rattle.kmip_ttlv_util.specs.Lending.{stays};
+
     /// A printer with an empty prefix and no names, under which empty structures stay open.
     pub fn new(alloc: A) -> PrettyPrinter<A>
         ensures prefix { prefix_of result ≡ [] }
@@ -43,6 +46,7 @@ impl<A: Allocator + Copy> PrettyPrinter<A> {
 
     /// Sets the hexadecimal digits that diagnostics leave out where a tag begins with them.
     pub fn with_tag_prefix(&mut self, prefix: String<A>) -> &Self
+        ensures* stays { sem 𝓛 (stays A.row A.Allocator self.entry result) }
         ensures prefix { prefix_of result.now ≡ string_bytes prefix }
         ensures names { names_of result.now ≡ names_of self.old }
         ensures setting { closes_empty result.now ≡ closes_empty self.old }
@@ -53,6 +57,7 @@ impl<A: Allocator + Copy> PrettyPrinter<A> {
 
     /// Sets the names that readable texts print beside tags.
     pub fn with_tag_map(&mut self, names: TagMap<A>) -> &Self
+        ensures* stays { sem 𝓛 (stays A.row A.Allocator self.entry result) }
         ensures prefix { prefix_of result.now ≡ prefix_of self.old }
         ensures names { names_of result.now ≡ name_in names.entry }
         ensures setting { closes_empty result.now ≡ closes_empty self.old }
@@ -64,6 +69,7 @@ impl<A: Allocator + Copy> PrettyPrinter<A> {
     /// Sets whether an empty structure is closed at once, as any other is at its end. If not, it
     /// stays open until the structure around it ends.
     pub fn with_closed_empty(&mut self, closed: bool) -> &Self
+        ensures* stays { sem 𝓛 (stays A.row A.Allocator self.entry result) }
         ensures prefix { prefix_of result.now ≡ prefix_of self.old }
         ensures names { names_of result.now ≡ names_of self.old }
         ensures setting { closes_empty result.now ≡ closed }
