@@ -3,4 +3,7 @@ pub mod Traces
 pub mod Diagnostics
 pub mod Answer
 pub mod Lending
+pub mod Lines
+pub mod Names
 pub mod Printers
+pub mod Undiag

@@ -8,9 +8,12 @@
 
 mod diagnostic;
 mod item;
+mod lines;
 mod printer;
+mod undiag;
 mod walk;
 
+pub use lines::TagMap;
 pub use printer::PrettyPrinter;
 
 #[cfg(test)]

@@ -5,16 +5,15 @@ ghost use Rattle.std.specs.Borrow.{sem};
 ghost use Rattle.kmip_ttlv_util.specs.Traces.{trace};
 ghost use Rattle.kmip_ttlv_util.specs.Diagnostics.{hostile};
 ghost use Rattle.kmip_ttlv_util.specs.Answer.{IsExact};
-ghost use Rattle.kmip_ttlv_util.specs.Printers.{prefix_of, names_of, name_in, closes_empty};
+ghost use Rattle.kmip_ttlv_util.specs.Printers.{prefix_of, names_of, closes_empty};
+ghost use Rattle.kmip_ttlv_util.specs.Names.{name_in};
+ghost use Rattle.kmip_ttlv_util.specs.Undiag.{undiag, IsReadBack};
 
 use crate::diagnostic::diagnose;
-use kmip_ttlv_types::TtlvTag;
+use crate::lines::TagMap;
+use crate::undiag::read_back;
 use std::alloc::{AllocError, Allocator, Global};
 use std::collections::HashMap;
-use std::hash::{BuildHasherDefault, FoldHasher};
-
-/// The names of tags, for [`PrettyPrinter::with_tag_map`].
-pub type TagMap<A = Global> = HashMap<TtlvTag, &'static str, BuildHasherDefault<FoldHasher>, A>;
 
 /// Prints TTLV bytes as readable text and as redacted diagnostics, and reads diagnostics back.
 ///
@@ -120,5 +119,22 @@ impl<A: Allocator + Copy> PrettyPrinter<A> {
     {
         let (text, _) = self.to_diag_counted(bytes)?;
         Ok(text)
+    }
+
+    /// A diagnostic read back as lines: of each item its tag and type, of an enumeration its value,
+    /// and `<redacted>` in place of any other.
+    ///
+    /// Reading stops where the text is no diagnostic, and gives the lines up to there. It takes time
+    /// linear in the text and in what is written.
+    pub fn from_diag_string(&self, text: &str) -> Result<String<A>, AllocError>
+        ensures undiag { IfOk result (λ r. string_bytes r ≡ undiag (names_of self.now) (prefix_of self.now) text.now) }
+        ensures redacted { IfOk result (λ r. IsReadBack (names_of self.now) (prefix_of self.now) text.now (string_bytes r)) }
+    {
+        read_back(
+            *self.prefix.allocator(),
+            self.prefix.as_str(),
+            &self.names,
+            text,
+        )
     }
 }

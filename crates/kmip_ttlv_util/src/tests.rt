@@ -1,7 +1,9 @@
 //! The printers on messages and on malformed bytes.
 
 use crate::PrettyPrinter;
+use kmip_ttlv_types::TtlvTag;
 use std::alloc::Global;
+use std::collections::HashMap;
 use std::test::Fail;
 
 const PAST: &str = "69[6Ai\nERROR: TTLV structure content exceeds the structure length.";
@@ -212,6 +214,115 @@ fn closed_empty_structures(rt: HostRuntime) -> Result<(), Fail> {
             "69[6A[]6Bi\nERROR: TTLV structure content exceeds the structure length.",
             3
         )?
+    );
+    Ok(())
+}
+
+fn reads(alloc: Global, prefix: &str, text: &str, lines: &str) -> Result<bool, Fail> {
+    let printer = printer(alloc, prefix, false)?;
+    let read = printer.from_diag_string(text)?;
+    Ok(read.as_str() == lines)
+}
+
+#[test]
+fn read_back(rt: HostRuntime) -> Result<(), Fail> {
+    assert!(rt; reads(rt.alloc(), "4200", "]", "")?);
+    assert!(rt;
+        reads(
+            rt.alloc(),
+            "4200",
+            "24e:",
+            "Tag: 0x420024, Type: Enumeration (0x05)"
+        )?
+    );
+    assert!(rt;
+        reads(
+            rt.alloc(),
+            "4200",
+            "69[ERR",
+            "Tag: 0x420069, Type: Structure (0x01), Data: \n  Tag: 0x4200E"
+        )?
+    );
+    assert!(rt;
+        reads(
+            rt.alloc(),
+            "4200",
+            "69[",
+            "Tag: 0x420069, Type: Structure (0x01)"
+        )?
+    );
+    assert!(rt;
+        reads(
+            rt.alloc(),
+            "4200",
+            "24eFF:",
+            "Tag: 0x420024, Type: Enumeration (0x05), Data: FF"
+        )?
+    );
+    assert!(rt;
+        reads(
+            rt.alloc(),
+            "4200",
+            "69[]]]6Ai",
+            "Tag: 0x420069, Type: Structure (0x01), Data:"
+        )?
+    );
+    assert!(rt; reads(rt.alloc(), "4200", "69\u{e9}", "Tag: 0x420069")?);
+    assert!(rt; reads(rt.alloc(), "4200", "\u{e9}", "Tag: 0x4200")?);
+    assert!(rt; reads(rt.alloc(), "", "\u{e9}", "")?);
+    assert!(rt; reads(rt.alloc(), "", "12i", "Tag: 0x0012, Type: Integer (0x02)")?);
+    assert!(rt;
+        reads(
+            rt.alloc(),
+            "4200",
+            "6t]",
+            "Tag: 0x42006, Type: TextString (0x07), Data: <redacted>"
+        )?
+    );
+    assert!(rt;
+        reads(
+            rt.alloc(),
+            "4200",
+            "6t",
+            "Tag: 0x42006, Type: TextString (0x07)"
+        )?
+    );
+    assert!(rt;
+        reads(
+            rt.alloc(),
+            "",
+            "AAAAAA[BBBBBBn]",
+            "Tag: 0xAAAAAA, Type: Structure (0x01), Data: \n  Tag: 0xBBBBBB, Type: Interval (0x0A), Data: <redacted>"
+        )?
+    );
+    assert!(rt;
+        reads(
+            rt.alloc(),
+            "4200",
+            "69[6A[]6Bi]",
+            "Tag: 0x420069, Type: Structure (0x01), Data: \n  Tag: 0x42006A, Type: Structure (0x01), Data: \n  Tag: 0x42006B, Type: Integer (0x02), Data: <redacted>"
+        )?
+    );
+    Ok(())
+}
+
+#[test]
+fn read_back_with_names(rt: HostRuntime) -> Result<(), Fail> {
+    let mut names = HashMap::new(rt.alloc());
+    if let Some(tag) = TtlvTag::from_number(0x42_0069) {
+        names.insert(tag, "Protocol Version")?;
+    }
+    let mut printer = printer(rt.alloc(), "4200", false)?;
+    printer.with_tag_map(names);
+    let text = printer.from_diag_string("69i")?;
+    assert_eq!(rt;
+        text.as_str(),
+        "Tag: Protocol Version (0x420069), Type: Integer (0x02)"
+    );
+    let text = printer.clone()?.from_diag_string("69i")?;
+    assert_eq!(rt;
+        text.as_str(),
+        "Tag: Protocol Version (0x420069), Type: Integer (0x02)"
     );
     Ok(())
 }
