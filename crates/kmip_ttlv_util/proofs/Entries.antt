@@ -1,5 +1,5 @@
 -- Entries at places.
-use Rattle.std.proofs.Common.{◌≡◌, ◌≢◌, ℕ, zero, suc, ◌+◌, ◌-◌, ◌<◌, ◌≤◌, Bool, true, false, ◌&&◌, cond, eqb, leb, List, [], ◌∷◌, ◌++◌, length, take, drop, get_or, Option, Some, None, refl, sym, ap, subst, ◌∙◌, arith, add-zero}
+use Rattle.std.proofs.Common.{Bor, ◌≡◌, ◌≢◌, ℕ, zero, suc, ◌+◌, ◌-◌, ◌<◌, ◌≤◌, Bool, true, false, ◌&&◌, cond, eqb, leb, List, [], ◌∷◌, ◌++◌, length, take, drop, get_or, Option, Some, None, refl, sym, ap, subst, ◌∙◌, arith, add-zero}
 use Rattle.std.specs.Int.{w32, from_be_bytes}
 use Rattle.std.proofs.lemmas.List.{get_or-take, get_or-drop, length-take-le, length-drop}
 use Rattle.std.proofs.lemmas.Bool.{eq-eqb, ne_eqb, le-leb, lt-leb}
@@ -138,18 +138,20 @@ module _ (w : List ℕ) (p : ℕ) where
   pub read_structure : type_of (code_at w p) ≡ Some Structure → p + 8 ≤ length w → type_read (length w) p (entry_at w p) ≡ Some Structure
   read_structure code-is le = read_at (Some Structure) code-is ∙ test_true (p + 8) (length w) true Structure le refl
 
-  pub item_structure : (tag n : ℕ) (t : TtlvType) → t ≡ Structure → type_of (code_at w p) ≡ Some t → p + 8 ≤ length w → tag ≡ tag_at w p → n ≡ length_at w p → IsItem w p record { tag = tag; typ = t; length = n; value = None; next = p + 8 }
-  item_structure tag n t is code-is le tag-is len = record {
+  pub item_structure : (tag n : ℕ) (t : TtlvType) (b : Bor (List ℕ)) → t ≡ Structure → type_of (code_at w p) ≡ Some t → p + 8 ≤ length w → tag ≡ tag_at w p → n ≡ length_at w p → IsItem w p record { tag = tag; typ = t; length = n; value = None; content = b; next = p + 8 }
+  item_structure tag n t b is code-is le tag-is len = record {
     typ = read_structure (code-is ∙ ap Some is) le ∙ ap Some (sym is);
     tag = tag-is ∙ sym (entry_tag w p);
     len = len ∙ sym (entry_length w p);
     value = sym (kept_none t (entry_at w p).detail (λ h. let k : Structure ≡ Enumeration = sym is ∙ h in cc));
     next = ap (λ (u : TtlvType). p + extent u n) (sym is);
     within = le;
+    content = λ ne. absurd (ne is);
+    valid = λ ne. absurd (ne is);
   }
 
-  item_leaf : (tag n next : ℕ) (t : TtlvType) (content : List ℕ) (v : Option ℕ) → type_of (code_at w p) ≡ Some t → t ≢ Structure → tag ≡ tag_at w p → n ≡ length_at w p → content ≡ take n (drop (p + 8) w) → next ≡ p + size t n → next ≤ length w → is_valid t content ≡ true → v ≡ kept t (detail_of t content) → IsItem w p record { tag = tag; typ = t; length = n; value = v; next = next }
-  item_leaf tag n next t content v code-is ne tag-is len content-is next-is within good kept-is =
+  item_leaf : (tag n next : ℕ) (t : TtlvType) (b : Bor (List ℕ)) (v : Option ℕ) → type_of (code_at w p) ≡ Some t → t ≢ Structure → tag ≡ tag_at w p → n ≡ length_at w p → b.now ≡ take n (drop (p + 8) w) → next ≡ p + size t n → next ≤ length w → is_valid t b.now ≡ true → v ≡ kept t (detail_of t b.now) → IsItem w p record { tag = tag; typ = t; length = n; value = v; content = b; next = next }
+  item_leaf tag n next t b v code-is ne tag-is len content-is next-is within good kept-is =
       let le : p + size t n ≤ length w = omega arith in
       record {
         typ = read_leaf t n code-is ne len le (ap (is_valid t) (sym content-is) ∙ good);
@@ -158,12 +160,14 @@ module _ (w : List ℕ) (p : ℕ) where
         value = kept-is ∙ ap (λ (c : List ℕ). kept t (detail_of t c)) content-is ∙ ap (kept t) (sym (detail_here t n code-is len le));
         next = next-is ∙ ap (λ (m : ℕ). p + m) (sym (extent_leaf t n ne));
         within = within;
+        content = λ _. content-is;
+        valid = λ _. good;
       }
 
-  pub item_plain : (tag n next : ℕ) (t : TtlvType) (content : List ℕ) → type_of (code_at w p) ≡ Some t → t ≢ Structure → t ≢ Enumeration → tag ≡ tag_at w p → n ≡ length_at w p → content ≡ take n (drop (p + 8) w) → next ≡ p + size t n → next ≤ length w → is_valid t content ≡ true → IsItem w p record { tag = tag; typ = t; length = n; value = None; next = next }
-  item_plain tag n next t content code-is ne plain tag-is len content-is next-is within good = item_leaf tag n next t content None code-is ne tag-is len content-is next-is within good (sym (kept_none t (detail_of t content) plain))
+  pub item_plain : (tag n next : ℕ) (t : TtlvType) (b : Bor (List ℕ)) → type_of (code_at w p) ≡ Some t → t ≢ Structure → t ≢ Enumeration → tag ≡ tag_at w p → n ≡ length_at w p → b.now ≡ take n (drop (p + 8) w) → next ≡ p + size t n → next ≤ length w → is_valid t b.now ≡ true → IsItem w p record { tag = tag; typ = t; length = n; value = None; content = b; next = next }
+  item_plain tag n next t b code-is ne plain tag-is len content-is next-is within good = item_leaf tag n next t b None code-is ne tag-is len content-is next-is within good (sym (kept_none t (detail_of t b.now) plain))
 
-  pub item_enumeration : (tag n next v : ℕ) (t : TtlvType) (content : List ℕ) → type_of (code_at w p) ≡ Some t → t ≡ Enumeration → tag ≡ tag_at w p → n ≡ length_at w p → content ≡ take n (drop (p + 8) w) → next ≡ p + size t n → next ≤ length w → is_valid t content ≡ true → v ≡ from_be_bytes w32 content → IsItem w p record { tag = tag; typ = t; length = n; value = Some v; next = next }
-  item_enumeration tag n next v t content code-is is tag-is len content-is next-is within good value-is =
-      item_leaf tag n next t content (Some v) code-is (λ h. let k : Enumeration ≡ Structure = sym is ∙ h in cc) tag-is len content-is next-is within good
-      (ap Some value-is ∙ sym (kept_enumeration content (ap (λ (u : TtlvType). is_valid u content) (sym is) ∙ good)) ∙ ap (λ (u : TtlvType). kept u (detail_of u content)) (sym is))
+  pub item_enumeration : (tag n next v : ℕ) (t : TtlvType) (b : Bor (List ℕ)) → type_of (code_at w p) ≡ Some t → t ≡ Enumeration → tag ≡ tag_at w p → n ≡ length_at w p → b.now ≡ take n (drop (p + 8) w) → next ≡ p + size t n → next ≤ length w → is_valid t b.now ≡ true → v ≡ from_be_bytes w32 b.now → IsItem w p record { tag = tag; typ = t; length = n; value = Some v; content = b; next = next }
+  item_enumeration tag n next v t b code-is is tag-is len content-is next-is within good value-is =
+      item_leaf tag n next t b (Some v) code-is (λ h. let k : Enumeration ≡ Structure = sym is ∙ h in cc) tag-is len content-is next-is within good
+      (ap Some value-is ∙ sym (kept_enumeration b.now (ap (λ (u : TtlvType). is_valid u b.now) (sym is) ∙ good)) ∙ ap (λ (u : TtlvType). kept u (detail_of u b.now)) (sym is))

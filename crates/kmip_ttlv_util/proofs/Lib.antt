@@ -5,6 +5,7 @@ pub mod Message
 pub mod Padding
 pub mod Parts
 pub mod PlaceLemmas
+pub mod PrettyTexts
 pub mod ReadBack
 pub mod Reading
 pub mod Rest

@@ -1,5 +1,7 @@
 -- What the printer's calls answer.
-use Rattle.std.specs.Prelude.{◌≡◌, ℕ, Bool, true, false, ◌+◌, ◌<◌, ◌≤◌, List, [], ◌∷◌, ◌↔◌, length, reverse, Option, Some, None}
+use Rattle.std.specs.Prelude.{◌≡◌, ◌≢◌, ℕ, Bool, true, false, ◌+◌, ◌<◌, ◌≤◌, List, [], ◌∷◌, ◌↔◌, length, take, drop, reverse, Option, Some, None}
+use Rattle.kmip_ttlv_types.specs.declared.typ.TtlvType.TheVariants.{Structure}
+use Rattle.kmip_ttlv_types.specs.Leaves.{is_valid}
 use Rattle.kmip_ttlv_types.specs.Places.{tag_at, length_at}
 use Rattle.kmip_ttlv_types.specs.Trees.{Tree, IsTreeText, IsStructure, HasNoEmpty}
 use Rattle.kmip_ttlv_util.specs.declared.item.Item.{Item}
@@ -17,6 +19,8 @@ pub record IsItem (bytes : List ℕ) (p : ℕ) (i : Item) : Type 0 where
   pub value : i.value ≡ kept i.typ (entry_at bytes p).detail
   pub next : i.next ≡ p + extent i.typ i.length
   pub within : i.next ≤ length bytes
+  pub content : i.typ ≢ Structure → i.content.now ≡ take i.length (drop (p + 8) bytes)
+  pub valid : i.typ ≢ Structure → is_valid i.typ i.content.now ≡ true
 
 -- where a walk stands; the stack's last end is the innermost
 abbrev pub place_of : {A : Type 0} → Walk A → Place

@@ -5,5 +5,6 @@ pub mod Answer
 pub mod Lending
 pub mod Lines
 pub mod Names
+pub mod Pretty
 pub mod Printers
 pub mod Undiag

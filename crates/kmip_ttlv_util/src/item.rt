@@ -14,7 +14,7 @@ use std::str;
 
 /// An item that can be read: of a structure its header, of a leaf the whole with its padding.
 #[derive(Clone, Copy)]
-pub struct Item {
+pub struct Item<'b> {
     /// Its tag.
     pub tag: TtlvTag,
     /// Its type.
@@ -23,6 +23,8 @@ pub struct Item {
     pub length: u32,
     /// An enumeration's value.
     pub value: Option<u32>,
+    /// The content of a leaf, which is valid; of a structure nothing.
+    pub content: &'b [u8],
     /// Where the next item stands, in bytes from the first.
     pub next: usize,
 }
@@ -106,7 +108,7 @@ fn is_valid(typ: TtlvType, content: &[u8]) -> bool
 }
 
 /// The item at a place, in bytes from the first, if it can be read.
-pub fn item_at(bytes: &[u8], pos: usize) -> Option<Item>
+pub fn item_at(bytes: &[u8], pos: usize) -> Option<Item<'_>>
     requires { pos ≤ length bytes.now }
     ensures some { IfSome result (λ i. IsItem bytes.now pos i) }
     ensures none { IfNone result (type_read (length bytes.now) pos (entry_at bytes.now pos) ≡ None) }
@@ -125,6 +127,7 @@ pub fn item_at(bytes: &[u8], pos: usize) -> Option<Item>
             typ,
             length,
             value: None,
+            content: &[],
             next: pos + 8,
         });
     }
@@ -141,6 +144,7 @@ pub fn item_at(bytes: &[u8], pos: usize) -> Option<Item>
             typ,
             length,
             value: Some(value),
+            content,
             next,
         });
     }
@@ -149,6 +153,7 @@ pub fn item_at(bytes: &[u8], pos: usize) -> Option<Item>
         typ,
         length,
         value: None,
+        content,
         next,
     })
 }

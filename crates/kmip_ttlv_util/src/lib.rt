@@ -9,6 +9,7 @@
 mod diagnostic;
 mod item;
 mod lines;
+mod pretty;
 mod printer;
 mod undiag;
 mod walk;

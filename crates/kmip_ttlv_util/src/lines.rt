@@ -23,6 +23,13 @@ fn push_indent<A: Allocator>(out: &mut String<A>, depth: usize) -> Result<(), Al
     Ok(())
 }
 
+/// `0x` and at least six digits.
+pub fn push_six<A: Allocator>(out: &mut String<A>, n: u64) -> Result<(), AllocError>
+    ensures { OnOk result (string_bytes out.new ≡ string_bytes out.old ++ hex_padded 6 n) }
+{
+    write!(out, "0x{n:06X}")
+}
+
 /// `0x` and at least four digits.
 fn push_four<A: Allocator>(out: &mut String<A>, n: u32) -> Result<(), AllocError>
     ensures { OnOk result (string_bytes out.new ≡ string_bytes out.old ++ hex_padded 4 n) }

@@ -5,12 +5,14 @@ ghost use Rattle.std.specs.Borrow.{sem};
 ghost use Rattle.kmip_ttlv_util.specs.Traces.{trace};
 ghost use Rattle.kmip_ttlv_util.specs.Diagnostics.{hostile};
 ghost use Rattle.kmip_ttlv_util.specs.Answer.{IsExact};
+ghost use Rattle.kmip_ttlv_util.specs.Pretty.{IsPrinted, IsPretty};
 ghost use Rattle.kmip_ttlv_util.specs.Printers.{prefix_of, names_of, closes_empty};
 ghost use Rattle.kmip_ttlv_util.specs.Names.{name_in};
 ghost use Rattle.kmip_ttlv_util.specs.Undiag.{undiag, IsReadBack};
 
 use crate::diagnostic::diagnose;
 use crate::lines::TagMap;
+use crate::pretty::print;
 use crate::undiag::read_back;
 use std::alloc::{AllocError, Allocator, Global};
 use std::collections::HashMap;
@@ -88,6 +90,23 @@ impl<A: Allocator + Copy> PrettyPrinter<A> {
             names: self.names.clone()?,
             closed_empty: self.closed_empty,
         })
+    }
+
+    /// Any bytes as readable text: a line for each item, two spaces in for each structure around.
+    ///
+    /// The line `WARNING: TTLV structure length is zero` follows an empty structure that stays open.
+    /// Where an item can't be read the text ends with `ERROR: ` and some words, and where content
+    /// exceeds its structure's length with a line that says so.
+    pub fn to_string(&self, bytes: &[u8]) -> Result<String<A>, AllocError>
+        ensures printed { IfOk result (λ r. IsPrinted (names_of self.now) (closes_empty self.now) bytes.now (string_bytes r)) }
+        ensures pretty { IfOk result (λ r. IsPretty (names_of self.now) (closes_empty self.now) bytes.now (string_bytes r)) }
+    {
+        print(
+            *self.prefix.allocator(),
+            &self.names,
+            self.closed_empty,
+            bytes,
+        )
     }
 
     /// The diagnostic of any bytes, and how many items were tried.

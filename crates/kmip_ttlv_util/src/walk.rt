@@ -55,6 +55,14 @@ impl<A: Allocator> Walk<A> {
         }
     }
 
+    /// How many structures are open.
+    pub fn depth(&self) -> usize
+        requires { self.now.endless + length self.now.ends.items < 2 ^ 64 }
+        ensures { result ≡ self.now.endless + length self.now.ends.items }
+    {
+        self.endless + self.ends.as_slice().len()
+    }
+
     /// Finds what comes next, and takes away an end that is reached.
     pub fn next(&mut self) -> Next
         ensures comes { Comes (place_of self.old) (place_of self.new) result }

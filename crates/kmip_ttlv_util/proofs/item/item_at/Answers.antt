@@ -19,7 +19,7 @@ returns-in_default-clause-none c = read_none c.args.bytes.now c.args.pos (sym c.
 pub returns-then-eq-clause-some : goal.returns-then-eq-clause-some
 returns-then-eq-clause-some c =
     let is : c.in-Some.typ ≡ Structure = search rules in
-    item_structure c.args.bytes.now c.args.pos c.tag_at-tag.result c.length_at-length.result c.in-Some.typ is (sym c.type_at.ensures ∙ c.in-Some.is) (omega arith) c.tag_at-tag.ensures c.length_at-length.ensures
+    item_structure c.args.bytes.now c.args.pos c.tag_at-tag.result c.length_at-length.result c.in-Some.typ _ is (sym c.type_at.ensures ∙ c.in-Some.is) (omega arith) c.tag_at-tag.ensures c.length_at-length.ensures
 
 pub returns-in_default-content_at-clause-none : goal.returns-in_default-content_at-clause-none
 returns-in_default-content_at-clause-none c =
@@ -38,7 +38,7 @@ returns-then-eq-2-clause-some c =
     let is : c.in-Some.typ ≡ Enumeration = search rules in
     let h = c.in-Some-content_at.ensures.some in
     let good : is_valid c.in-Some.typ c.in-Some-content_at.content.now ≡ true = search rules in
-    item_enumeration c.args.bytes.now c.args.pos c.tag_at-tag.result c.length_at-length.result c.in-Some-content_at.next c.from_be_bytes-value.result c.in-Some.typ c.in-Some-content_at.content.now (sym c.type_at.ensures ∙ c.in-Some.is) is c.tag_at-tag.ensures c.length_at-length.ensures h.0 h.1 h.2 good c.from_be_bytes-value.ensures
+    item_enumeration c.args.bytes.now c.args.pos c.tag_at-tag.result c.length_at-length.result c.in-Some-content_at.next c.from_be_bytes-value.result c.in-Some.typ c.in-Some-content_at.content (sym c.type_at.ensures ∙ c.in-Some.is) is c.tag_at-tag.ensures c.length_at-length.ensures h.0 h.1 h.2 good c.from_be_bytes-value.ensures
 
 pub returns-clause-some : goal.returns-clause-some
 returns-clause-some c =
@@ -46,4 +46,4 @@ returns-clause-some c =
     let plain : c.in-Some.typ ≢ Enumeration = search rules in
     let h = c.in-Some-content_at.ensures.some in
     let good : is_valid c.in-Some.typ c.in-Some-content_at.content.now ≡ true = search rules in
-    item_plain c.args.bytes.now c.args.pos c.tag_at-tag.result c.length_at-length.result c.in-Some-content_at.next c.in-Some.typ c.in-Some-content_at.content.now (sym c.type_at.ensures ∙ c.in-Some.is) ne plain c.tag_at-tag.ensures c.length_at-length.ensures h.0 h.1 h.2 good
+    item_plain c.args.bytes.now c.args.pos c.tag_at-tag.result c.length_at-length.result c.in-Some-content_at.next c.in-Some.typ c.in-Some-content_at.content (sym c.type_at.ensures ∙ c.in-Some.is) ne plain c.tag_at-tag.ensures c.length_at-length.ensures h.0 h.1 h.2 good
