@@ -1,0 +1,16 @@
+pub mod Entries
+pub mod Fronts
+pub mod Loop
+pub mod Message
+pub mod Padding
+pub mod Parts
+pub mod PlaceLemmas
+pub mod PrettyTexts
+pub mod ReadBack
+pub mod Reading
+pub mod Rest
+pub mod Stack
+pub mod Texts
+pub mod Trimmed
+pub mod Unique
+pub mod Walked

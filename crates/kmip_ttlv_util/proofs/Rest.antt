@@ -1,0 +1,159 @@
+-- The text and the count of what a walk has left.
+use Rattle.std.proofs.Common.{◌≡◌, ◌≢◌, ℕ, zero, suc, ◌+◌, ◌-◌, ◌*◌, ◌<◌, ◌≤◌, Bool, true, false, cond, eqb, ltb, List, [], ◌∷◌, ◌++◌, length, take, drop, get_or, Option, Some, None, refl, sym, ap, subst, ◌∙◌, arith, append_assoc, append-nil, length-append}
+use Rattle.std.proofs.lemmas.Bool.{eq-eqb, ne_eqb, lt-ltb, le-ltb}
+use Rattle.kmip_ttlv_types.specs.declared.typ.TtlvType.{TtlvType}
+use Rattle.kmip_ttlv_types.specs.declared.typ.TtlvType.TheVariants.{Structure}
+use Rattle.kmip_ttlv_types.specs.Places.{length_at}
+use Rattle.kmip_ttlv_util.specs.Answer.{Ready}
+use Rattle.kmip_ttlv_util.specs.Traces.{Entry, entry_at, type_read, Place, left_at, closes, depth_at, Turn, turn_left, over, past, reads, turn, after, entries_by, entries_from, start, trace, Style, end_text, text_by, told_from, told}
+
+abbrev pub place : ℕ → List ℕ → ℕ → Bool → Place
+place p es k z = record { pos = p; ends = es; endless = k; loose = z }
+
+pub ready_root : (p k : ℕ) (z : Bool) → Ready (place p [] k z)
+unfolding turn left_at
+ready_root p k z = record { turns = refl; left = refl }
+
+pub ready_before : (p e : ℕ) (es : List ℕ) (k : ℕ) (z : Bool) → p < e → Ready (place p (e ∷ es) k z)
+unfolding turn left_at
+ready_before p e es k z lt =
+    let ne : e ≢ p = omega arith in
+    let off : eqb e p ≡ false = ne_eqb e p ne in
+    record { turns = rw off (by z); left = rw off refl }
+  where
+    by : (z : Bool) → turn_left z p (e ∷ es) ≡ reads
+    by true = refl
+    by false = rw (le-ltb e p (omega arith)) refl
+
+pub ready_loose : (p e : ℕ) (es : List ℕ) (k : ℕ) → e ≢ p → Ready (place p (e ∷ es) k true)
+unfolding turn left_at
+ready_loose p e es k ne =
+    let off : eqb e p ≡ false = ne_eqb e p ne in
+    record { turns = rw off refl; left = rw off refl }
+
+shorter_by : (b : Bool) (xs : List ℕ) (f : ℕ) (fs : List ℕ) → length xs ≤ length fs → length (cond b xs (f ∷ fs)) ≤ length (f ∷ fs)
+shorter_by true xs f fs le = omega arith
+shorter_by false xs f fs le = omega arith
+
+shorter : (q : ℕ) (fs : List ℕ) → length (left_at q fs) ≤ length fs
+unfolding left_at
+shorter q [] = omega arith
+shorter q (f ∷ fs) = shorter_by (eqb f q) (left_at q fs) f fs (shorter q fs)
+
+-- nothing closes there
+pub ready_closes : (shut : List ℕ) (p : ℕ) (es : List ℕ) → left_at p es ≡ es → closes shut p es ≡ []
+unfolding left_at closes
+ready_closes shut p [] h = refl
+ready_closes shut p (e ∷ es) h = by (eqb e p) h (shorter p es)
+  where
+    by : (b : Bool) → cond b (left_at p es) (e ∷ es) ≡ e ∷ es → length (left_at p es) ≤ length es → cond b (shut ++ closes shut p es) [] ≡ []
+    by true g le = absurd (omega (arith, ap length g, le))
+    by false g le = refl
+
+module _ (style : Style) (closed : Bool) (bytes : List ℕ) where
+  -- what is left to write
+  pub text_from : ℕ → Place → List ℕ
+  text_from f s = told_from style closed (length bytes) s (entries_from f closed bytes s)
+
+  -- how many entries are left
+  pub count_from : ℕ → Place → ℕ
+  count_from f s = length (entries_from f closed bytes s)
+
+  pub text_start : text_from (suc (length bytes)) start ≡ told style closed (length bytes) (trace closed bytes)
+  unfolding text_from told trace
+  text_start = refl
+
+  pub count_start : 0 + count_from (suc (length bytes)) start ≡ length (trace closed bytes)
+  unfolding count_from trace
+  count_start = omega arith
+
+  reads_entries : (f : ℕ) (s : Place) (o : Option TtlvType) → turn s ≡ reads → type_read (length bytes) s.pos (entry_at bytes s.pos) ≡ o → entries_from (suc f) closed bytes s ≡ entries_by reads (entry_at bytes s.pos) o (λ t. entries_from f closed bytes (after closed s t (length_at (entry_at bytes s.pos).header 0)))
+  unfolding entries_from
+  reads_entries f s o turns is = rw (turns, is) refl
+
+  pub count_reads : (f : ℕ) (s : Place) (t : TtlvType) → Ready s → type_read (length bytes) s.pos (entry_at bytes s.pos) ≡ Some t → count_from (suc f) s ≡ suc (count_from f (after closed s t (length_at (entry_at bytes s.pos).header 0)))
+  unfolding count_from
+  count_reads f s t ready is = ap length (reads_entries f s (Some t) ready.turns is)
+
+  pub count_unreadable : (f : ℕ) (s : Place) → Ready s → type_read (length bytes) s.pos (entry_at bytes s.pos) ≡ None → count_from (suc f) s ≡ 1
+  unfolding count_from
+  count_unreadable f s ready is = ap length (reads_entries f s None ready.turns is)
+
+  pub text_reads : (f : ℕ) (s : Place) (t : TtlvType) → Ready s → type_read (length bytes) s.pos (entry_at bytes s.pos) ≡ Some t
+      → text_from (suc f) s ≡ style.item (s.endless + length s.ends) s.pos (entry_at bytes s.pos) t ++ text_from f (after closed s t (length_at (entry_at bytes s.pos).header 0))
+  unfolding text_from told_from
+  text_reads f s t ready is = rw (reads_entries f s (Some t) ready.turns is) (rw (ready_closes style.close s.pos s.ends ready.left, is, ready.left) refl)
+
+  pub text_unreadable : (f : ℕ) (s : Place) → Ready s → type_read (length bytes) s.pos (entry_at bytes s.pos) ≡ None → text_from (suc f) s ≡ style.unreadable
+  unfolding text_from told_from
+  text_unreadable f s ready is = rw (reads_entries f s None ready.turns is) (rw (ready_closes style.close s.pos s.ends ready.left, is) refl)
+
+  -- ---- an end is reached
+
+  same_turn : (p e : ℕ) (es : List ℕ) (k : ℕ) (z : Bool) → turn (place p (p ∷ e ∷ es) k z) ≡ turn (place p (e ∷ es) k z)
+  unfolding turn left_at
+  same_turn p e es k z = rw (eq-eqb p p refl) refl
+
+  same_left : (p : ℕ) (es : List ℕ) → left_at p (p ∷ es) ≡ left_at p es
+  unfolding left_at
+  same_left p es = rw (eq-eqb p p refl) refl
+
+  more_closes : (p : ℕ) (es : List ℕ) → closes style.close p (p ∷ es) ≡ style.close ++ closes style.close p es
+  unfolding closes
+  more_closes p es = rw (eq-eqb p p refl) refl
+
+  same_entries : (f p e : ℕ) (es : List ℕ) (k : ℕ) (z : Bool) → entries_from f closed bytes (place p (p ∷ e ∷ es) k z) ≡ entries_from f closed bytes (place p (e ∷ es) k z)
+  unfolding entries_from after
+  same_entries zero p e es k z = refl
+  same_entries (suc f) p e es k z = rw (same_turn p e es k z, same_left p (e ∷ es)) refl
+
+  same_told : (p e : ℕ) (es : List ℕ) (k : ℕ) (z : Bool) (xs : List Entry) → told_from style closed (length bytes) (place p (p ∷ e ∷ es) k z) xs ≡ style.close ++ told_from style closed (length bytes) (place p (e ∷ es) k z) xs
+  unfolding told_from after
+  same_told p e es k z [] = rw (same_turn p e es k z, more_closes p (e ∷ es)) (append_assoc style.close (closes style.close p (e ∷ es)) (end_text style (turn (place p (e ∷ es) k z))))
+  same_told p e es k z (x ∷ xs) = rw (more_closes p (e ∷ es), same_left p (e ∷ es)) (append_assoc style.close (closes style.close p (e ∷ es)) _)
+
+  pub text_closes : (f p e : ℕ) (es : List ℕ) (k : ℕ) (z : Bool) → text_from f (place p (p ∷ e ∷ es) k z) ≡ style.close ++ text_from f (place p (e ∷ es) k z)
+  unfolding text_from
+  text_closes f p e es k z = ap (told_from style closed (length bytes) (place p (p ∷ e ∷ es) k z)) (same_entries f p e es k z) ∙ same_told p e es k z (entries_from f closed bytes (place p (e ∷ es) k z))
+
+  pub count_closes : (f p e : ℕ) (es : List ℕ) (k : ℕ) (z : Bool) → count_from f (place p (p ∷ e ∷ es) k z) ≡ count_from f (place p (e ∷ es) k z)
+  unfolding count_from
+  count_closes f p e es k z = ap length (same_entries f p e es k z)
+
+  -- ---- the walk ends
+
+  no_entries : (f : ℕ) (s : Place) → turn s ≢ reads → entries_from f closed bytes s ≡ []
+  unfolding entries_from
+  no_entries zero s ne = refl
+  no_entries (suc f) s ne = by (turn s) ne
+    where
+      by : (t : Turn) → t ≢ reads → entries_by t (entry_at bytes s.pos) (type_read (length bytes) s.pos (entry_at bytes s.pos)) (λ t. entries_from f closed bytes (after closed s t (length_at (entry_at bytes s.pos).header 0))) ≡ []
+      by over h = refl
+      by past h = refl
+      by reads h = absurd (h refl)
+
+  pub last_turn : (p k : ℕ) (z : Bool) → turn (place p (p ∷ []) k z) ≡ over
+  unfolding turn left_at
+  last_turn p k z = rw (eq-eqb p p refl) refl
+
+  pub text_over : (f p k : ℕ) (z : Bool) → text_from f (place p (p ∷ []) k z) ≡ style.close
+  unfolding text_from told_from closes
+  text_over f p k z = rw (no_entries f (place p (p ∷ []) k z) (λ h. let m = last_turn p k z in cc)) (rw (last_turn p k z, eq-eqb p p refl) (append-nil (style.close ++ []) ∙ append-nil style.close))
+
+  pub count_over : (f p k : ℕ) (z : Bool) → count_from f (place p (p ∷ []) k z) ≡ 0
+  unfolding count_from
+  count_over f p k z = ap length (no_entries f (place p (p ∷ []) k z) (λ h. let m = last_turn p k z in cc))
+
+  pub past_turn : (p e : ℕ) (es : List ℕ) (k : ℕ) → e < p → turn (place p (e ∷ es) k false) ≡ past
+  unfolding turn left_at
+  past_turn p e es k lt = let ne : e ≢ p = omega arith in rw (ne_eqb e p ne, lt-ltb e p lt) refl
+
+  pub text_past : (f p e : ℕ) (es : List ℕ) (k : ℕ) → e < p → text_from f (place p (e ∷ es) k false) ≡ style.passed
+  unfolding text_from told_from closes
+  text_past f p e es k lt =
+      let ne : e ≢ p = omega arith in
+      rw (no_entries f (place p (e ∷ es) k false) (λ h. let m = past_turn p e es k lt in cc)) (rw (past_turn p e es k lt, ne_eqb e p ne) refl)
+
+  pub count_past : (f p e : ℕ) (es : List ℕ) (k : ℕ) → e < p → count_from f (place p (e ∷ es) k false) ≡ 0
+  unfolding count_from
+  count_past f p e es k lt = ap length (no_entries f (place p (e ∷ es) k false) (λ h. let m = past_turn p e es k lt in cc))

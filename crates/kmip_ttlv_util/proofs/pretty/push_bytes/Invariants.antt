@@ -1,0 +1,7 @@
+use Rattle.std.proofs.Common.{◌≡◌, ℕ, ◌++◌, take}
+use Rattle.std.specs.Prelude.{string_bytes}
+use Rattle.kmip_ttlv_util.specs.Pretty.{hex_bytes}
+use Rattle.kmip_ttlv_util.proofs.pretty.push_bytes.Given as goal
+
+abbrev pub invariant-loop-byte : goal.invariant-loop-byte
+invariant-loop-byte g l = string_bytes l.out ≡ string_bytes l.fn.out ++ hex_bytes (take l.byte-index l.content)

@@ -1,0 +1,13 @@
+use Rattle.std.proofs.Common.{◌≡◌, ℕ, List, length}
+use Rattle.std.specs.Prelude.{string_bytes}
+use denote.Text.{Utf8}
+use denote.Shadow.{shadow}
+use Rattle.kmip_ttlv_util.specs.Names.{name_in}
+use Rattle.kmip_ttlv_util.proofs.Reading.{Reading}
+use Rattle.kmip_ttlv_util.proofs.undiag.read_back.Given as goal
+
+abbrev pub invariant-loop-out : goal.invariant-loop-out
+invariant-loop-out g l = shadow (Utf8 l.rest) × Reading (name_in l.names) l.prefix l.s (string_bytes l.out) l.depth l.rest
+
+abbrev pub decreases-loop-out : goal.decreases-loop-out
+decreases-loop-out g l = length l.rest

@@ -1,0 +1,22 @@
+-- The diagnostic of any bytes: a text of their number and their trace alone.
+use Rattle.std.specs.Prelude.{ℕ, Bool, List, [], ◌∷◌, codes}
+use Rattle.kmip_ttlv_types.specs.Places.{tag_at}
+use Rattle.kmip_ttlv_util.specs.Outlines.{mark}
+use Rattle.kmip_ttlv_util.specs.Traces.{Entry, kept, Style, told}
+
+-- what stands where a structure's content exceeds its length
+unfoldable pub exceeded : List ℕ
+exceeded = codes "\nERROR: TTLV structure content exceeds the structure length."
+
+-- marks of entries, `]` where a structure closes, and `ERR` of an entry that can't be read
+abbrev pub diag_style : List ℕ → Style
+diag_style prefix = record {
+  item = λ depth p x t. mark prefix (tag_at x.header 0) t (kept t x.detail);
+  close = 93 ∷ [];
+  passed = exceeded;
+  unreadable = 69 ∷ 82 ∷ 82 ∷ [];
+}
+
+-- the diagnostic of bytes, from how many there are and from their trace
+unfoldable pub hostile : List ℕ → Bool → ℕ → List Entry → List ℕ
+hostile prefix closed count xs = told (diag_style prefix) closed count xs

@@ -1,0 +1,10 @@
+pub mod Outlines
+pub mod Traces
+pub mod Diagnostics
+pub mod Answer
+pub mod Lending
+pub mod Lines
+pub mod Names
+pub mod Pretty
+pub mod Printers
+pub mod Undiag

@@ -1,0 +1,31 @@
+-- Lines of readable texts: indents, tags with their names, numbers with zeros in front.
+use Rattle.std.specs.Prelude.{ℕ, zero, suc, ◌-◌, List, [], ◌∷◌, ◌++◌, length, replicate, Option, Some, None, codes}
+use Rattle.kmip_ttlv_types.specs.declared.typ.TtlvType.{TtlvType}
+use Rattle.kmip_ttlv_types.specs.TypeTexts.{type_text}
+use Rattle.kmip_ttlv_util.specs.Outlines.{hex_upper}
+
+-- digits, with zeros in front up to a number of them
+unfoldable pub at_least : ℕ → List ℕ → List ℕ
+at_least width digits = replicate (width - length digits) 48 ++ digits
+
+-- `0x` and at least so many digits
+abbrev pub hex_padded : ℕ → ℕ → List ℕ
+hex_padded width n = 48 ∷ 120 ∷ at_least width (hex_upper n)
+
+-- two spaces a level
+abbrev pub indent : ℕ → List ℕ
+indent zero = []
+indent (suc d) = 32 ∷ 32 ∷ indent d
+
+-- a tag with at least four digits; behind its name, in brackets, where it has one
+abbrev pub tag_named : Option (List ℕ) → ℕ → List ℕ
+tag_named None tag = hex_padded 4 tag
+tag_named (Some name) tag = name ++ (codes " (" ++ (hex_padded 4 tag ++ codes ")"))
+
+-- the beginning of a line so deep, up to the tag
+abbrev pub tag_part : (ℕ → Option (List ℕ)) → ℕ → ℕ → List ℕ
+tag_part names depth tag = indent depth ++ (codes "Tag: " ++ tag_named (names tag) tag)
+
+-- and up to the type
+abbrev pub typ_part : (ℕ → Option (List ℕ)) → ℕ → ℕ → TtlvType → List ℕ
+typ_part names depth tag typ = tag_part names depth tag ++ (codes ", Type: " ++ type_text typ)

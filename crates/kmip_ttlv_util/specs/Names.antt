@@ -1,0 +1,15 @@
+-- The names of tags.
+use Rattle.std.specs.Prelude.{ℕ, List, Option, ◌==◌}
+use Rattle.std.specs.Option.{option_map}
+use Rattle.std.specs.Borrow.{Bor}
+use Rattle.std.specs.declared.hash.FoldHasher.{FoldHasher}
+use Rattle.std.specs.declared.hash.BuildHasherDefault.{BuildHasherDefault}
+use Rattle.std.specs.HashMap.{get, HashMap}
+
+-- a map of names
+abbrev pub NameMap : Type 0
+NameMap = HashMap ℕ (Bor (List ℕ)) (BuildHasherDefault FoldHasher)
+
+-- the name that a map has for a tag
+abbrev pub name_in : NameMap → ℕ → Option (List ℕ)
+name_in names tag = option_map (λ s. s.now) (get (λ a b. a == b) names tag)

@@ -1,0 +1,97 @@
+-- Outlines of messages: what a diagnostic tells, and its text.
+use Rattle.std.specs.Prelude.{ℕ, ◌^◌, ◌<◌, ◌/◌, ◌%◌, List, [], ◌∷◌, ◌++◌, length, drop, true, if◌then◌else◌, Option, Some, None, nat_eq}
+use Rattle.std.specs.List.{starts_with}
+use Rattle.std.specs.Int.{w32, from_be_bytes}
+use Rattle.std.specs.Fmt.{digits, digit_glyph}
+use Rattle.kmip_ttlv_types.specs.declared.typ.TtlvType.{TtlvType}
+use Rattle.kmip_ttlv_types.specs.declared.typ.TtlvType.TheVariants.{Structure, Integer, LongInteger, BigInteger, Enumeration, Boolean, TextString, ByteString, DateTime, Interval}
+use Rattle.kmip_ttlv_types.specs.Trees.{Tree, Trees, leaf, node, no_trees, tree}
+
+mutual
+  -- of a leaf its tag and type, and an enumeration's value; of a structure its tag and what is in it
+  pub data Outline : Type 0 where
+    leaf_outline : (tag : ℕ) → (typ : TtlvType) → (value : Option ℕ) → Outline
+    node_outline : (tag : ℕ) → (below : Outlines) → Outline
+
+  pub data Outlines : Type 0 where
+    no_outlines : Outlines
+    outline : Outline → Outlines → Outlines
+
+-- an enumeration has a value, another leaf none
+abbrev pub IsKept : TtlvType → Option ℕ → Type 0
+IsKept Structure v = ⊥
+IsKept Enumeration (Some n) = n < 2 ^ 32
+IsKept Enumeration None = ⊥
+IsKept typ (Some n) = ⊥
+IsKept typ None = Unit {0}
+
+-- tags have three bytes, values four
+abbrev mutual
+  pub IsOutline : Outline → Type 0
+  IsOutline (leaf_outline tag typ value) = (tag < 2 ^ 24) × IsKept typ value
+  IsOutline (node_outline tag below) = (tag < 2 ^ 24) × AreOutlines below
+
+  pub AreOutlines : Outlines → Type 0
+  AreOutlines no_outlines = Unit {0}
+  AreOutlines (outline o os) = IsOutline o × AreOutlines os
+
+-- an enumeration's value
+abbrev pub value_of : TtlvType → List ℕ → Option ℕ
+value_of Enumeration content = Some (from_be_bytes w32 content)
+value_of _ content = None
+
+-- the outline of a tree
+abbrev mutual
+  pub outline_of : Tree → Outline
+  outline_of (leaf tag typ content) = leaf_outline tag typ (value_of typ content)
+  outline_of (node tag below) = node_outline tag (outlines_of below)
+
+  pub outlines_of : Trees → Outlines
+  outlines_of no_trees = no_outlines
+  outlines_of (tree t ts) = outline (outline_of t) (outlines_of ts)
+
+-- n in uppercase hexadecimal, without leading zeros
+abbrev pub hex_upper : ℕ → List ℕ
+hex_upper n = digits 16 true n
+
+-- the six digits of a tag
+unfoldable pub six_digits : ℕ → List ℕ
+six_digits n =
+    digit_glyph true (n / 1048576 % 16) ∷ digit_glyph true (n / 65536 % 16) ∷ digit_glyph true (n / 4096 % 16)
+    ∷ digit_glyph true (n / 256 % 16) ∷ digit_glyph true (n / 16 % 16) ∷ digit_glyph true (n % 16) ∷ []
+
+-- the digits without the prefix, where they begin with it
+abbrev pub stripped : List ℕ → List ℕ → List ℕ
+stripped prefix text = if starts_with nat_eq text prefix then drop (length prefix) text else text
+
+-- a type's letter: il I e b t o d n, and [ of a structure
+abbrev pub letter : TtlvType → ℕ
+letter Structure = 91
+letter Integer = 105
+letter LongInteger = 108
+letter BigInteger = 73
+letter Enumeration = 101
+letter Boolean = 98
+letter TextString = 116
+letter ByteString = 111
+letter DateTime = 100
+letter Interval = 110
+
+-- a value and `:`
+abbrev pub value_text : Option ℕ → List ℕ
+value_text None = []
+value_text (Some n) = hex_upper n ++ (58 ∷ [])
+
+-- a leaf, or the opening of a structure
+unfoldable pub mark : List ℕ → ℕ → TtlvType → Option ℕ → List ℕ
+mark prefix tag typ value = stripped prefix (six_digits tag) ++ (letter typ ∷ value_text value)
+
+-- the diagnostic of an outline: a structure is its mark, what is in it, and `]`
+abbrev mutual
+  pub diag : List ℕ → Outline → List ℕ
+  diag prefix (leaf_outline tag typ value) = mark prefix tag typ value
+  diag prefix (node_outline tag below) = mark prefix tag Structure None ++ (diag_all prefix below ++ (93 ∷ []))
+
+  pub diag_all : List ℕ → Outlines → List ℕ
+  diag_all prefix no_outlines = []
+  diag_all prefix (outline o os) = diag prefix o ++ diag_all prefix os

@@ -1,0 +1,21 @@
+//! Printers of TTLV messages: readable text, redacted diagnostics, and diagnostics read back.
+//!
+//! A diagnostic tells the tags, the types, the nesting and the enumeration values of a message, all
+//! of them and nothing else, for any bytes. The wire is that of OASIS KMIP 1.0, section 9.1; its
+//! items, trees and names are defined in kmip_ttlv_types. Definitions of what is printed stand in
+//! specs/: outlines and their diagnostics, the trace of any bytes, and what is read back.
+#![tactic(auto)]
+
+mod diagnostic;
+mod item;
+mod lines;
+mod pretty;
+mod printer;
+mod undiag;
+mod walk;
+
+pub use lines::TagMap;
+pub use printer::PrettyPrinter;
+
+#[cfg(test)]
+mod tests;

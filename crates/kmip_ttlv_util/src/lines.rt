@@ -1,0 +1,78 @@
+//! Parts of readable lines: the indent, the tag with its name, and the type.
+
+ghost use Rattle.std.specs.Prelude.{◌≡◌, ℕ, ◌++◌, OnOk, codes, string_bytes};
+ghost use Rattle.kmip_ttlv_types.specs.TypeTexts.{type_text};
+ghost use Rattle.kmip_ttlv_util.specs.Lines.{indent, hex_padded, tag_named, tag_part, typ_part};
+ghost use Rattle.kmip_ttlv_util.specs.Names.{name_in};
+
+use kmip_ttlv_types::{TtlvTag, TtlvType};
+use std::alloc::{AllocError, Allocator, Global};
+use std::collections::HashMap;
+use std::hash::{BuildHasherDefault, FoldHasher};
+
+/// The names of tags, for [`crate::PrettyPrinter::with_tag_map`].
+pub type TagMap<A = Global> = HashMap<TtlvTag, &'static str, BuildHasherDefault<FoldHasher>, A>;
+
+/// Two spaces a level.
+fn push_indent<A: Allocator>(out: &mut String<A>, depth: usize) -> Result<(), AllocError>
+    ensures { OnOk result (string_bytes out.new ≡ string_bytes out.old ++ indent depth) }
+{
+    for _ in 0..depth {
+        out.push_str("  ")?;
+    }
+    Ok(())
+}
+
+/// `0x` and at least six digits.
+pub fn push_six<A: Allocator>(out: &mut String<A>, n: u64) -> Result<(), AllocError>
+    ensures { OnOk result (string_bytes out.new ≡ string_bytes out.old ++ hex_padded 6 n) }
+{
+    write!(out, "0x{n:06X}")
+}
+
+/// `0x` and at least four digits.
+fn push_four<A: Allocator>(out: &mut String<A>, n: u32) -> Result<(), AllocError>
+    ensures { OnOk result (string_bytes out.new ≡ string_bytes out.old ++ hex_padded 4 n) }
+{
+    write!(out, "0x{n:04X}")
+}
+
+/// A tag, behind its name where it has one.
+fn push_tag<A: Allocator>(
+    out: &mut String<A>,
+    names: &TagMap<A>,
+    tag: TtlvTag,
+) -> Result<(), AllocError>
+    ensures { OnOk result (string_bytes out.new ≡ string_bytes out.old ++ tag_named (name_in names.now tag) tag) }
+{
+    match names.get(&tag).copied() {
+        Some(name) => {
+            out.push_str(name)?;
+            out.push_str(" (")?;
+            push_four(out, *tag)?;
+            out.push_str(")")
+        }
+        None => push_four(out, *tag),
+    }
+}
+
+/// The beginning of a line, up to the tag.
+pub fn push_tag_part<A: Allocator>(
+    out: &mut String<A>,
+    names: &TagMap<A>,
+    depth: usize,
+    tag: TtlvTag,
+) -> Result<(), AllocError>
+    ensures { OnOk result (string_bytes out.new ≡ string_bytes out.old ++ tag_part (name_in names.now) depth tag) }
+{
+    push_indent(out, depth)?;
+    out.push_str("Tag: ")?;
+    push_tag(out, names, tag)
+}
+
+/// What follows the tag, up to the type.
+pub fn push_type_part<A: Allocator>(out: &mut String<A>, typ: TtlvType) -> Result<(), AllocError>
+    ensures { OnOk result (string_bytes out.new ≡ string_bytes out.old ++ (codes ", Type: " ++ type_text typ)) }
+{
+    write!(out, ", Type: {typ}")
+}

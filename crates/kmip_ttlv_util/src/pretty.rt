@@ -1,0 +1,205 @@
+//! Readable text of any bytes: its values and lines, and the loop that writes them. Values are
+//! written from the bytes themselves, so that no text and no vector of a value is built.
+
+ghost use Rattle.std.specs.Prelude.{◌≡◌, ◌≢◌, ℕ, ◌<◌, ◌++◌, List, length, true, IfOk, OnOk, codes, string_bytes};
+ghost use Rattle.std.specs.Int.{w32, w64, from_be_bytes, cast_signed};
+ghost use Rattle.std.specs.Fmt.{digit_glyph, decimal, signed_decimal};
+ghost use Rattle.std.specs.Str.{IsUtf8};
+ghost use Rattle.kmip_ttlv_types.specs.declared.typ.TtlvType.TheVariants.{Structure as TheStructure};
+ghost use Rattle.kmip_ttlv_types.specs.Leaves.{is_valid};
+ghost use Rattle.kmip_ttlv_util.specs.Lines.{hex_padded};
+ghost use Rattle.kmip_ttlv_util.specs.Names.{name_in};
+ghost use Rattle.kmip_ttlv_util.specs.Pretty.{bracketed, two_digits, hex_bytes, value_shown, data_shown, pretty_line, warning, IsPrinted};
+
+use crate::diagnostic::EXCEEDED;
+use crate::item::{Item, item_at};
+use crate::lines::{TagMap, push_six, push_tag_part, push_type_part};
+use crate::walk::{Next, Walk};
+use kmip_ttlv_types::TtlvType;
+use std::alloc::{AllocError, Allocator};
+use std::str;
+
+/// The number that four bytes are.
+fn four_bytes(content: &[u8]) -> u32
+    requires { length content.now ≡ 4 }
+    ensures { result ≡ from_be_bytes w32 content.now }
+{
+    u32::from_be_bytes([content[0], content[1], content[2], content[3]])
+}
+
+/// The number that eight bytes are.
+fn eight_bytes(content: &[u8]) -> u64
+    requires { length content.now ≡ 8 }
+    ensures { result ≡ from_be_bytes w64 content.now }
+{
+    u64::from_be_bytes([
+        content[0], content[1], content[2], content[3], content[4], content[5], content[6],
+        content[7],
+    ])
+}
+
+/// A signed number of four bytes.
+fn push_integer<A: Allocator>(out: &mut String<A>, n: u32) -> Result<(), AllocError>
+    ensures { OnOk result (string_bytes out.new ≡ string_bytes out.old ++ (hex_padded 6 n ++ bracketed (signed_decimal (cast_signed w32 n)))) }
+{
+    let signed = n.cast_signed();
+    push_six(out, n as u64)?;
+    write!(out, " ({signed})")
+}
+
+/// A signed number of eight bytes.
+fn push_long_integer<A: Allocator>(out: &mut String<A>, n: u64) -> Result<(), AllocError>
+    ensures { OnOk result (string_bytes out.new ≡ string_bytes out.old ++ (hex_padded 6 n ++ bracketed (signed_decimal (cast_signed w64 n)))) }
+{
+    let signed = n.cast_signed();
+    push_six(out, n)?;
+    write!(out, " ({signed})")
+}
+
+/// An unsigned number of four bytes.
+fn push_unsigned<A: Allocator>(out: &mut String<A>, n: u32) -> Result<(), AllocError>
+    ensures { OnOk result (string_bytes out.new ≡ string_bytes out.old ++ (hex_padded 6 n ++ bracketed (decimal n))) }
+{
+    push_six(out, n as u64)?;
+    write!(out, " ({n})")
+}
+
+fn digit(n: u8) -> char
+    requires { n < 16 }
+    ensures digit { result ≡ digit_glyph true n }
+    ensures ascii { result < 128 }
+{
+    char::from(if n < 10 { 48 + n } else { 55 + n })
+}
+
+/// A byte in hexadecimal.
+fn push_byte<A: Allocator>(out: &mut String<A>, byte: u8) -> Result<(), AllocError>
+    ensures { OnOk result (string_bytes out.new ≡ string_bytes out.old ++ two_digits byte) }
+{
+    out.push(digit(byte / 16))?;
+    out.push(digit(byte % 16))?;
+    Ok(())
+}
+
+/// Bytes in hexadecimal, two digits each.
+fn push_bytes<A: Allocator>(out: &mut String<A>, content: &[u8]) -> Result<(), AllocError>
+    ensures { OnOk result (string_bytes out.new ≡ string_bytes out.old ++ hex_bytes content.now) }
+{
+    for byte in content {
+        push_byte(out, *byte)?;
+    }
+    Ok(())
+}
+
+/// The value of a leaf.
+#[tactic(auto, unfolding(crate::specs::Pretty::value_shown))]
+fn push_value<A: Allocator>(
+    out: &mut String<A>,
+    typ: TtlvType,
+    content: &[u8],
+) -> Result<(), AllocError>
+    requires { is_valid typ content.now ≡ true }
+    ensures { OnOk result (string_bytes out.new ≡ string_bytes out.old ++ value_shown typ content.now) }
+{
+    match typ {
+        TtlvType::Structure => Ok(()),
+        TtlvType::Integer => push_integer(out, four_bytes(content)),
+        TtlvType::LongInteger => push_long_integer(out, eight_bytes(content)),
+        TtlvType::Enumeration | TtlvType::Interval => push_unsigned(out, four_bytes(content)),
+        TtlvType::Boolean => out.push_str(if eight_bytes(content) == 0 {
+            "false"
+        } else {
+            "true"
+        }),
+        TtlvType::DateTime => push_six(out, eight_bytes(content)),
+        TtlvType::TextString => match str::from_utf8(content) {
+            Ok(text) => out.push_str(text),
+            Err(_) => unreachable!(),
+        },
+        TtlvType::BigInteger | TtlvType::ByteString => push_bytes(out, content),
+    }
+}
+
+/// What follows `Data:`.
+#[tactic(auto, unfolding(crate::specs::Pretty::data_shown))]
+fn push_data<A: Allocator>(
+    out: &mut String<A>,
+    typ: TtlvType,
+    content: &[u8],
+) -> Result<(), AllocError>
+    requires { typ ≢ TheStructure → is_valid typ content.now ≡ true }
+    ensures { OnOk result (string_bytes out.new ≡ string_bytes out.old ++ data_shown typ content.now) }
+{
+    if typ == TtlvType::Structure {
+        return Ok(());
+    }
+    out.push_str(" ")?;
+    push_value(out, typ, content)
+}
+
+/// The line of an item so deep.
+#[tactic(auto, unfolding(crate::specs::Pretty::pretty_line))]
+fn push_line<A: Allocator>(
+    out: &mut String<A>,
+    names: &TagMap<A>,
+    depth: usize,
+    item: &Item<'_>,
+) -> Result<(), AllocError>
+    requires { item.now.typ ≢ TheStructure → is_valid item.now.typ item.now.content.now ≡ true }
+    ensures { OnOk result (string_bytes out.new ≡ string_bytes out.old ++ pretty_line (name_in names.now) depth item.now.tag item.now.typ item.now.content.now) }
+{
+    push_tag_part(out, names, depth, item.tag)?;
+    push_type_part(out, item.typ)?;
+    out.push_str(", Data:")?;
+    push_data(out, item.typ, item.content)?;
+    out.push_str("\n")
+}
+
+/// The line that follows an empty structure that stays open.
+#[tactic(auto, unfolding(crate::specs::Pretty::warning))]
+fn push_warning<A: Allocator>(
+    out: &mut String<A>,
+    closed: bool,
+    typ: TtlvType,
+    len: u32,
+) -> Result<(), AllocError>
+    ensures { OnOk result (string_bytes out.new ≡ string_bytes out.old ++ warning closed typ len) }
+{
+    if typ == TtlvType::Structure && len == 0 && !closed {
+        out.push_str("WARNING: TTLV structure length is zero\n")?;
+    }
+    Ok(())
+}
+
+/// The readable text of any bytes.
+pub fn print<A: Allocator + Copy>(
+    alloc: A,
+    names: &TagMap<A>,
+    closed: bool,
+    bytes: &[u8],
+) -> Result<String<A>, AllocError>
+    ensures { IfOk result (λ r. IsPrinted (name_in names.now) closed bytes.now (string_bytes r)) }
+{
+    let mut out = String::new(alloc);
+    let mut walk = Walk::new(alloc);
+    'walk: loop {
+        match walk.next() {
+            Next::Closes => {}
+            Next::Over => return Ok(out),
+            Next::Past => {
+                out.push_str(EXCEEDED)?;
+                return Ok(out);
+            }
+            Next::Reads => {
+                let place = walk.pos;
+                let Some(item) = item_at(bytes, place) else {
+                    write!(out, "ERROR: cannot read the item at byte {place}")?;
+                    return Ok(out);
+                };
+                push_line(&mut out, names, walk.depth(), &item)?;
+                push_warning(&mut out, closed, item.typ, item.length)?;
+                walk.step(closed, item.typ, item.length, item.next)?;
+            }
+        }
+    }
+}
