@@ -82,23 +82,23 @@ fn clones_of_places(rt: HostRuntime) -> Result<(), Fail> {
 #[test]
 fn kinds_of_low_refusals(rt: HostRuntime) -> Result<(), Fail> {
     let low: types::Error = types::Error::InvalidStateMachineOperation;
-    match ErrorKind::from_types(rt.alloc(), low) {
+    match &ErrorKind::from_types(rt.alloc(), low) {
         ErrorKind::SerdeError(SerdeError::Other(words)) => {
             assert_eq!(rt; words.as_str(), "Internal error: invalid state machine operaiton");
         }
         _ => assert!(rt; false),
     }
     let low: types::Error = types::Error::InvalidTtlvTag(String::from_str(rt.alloc(), "XYZ")?);
-    match ErrorKind::from_types(rt.alloc(), low) {
+    match &ErrorKind::from_types(rt.alloc(), low) {
         ErrorKind::SerdeError(SerdeError::InvalidTag(name)) => {
             assert_eq!(rt; name.as_str(), "XYZ");
         }
         _ => assert!(rt; false),
     }
     let low: types::Error = types::Error::UnsupportedTtlvType(10);
-    match ErrorKind::from_types(rt.alloc(), low) {
+    match &ErrorKind::from_types(rt.alloc(), low) {
         ErrorKind::MalformedTtlv(kind) => {
-            assert_eq!(rt; kind, MalformedTtlvError::UnsupportedType(10));
+            assert_eq!(rt; *kind, MalformedTtlvError::UnsupportedType(10));
         }
         _ => assert!(rt; false),
     }

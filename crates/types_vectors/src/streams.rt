@@ -224,7 +224,8 @@ fn a_text_of_several_pieces(rt: HostRuntime) -> Result<(), Fail> {
         Ok(read) => assert!(rt; read.len() == 150_000 && read[149_999] == b'a'),
         Err(_) => assert!(rt; false),
     }
-    let mut cut = &bytes[..150_003];
+    assert!(rt; bytes.pop().is_some());
+    let mut cut = bytes.as_slice();
     assert!(rt; TtlvByteString::read(rt.alloc(), &mut cut).is_err());
     Ok(())
 }
