@@ -108,14 +108,14 @@ abbrev pub invalid_operation : List ℕ
 invalid_operation = codes "Internal error: invalid state machine operaiton"
 
 -- the kind that a low-level refusal is; where a text is copied, memory may be refused
-abbrev pub IsKindOf : {B : Type 0} → LowError B → Kind → Type 0
-IsKindOf (lows.IoError e) k = k ≡ io_error (error_kind e)
-IsKindOf (lows.InvalidTtlvTag text) k = (k ≡ mismatch (invalid_tag (string_bytes text))) ⊎ (k ≡ out_of_memory)
-IsKindOf (lows.UnexpectedTtlvField expected actual) k = k ≡ malformed (malforms.UnexpectedTtlvField expected actual)
-IsKindOf (lows.UnsupportedTtlvType code) k = k ≡ malformed (malforms.UnsupportedType code)
-IsKindOf (lows.InvalidTtlvType code) k = k ≡ malformed (malforms.InvalidType code)
-IsKindOf (lows.InvalidTtlvValueLength expected actual typ) k = k ≡ malformed (malforms.InvalidLength expected actual typ)
-IsKindOf (lows.InvalidTtlvValue typ) k = k ≡ malformed (malforms.InvalidValue typ)
-IsKindOf lows.InvalidStateMachineOperation k = (k ≡ mismatch (other_cause invalid_operation)) ⊎ (k ≡ out_of_memory)
-IsKindOf lows.OutOfMemory k = k ≡ out_of_memory
-IsKindOf lows.LengthOverflow k = k ≡ length_overflow
+abbrev pub IsKindOf : {A B : Type 0} → LowError B → ErrorKind A → Type 0
+IsKindOf (lows.IoError e) k = k ≡ kinds.IoError e
+IsKindOf (lows.InvalidTtlvTag text) k = (view_of_kind k ≡ mismatch (invalid_tag (string_bytes text))) ⊎ (k ≡ kinds.OutOfMemory)
+IsKindOf (lows.UnexpectedTtlvField expected actual) k = view_of_kind k ≡ malformed (malforms.UnexpectedTtlvField expected actual)
+IsKindOf (lows.UnsupportedTtlvType code) k = view_of_kind k ≡ malformed (malforms.UnsupportedType code)
+IsKindOf (lows.InvalidTtlvType code) k = view_of_kind k ≡ malformed (malforms.InvalidType code)
+IsKindOf (lows.InvalidTtlvValueLength expected actual typ) k = view_of_kind k ≡ malformed (malforms.InvalidLength expected actual typ)
+IsKindOf (lows.InvalidTtlvValue typ) k = view_of_kind k ≡ malformed (malforms.InvalidValue typ)
+IsKindOf lows.InvalidStateMachineOperation k = (view_of_kind k ≡ mismatch (other_cause invalid_operation)) ⊎ (k ≡ kinds.OutOfMemory)
+IsKindOf lows.OutOfMemory k = k ≡ kinds.OutOfMemory
+IsKindOf lows.LengthOverflow k = k ≡ kinds.LengthOverflow

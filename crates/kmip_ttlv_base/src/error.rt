@@ -219,7 +219,7 @@ impl<A: Allocator> ErrorKind<A> {
     /// The kind that a low-level refusal is. A text is copied into memory of `alloc`, and where that
     /// is refused the kind is OutOfMemory.
     pub fn from_types<B: Allocator>(alloc: A, error: types::Error<B>) -> ErrorKind<A>
-        ensures { IsKindOf error (view_of_kind result) }
+        ensures { IsKindOf error result }
     {
         use MalformedTtlvError as Malformed;
         match error {

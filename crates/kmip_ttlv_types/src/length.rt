@@ -92,3 +92,12 @@ impl fmt::UpperHex for TtlvLength {
         fmt::UpperHex::fmt(&self.0, f)
     }
 }
+
+/// What `{:X}` and its kin print of a length: its number.
+impl fmt::HasDigits for TtlvLength {
+    ghost word = { λ n. Some n };
+
+    fn bits(self) -> (u64, u64) {
+        (0, u64::from(self.0))
+    }
+}

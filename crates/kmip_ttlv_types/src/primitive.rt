@@ -121,7 +121,7 @@ pub trait SerializableTtlvType: HasTtlvType + Sized + Drop {
             WritesLong (length content) (leaf_rest Self.TTLV_TYPE content) (S.held dst.old) (S.held dst.new) (S.room dst.old) (S.room dst.new) result }
     {
         self.value_length()?;
-        Self::TTLV_TYPE.write(dst)?;
+        self.ttlv_type().write(dst)?;
         let length = self.write_length_and_value(dst)?;
         Self::write_pad_bytes(dst, length)
     }

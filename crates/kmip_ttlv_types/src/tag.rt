@@ -163,3 +163,12 @@ impl fmt::UpperHex for TtlvTag {
         fmt::UpperHex::fmt(&self.0, f)
     }
 }
+
+/// What `{:X}` and its kin print of a tag: its number.
+impl fmt::HasDigits for TtlvTag {
+    ghost word = { λ n. Some n };
+
+    fn bits(self) -> (u64, u64) {
+        (0, u64::from(self.0))
+    }
+}

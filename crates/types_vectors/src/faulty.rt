@@ -1,0 +1,54 @@
+//! Readers and writers that are slow, are interrupted or fail.
+
+use std::io;
+use std::io::{ErrorKind, Read, Write};
+
+/// Gives one byte a call, and at one call, counted from 0, fails with a kind instead.
+#[derive(Drop)]
+pub struct SlowReader<'a> {
+    pub bytes: &'a [u8],
+    pub calls_before_fault: u64,
+    pub kind: ErrorKind,
+}
+
+impl Read for SlowReader<'_> {
+    fn read(&mut self, buf: &mut [u8]) -> io::Result<usize> {
+        let calls = self.calls_before_fault;
+        self.calls_before_fault = calls.wrapping_sub(1);
+        if calls == 0 {
+            return Err(io::Error::from(self.kind));
+        }
+        let most = buf.len().min(1);
+        self.bytes.read(&mut buf[..most])
+    }
+}
+
+/// Takes one byte a call, at one call, counted from 0, fails with a kind instead, and once its room is
+/// used up takes nothing.
+#[derive(Drop)]
+pub struct SlowWriter {
+    pub taken: Vec<u8>,
+    pub room: usize,
+    pub calls_before_fault: u64,
+    pub kind: ErrorKind,
+}
+
+impl Write for SlowWriter {
+    fn write(&mut self, buf: &[u8]) -> io::Result<usize> {
+        let calls = self.calls_before_fault;
+        self.calls_before_fault = calls.wrapping_sub(1);
+        if calls == 0 {
+            return Err(io::Error::from(self.kind));
+        }
+        if self.room == 0 {
+            return Ok(0);
+        }
+        self.room -= 1;
+        let most = buf.len().min(1);
+        self.taken.write(&buf[..most])
+    }
+
+    fn flush(&mut self) -> io::Result<()> {
+        Ok(())
+    }
+}

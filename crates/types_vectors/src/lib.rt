@@ -1,0 +1,17 @@
+//! Tests of the low-level types and of refusals: the standard's vectors, tables of answers, printed
+//! texts, and readers and writers that give or take one byte a call, are interrupted or fail.
+#![tactic(auto)]
+
+pub mod faulty;
+#[cfg(test)]
+mod machine;
+#[cfg(test)]
+mod names;
+#[cfg(test)]
+mod refusals;
+#[cfg(test)]
+mod streams;
+#[cfg(test)]
+mod values;
+#[cfg(test)]
+mod vectors;
