@@ -1,0 +1,5 @@
+pub mod Items
+pub mod Sizes
+pub mod Faults
+pub mod Lengths
+pub mod Answers
