@@ -66,10 +66,14 @@ abbrev pub name_kind : Option ℕ → List ℕ → Kind
 name_kind None name = mismatch (invalid_tag name)
 name_kind (Some n) name = tag_unused
 
--- what stops a structure: its name, or its content
+-- what stops a named value: its name, or what follows under the tag
 abbrev pub under_name : Option ℕ → List ℕ → Held → Place → (ℕ → Fault) → Fault
 under_name None name w p below = fault_at (name_kind (tag_of name) name) w p
 under_name (Some t) name w p below = below t
+
+-- what stops a structure: its name, or its content
+abbrev pub structure_fault : Held → List ℕ → Place → Fault → Fault
+structure_fault w name p below = under_name (take_tag w name) name w p (λ t. below)
 
 -- what stops a wrapper: its content, or that it gave no item
 abbrev pub within : Option (List Tree) → Place → Fault → Fault
@@ -78,13 +82,13 @@ within (Some ts) p below = record { kind = tag_unused; offset = p.offset + 3 }
 
 -- what stops a newtype, by what follows `Transparent:` in its name
 abbrev pub newtype_fault : Option (List ℕ) → List ℕ → Held → Place → (Held → Option (List Tree)) → (Held → Place → Fault) → Fault
-newtype_fault None name w p its stop = under_name (take_tag w name) name w p (λ t. stop Nothing (inside p))
+newtype_fault None name w p its stop = structure_fault w name p (stop Nothing (inside p))
 newtype_fault (Some n) name w p its stop = under_name (take_tag w n) n w p (λ t. within (its (Plain t)) p (stop (Plain t) p))
 
 -- what stops a newtype variant, by whether it is named `Transparent`
 abbrev pub variant_fault : Bool → List ℕ → Held → Place → (Held → Option (List Tree)) → (Held → Place → Fault) → Fault
 variant_fault true name w p its stop = let n = without_override name in under_name (take_tag w n) n w p (λ t. within (its (held_over w name t)) p (stop (held_over w name t) p))
-variant_fault false name w p its stop = let n = without_override (without_override name) in under_name (take_tag w n) n w p (λ t. stop Nothing (inside p))
+variant_fault false name w p its stop = structure_fault w (without_override (without_override name)) p (stop Nothing (inside p))
 
 -- the first value without items, or what follows
 abbrev pub in_turn : Option (List Tree) → Fault → (List Tree → Fault) → Fault
@@ -108,11 +112,11 @@ abbrev mutual
   fault none w p = fault_at (mismatch (unsupported_rust_type (codes "None"))) w p
   fault (some v) w p = fault v w p
   fault (seq_value vs) w p = fault_in vs w p
-  fault (struct_value name vs) w p = under_name (take_tag w name) name w p (λ t. fault_in vs Nothing (inside p))
+  fault (struct_value name vs) w p = structure_fault w name p (fault_in vs Nothing (inside p))
   fault (newtype_value name v) w p = newtype_fault (transparent_name name) name w p (items v) (fault v)
   fault (unit_variant_value name vname) w p = under_name (take_tag w name) name w p (λ t. fault_at (mismatch (invalid_variant vname)) (Plain t) p)
   fault (newtype_variant_value name vname v) w p = variant_fault (is_wrapper vname) name w p (items v) (fault v)
-  fault (tuple_variant_value name vname vs) w p = let n = without_override name in under_name (take_tag w n) n w p (λ t. fault_in vs Nothing (inside p))
+  fault (tuple_variant_value name vname vs) w p = structure_fault w (without_override name) p (fault_in vs Nothing (inside p))
   fault (unsupported_value name) w p = fault_at (mismatch (unsupported_rust_type name)) w p
 
   -- read only where a value has no items

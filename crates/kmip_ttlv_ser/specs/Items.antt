@@ -34,6 +34,10 @@ one_leaf w typ content = held_tag w >>= λ t. Some (leaf t typ content ∷ [])
 abbrev pub one_node : ℕ → Option (List Tree) → Option (List Tree)
 one_node t below = below >>= λ ts. Some (node t (trees_of ts) ∷ [])
 
+-- a structure under a name's tag, with what is below
+abbrev pub one_structure : Held → List ℕ → Option (List Tree) → Option (List Tree)
+one_structure w name below = take_tag w name >>= λ t. one_node t below
+
 -- a wrapper's content has to give an item
 unfoldable pub some_item : List Tree → Option (List Tree)
 some_item [] = None
@@ -73,7 +77,7 @@ enumeration t variant = number variant >>= λ n. one_leaf (Plain t) Enumeration 
 
 -- a newtype, by what follows `Transparent:` in its name; inside gives the items of its content
 abbrev pub newtype_row : Option (List ℕ) → List ℕ → Held → (Held → Option (List Tree)) → Option (List Tree)
-newtype_row None name w inside = take_tag w name >>= λ t. one_node t (inside Nothing)
+newtype_row None name w inside = one_structure w name (inside Nothing)
 newtype_row (Some n) name w inside = take_tag w n >>= λ t. inside (Plain t) >>= some_item
 
 unfoldable pub is_wrapper : List ℕ → Bool
@@ -82,7 +86,7 @@ is_wrapper variant = bytes_eq variant (codes "Transparent")
 -- a newtype variant, by whether it is named `Transparent`
 abbrev pub variant_row : Bool → List ℕ → Held → (Held → Option (List Tree)) → Option (List Tree)
 variant_row true name w inside = take_tag w (without_override name) >>= λ t. inside (held_over w name t) >>= some_item
-variant_row false name w inside = take_tag w (without_override (without_override name)) >>= λ t. one_node t (inside Nothing)
+variant_row false name w inside = one_structure w (without_override (without_override name)) (inside Nothing)
 
 -- the items of a value under a waiting tag, where it has any
 abbrev mutual
@@ -101,11 +105,11 @@ abbrev mutual
   items none w = None
   items (some v) w = items v w
   items (seq_value vs) w = items_in vs w
-  items (struct_value name vs) w = take_tag w name >>= λ t. one_node t (items_in vs Nothing)
+  items (struct_value name vs) w = one_structure w name (items_in vs Nothing)
   items (newtype_value name v) w = newtype_row (transparent_name name) name w (items v)
   items (unit_variant_value name vname) w = take_tag w name >>= λ t. enumeration t vname
   items (newtype_variant_value name vname v) w = variant_row (is_wrapper vname) name w (items v)
-  items (tuple_variant_value name vname vs) w = take_tag w (without_override name) >>= λ t. one_node t (items_in vs Nothing)
+  items (tuple_variant_value name vname vs) w = one_structure w (without_override name) (items_in vs Nothing)
   items (unsupported_value name) w = None
 
   -- values one after the other: the first that gives an item uses the waiting tag up

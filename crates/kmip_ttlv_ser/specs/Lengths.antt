@@ -50,25 +50,29 @@ abbrev pub After : Option (List Tree) → (List Tree → Type 0) → Type 0
 After None later = ⊥
 After (Some ts) later = later ts
 
+-- a structure under a name's tag: its own content is too long, or a structure inside
+abbrev pub structure_long : Held → List ℕ → Type 0 → Type 0 → Type 0
+structure_long w name whole inside = Under (take_tag w name) (λ t. whole ⊎ inside)
+
 -- a newtype, by what follows `Transparent:` in its name; whole says that its own structure is too long
 abbrev pub newtype_long : Option (List ℕ) → List ℕ → Held → Type 0 → (Held → Type 0) → Type 0
-newtype_long None name w whole inside = Under (take_tag w name) (λ t. whole ⊎ inside Nothing)
+newtype_long None name w whole inside = structure_long w name whole (inside Nothing)
 newtype_long (Some n) name w whole inside = Under (take_tag w n) (λ t. inside (Plain t))
 
 -- a newtype variant, by whether it is named `Transparent`
 abbrev pub variant_long : Bool → List ℕ → Held → Type 0 → (Held → Type 0) → Type 0
 variant_long true name w whole inside = Under (take_tag w (without_override name)) (λ t. inside (held_over w name t))
-variant_long false name w whole inside = Under (take_tag w (without_override (without_override name))) (λ t. whole ⊎ inside Nothing)
+variant_long false name w whole inside = structure_long w (without_override (without_override name)) whole (inside Nothing)
 
 -- a structure, counted up to the first refusal, is too long
 abbrev mutual
   pub HasLongStructure : Value → Held → Type 0
   HasLongStructure (some v) w = HasLongStructure v w
   HasLongStructure (seq_value vs) w = HaveLongStructure vs w
-  HasLongStructure (struct_value name vs) w = Under (take_tag w name) (λ t. IsLongContent (items_in vs Nothing) (fault_in vs Nothing content_start) ⊎ HaveLongStructure vs Nothing)
+  HasLongStructure (struct_value name vs) w = structure_long w name (IsLongContent (items_in vs Nothing) (fault_in vs Nothing content_start)) (HaveLongStructure vs Nothing)
   HasLongStructure (newtype_value name v) w = newtype_long (transparent_name name) name w (IsLongContent (items v Nothing) (fault v Nothing content_start)) (HasLongStructure v)
   HasLongStructure (newtype_variant_value name vname v) w = variant_long (is_wrapper vname) name w (IsLongContent (items v Nothing) (fault v Nothing content_start)) (HasLongStructure v)
-  HasLongStructure (tuple_variant_value name vname vs) w = Under (take_tag w (without_override name)) (λ t. IsLongContent (items_in vs Nothing) (fault_in vs Nothing content_start) ⊎ HaveLongStructure vs Nothing)
+  HasLongStructure (tuple_variant_value name vname vs) w = structure_long w (without_override name) (IsLongContent (items_in vs Nothing) (fault_in vs Nothing content_start)) (HaveLongStructure vs Nothing)
   HasLongStructure _ w = ⊥
 
   pub HaveLongStructure : Values → Held → Type 0

@@ -3,3 +3,4 @@ pub mod Sizes
 pub mod Faults
 pub mod Lengths
 pub mod Answers
+pub mod Passes

@@ -7,6 +7,8 @@
 #![tactic(auto)]
 
 mod held;
+mod names;
+mod refusal;
 mod serializer;
 
 pub use serializer::{TtlvSerializer, to_vec, to_writer};

@@ -1,0 +1,95 @@
+//! Why the first pass refuses a value, and the error that is answered for it.
+
+ghost use Rattle.std.specs.Prelude.{◌≡◌, ◌≤◌, ◌^◌, None, IfOk};
+ghost use Rattle.kmip_ttlv_base.specs.Errors.{view_of_kind};
+ghost use Rattle.kmip_ttlv_ser.specs.Faults.{fault_at};
+ghost use Rattle.kmip_ttlv_ser.specs.Passes.{kind_of_cause, Stops, IsErrorOf};
+ghost use Rattle.kmip_ttlv_ser.specs.declared.refusal.Refusal.TheVariants.{OutOfMemory as SpecOutOfMemory};
+
+use crate::held::{Held, Place};
+use kmip_ttlv_base::error::{Error, ErrorKind, ErrorLocation, MalformedTtlvError, SerdeError};
+use kmip_ttlv_types::{ByteOffset, FieldType};
+use std::alloc::{AllocError, AllocFailed, Allocator};
+
+/// What stops a value.
+#[derive(Clone, Copy)]
+pub enum Cause {
+    /// An item where no tag waits; whether the field last written is a structure's length.
+    NoTag(bool),
+    /// A tag, or the end of a wrapper, where a tag waits.
+    TagUnused,
+    /// A name that is no tag.
+    InvalidTag(&'static str),
+    /// A unit variant that is no number.
+    InvalidVariant(&'static str),
+    /// A value of a type that isn't written.
+    UnsupportedType(&'static str),
+}
+
+/// Why a value is not written.
+#[derive(Clone, Copy)]
+pub enum Refusal {
+    OutOfMemory,
+    LengthOverflow,
+    /// The offset is the number of bytes before the refused field.
+    Refused { cause: Cause, offset: u64 },
+}
+
+impl<T: Drop> From<AllocFailed<T>> for Refusal {
+    ghost from_gives = { λ _ e. e ≡ SpecOutOfMemory };
+
+    fn from(_error: AllocFailed<T>) -> Refusal {
+        Refusal::OutOfMemory
+    }
+}
+
+impl Refusal {
+    /// The refusal of the field that comes at a place, after the tag that waits.
+    pub fn at(cause: Cause, held: Held, place: Place) -> Refusal
+        ensures { Stops result None (fault_at (kind_of_cause cause) held place) (2 ^ 64 ≤ (fault_at (kind_of_cause cause) held place).offset) }
+    {
+        match place.offset.checked_add(held.len()) {
+            Some(offset) => Refusal::Refused { cause, offset },
+            None => Refusal::LengthOverflow,
+        }
+    }
+
+    /// The error that is answered. Only a name that is no tag takes memory.
+    pub fn into_error<A: Allocator>(self, alloc: A) -> Error<A>
+        ensures { IsErrorOf self result }
+    {
+        match self {
+            Refusal::OutOfMemory => Error::out_of_memory(),
+            Refusal::LengthOverflow => {
+                Error::new(ErrorKind::LengthOverflow, ErrorLocation::unknown())
+            }
+            Refusal::Refused { cause, offset } => match kind(alloc, cause) {
+                Ok(kind) => {
+                    let location = ErrorLocation::at(Some(ByteOffset(offset)), None, None, None);
+                    Error::new(kind, location)
+                }
+                Err(_) => Error::out_of_memory(),
+            },
+        }
+    }
+}
+
+fn kind<A: Allocator>(alloc: A, cause: Cause) -> Result<ErrorKind<A>, AllocError>
+    ensures { IfOk result (λ k. view_of_kind k ≡ kind_of_cause cause) }
+{
+    Ok(match cause {
+        Cause::NoTag(opened) => {
+            let expected = if opened { FieldType::Value } else { FieldType::Tag };
+            let actual = FieldType::TypeAndLengthAndValue;
+            MalformedTtlvError::UnexpectedTtlvField { expected, actual }.into()
+        }
+        Cause::TagUnused => {
+            let expected = FieldType::Typ;
+            let actual = FieldType::Tag;
+            MalformedTtlvError::UnexpectedTtlvField { expected, actual }.into()
+        }
+        Cause::InvalidTag(name) => SerdeError::InvalidTag(String::from_str(alloc, name)?).into(),
+        Cause::InvalidVariant(name) => SerdeError::InvalidVariant(name).into(),
+        Cause::UnsupportedType(name) => SerdeError::UnsupportedRustType(name).into(),
+    })
+}
