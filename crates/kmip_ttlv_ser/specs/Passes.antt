@@ -1,22 +1,29 @@
 -- What the two passes over a value do.
-use Rattle.std.specs.Prelude.{◌≡◌, ℕ, ◌+◌, ◌-◌, ◌<◌, ◌≤◌, ◌^◌, List, [], ◌∷◌, ◌++◌, length, Option, Some, None, Result, Ok, Err, ◌⊎◌}
+use Rattle.std.specs.Prelude.{◌≡◌, ℕ, Bool, ◌+◌, ◌-◌, ◌<◌, ◌≤◌, ◌^◌, List, [], ◌∷◌, ◌++◌, length, Option, Some, None, Result, Ok, Err, ◌⊎◌}
 use Rattle.std.specs.List.{AllByRecursion}
+use Rattle.kmip_ttlv_types.specs.Names.{tag_of}
 use Rattle.kmip_ttlv_types.specs.Trees.{Tree, bytes_all, Fits}
 use Rattle.kmip_ttlv_base.specs.declared.error.Error.{Error}
 use Rattle.kmip_ttlv_base.specs.Errors.{Kind, malformed, mismatch, invalid_tag, invalid_variant, unsupported_rust_type, length_overflow, unknown, kind_of, view_of_kind, location_of, view_of_location, IsMemory}
 use Rattle.kmip_ttlv_base.specs.Values.{Value, Values}
 use Rattle.kmip_ttlv_ser.specs.declared.held.Held.{Held}
-use Rattle.kmip_ttlv_ser.specs.declared.held.Held.TheVariants.{Nothing}
+use Rattle.kmip_ttlv_ser.specs.declared.held.Held.TheVariants.{Nothing, Plain, Overriding}
 use Rattle.kmip_ttlv_ser.specs.declared.held.Place.{Place}
 use Rattle.kmip_ttlv_ser.specs.declared.refusal.Cause.{Cause}
 use Rattle.kmip_ttlv_ser.specs.declared.refusal.Cause.TheVariants.{NoTag, TagUnused, InvalidTag, InvalidVariant, UnsupportedType}
 use Rattle.kmip_ttlv_ser.specs.declared.refusal.Refusal.{Refusal}
 use Rattle.kmip_ttlv_ser.specs.declared.refusal.Refusal.TheVariants.{OutOfMemory, LengthOverflow, Refused}
-use Rattle.kmip_ttlv_ser.specs.Items.{◌>>=◌, some_item, one_structure, items, items_in}
+use Rattle.kmip_ttlv_ser.specs.Items.{◌>>=◌, take_tag, some_item, one_structure, items, items_in}
 use Rattle.kmip_ttlv_ser.specs.Sizes.{sizes_all}
-use Rattle.kmip_ttlv_ser.specs.Faults.{Fault, fault, fault_in, no_tag, tag_unused, place_after, inside, within, structure_fault}
+use Rattle.kmip_ttlv_ser.specs.Faults.{held_len, fault_at, name_kind, Fault, fault, fault_in, no_tag, tag_unused, place_after, inside, within, structure_fault}
 use Rattle.kmip_ttlv_ser.specs.Lengths.{HasLongLeaf, HaveLongLeaf, HasLongStructure, HaveLongStructure, IsLongContent, content_start, structure_long, reach}
 use Rattle.kmip_ttlv_ser.specs.Answers.{at_offset}
+
+-- a tag waits
+abbrev pub Waits : Held → Type 0
+Waits Nothing = ⊥
+Waits (Plain t) = Unit {0}
+Waits (Overriding t) = Unit {0}
 
 -- the kind that a cause is answered as
 abbrev pub kind_of_cause : Cause → Kind
@@ -31,6 +38,20 @@ abbrev pub Stops : Refusal → Option (List Tree) → Fault → Type 0 → Type 
 Stops OutOfMemory o stop long = Unit {0}
 Stops LengthOverflow o stop long = long
 Stops (Refused cause offset) o stop long = (o ≡ None) × (stop ≡ record { kind = kind_of_cause cause; offset = offset })
+
+-- the refusal of the field at a place, after the tag that waits
+abbrev pub StopsAt : Refusal → Kind → Held → Place → Type 0
+StopsAt e kind w p = Stops e None (fault_at kind w p) (2 ^ 64 ≤ p.offset + held_len w)
+
+-- the place after n more bytes, where its offset is below 2^64
+abbrev pub Advances : Place → ℕ → Bool → Result Place Refusal → Type 0
+Advances p n opened (Ok q) = (q ≡ record { offset = p.offset + n; opened = opened }) × (p.offset + n < 2 ^ 64)
+Advances p n opened (Err e) = (e ≡ LengthOverflow) × (2 ^ 64 ≤ p.offset + n)
+
+-- the bytes before the field that comes next, where they are fewer than 2^64
+abbrev pub IsBeforeField : Place → Held → Result ℕ Refusal → Type 0
+IsBeforeField p w (Ok n) = n ≡ p.offset + held_len w
+IsBeforeField p w (Err e) = (e ≡ LengthOverflow) × (2 ^ 64 ≤ p.offset + held_len w)
 
 -- a leaf is too long, or a structure, or the offset that is reached after n bytes
 abbrev pub Overlong : Type 0 → Type 0 → Option (List Tree) → Fault → ℕ → Type 0

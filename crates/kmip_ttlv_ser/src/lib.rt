@@ -7,6 +7,7 @@
 #![tactic(auto)]
 
 mod held;
+mod measure;
 mod names;
 mod refusal;
 mod serializer;

@@ -1,14 +1,15 @@
 //! Why the first pass refuses a value, and the error that is answered for it.
 
-ghost use Rattle.std.specs.Prelude.{◌≡◌, ◌≤◌, ◌^◌, None, IfOk};
-ghost use Rattle.kmip_ttlv_base.specs.Errors.{view_of_kind};
-ghost use Rattle.kmip_ttlv_ser.specs.Faults.{fault_at};
-ghost use Rattle.kmip_ttlv_ser.specs.Passes.{kind_of_cause, Stops, IsErrorOf};
+ghost use Rattle.std.specs.Prelude.{◌≡◌, IfOk, IsErrAnd};
+ghost use Rattle.kmip_ttlv_base.specs.Errors.{view_of_kind, mismatch, invalid_variant, unsupported_rust_type};
+ghost use Rattle.kmip_ttlv_types.specs.Names.{tag_of};
+ghost use Rattle.kmip_ttlv_ser.specs.Faults.{no_tag, tag_unused, name_kind};
+ghost use Rattle.kmip_ttlv_ser.specs.Passes.{kind_of_cause, StopsAt, IsErrorOf};
 ghost use Rattle.kmip_ttlv_ser.specs.declared.refusal.Refusal.TheVariants.{OutOfMemory as SpecOutOfMemory};
 
 use crate::held::{Held, Place};
 use kmip_ttlv_base::error::{Error, ErrorKind, ErrorLocation, MalformedTtlvError, SerdeError};
-use kmip_ttlv_types::{ByteOffset, FieldType};
+use kmip_ttlv_types::{ByteOffset, FieldType, TtlvTag};
 use std::alloc::{AllocError, AllocFailed, Allocator};
 
 /// What stops a value.
@@ -43,17 +44,58 @@ impl<T: Drop> From<AllocFailed<T>> for Refusal {
     }
 }
 
-impl Refusal {
-    /// The refusal of the field that comes at a place, after the tag that waits.
-    pub fn at(cause: Cause, held: Held, place: Place) -> Refusal
-        ensures { Stops result None (fault_at (kind_of_cause cause) held place) (2 ^ 64 ≤ (fault_at (kind_of_cause cause) held place).offset) }
-    {
-        match place.offset.checked_add(held.len()) {
-            Some(offset) => Refusal::Refused { cause, offset },
-            None => Refusal::LengthOverflow,
-        }
-    }
+/// Refuses an item where no tag waits.
+pub fn refuse_item(held: &Held, place: Place) -> Result<Place, Refusal>
+    ensures { IsErrAnd result (λ e. StopsAt e (no_tag place.opened) held.now place) }
+{
+    let offset = place.before_field(held)?;
+    Err(Refusal::Refused { cause: Cause::NoTag(place.opened), offset })
+}
 
+/// Refuses the end of a wrapper where a tag waits.
+pub fn refuse_end(held: &Held, place: Place) -> Result<Place, Refusal>
+    ensures { IsErrAnd result (λ e. StopsAt e tag_unused held.now place) }
+{
+    let offset = place.before_field(held)?;
+    Err(Refusal::Refused { cause: Cause::TagUnused, offset })
+}
+
+/// Refuses a unit variant that is no number.
+pub fn refuse_variant(
+    variant: &'static str,
+    held: &Held,
+    place: Place,
+) -> Result<Place, Refusal>
+    ensures { IsErrAnd result (λ e. StopsAt e (mismatch (invalid_variant variant.now)) held.now place) }
+{
+    let offset = place.before_field(held)?;
+    Err(Refusal::Refused { cause: Cause::InvalidVariant(variant), offset })
+}
+
+/// Refuses a value of a type that isn't written.
+pub fn refuse_type(name: &'static str, held: &Held, place: Place) -> Result<Place, Refusal>
+    ensures { IsErrAnd result (λ e. StopsAt e (mismatch (unsupported_rust_type name.now)) held.now place) }
+{
+    let offset = place.before_field(held)?;
+    Err(Refusal::Refused { cause: Cause::UnsupportedType(name), offset })
+}
+
+/// Refuses a name that isn't taken: it is no tag, or a tag waits.
+pub fn refuse_name(
+    name: &'static str,
+    held: &Held,
+    place: Place,
+) -> Result<Place, Refusal>
+    ensures { IsErrAnd result (λ e. StopsAt e (name_kind (tag_of name.now) name.now) held.now place) }
+{
+    let offset = place.before_field(held)?;
+    if TtlvTag::from_name(name).is_none() {
+        return Err(Refusal::Refused { cause: Cause::InvalidTag(name), offset });
+    }
+    Err(Refusal::Refused { cause: Cause::TagUnused, offset })
+}
+
+impl Refusal {
     /// The error that is answered. Only a name that is no tag takes memory.
     pub fn into_error<A: Allocator>(self, alloc: A) -> Error<A>
         ensures { IsErrorOf self result }
