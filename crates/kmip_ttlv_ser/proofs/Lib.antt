@@ -1,1 +1,6 @@
 mod Prefixes
+mod Views
+mod Leaves
+mod Reaching
+mod Measuring
+mod Walking

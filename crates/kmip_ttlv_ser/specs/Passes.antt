@@ -19,12 +19,6 @@ use Rattle.kmip_ttlv_ser.specs.Faults.{held_len, fault_at, name_kind, Fault, fau
 use Rattle.kmip_ttlv_ser.specs.Lengths.{HasLongLeaf, HaveLongLeaf, HasLongStructure, HaveLongStructure, IsLongContent, content_start, structure_long, reach}
 use Rattle.kmip_ttlv_ser.specs.Answers.{at_offset}
 
--- a tag waits
-abbrev pub Waits : Held → Type 0
-Waits Nothing = ⊥
-Waits (Plain t) = Unit {0}
-Waits (Overriding t) = Unit {0}
-
 -- the kind that a cause is answered as
 abbrev pub kind_of_cause : Cause → Kind
 kind_of_cause (NoTag opened) = no_tag opened
@@ -39,9 +33,13 @@ Stops OutOfMemory o stop long = Unit {0}
 Stops LengthOverflow o stop long = long
 Stops (Refused cause offset) o stop long = (o ≡ None) × (stop ≡ record { kind = kind_of_cause cause; offset = offset })
 
+-- the refusal of a field that n bytes stand before
+abbrev pub StopsBefore : Refusal → Kind → ℕ → Type 0
+StopsBefore e kind n = Stops e None record { kind = kind; offset = n } (2 ^ 64 ≤ n)
+
 -- the refusal of the field at a place, after the tag that waits
 abbrev pub StopsAt : Refusal → Kind → Held → Place → Type 0
-StopsAt e kind w p = Stops e None (fault_at kind w p) (2 ^ 64 ≤ p.offset + held_len w)
+StopsAt e kind w p = StopsBefore e kind (p.offset + held_len w)
 
 -- the place after n more bytes, where its offset is below 2^64
 abbrev pub Advances : Place → ℕ → Bool → Result Place Refusal → Type 0

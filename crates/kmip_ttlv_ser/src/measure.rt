@@ -7,7 +7,7 @@ ghost use Rattle.kmip_ttlv_base.specs.Values.{view, views};
 ghost use Rattle.kmip_ttlv_ser.specs.declared.refusal.Refusal.TheVariants.{LengthOverflow as SpecLengthOverflow};
 ghost use Rattle.kmip_ttlv_ser.specs.Items.{one_leaf};
 ghost use Rattle.kmip_ttlv_ser.specs.Faults.{no_tag, fault_at};
-ghost use Rattle.kmip_ttlv_ser.specs.Passes.{Measures, MeasuresValue, MeasuresValues, MeasuresField, MeasuresFields, MeasuresWrapped, Waits};
+ghost use Rattle.kmip_ttlv_ser.specs.Passes.{Measures, MeasuresValue, MeasuresValues, MeasuresField, MeasuresFields, MeasuresWrapped};
 
 use crate::held::{Held, Place};
 use crate::names::{is_wrapper, transparent_name, without_override};
@@ -32,14 +32,11 @@ fn measure_leaf(held: &Held, len: usize, place: Place) -> Result<Place, Refusal>
     ensures { (typ : SpecType) (content old : List ℕ) → length content ≡ len
         → Measures (2 ^ 32 ≤ len) ⊥ (one_leaf held.now typ content) (fault_at (no_tag place.opened) held.now place) place old old result }
 {
-    if held.tag().is_none() {
-        return refuse_item(held, place);
+    match held.tag() {
+        None => refuse_item(held, place),
+        Some(_) if len as u64 > LONGEST => Err(Refusal::LengthOverflow),
+        Some(_) => place.after(8 + len as u64 + padding(len as u64), false),
     }
-    let len = len as u64;
-    if len > LONGEST {
-        return Err(Refusal::LengthOverflow);
-    }
-    place.after(8 + len + padding(len), false)
 }
 
 /// Notes the length of a structure in its place among the lengths.
@@ -131,12 +128,11 @@ fn measure_wrapped<A: Allocator, B: Allocator>(
     place: Place,
     sizes: &mut Vec<u32, A>,
 ) -> Result<Place, Refusal>
-    requires { Waits held.now }
     ensures { MeasuresWrapped (view value.now) held.now place sizes.old.items sizes.new.items result }
 {
     let end = measure(value, held, place, sizes)?;
     if end.offset == place.offset {
-        return refuse_end(held, place);
+        return refuse_end(place);
     }
     Ok(end)
 }

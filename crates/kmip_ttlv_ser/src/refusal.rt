@@ -1,10 +1,10 @@
 //! Why the first pass refuses a value, and the error that is answered for it.
 
-ghost use Rattle.std.specs.Prelude.{◌≡◌, IfOk, IsErrAnd};
+ghost use Rattle.std.specs.Prelude.{◌≡◌, ◌+◌, IfOk, IsErrAnd};
 ghost use Rattle.kmip_ttlv_base.specs.Errors.{view_of_kind, mismatch, invalid_variant, unsupported_rust_type};
 ghost use Rattle.kmip_ttlv_types.specs.Names.{tag_of};
 ghost use Rattle.kmip_ttlv_ser.specs.Faults.{no_tag, tag_unused, name_kind};
-ghost use Rattle.kmip_ttlv_ser.specs.Passes.{kind_of_cause, StopsAt, IsErrorOf};
+ghost use Rattle.kmip_ttlv_ser.specs.Passes.{kind_of_cause, StopsAt, StopsBefore, IsErrorOf};
 ghost use Rattle.kmip_ttlv_ser.specs.declared.refusal.Refusal.TheVariants.{OutOfMemory as SpecOutOfMemory};
 
 use crate::held::{Held, Place};
@@ -52,12 +52,14 @@ pub fn refuse_item(held: &Held, place: Place) -> Result<Place, Refusal>
     Err(Refusal::Refused { cause: Cause::NoTag(place.opened), offset })
 }
 
-/// Refuses the end of a wrapper where a tag waits.
-pub fn refuse_end(held: &Held, place: Place) -> Result<Place, Refusal>
-    ensures { IsErrAnd result (λ e. StopsAt e tag_unused held.now place) }
+/// Refuses the end of a wrapper whose tag still waits: its three bytes stand before.
+pub fn refuse_end(place: Place) -> Result<Place, Refusal>
+    ensures { IsErrAnd result (λ e. StopsBefore e tag_unused (place.offset + 3)) }
 {
-    let offset = place.before_field(held)?;
-    Err(Refusal::Refused { cause: Cause::TagUnused, offset })
+    match place.offset.checked_add(3) {
+        Some(offset) => Err(Refusal::Refused { cause: Cause::TagUnused, offset }),
+        None => Err(Refusal::LengthOverflow),
+    }
 }
 
 /// Refuses a unit variant that is no number.
