@@ -4,3 +4,4 @@ mod Leaves
 mod Reaching
 mod Measuring
 mod Walking
+mod Emitting

@@ -6,6 +6,7 @@
 //! specs/Faults, and what the calls here answer in specs/Answers.
 #![tactic(auto)]
 
+mod emit;
 mod held;
 mod measure;
 mod names;

@@ -103,7 +103,11 @@ pub(crate) fn measure<A: Allocator, B: Allocator>(
             }
             measure_leaf(&Held::Plain(tag), 4, place)
         }
-        Data::NewtypeVariant { name, variant, inner } => {
+        Data::NewtypeVariant {
+            name,
+            variant,
+            inner,
+        } => {
             let rest = without_override(name);
             if is_wrapper(variant) {
                 let Some(tag) = held.take(rest) else {
@@ -114,9 +118,11 @@ pub(crate) fn measure<A: Allocator, B: Allocator>(
                 measure_field(held, without_override(rest), inner, place, sizes)
             }
         }
-        Data::TupleVariant { name, variant: _, fields } => {
-            measure_fields(held, without_override(name), fields, place, sizes)
-        }
+        Data::TupleVariant {
+            name,
+            variant: _,
+            fields,
+        } => { measure_fields(held, without_override(name), fields, place, sizes) }
     }
 }
 

@@ -49,7 +49,10 @@ pub fn refuse_item(held: &Held, place: Place) -> Result<Place, Refusal>
     ensures { IsErrAnd result (λ e. StopsAt e (no_tag place.opened) held.now place) }
 {
     let offset = place.before_field(held)?;
-    Err(Refusal::Refused { cause: Cause::NoTag(place.opened), offset })
+    Err(Refusal::Refused {
+        cause: Cause::NoTag(place.opened),
+        offset,
+    })
 }
 
 /// Refuses the end of a wrapper whose tag still waits: its three bytes stand before.
@@ -57,21 +60,23 @@ pub fn refuse_end(place: Place) -> Result<Place, Refusal>
     ensures { IsErrAnd result (λ e. StopsBefore e tag_unused (place.offset + 3)) }
 {
     match place.offset.checked_add(3) {
-        Some(offset) => Err(Refusal::Refused { cause: Cause::TagUnused, offset }),
+        Some(offset) => Err(Refusal::Refused {
+            cause: Cause::TagUnused,
+            offset,
+        }),
         None => Err(Refusal::LengthOverflow),
     }
 }
 
 /// Refuses a unit variant that is no number.
-pub fn refuse_variant(
-    variant: &'static str,
-    held: &Held,
-    place: Place,
-) -> Result<Place, Refusal>
+pub fn refuse_variant(variant: &'static str, held: &Held, place: Place) -> Result<Place, Refusal>
     ensures { IsErrAnd result (λ e. StopsAt e (mismatch (invalid_variant variant.now)) held.now place) }
 {
     let offset = place.before_field(held)?;
-    Err(Refusal::Refused { cause: Cause::InvalidVariant(variant), offset })
+    Err(Refusal::Refused {
+        cause: Cause::InvalidVariant(variant),
+        offset,
+    })
 }
 
 /// Refuses a value of a type that isn't written.
@@ -79,22 +84,27 @@ pub fn refuse_type(name: &'static str, held: &Held, place: Place) -> Result<Plac
     ensures { IsErrAnd result (λ e. StopsAt e (mismatch (unsupported_rust_type name.now)) held.now place) }
 {
     let offset = place.before_field(held)?;
-    Err(Refusal::Refused { cause: Cause::UnsupportedType(name), offset })
+    Err(Refusal::Refused {
+        cause: Cause::UnsupportedType(name),
+        offset,
+    })
 }
 
 /// Refuses a name that isn't taken: it is no tag, or a tag waits.
-pub fn refuse_name(
-    name: &'static str,
-    held: &Held,
-    place: Place,
-) -> Result<Place, Refusal>
+pub fn refuse_name(name: &'static str, held: &Held, place: Place) -> Result<Place, Refusal>
     ensures { IsErrAnd result (λ e. StopsAt e (name_kind (tag_of name.now) name.now) held.now place) }
 {
     let offset = place.before_field(held)?;
     if TtlvTag::from_name(name).is_none() {
-        return Err(Refusal::Refused { cause: Cause::InvalidTag(name), offset });
+        return Err(Refusal::Refused {
+            cause: Cause::InvalidTag(name),
+            offset,
+        });
     }
-    Err(Refusal::Refused { cause: Cause::TagUnused, offset })
+    Err(Refusal::Refused {
+        cause: Cause::TagUnused,
+        offset,
+    })
 }
 
 impl Refusal {
@@ -123,7 +133,11 @@ fn kind<A: Allocator>(alloc: A, cause: Cause) -> Result<ErrorKind<A>, AllocError
 {
     Ok(match cause {
         Cause::NoTag(opened) => {
-            let expected = if opened { FieldType::Value } else { FieldType::Tag };
+            let expected = if opened {
+                FieldType::Value
+            } else {
+                FieldType::Tag
+            };
             let actual = FieldType::TypeAndLengthAndValue;
             MalformedTtlvError::UnexpectedTtlvField { expected, actual }.into()
         }
