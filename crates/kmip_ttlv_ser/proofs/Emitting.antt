@@ -19,7 +19,7 @@ use Rattle.kmip_ttlv_ser.specs.Passes.{Planned, Emitted}
 use Rattle.kmip_ttlv_ser.proofs.Leaves.{below_is, one_leaf_len, one_node_len, extended_len, bytes_append, len_append, fits_each, each_front, each_back, sizes_below_is}
 use Rattle.kmip_ttlv_ser.proofs.Walking.{left_over_is, followed}
 
-some_same : {A : Type 0} (x y : A) → Some x ≡ Some y → x ≡ y
+pub some_same : {A : Type 0} (x y : A) → Some x ≡ Some y → x ≡ y
 some_same x y e = cc
 
 pub at_plan : (o p : Option (List Tree)) (plan : List ℕ) (room : ℕ) → o ≡ p → Planned o plan room → Planned p plan room
@@ -209,7 +209,7 @@ split_at : (h : List Tree) (o : Option (List Tree)) (more : List Tree) → (o >>
 split_at h None more e = let k : None ≡ Some more = e in absurd cc
 split_at h (Some r) more e = (r, refl, sym (some_same (h ++ r) more e))
 
-split_of : (first : Option (List Tree)) (later : List Tree → Option (List Tree)) (more : List Tree) → followed first later ≡ Some more → Split first later more
+pub split_of : (first : Option (List Tree)) (later : List Tree → Option (List Tree)) (more : List Tree) → followed first later ≡ Some more → Split first later more
 split_of None later more e = let k : None ≡ Some more = e in absurd cc
 split_of (Some h) later more e =
     let s = split_at h (later h) more e in

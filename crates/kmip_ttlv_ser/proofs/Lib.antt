@@ -5,3 +5,5 @@ mod Reaching
 mod Measuring
 mod Walking
 mod Emitting
+mod Sent
+mod Refusing

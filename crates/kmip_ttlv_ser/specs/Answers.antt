@@ -30,9 +30,13 @@ pub record IsWrittenAs (v : Value) (n : ℕ) (bytes : List ℕ) : Type 0 where
   pub fit : FitsAfter n trees
   pub bytes_are : bytes ≡ bytes_all trees
 
--- some length is too long: the items don't fit, or, where there are none, a length counted up to the first refusal
+-- some length is too long: the items don't fit, or, where there are none, IsLong
+abbrev pub IsTooLongFor : Value → Place → Option (List Tree) → Type 0
+IsTooLongFor v p None = IsLong v p
+IsTooLongFor v p (Some ts) = ¬ (FitsAfter p.offset ts)
+
 abbrev pub IsTooLong : Value → Place → Type 0
-IsTooLong v p = elim (items v Nothing) [ None ↦ IsLong v p | Some ts ↦ ¬ (FitsAfter p.offset ts) ]
+IsTooLong v p = IsTooLongFor v p (items v Nothing)
 
 -- the value has no items, and this is its first refusal
 pub record IsFirstRefusal (v : Value) (p : Place) (kind : Kind) (location : Location) : Type 0 where
@@ -97,6 +101,19 @@ progress s = record { bytes = s.out.items; opened = s.opened; refused = s.refuse
 
 abbrev pub place_of : Progress → Place
 place_of s = record { offset = length s.bytes; opened = s.opened }
+
+-- the value's items were appended, and opened says whether the field last written is a structure's length
+pub record AppendedTo (v : Value) (opened : Bool) (old new : List ℕ) (opened_then : Bool) : Type 0 where
+  pub trees : List Tree
+  pub are : items v Nothing ≡ Some trees
+  pub fit : FitsAfter (length old) trees
+  pub bytes_are : new ≡ old ++ bytes_all trees
+  pub opened_is : opened_then ≡ opened_after opened trees
+
+-- what appending a value to bytes answers; refused, it leaves them as they were
+abbrev pub AppendsValue : {A : Type 0} → Value → Bool → List ℕ → List ℕ → Result Bool (Error A) → Type 0
+AppendsValue v opened old new (Ok then) = AppendedTo v opened old new then
+AppendsValue v opened old new (Err e) = Refuses v record { offset = length old; opened = opened } e × (new ≡ old)
 
 -- the answer after a refused call
 pub record IsClosed {A : Type 0} (e : Error A) : Type 0 where

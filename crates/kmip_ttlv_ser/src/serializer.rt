@@ -2,9 +2,13 @@
 
 ghost use Rattle.std.specs.Prelude.{◌≡◌, [], false};
 ghost use Rattle.kmip_ttlv_base.specs.Values.{view};
-ghost use Rattle.kmip_ttlv_ser.specs.Answers.{Writes, WritesTo, progress, Serializes, GivesAll, IsClosed};
+ghost use Rattle.kmip_ttlv_ser.specs.Answers.{Writes, WritesTo, progress, Serializes, GivesAll, IsClosed, AppendsValue};
 
-use kmip_ttlv_base::error::{Error, ErrorLocation, MalformedTtlvError, Result};
+use crate::emit::emit;
+use crate::held::{Held, Place};
+use crate::measure::measure;
+use crate::stream::write_whole;
+use kmip_ttlv_base::error::{Error, ErrorKind, ErrorLocation, MalformedTtlvError, Result};
 use kmip_ttlv_base::shape::{Data, Serialize};
 use kmip_ttlv_types::ByteOffset;
 use std::alloc::{Allocator, Global};
@@ -18,10 +22,13 @@ use std::io::Write;
 /// (UnexpectedTtlvField). The first of these in document order is answered. LengthOverflow, of
 /// unknown location, comes only where a length is above 2^32 - 1 or all bytes are more than
 /// 2^64 - 1, and OutOfMemory only where memory was refused.
-pub fn to_vec<A: Allocator + Copy, T: Serialize>(_alloc: A, _value: &T) -> Result<Vec<u8, A>, A>
-    ensures { Writes (T.stated _value.now) result }
+pub fn to_vec<A: Allocator + Copy, T: Serialize>(alloc: A, value: &T) -> Result<Vec<u8, A>, A>
+    ensures { Writes (T.stated value.now) result }
 {
-    Err(Error::out_of_memory())
+    let data = value.to_data(alloc)?;
+    let mut out = Vec::new(alloc);
+    append(alloc, &data, false, &mut out)?;
+    Ok(out)
 }
 
 /// Writes the bytes of `to_vec` to a writer.
@@ -30,13 +37,17 @@ pub fn to_vec<A: Allocator + Copy, T: Serialize>(_alloc: A, _value: &T) -> Resul
 /// comes where the writer failed, or took no byte: it has received a beginning of the bytes.
 /// Interrupted calls are tried again, as often as a 64-bit count allows.
 pub fn to_writer<A: Allocator + Copy, T: Serialize, W: Write>(
-    _alloc: A,
-    _value: &T,
-    _writer: &mut W,
+    alloc: A,
+    value: &T,
+    writer: &mut W,
 ) -> Result<(), A>
-    ensures { WritesTo (T.stated _value.now) (W.contents _writer.old) (W.contents _writer.new) result }
+    ensures { WritesTo (T.stated value.now) (W.contents writer.old) (W.contents writer.new) result }
 {
-    Err(Error::out_of_memory())
+    let bytes = to_vec(alloc, value)?;
+    match write_whole(writer, &bytes) {
+        Ok(()) => Ok(()),
+        Err(error) => Err(Error::new(ErrorKind::IoError(error), ErrorLocation::unknown())),
+    }
 }
 
 /// Writes values one after the other, until one is refused.
@@ -67,14 +78,16 @@ impl<A: Allocator + Copy> TtlvSerializer<A> {
 
     /// Appends the items of a value, refused as by `to_vec`. Offsets, and what is due, count the
     /// bytes of the calls that were accepted before.
-    pub fn serialize<B: Allocator>(&mut self, _value: &Data<B>) -> Result<(), A>
-        ensures { Serializes (view _value.now) (progress self.old) (progress self.new) result }
+    pub fn serialize<B: Allocator>(&mut self, value: &Data<B>) -> Result<(), A>
+        ensures { Serializes (view value.now) (progress self.old) (progress self.new) result }
     {
         if self.refused {
             return Err(closed());
         }
         self.refused = true;
-        Err(Error::out_of_memory())
+        self.opened = append(self.alloc, value, self.opened, &mut self.out)?;
+        self.refused = false;
+        Ok(())
     }
 
     /// All bytes that were appended. Takes no memory.
@@ -103,6 +116,7 @@ impl<A: Allocator, B: Allocator> From<&mut TtlvSerializer<B>> for ErrorLocation<
     }
 }
 
+/// The answer after a refused call.
 fn closed<A: Allocator>() -> Error<A>
     ensures { IsClosed result }
 {
@@ -110,4 +124,29 @@ fn closed<A: Allocator>() -> Error<A>
         MalformedTtlvError::UnknownStructureLength.into(),
         ErrorLocation::unknown(),
     )
+}
+
+/// Appends a value's items, and gives whether the field last written is a structure's length.
+///
+/// What refuses it is found first, and all room is made before the first byte is written.
+fn append<A: Allocator + Copy, B: Allocator>(
+    alloc: A,
+    value: &Data<B>,
+    opened: bool,
+    out: &mut Vec<u8, A>,
+) -> Result<bool, A>
+    ensures { AppendsValue (view value.now) opened out.old.items out.new.items result }
+{
+    let place = Place {
+        offset: out.len() as u64,
+        opened,
+    };
+    let mut sizes = Vec::new(alloc);
+    let end = match measure(value, &Held::Nothing, place, &mut sizes) {
+        Ok(end) => end,
+        Err(refusal) => return Err(refusal.into_error(alloc)),
+    };
+    out.reserve((end.offset - place.offset) as usize)?;
+    emit(value, &Held::Nothing, out, &sizes);
+    Ok(end.opened)
 }
