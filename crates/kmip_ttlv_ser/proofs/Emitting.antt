@@ -132,7 +132,7 @@ structure_emitted w name t o plan rest left old a new n room is h e first m =
 
 -- ---- wrappers
 
-unwrap : (o : Option (List Tree)) (ts : List Tree) → (o >>= some_item) ≡ Some ts → o ≡ Some ts
+pub unwrap : (o : Option (List Tree)) (ts : List Tree) → (o >>= some_item) ≡ Some ts → o ≡ Some ts
 unfolding some_item
 unwrap None ts e = let k : None ≡ Some ts = e in absurd cc
 unwrap (Some []) ts e = let k : None ≡ Some ts = e in absurd cc

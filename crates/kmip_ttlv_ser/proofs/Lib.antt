@@ -7,3 +7,5 @@ mod Walking
 mod Emitting
 mod Sent
 mod Refusing
+mod Telling
+mod Sound

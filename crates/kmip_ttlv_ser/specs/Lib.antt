@@ -4,3 +4,4 @@ pub mod Faults
 pub mod Lengths
 pub mod Answers
 pub mod Passes
+pub mod Laws

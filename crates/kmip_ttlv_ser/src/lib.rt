@@ -8,6 +8,7 @@
 
 mod emit;
 mod held;
+pub mod laws;
 mod measure;
 mod names;
 mod refusal;
