@@ -9,3 +9,4 @@ mod Sent
 mod Refusing
 mod Telling
 mod Sound
+mod Rows

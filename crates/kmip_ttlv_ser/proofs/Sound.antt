@@ -148,6 +148,7 @@ pub items_sound : (v : Value) (ts : List Tree) → items v Nothing ≡ Some ts �
 items_sound v ts e f = value_sound v Nothing ts tt e f
 
 pub told_apart : (v u : Value) (m n : ℕ) (bytes other : List ℕ) → IsWrittenAs v m bytes → IsWrittenAs u n other → (bytes ≡ other) ↔ (items v Nothing ≡ items u Nothing)
-told_apart v u m n bytes other h k =
-    (λ e. h.are ∙ ap Some (all_same h.trees k.trees (items_sound v h.trees h.are h.fit.each) (items_sound u k.trees k.are k.fit.each) (sym h.bytes_are ∙ e ∙ k.bytes_are)) ∙ sym k.are,
-      λ e. h.bytes_are ∙ ap bytes_all (some_same h.trees k.trees (sym h.are ∙ e ∙ k.are)) ∙ sym k.bytes_are)
+told_apart v u m n bytes other h k = (
+  λ e. h.are ∙ ap Some (all_same h.trees k.trees (items_sound v h.trees h.are h.fit.each) (items_sound u k.trees k.are k.fit.each) (sym h.bytes_are ∙ e ∙ k.bytes_are)) ∙ sym k.are,
+  λ e. h.bytes_are ∙ ap bytes_all (some_same h.trees k.trees (sym h.are ∙ e ∙ k.are)) ∙ sym k.bytes_are,
+)

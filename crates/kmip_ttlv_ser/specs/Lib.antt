@@ -5,3 +5,4 @@ pub mod Lengths
 pub mod Answers
 pub mod Passes
 pub mod Laws
+pub mod Rows
