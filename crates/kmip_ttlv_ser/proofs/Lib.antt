@@ -10,3 +10,4 @@ mod Refusing
 mod Telling
 mod Sound
 mod Rows
+mod Splitting

@@ -1,8 +1,9 @@
 //! Laws of what is written. Each function does nothing: its contract is the law.
 
-ghost use Rattle.std.specs.Prelude.{◌≡◌, ◌↔◌, ℕ, List, Some};
+ghost use Rattle.std.specs.Prelude.{◌≡◌, ◌↔◌, ℕ, List, Some, map};
 ghost use Rattle.std.specs.List.{AllByRecursion};
-ghost use Rattle.kmip_ttlv_types.specs.Trees.{Tree, bytes_all, Fits};
+ghost use Rattle.kmip_ttlv_types.specs.Trees.{Tree, bytes_all, Fits, raw_of};
+ghost use Rattle.kmip_ttlv_types.specs.Items.{Splits};
 ghost use Rattle.kmip_ttlv_base.specs.Values.{Value};
 ghost use Rattle.kmip_ttlv_ser.specs.declared.held.Held.TheVariants.{Nothing};
 ghost use Rattle.kmip_ttlv_ser.specs.Items.{items};
@@ -28,6 +29,13 @@ pub fn equal_bytes_have_equal_items()
     ensures { (v u : Value) (m n : ℕ) (bytes other : List ℕ) → IsWrittenAs v m bytes → IsWrittenAs u n other
         → (bytes ≡ other) ↔ (items v Nothing ≡ items u Nothing) }
 {}
+
+/// The bytes of an accepted value are split by its items: texts of theirs, one after the other.
+pub fn written_bytes_are_split()
+    ensures { (v : Value) (n : ℕ) (bytes : List ℕ) → (written : IsWrittenAs v n bytes)
+        → Splits (map raw_of written.trees) bytes }
+{
+}
 
 /// Values of each kind of name, and their bytes by the definitions.
 pub fn worked_values_have_bytes()
