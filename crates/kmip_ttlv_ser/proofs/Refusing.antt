@@ -1,0 +1,200 @@
+-- From what the first pass answers to what the calls answer.
+use Rattle.std.proofs.Common.{◌≡◌, ℕ, ◌+◌, ◌<◌, ◌≤◌, ◌^◌, Bool, true, false, List, [], ◌∷◌, ◌++◌, length, Option, Some, None, ◌⊎◌, inl, inr, refl, sym, ap, ◌∙◌, subst, arith, append-nil}
+use Rattle.std.specs.List.{AllByRecursion}
+use Rattle.kmip_ttlv_types.specs.declared.typ.TtlvType.{TtlvType}
+use Rattle.kmip_ttlv_types.specs.declared.typ.TtlvType.TheVariants.{BigInteger, TextString, ByteString}
+use Rattle.kmip_ttlv_types.specs.Names.{number, transparent_name}
+use Rattle.kmip_ttlv_types.specs.Trees.{Tree, leaf, node, trees_of, bytes_below, bytes_all, Fits}
+use Rattle.kmip_ttlv_base.specs.declared.error.Error.{Error}
+use Rattle.kmip_ttlv_base.specs.Errors.{Kind, out_of_memory, length_overflow, Location, unknown, kind_of, view_of_kind, location_of, view_of_location, IsMemory}
+use Rattle.kmip_ttlv_base.specs.Values.{Value, boolean_value, i8_value, i16_value, i32_value, u32_value, i64_value, u64_value, interval_value, text_value, bytes_value, big_integer_value, none, some, seq_value, struct_value, newtype_value, unit_variant_value, newtype_variant_value, tuple_variant_value, unsupported_value, Values, no_values, value}
+use Rattle.kmip_ttlv_ser.specs.declared.held.Held.{Held}
+use Rattle.kmip_ttlv_ser.specs.declared.held.Held.TheVariants.{Nothing, Plain}
+use Rattle.kmip_ttlv_ser.specs.declared.held.Place.{Place}
+use Rattle.kmip_ttlv_ser.specs.declared.refusal.Cause.{Cause}
+use Rattle.kmip_ttlv_ser.specs.declared.refusal.Cause.TheVariants.{NoTag, TagUnused, InvalidTag, InvalidVariant, UnsupportedType}
+use Rattle.kmip_ttlv_ser.specs.declared.refusal.Refusal.{Refusal}
+use Rattle.kmip_ttlv_ser.specs.declared.refusal.Refusal.TheVariants.{OutOfMemory, LengthOverflow, Refused}
+use Rattle.kmip_ttlv_ser.specs.Items.{◌>>=◌, take_tag, held_tag, one_leaf, one_node, one_structure, some_item, held_over, without_override, is_wrapper, left_over, sign_extended, newtype_row, variant_row, items, items_in}
+use Rattle.kmip_ttlv_ser.specs.Sizes.{sizes_all, FitsAfter}
+use Rattle.kmip_ttlv_ser.specs.Faults.{Fault, place_after, opened_after, fault, fault_in}
+use Rattle.kmip_ttlv_ser.specs.Lengths.{HasLongLeaf, HaveLongLeaf, HasLongStructure, HaveLongStructure, IsLongContent, IsLong, Under, After, reach, content_start, structure_long, newtype_long, variant_long}
+use Rattle.kmip_ttlv_ser.specs.Passes.{Measured, Planned, Emitted, Stops, Overlong, kind_of_cause, IsErrorOf}
+use Rattle.kmip_ttlv_ser.specs.Answers.{at_offset, IsTooLongFor, IsRefusedAs, IsFirstRefusal, Refuses, AppendedTo}
+use Rattle.kmip_ttlv_ser.proofs.Leaves.{place_len, below_is, fits_each, each_front, each_back}
+use Rattle.kmip_ttlv_ser.proofs.Emitting.{some_same, split_of}
+
+-- ---- a value that has items and a length too long: they don't fit
+
+abbrev Unfit : List Tree → Type 0
+Unfit ts = AllByRecursion Fits ts → ⊥
+
+leaf_unfit : (o : Option ℕ) (typ : TtlvType) (c : List ℕ) (ts : List Tree) → (o >>= λ t. Some (leaf t typ c ∷ [])) ≡ Some ts → 2 ^ 32 ≤ length c → Unfit ts
+leaf_unfit None typ c ts e long = let k : None ≡ Some ts = e in absurd cc
+leaf_unfit (Some t) typ c ts e long = λ h.
+    let each : AllByRecursion Fits (leaf t typ c ∷ []) = subst (AllByRecursion Fits) (sym (some_same (leaf t typ c ∷ []) ts e)) h in
+    absurd (omega (arith, each.0, long))
+
+-- what is in a structure doesn't fit
+inner_unfit : (t : ℕ) (us ts : List Tree) → Some (node t (trees_of us) ∷ []) ≡ Some ts → Unfit us → Unfit ts
+inner_unfit t us ts e never = λ h.
+    let each : AllByRecursion Fits (node t (trees_of us) ∷ []) = subst (AllByRecursion Fits) (sym (some_same (node t (trees_of us) ∷ []) ts e)) h in
+    never (fits_each us each.0.1)
+
+-- a structure's own content is too long
+whole_unfit : (t : ℕ) (us ts : List Tree) → Some (node t (trees_of us) ∷ []) ≡ Some ts → 2 ^ 32 ≤ 0 + length (bytes_all us) → Unfit ts
+whole_unfit t us ts e long = λ h.
+    let each : AllByRecursion Fits (node t (trees_of us) ∷ []) = subst (AllByRecursion Fits) (sym (some_same (node t (trees_of us) ∷ []) ts e)) h in
+    absurd (omega (arith, each.0.0, long, ap length (below_is us)))
+
+structure_unfit : (k : Option ℕ) (o : Option (List Tree)) (ts : List Tree) → ((us : List Tree) → o ≡ Some us → Unfit us) → (k >>= λ t. one_node t o) ≡ Some ts → Unfit ts
+structure_unfit None o ts never e = let x : None ≡ Some ts = e in absurd cc
+structure_unfit (Some t) None ts never e = let x : None ≡ Some ts = e in absurd cc
+structure_unfit (Some t) (Some us) ts never e = inner_unfit t us ts e (never us refl)
+
+unwrapped : (o : Option (List Tree)) (ts : List Tree) → (o >>= some_item) ≡ Some ts → o ≡ Some ts
+unfolding some_item
+unwrapped None ts e = let k : None ≡ Some ts = e in absurd cc
+unwrapped (Some []) ts e = let k : None ≡ Some ts = e in absurd cc
+unwrapped (Some (u ∷ us)) ts e = e
+
+wrapper_unfit : (k : Option ℕ) (its : ℕ → Option (List Tree)) (ts : List Tree) → ((t : ℕ) → its t ≡ Some ts → Unfit ts) → (k >>= λ t. its t >>= some_item) ≡ Some ts → Unfit ts
+wrapper_unfit None its ts never e = let x : None ≡ Some ts = e in absurd cc
+wrapper_unfit (Some t) its ts never e = never t (unwrapped (its t) ts e)
+
+newtype_unfit : (o : Option (List ℕ)) (name : List ℕ) (w : Held) (its : Held → Option (List Tree)) (ts : List Tree) → ((u : Held) (us : List Tree) → its u ≡ Some us → Unfit us) → newtype_row o name w its ≡ Some ts → Unfit ts
+newtype_unfit None name w its ts never e = structure_unfit (take_tag w name) (its Nothing) ts (never Nothing) e
+newtype_unfit (Some n) name w its ts never e = wrapper_unfit (take_tag w n) (λ t. its (Plain t)) ts (λ t i. never (Plain t) ts i) e
+
+variant_unfit : (b : Bool) (name : List ℕ) (w : Held) (its : Held → Option (List Tree)) (ts : List Tree) → ((u : Held) (us : List Tree) → its u ≡ Some us → Unfit us) → variant_row b name w its ≡ Some ts → Unfit ts
+variant_unfit true name w its ts never e = wrapper_unfit (take_tag w (without_override name)) (λ t. its (held_over w name t)) ts (λ t i. never (held_over w name t) ts i) e
+variant_unfit false name w its ts never e = structure_unfit (take_tag w (without_override (without_override name))) (its Nothing) ts (never Nothing) e
+
+mutual
+  long_leaf_unfit : (v : Value) (w : Held) (ts : List Tree) → items v w ≡ Some ts → HasLongLeaf v → Unfit ts
+  long_leaf_unfit (boolean_value b) w ts e h = absurd h
+  long_leaf_unfit (i8_value z) w ts e h = absurd h
+  long_leaf_unfit (i16_value z) w ts e h = absurd h
+  long_leaf_unfit (i32_value z) w ts e h = absurd h
+  long_leaf_unfit (u32_value n) w ts e h = absurd h
+  long_leaf_unfit (i64_value z) w ts e h = absurd h
+  long_leaf_unfit (u64_value n) w ts e h = absurd h
+  long_leaf_unfit (interval_value n) w ts e h = absurd h
+  long_leaf_unfit (text_value s) w ts e h = leaf_unfit (held_tag w) TextString s ts e h
+  long_leaf_unfit (bytes_value s) w ts e h = leaf_unfit (held_tag w) ByteString s ts e h
+  long_leaf_unfit (big_integer_value s) w ts e h = leaf_unfit (held_tag w) BigInteger (sign_extended s) ts e h
+  long_leaf_unfit none w ts e h = absurd h
+  long_leaf_unfit (some v) w ts e h = long_leaf_unfit v w ts e h
+  long_leaf_unfit (seq_value vs) w ts e h = long_leaves_unfit vs w ts e h
+  long_leaf_unfit (struct_value name vs) w ts e h = structure_unfit (take_tag w name) (items_in vs Nothing) ts (λ us i. long_leaves_unfit vs Nothing us i h) e
+  long_leaf_unfit (newtype_value name v) w ts e h = newtype_unfit (transparent_name name) name w (items v) ts (λ u us i. long_leaf_unfit v u us i h) e
+  long_leaf_unfit (unit_variant_value name vname) w ts e h = absurd h
+  long_leaf_unfit (newtype_variant_value name vname v) w ts e h = variant_unfit (is_wrapper vname) name w (items v) ts (λ u us i. long_leaf_unfit v u us i h) e
+  long_leaf_unfit (tuple_variant_value name vname vs) w ts e h = structure_unfit (take_tag w (without_override name)) (items_in vs Nothing) ts (λ us i. long_leaves_unfit vs Nothing us i h) e
+  long_leaf_unfit (unsupported_value name) w ts e h = absurd h
+
+  long_leaves_unfit : (vs : Values) (w : Held) (ts : List Tree) → items_in vs w ≡ Some ts → HaveLongLeaf vs → Unfit ts
+  long_leaves_unfit no_values w ts e h = absurd h
+  long_leaves_unfit (value v vs) w ts e (inl h) = let s = split_of (items v w) (λ a. items_in vs (left_over w a)) ts e in λ each. long_leaf_unfit v w s.here s.first_is h (each_front s.here s.after (subst (AllByRecursion Fits) s.joined each))
+  long_leaves_unfit (value v vs) w ts e (inr h) = let s = split_of (items v w) (λ a. items_in vs (left_over w a)) ts e in λ each. long_leaves_unfit vs (left_over w s.here) s.after s.later_is h (each_back s.here s.after (subst (AllByRecursion Fits) s.joined each))
+
+structure_long_unfit : (k : Option ℕ) (o : Option (List Tree)) (f : Fault) (S : Type 0) (ts : List Tree) → ((us : List Tree) → o ≡ Some us → S → Unfit us) → (k >>= λ t. one_node t o) ≡ Some ts → Under k (λ t. IsLongContent o f ⊎ S) → Unfit ts
+structure_long_unfit None o f S ts never e h = absurd h
+structure_long_unfit (Some t) None f S ts never e h = let x : None ≡ Some ts = e in absurd cc
+structure_long_unfit (Some t) (Some us) f S ts never e (inl h) = whole_unfit t us ts e h
+structure_long_unfit (Some t) (Some us) f S ts never e (inr h) = inner_unfit t us ts e (never us refl h)
+
+wrapper_long_unfit : (k : Option ℕ) (its : ℕ → Option (List Tree)) (S : ℕ → Type 0) (ts : List Tree) → ((t : ℕ) → its t ≡ Some ts → S t → Unfit ts) → (k >>= λ t. its t >>= some_item) ≡ Some ts → Under k S → Unfit ts
+wrapper_long_unfit None its S ts never e h = absurd h
+wrapper_long_unfit (Some t) its S ts never e h = never t (unwrapped (its t) ts e) h
+
+newtype_long_unfit : (o : Option (List ℕ)) (name : List ℕ) (w : Held) (its : Held → Option (List Tree)) (f : Fault) (S : Held → Type 0) (ts : List Tree) → ((u : Held) (us : List Tree) → its u ≡ Some us → S u → Unfit us) → newtype_row o name w its ≡ Some ts → newtype_long o name w (IsLongContent (its Nothing) f) S → Unfit ts
+newtype_long_unfit None name w its f S ts never e h = structure_long_unfit (take_tag w name) (its Nothing) f (S Nothing) ts (never Nothing) e h
+newtype_long_unfit (Some n) name w its f S ts never e h = wrapper_long_unfit (take_tag w n) (λ t. its (Plain t)) (λ t. S (Plain t)) ts (λ t i s. never (Plain t) ts i s) e h
+
+variant_long_unfit : (b : Bool) (name : List ℕ) (w : Held) (its : Held → Option (List Tree)) (f : Fault) (S : Held → Type 0) (ts : List Tree) → ((u : Held) (us : List Tree) → its u ≡ Some us → S u → Unfit us) → variant_row b name w its ≡ Some ts → variant_long b name w (IsLongContent (its Nothing) f) S → Unfit ts
+variant_long_unfit true name w its f S ts never e h = wrapper_long_unfit (take_tag w (without_override name)) (λ t. its (held_over w name t)) (λ t. S (held_over w name t)) ts (λ t i s. never (held_over w name t) ts i s) e h
+variant_long_unfit false name w its f S ts never e h = structure_long_unfit (take_tag w (without_override (without_override name))) (its Nothing) f (S Nothing) ts (never Nothing) e h
+
+after_first : (o : Option (List Tree)) (later : List Tree → Type 0) (here : List Tree) → o ≡ Some here → After o later → later here
+after_first o later here e h = subst (λ x. After x later) e h
+
+mutual
+  long_structure_unfit : (v : Value) (w : Held) (ts : List Tree) → items v w ≡ Some ts → HasLongStructure v w → Unfit ts
+  long_structure_unfit (boolean_value b) w ts e h = absurd h
+  long_structure_unfit (i8_value z) w ts e h = absurd h
+  long_structure_unfit (i16_value z) w ts e h = absurd h
+  long_structure_unfit (i32_value z) w ts e h = absurd h
+  long_structure_unfit (u32_value n) w ts e h = absurd h
+  long_structure_unfit (i64_value z) w ts e h = absurd h
+  long_structure_unfit (u64_value n) w ts e h = absurd h
+  long_structure_unfit (interval_value n) w ts e h = absurd h
+  long_structure_unfit (text_value s) w ts e h = absurd h
+  long_structure_unfit (bytes_value s) w ts e h = absurd h
+  long_structure_unfit (big_integer_value s) w ts e h = absurd h
+  long_structure_unfit none w ts e h = absurd h
+  long_structure_unfit (some v) w ts e h = long_structure_unfit v w ts e h
+  long_structure_unfit (seq_value vs) w ts e h = long_structures_unfit vs w ts e h
+  long_structure_unfit (struct_value name vs) w ts e h = structure_long_unfit (take_tag w name) (items_in vs Nothing) (fault_in vs Nothing content_start) (HaveLongStructure vs Nothing) ts (λ us i s. long_structures_unfit vs Nothing us i s) e h
+  long_structure_unfit (newtype_value name v) w ts e h = newtype_long_unfit (transparent_name name) name w (items v) (fault v Nothing content_start) (HasLongStructure v) ts (λ u us i s. long_structure_unfit v u us i s) e h
+  long_structure_unfit (unit_variant_value name vname) w ts e h = absurd h
+  long_structure_unfit (newtype_variant_value name vname v) w ts e h = variant_long_unfit (is_wrapper vname) name w (items v) (fault v Nothing content_start) (HasLongStructure v) ts (λ u us i s. long_structure_unfit v u us i s) e h
+  long_structure_unfit (tuple_variant_value name vname vs) w ts e h = structure_long_unfit (take_tag w (without_override name)) (items_in vs Nothing) (fault_in vs Nothing content_start) (HaveLongStructure vs Nothing) ts (λ us i s. long_structures_unfit vs Nothing us i s) e h
+  long_structure_unfit (unsupported_value name) w ts e h = absurd h
+
+  long_structures_unfit : (vs : Values) (w : Held) (ts : List Tree) → items_in vs w ≡ Some ts → HaveLongStructure vs w → Unfit ts
+  long_structures_unfit no_values w ts e h = absurd h
+  long_structures_unfit (value v vs) w ts e (inl h) = let s = split_of (items v w) (λ a. items_in vs (left_over w a)) ts e in λ each. long_structure_unfit v w s.here s.first_is h (each_front s.here s.after (subst (AllByRecursion Fits) s.joined each))
+  long_structures_unfit (value v vs) w ts e (inr h) =
+      let s = split_of (items v w) (λ a. items_in vs (left_over w a)) ts e in
+      let later = after_first (items v w) (λ us. HaveLongStructure vs (left_over w us)) s.here s.first_is h in
+      λ each. long_structures_unfit vs (left_over w s.here) s.after s.later_is later (each_back s.here s.after (subst (AllByRecursion Fits) s.joined each))
+
+-- ---- the answers
+
+too_long_at : (v : Value) (p : Place) (o : Option (List Tree)) → items v Nothing ≡ o → Overlong (HasLongLeaf v) (HasLongStructure v Nothing) o (fault v Nothing p) p.offset → IsTooLongFor v p o
+too_long_at v p None e h = h
+too_long_at v p (Some ts) e (inl h) = λ fit. long_leaf_unfit v Nothing ts e h fit.each
+too_long_at v p (Some ts) e (inr (inl h)) = λ fit. long_structure_unfit v Nothing ts e h fit.each
+too_long_at v p (Some ts) e (inr (inr h)) = λ fit. absurd (omega (arith, h, fit.total))
+
+memory_refuses : {A : Type 0} (v : Value) (p : Place) (e : Error A) → IsMemory e → Refuses v p e
+memory_refuses v p e m = subst (λ k. IsRefusedAs v p k (view_of_location (location_of e))) (sym (ap view_of_kind m.kind)) m.location
+
+first_refusal : (v : Value) (p : Place) (cause : Cause) (location : Location) → IsFirstRefusal v p (kind_of_cause cause) location → IsRefusedAs v p (kind_of_cause cause) location
+first_refusal v p (NoTag opened) location h = h
+first_refusal v p TagUnused location h = h
+first_refusal v p (InvalidTag name) location h = h
+first_refusal v p (InvalidVariant name) location h = h
+first_refusal v p (UnsupportedType name) location h = h
+
+pub refused : {A : Type 0} (v : Value) (p : Place) (r : Refusal) (e : Error A) → Stops r (items v Nothing) (fault v Nothing p) (Overlong (HasLongLeaf v) (HasLongStructure v Nothing) (items v Nothing) (fault v Nothing p) p.offset) → IsErrorOf r e → Refuses v p e
+refused v p OutOfMemory e h is = memory_refuses v p e is
+refused v p LengthOverflow e h is = subst (λ k. IsRefusedAs v p k (view_of_location (location_of e))) (sym is.0) (is.1, too_long_at v p (items v Nothing) refl h)
+refused v p (Refused cause offset) e h (inl is) = memory_refuses v p e is
+refused v p (Refused cause offset) e h (inr is) =
+    subst (λ k. IsRefusedAs v p k (view_of_location (location_of e))) (sym is.0) (first_refusal v p cause (view_of_location (location_of e)) record {
+      no_items = h.0;
+      kind_is = sym (ap (λ f. f.kind) h.1);
+      location_is = is.1 ∙ ap (λ f. at_offset f.offset) (sym h.1);
+    })
+
+-- ---- both passes
+
+pub planned_by : (o : Option (List Tree)) (p q : Place) (plan : List ℕ) (room : ℕ) → Measured o p q [] plan → q.offset ≤ p.offset + room → Planned o plan room
+planned_by o p q plan room m le = record { trees = m.trees; back = []; are = m.are; each = m.each; starts = m.kept ∙ sym (append-nil (sizes_all m.trees)); fit = omega (arith, le, place_len p q m.trees m.reached) }
+
+place_opened : (p q : Place) (ts : List Tree) → q ≡ place_after p ts → q.opened ≡ opened_after p.opened ts
+unfolding place_after
+place_opened p q ts e = ap (λ x. x.opened) e
+
+pub appended : (v : Value) (p q : Place) (plan rest old new : List ℕ) → p.offset ≡ length old → Measured (items v Nothing) p q [] plan → Emitted (items v Nothing) plan rest old new → AppendedTo v p.opened old new q.opened
+appended v p q plan rest old new here m e =
+    let same : m.trees ≡ e.trees = some_same m.trees e.trees (sym m.are ∙ e.are) in
+    record {
+      trees = m.trees;
+      are = m.are;
+      fit = record { each = m.each; total = omega (arith, m.small, here, place_len p q m.trees m.reached) };
+      bytes_are = e.wrote ∙ ap (λ ts. old ++ bytes_all ts) (sym same);
+      opened_is = place_opened p q m.trees m.reached;
+    }

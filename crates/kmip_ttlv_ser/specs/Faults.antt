@@ -1,0 +1,125 @@
+-- Where a value has no items: the first step that has none, and its place.
+use Rattle.std.specs.Prelude.{ℕ, ◌+◌, Bool, true, false, List, [], ◌∷◌, Option, Some, None, length, codes}
+use Rattle.kmip_ttlv_types.specs.declared.field.FieldType.{FieldType}
+use Rattle.kmip_ttlv_types.specs.declared.field.FieldType.TheVariants.{Tag, Typ, Value as Content, TypeAndLengthAndValue}
+use Rattle.kmip_ttlv_types.specs.Names.{tag_of, transparent_name}
+use Rattle.kmip_ttlv_types.specs.Trees.{Tree, leaf, node, Trees, no_trees, tree, bytes_all}
+use Rattle.kmip_ttlv_base.specs.declared.error.MalformedTtlvError.TheVariants.{UnexpectedTtlvField}
+use Rattle.kmip_ttlv_base.specs.Errors.{Kind, malformed, mismatch, invalid_tag, invalid_variant, unsupported_rust_type}
+use Rattle.kmip_ttlv_base.specs.Values.{Value, boolean_value, i8_value, i16_value, i32_value, u32_value, i64_value, u64_value, interval_value, text_value, bytes_value, big_integer_value, none, some, seq_value, struct_value, newtype_value, unit_variant_value, newtype_variant_value, tuple_variant_value, unsupported_value, Values, no_values, value}
+use Rattle.kmip_ttlv_ser.specs.declared.held.Held.{Held}
+use Rattle.kmip_ttlv_ser.specs.declared.held.Held.TheVariants.{Nothing, Plain, Overriding}
+use Rattle.kmip_ttlv_ser.specs.declared.held.Place.{Place}
+use Rattle.kmip_ttlv_ser.specs.Items.{take_tag, held_over, without_override, is_wrapper, left_over, items}
+
+-- why a value is refused, and the number of bytes before the refused field
+pub record Fault : Type 0 where
+  pub kind : Kind
+  pub offset : ℕ
+
+-- the field that is due where no item is begun: a value after a structure's length, else a tag
+abbrev pub due : Bool → FieldType
+due true = Content
+due false = Tag
+
+-- an item where no tag is held
+abbrev pub no_tag : Bool → Kind
+no_tag opened = malformed (UnexpectedTtlvField (due opened) TypeAndLengthAndValue)
+
+-- a tag, or the end of a wrapper, where a tag is held
+abbrev pub tag_unused : Kind
+tag_unused = malformed (UnexpectedTtlvField Typ Tag)
+
+-- a held tag's three bytes stand before the field that comes next
+abbrev pub held_len : Held → ℕ
+held_len Nothing = 0
+held_len (Plain t) = 3
+held_len (Overriding t) = 3
+
+-- whether the field last written is a structure's length, after a tree
+abbrev mutual
+  pub opened_by : Tree → Bool
+  opened_by (leaf t typ content) = false
+  opened_by (node t below) = opened_below true below
+
+  pub opened_below : Bool → Trees → Bool
+  opened_below b no_trees = b
+  opened_below b (tree t ts) = opened_below (opened_by t) ts
+
+abbrev pub opened_after : Bool → List Tree → Bool
+opened_after b [] = b
+opened_after b (t ∷ ts) = opened_after (opened_by t) ts
+
+-- the place after these items
+unfoldable pub place_after : Place → List Tree → Place
+place_after p ts = record { offset = p.offset + length (bytes_all ts); opened = opened_after p.opened ts }
+
+-- the place after a structure's header
+abbrev pub inside : Place → Place
+inside p = record { offset = p.offset + 8; opened = true }
+
+abbrev pub fault_at : Kind → Held → Place → Fault
+fault_at kind w p = record { kind = kind; offset = p.offset + held_len w }
+
+-- why a name can't be taken: it is no tag, or a tag is held
+abbrev pub name_kind : Option ℕ → List ℕ → Kind
+name_kind None name = mismatch (invalid_tag name)
+name_kind (Some n) name = tag_unused
+
+-- what stops a named value: its name, or what follows under the tag
+abbrev pub under_name : Option ℕ → List ℕ → Held → Place → (ℕ → Fault) → Fault
+under_name None name w p below = fault_at (name_kind (tag_of name) name) w p
+under_name (Some t) name w p below = below t
+
+-- what stops a structure: its name, or its content
+abbrev pub structure_fault : Held → List ℕ → Place → Fault → Fault
+structure_fault w name p below = under_name (take_tag w name) name w p (λ t. below)
+
+-- what stops a wrapper: its content, or that it gave no item
+abbrev pub within : Option (List Tree) → Place → Fault → Fault
+within None p below = below
+within (Some ts) p below = record { kind = tag_unused; offset = p.offset + 3 }
+
+-- what stops a newtype, by what follows `Transparent:` in its name
+abbrev pub newtype_fault : Option (List ℕ) → List ℕ → Held → Place → (Held → Option (List Tree)) → (Held → Place → Fault) → Fault
+newtype_fault None name w p its stop = structure_fault w name p (stop Nothing (inside p))
+newtype_fault (Some n) name w p its stop = under_name (take_tag w n) n w p (λ t. within (its (Plain t)) p (stop (Plain t) p))
+
+-- what stops a newtype variant, by whether it is named `Transparent`
+abbrev pub variant_fault : Bool → List ℕ → Held → Place → (Held → Option (List Tree)) → (Held → Place → Fault) → Fault
+variant_fault true name w p its stop = let n = without_override name in under_name (take_tag w n) n w p (λ t. within (its (held_over w name t)) p (stop (held_over w name t) p))
+variant_fault false name w p its stop = structure_fault w (without_override (without_override name)) p (stop Nothing (inside p))
+
+-- the first value without items, or what follows
+abbrev pub in_turn : Option (List Tree) → Fault → (List Tree → Fault) → Fault
+in_turn None here later = here
+in_turn (Some ts) here later = later ts
+
+-- the first refusal of a value that has no items
+abbrev mutual
+  pub fault : Value → Held → Place → Fault
+  fault (boolean_value b) w p = fault_at (no_tag p.opened) w p
+  fault (i8_value z) w p = fault_at (no_tag p.opened) w p
+  fault (i16_value z) w p = fault_at (no_tag p.opened) w p
+  fault (i32_value z) w p = fault_at (no_tag p.opened) w p
+  fault (u32_value n) w p = fault_at (no_tag p.opened) w p
+  fault (i64_value z) w p = fault_at (no_tag p.opened) w p
+  fault (u64_value n) w p = fault_at (no_tag p.opened) w p
+  fault (interval_value n) w p = fault_at (no_tag p.opened) w p
+  fault (text_value s) w p = fault_at (no_tag p.opened) w p
+  fault (bytes_value s) w p = fault_at (no_tag p.opened) w p
+  fault (big_integer_value s) w p = fault_at (no_tag p.opened) w p
+  fault none w p = fault_at (mismatch (unsupported_rust_type (codes "None"))) w p
+  fault (some v) w p = fault v w p
+  fault (seq_value vs) w p = fault_in vs w p
+  fault (struct_value name vs) w p = structure_fault w name p (fault_in vs Nothing (inside p))
+  fault (newtype_value name v) w p = newtype_fault (transparent_name name) name w p (items v) (fault v)
+  fault (unit_variant_value name vname) w p = under_name (take_tag w name) name w p (λ t. fault_at (mismatch (invalid_variant vname)) (Plain t) p)
+  fault (newtype_variant_value name vname v) w p = variant_fault (is_wrapper vname) name w p (items v) (fault v)
+  fault (tuple_variant_value name vname vs) w p = structure_fault w (without_override name) p (fault_in vs Nothing (inside p))
+  fault (unsupported_value name) w p = fault_at (mismatch (unsupported_rust_type name)) w p
+
+  -- read only where a value has no items
+  pub fault_in : Values → Held → Place → Fault
+  fault_in no_values w p = fault_at (no_tag p.opened) w p
+  fault_in (value v vs) w p = in_turn (items v w) (fault v w p) (λ ts. fault_in vs (left_over w ts) (place_after p ts))

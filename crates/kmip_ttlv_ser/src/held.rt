@@ -1,0 +1,112 @@
+//! The tag that waits for the next item, and the place that writing has reached.
+
+ghost use Rattle.std.specs.Prelude.{◌≡◌};
+ghost use Rattle.kmip_ttlv_ser.specs.Items.{take_tag, held_tag, held_after, held_over};
+ghost use Rattle.kmip_ttlv_ser.specs.Faults.{held_len};
+ghost use Rattle.kmip_ttlv_ser.specs.Passes.{Advances, IsBeforeField};
+
+use crate::names::override_name;
+use crate::refusal::Refusal;
+use kmip_ttlv_types::TtlvTag;
+
+/// The tag that the next item gets.
+#[derive(Clone, Copy)]
+pub enum Held {
+    /// No tag waits.
+    Nothing,
+    /// A tag that can't be taken again.
+    Plain(TtlvTag),
+    /// A tag that stands in place of the next name's tag.
+    Overriding(TtlvTag),
+}
+
+impl Held {
+    /// The tag of a leaf.
+    pub fn tag(&self) -> Option<TtlvTag>
+        ensures { result ≡ held_tag self.now }
+    {
+        match self {
+            Held::Nothing => None,
+            Held::Plain(tag) => Some(*tag),
+            Held::Overriding(tag) => Some(*tag),
+        }
+    }
+
+    /// The bytes of the tag that waits, which stand before the field that comes next.
+    pub fn len(&self) -> u64
+        ensures { result ≡ held_len self.now }
+    {
+        match self {
+            Held::Nothing => 0,
+            Held::Plain(_) => 3,
+            Held::Overriding(_) => 3,
+        }
+    }
+
+    /// The tag that stands after a name was taken.
+    #[tactic(auto, unfolding(crate::specs::Items::take_tag))]
+    pub fn take(&self, name: &str) -> Option<TtlvTag>
+        ensures { result ≡ take_tag self.now name.now }
+    {
+        match self {
+            Held::Nothing => TtlvTag::from_name(name),
+            Held::Plain(_) => None,
+            Held::Overriding(tag) => {
+                TtlvTag::from_name(name)?;
+                Some(*tag)
+            }
+        }
+    }
+
+    /// What waits for a wrapper's content: the taken tag overrides where nothing was held before
+    /// and the wrapper's name begins with `Override:`.
+    #[tactic(auto, unfolding(crate::specs::Items::held_over))]
+    pub fn over(&self, name: &'static str, tag: TtlvTag) -> Held
+        ensures { result ≡ held_over self.now name.now tag }
+    {
+        match self {
+            Held::Nothing => match override_name(name) {
+                Some(_) => Held::Overriding(tag),
+                None => Held::Plain(tag),
+            },
+            _ => Held::Plain(tag),
+        }
+    }
+
+    /// What waits after items of this many bytes.
+    pub fn after(&self, bytes: u64) -> Held
+        ensures { result ≡ held_after self.now bytes }
+    {
+        if bytes == 0 { *self } else { Held::Nothing }
+    }
+}
+
+/// The place that writing has reached: the number of bytes written, and whether the field last
+/// written is a structure's length.
+#[derive(Clone, Copy)]
+pub struct Place {
+    pub offset: u64,
+    pub opened: bool,
+}
+
+impl Place {
+    /// The place after some more bytes. LengthOverflow from 2^64 bytes on.
+    pub fn after(self, bytes: u64, opened: bool) -> Result<Place, Refusal>
+        ensures { Advances self bytes opened result }
+    {
+        match self.offset.checked_add(bytes) {
+            Some(offset) => Ok(Place { offset, opened }),
+            None => Err(Refusal::LengthOverflow),
+        }
+    }
+
+    /// The number of bytes before the field that comes next. LengthOverflow from 2^64 on.
+    pub fn before_field(self, held: &Held) -> Result<u64, Refusal>
+        ensures { IsBeforeField self held.now result }
+    {
+        match self.offset.checked_add(held.len()) {
+            Some(offset) => Ok(offset),
+            None => Err(Refusal::LengthOverflow),
+        }
+    }
+}

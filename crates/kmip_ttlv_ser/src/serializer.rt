@@ -1,0 +1,152 @@
+//! The calls that write values: `to_vec`, `to_writer` and `TtlvSerializer`.
+
+ghost use Rattle.std.specs.Prelude.{◌≡◌, [], false};
+ghost use Rattle.kmip_ttlv_base.specs.Values.{view};
+ghost use Rattle.kmip_ttlv_ser.specs.Answers.{Writes, WritesTo, progress, Serializes, GivesAll, IsClosed, AppendsValue};
+
+use crate::emit::emit;
+use crate::held::{Held, Place};
+use crate::measure::measure;
+use crate::stream::write_whole;
+use kmip_ttlv_base::error::{Error, ErrorKind, ErrorLocation, MalformedTtlvError, Result};
+use kmip_ttlv_base::shape::{Data, Serialize};
+use kmip_ttlv_types::ByteOffset;
+use std::alloc::{Allocator, Global};
+use std::io::Write;
+
+/// The canonical bytes of a value's items, one after the other (KMIP 1.0, section 9.1).
+///
+/// Refused are, with the offset in bytes alone, counted to the refused field: a name that is no tag
+/// (InvalidTag), a unit variant that is no number (InvalidVariant), a value of a type that isn't
+/// written (UnsupportedRustType), an item without a tag and a tag without an item
+/// (UnexpectedTtlvField). The first of these in document order is answered. LengthOverflow, of
+/// unknown location, comes only where a length is above 2^32 - 1 or all bytes are more than
+/// 2^64 - 1, and OutOfMemory only where memory was refused.
+pub fn to_vec<A: Allocator + Copy, T: Serialize>(alloc: A, value: &T) -> Result<Vec<u8, A>, A>
+    ensures { Writes (T.stated value.now) result }
+{
+    let data = value.to_data(alloc)?;
+    let mut out = Vec::new(alloc);
+    append(alloc, &data, false, &mut out)?;
+    Ok(out)
+}
+
+/// Writes the bytes of `to_vec` to a writer.
+///
+/// It refuses as `to_vec` does, and the writer is as it was then. IoError, of unknown location,
+/// comes where the writer failed, or took no byte: it has received a beginning of the bytes.
+/// Interrupted calls are tried again, as often as a 64-bit count allows.
+pub fn to_writer<A: Allocator + Copy, T: Serialize, W: Write>(
+    alloc: A,
+    value: &T,
+    writer: &mut W,
+) -> Result<(), A>
+    ensures { WritesTo (T.stated value.now) (W.contents writer.old) (W.contents writer.new) result }
+{
+    let bytes = to_vec(alloc, value)?;
+    match write_whole(writer, &bytes) {
+        Ok(()) => Ok(()),
+        Err(error) => Err(Error::new(ErrorKind::IoError(error), ErrorLocation::unknown())),
+    }
+}
+
+/// Writes values one after the other, until one is refused.
+///
+/// After a refusal, want of memory too, each later call is refused with UnknownStructureLength, of
+/// unknown location. As a location (`ErrorLocation::from`) a serializer is the number of bytes of
+/// its accepted calls.
+#[derive(Drop)]
+pub struct TtlvSerializer<A: Allocator = Global> {
+    alloc: A,
+    out: Vec<u8, A>,
+    opened: bool,
+    refused: bool,
+}
+
+impl<A: Allocator + Copy> TtlvSerializer<A> {
+    /// A serializer that was given nothing. Takes no memory.
+    pub fn new(alloc: A) -> TtlvSerializer<A>
+        ensures { progress result ≡ record { bytes = []; opened = false; refused = false } }
+    {
+        TtlvSerializer {
+            alloc,
+            out: Vec::new(alloc),
+            opened: false,
+            refused: false,
+        }
+    }
+
+    /// Appends the items of a value, refused as by `to_vec`. Offsets, and what is due, count the
+    /// bytes of the calls that were accepted before.
+    pub fn serialize<B: Allocator>(&mut self, value: &Data<B>) -> Result<(), A>
+        ensures { Serializes (view value.now) (progress self.old) (progress self.new) result }
+    {
+        if self.refused {
+            return Err(closed());
+        }
+        self.refused = true;
+        self.opened = append(self.alloc, value, self.opened, &mut self.out)?;
+        self.refused = false;
+        Ok(())
+    }
+
+    /// All bytes that were appended. Takes no memory.
+    ///
+    /// UnknownStructureLength where a call was refused; nothing is handed back then.
+    pub fn into_vec(self) -> Result<Vec<u8, A>, A>
+        ensures { GivesAll (progress self) result }
+    {
+        if self.refused {
+            return Err(closed());
+        }
+        Ok(self.out)
+    }
+}
+
+impl<A: Allocator, B: Allocator> From<&mut TtlvSerializer<B>> for ErrorLocation<A> {
+    ghost use Rattle.std.specs.Prelude.{length};
+    ghost use Rattle.kmip_ttlv_base.specs.Errors.{view_of_location};
+    ghost use Rattle.kmip_ttlv_ser.specs.Answers.{progress, at_offset};
+
+    ghost from_gives = { λ s l. view_of_location l ≡ at_offset (length (progress s.now).bytes) };
+
+    fn from(serializer: &mut TtlvSerializer<B>) -> ErrorLocation<A> {
+        let bytes = serializer.out.len() as u64;
+        ErrorLocation::at(Some(ByteOffset(bytes)), None, None, None)
+    }
+}
+
+/// The answer after a refused call.
+fn closed<A: Allocator>() -> Error<A>
+    ensures { IsClosed result }
+{
+    Error::new(
+        MalformedTtlvError::UnknownStructureLength.into(),
+        ErrorLocation::unknown(),
+    )
+}
+
+/// Appends a value's items, and gives whether the field last written is a structure's length.
+///
+/// What refuses it is found first, and all room is made before the first byte is written.
+fn append<A: Allocator + Copy, B: Allocator>(
+    alloc: A,
+    value: &Data<B>,
+    opened: bool,
+    out: &mut Vec<u8, A>,
+) -> Result<bool, A>
+    ensures { AppendsValue (view value.now) opened out.old.items out.new.items result }
+{
+    let place = Place {
+        offset: out.len() as u64,
+        opened,
+    };
+    let mut sizes = Vec::new(alloc);
+    let end = match measure(value, &Held::Nothing, place, &mut sizes) {
+        Ok(end) => end,
+        Err(refusal) => return Err(refusal.into_error(alloc)),
+    };
+    out.reserve((end.offset - place.offset) as usize)?;
+    emit(value, &Held::Nothing, out, &sizes);
+    Ok(end.opened)
+}
