@@ -1,0 +1,10 @@
+pub mod PlaceLemmas
+pub mod ReadLemmas
+pub mod Heads
+pub mod Leaves
+pub mod Front
+pub mod Views
+pub mod Going
+pub mod Ignoring
+pub mod Whole
+pub mod Giving

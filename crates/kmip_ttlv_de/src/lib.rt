@@ -1,0 +1,50 @@
+//! Reading values from TTLV bytes by the shape of their type.
+//!
+//! `from_slice` is the entry. What a shape reads is defined in specs/: `Reads` has one rule for
+//! each way to read from a list of items, and `Begins` says that bytes begin with an item from
+//! which a form reads a value.
+#![tactic(auto)]
+
+ghost use Rattle.std.specs.Prelude.{◌≡◌, List, ℕ, IfOk, IfErr};
+ghost use Rattle.kmip_ttlv_base.specs.Values.{Value};
+ghost use Rattle.kmip_ttlv_base.specs.Forms.{Form};
+ghost use Rattle.kmip_ttlv_base.specs.Gives.{Gives};
+ghost use Rattle.kmip_ttlv_de.specs.Reads.{Begins};
+ghost use Rattle.kmip_ttlv_de.specs.Answer.{Refuses};
+ghost use Rattle.kmip_ttlv_de.specs.Facts.{has, root_fault, RootFacts, FactsBut};
+
+pub mod keep;
+pub mod rules;
+
+use kmip_ttlv_base::error::{Error, Result};
+use kmip_ttlv_base::shape::Deserialize;
+use std::alloc::Allocator;
+
+/// The value with which the bytes begin: one Structure, padding included, by the shape of `T`.
+/// Bytes behind that item are not read.
+///
+/// Each refusal says where it stands, in bytes from the first byte. `IoError` of kind
+/// UnexpectedEof: the bytes end too early. Every other refusal but `OutOfMemory` stands whatever
+/// bytes follow.
+pub fn from_slice<T: Deserialize<A>, A: Allocator + Copy>(alloc: A, bytes: &[u8]) -> Result<T, A>
+    // What is answered is the value for data with which the bytes begin.
+    ensures found { IfOk result (λ x. (v : Value) × Begins T.form bytes.now v × T.is_value v x) }
+    // Bytes that are refused begin with no data; but for an early end, whatever bytes follow.
+    ensures refused { IfErr result (λ e. Refuses T.form bytes.now e) }
+    // A root that is no struct, or has another name, tag or type, is refused first.
+    ensures root { RootFacts (root_fault T.form bytes.now) bytes.now result }
+    // Any other refusal names what stands in the bytes, and its place.
+    ensures facts { IfErr result (λ e. FactsBut (root_fault T.form bytes.now) (has T.form) bytes.now e) }
+{
+    Err(Error::out_of_memory())
+}
+
+/// What bytes begin with is of the form's kind and names.
+pub fn what_begins_is_given()
+    ensures { (s : Form) (bytes : List ℕ) (v : Value) → Begins s bytes v → Gives s v }
+{}
+
+/// At most one value is read from the same bytes.
+pub fn one_value()
+    ensures { (s : Form) (bytes : List ℕ) (v w : Value) → Begins s bytes v → Begins s bytes w → v ≡ w }
+{}
