@@ -23,7 +23,7 @@ use Rattle.kmip_ttlv_de.proofs.PlaceLemmas.{code_one, item_one, items_at_splits,
 use Rattle.kmip_ttlv_de.proofs.ReadLemmas.{option_no_struct, reads_read_of, reads_shorter, split_of_splits, splits_split_of}
 use Rattle.kmip_ttlv_de.specs.Answer.{Accepted, Answers, Goes, Refused, Sort, early_end, memory, other, sort_of}
 use Rattle.kmip_ttlv_de.specs.Keeps.{Keep}
-use Rattle.kmip_ttlv_de.specs.Places.{LeafAt}
+use Rattle.kmip_ttlv_de.specs.Places.{LeafAt, StructAt}
 use Rattle.kmip_ttlv_de.specs.Reading.{FieldsReader, Got, Reader, ended, got, read_all, read_choice, read_content, read_enum, read_field, read_fields, read_forms, read_number, read_of, read_seq, read_struct, read_tuple, read_used, read_variant, rest_of, run_of, split_of, used_up, ◌>>=◌}
 use Rattle.kmip_ttlv_de.specs.Reads.{is_like, is_option, is_struct, leaf, may_follow, may_ignore, names, names_tag}
 use Rattle.kmip_ttlv_de.specs.Rules.{by_value, choice, choice_refused, chosen}
@@ -135,14 +135,8 @@ struct_end_all : (name : List ℕ) (fs : Fields) (deny : Bool) (xs : List Raw) (
 struct_end_all name fs deny xs None = refl
 struct_end_all name fs deny xs (Some vs) = elim (may_follow fs deny vs.rest) as (λ b. cond b (got (struct_value name vs.value) vs.kept xs) None ≡ (cond b (got tt vs.kept []) None >>= (λ (u : Got (Unit {0})). got vs.value u.kept u.rest) >>= λ ws. got (struct_value name ws.value) ws.kept xs)) [ true ↦ refl | false ↦ refl ]
 
-pub record StructAt (name b : List ℕ) (p n : ℕ) : Type 0 where
-  pub typ_is : code_at b p ≡ code Structure
-  pub name_is : tag_of name ≡ Some (tag_at b p)
-  pub len_is : n ≡ length_at b p
-  pub header_there : p + 8 ≤ length b
-
-pub struct_accepted : (name : List ℕ) (fs : Fields) (deny : Bool) (read : FieldsReader) (b : List ℕ) (p e n q : ℕ) (k k' : List Keep) (vs : Values) → p < e → ((i : ℕ) → get_or b i 0 < 256) → StructAt name b p n → Accepted (read_all fs deny read) b (p + 8) (p + 8 + n) k k' vs q → q ≡ p + 8 + n → Accepted (read_struct name fs deny read) b p e k k' (struct_value name vs) q
-struct_accepted name fs deny read b p e n q k k' vs lt fits s a at_end =
+pub struct_accepted : (name : List ℕ) (fs : Fields) (deny : Bool) (read : FieldsReader) (b : List ℕ) (p e t n q : ℕ) (k k' : List Keep) (vs : Values) → p < e → ((i : ℕ) → get_or b i 0 < 256) → StructAt name b p t n → Accepted (read_all fs deny read) b (p + 8) (p + 8 + n) k k' vs q → q ≡ p + 8 + n → Accepted (read_struct name fs deny read) b p e k k' (struct_value name vs) q
+struct_accepted name fs deny read b p e t n q k k' vs lt fits s a at_end =
     let content = take n (drop (p + 8) b) in
     let leaf : LeafAt b p Structure n content q = record { typ_is = s.typ_is; len_is = s.len_is; content_is = refl; next_is = omega (arith, at_end); there = a.within } in
     let width : q - (p + 8) ≡ n = omega (arith, at_end) in
@@ -153,7 +147,7 @@ struct_accepted name fs deny read b p e n q k k' vs lt fits s a at_end =
     let rest : ItemsAt b q (p + 8 + n) y.0 = rw append-nil at y.2 in
     let none_left : y.0 ≡ [] = items_none b q (p + 8 + n) y.0 a.within (omega (arith, at_end)) rest in
     let reads : read_all fs deny read k a.taken ≡ got vs k' [] = y.1 ∙ ap (got vs k') none_left in
-    let named : names name (raw_with (tag_at b p) Structure content ∷ []) ≡ true = tag_named name (raw_with (tag_at b p) Structure content) (tag_at b p) s.name_is refl in
+    let named : names name (raw_with (tag_at b p) Structure content ∷ []) ≡ true = tag_named name (raw_with (tag_at b p) Structure content) (tag_at b p) (s.name_is ∙ ap (λ (m : ℕ). Some m) s.tag_is) refl in
     accepted_leaf (read_struct name fs deny read) b p e k k' (struct_value name vs) Structure n content q lt (omega (arith, s.header_there)) fits leaf
     (λ xs. ap (λ t. cond (t && true) (split_of content >>= λ zs. struct_end name fs deny xs (read k zs)) None) named ∙ ap (λ o. o >>= λ zs. struct_end name fs deny xs (read k zs)) split ∙ struct_end_all name fs deny xs (read k a.taken) ∙ ap (λ o. o >>= λ ws. got (struct_value name ws.value) ws.kept xs) reads)
 
@@ -572,3 +566,14 @@ pub forms_begin : {A : Type 0} (ss : List (Shape A)) (ds : List (Data A)) (b : L
 forms_begin ss ds b p e k nil le =
     let r = read_used (read_forms (forms_of ss)) in
     goes_as r r (forms_left ds 0 ss) b p e k k p (λ h ys. rw nil (ap (λ (o : Option (Got Values)). o >>= used_up) (front_nil (read_forms (forms_of ss) h ys)))) (goes_nowhere r b p e k le)
+
+pub fields_begin : {A : Type 0} (fs : List (FieldShape A)) (ds : List (Data A)) (b : List ℕ) (p e : ℕ) (k : List Keep) → ds ≡ [] → p ≤ length b → Goes (read_fields (fields_of fs)) (fields_left ds 0 fs) b p e k k p
+fields_begin fs ds b p e k nil le =
+    let r = read_fields (fields_of fs) in
+    goes_as r r (fields_left ds 0 fs) b p e k k p (λ h ys. rw nil (front_nil (read_fields (fields_of fs) h ys))) (goes_nowhere r b p e k le)
+
+pub struct_not_type : (name : List ℕ) (fs : Fields) (deny : Bool) (read : FieldsReader) (b : List ℕ) (p e : ℕ) (k : List Keep) (t : TtlvType) (r : Sort) → p < e → p + 4 ≤ length b → code_at b p ≡ code t → is_structure t ≡ false → Refused (read_struct name fs deny read) b p e k r
+struct_not_type name fs deny read b p e k t r lt le typ no_struct = refused_first (read_struct name fs deny read) b p e k r lt (λ after x xs item.
+    let same : x.typ ≡ t = code_one x.typ t (item.typ ∙ code_more b after p le ∙ typ) in
+    let plain : is_structure x.typ ≡ false = ap is_structure same ∙ no_struct in
+    elim (names name (x ∷ [])) as (λ n. ◌≡◌ {A = Option (Got Value)} (cond (n && is_structure x.typ) (split_of x.content >>= λ zs. read k zs >>= λ vs. cond (may_follow fs deny vs.rest) (got (struct_value name vs.value) vs.kept xs) None) None) None) [ true ↦ rw plain refl | false ↦ refl ])

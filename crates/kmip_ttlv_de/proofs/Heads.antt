@@ -33,7 +33,7 @@ length_more b after p le = rw (get_or_append_left b after 0 (p + 4) (omega arith
 plain_more : (b after : List ℕ) (p : ℕ) → p + 8 ≤ length b → is_plain (b ++ after) p ≡ is_plain b p
 plain_more b after p le = rw (get_or_append_left b after 0 p (omega arith), get_or_append_left b after 0 (p + 1) (omega arith), get_or_append_left b after 0 (p + 2) (omega arith), get_or_append_left b after 0 (p + 3) (omega arith), get_or_append_left b after 0 (p + 4) (omega arith), get_or_append_left b after 0 (p + 5) (omega arith), get_or_append_left b after 0 (p + 6) (omega arith), get_or_append_left b after 0 (p + 7) (omega arith)) refl
 
-part_more : (b after : List ℕ) (p n : ℕ) → p + n ≤ length b → take n (drop p (b ++ after)) ≡ take n (drop p b)
+pub part_more : (b after : List ℕ) (p n : ℕ) → p + n ≤ length b → take n (drop p (b ++ after)) ≡ take n (drop p b)
 part_more b after p n le = rw (drop-append-le p b after (omega arith)) (take-append-le n (drop p b) after (omega (arith, length-drop p b)))
 
 pub item_more : (b after : List ℕ) (p : ℕ) (x : Raw) → ItemAt b p x → ItemAt (b ++ after) p x

@@ -2,6 +2,8 @@
 use Rattle.std.proofs.Common.{◌≡◌, ◌≢◌, ℕ, zero, suc, ◌+◌, ◌-◌, ◌<◌, ◌≤◌, Bool, true, false, cond, List, [], ◌∷◌, ◌++◌, length, get_or, take, drop, Option, Some, None, refl, sym, ap, subst, ◌∙◌, arith, eqb}
 use Rattle.std.specs.Int.{w32, w64, from_be_bytes}
 use Rattle.std.proofs.lemmas.Bool.{eq-eqb, ne_eqb, eqb-true}
+use Rattle.std.proofs.lemmas.List.{take_all}
+use Rattle.std.proofs.Common.{◌⊎◌, inl, inr}
 use Rattle.std.specs.Str.{IsUtf8, is_utf8}
 use Rattle.std.proofs.lemmas.Str.{IsUtf8-from_is_utf8, is_utf8-from_IsUtf8}
 use Rattle.kmip_ttlv_types.specs.ItemTypes.{code, fixed_length}
@@ -9,11 +11,10 @@ use Rattle.kmip_ttlv_types.specs.Leaves.{is_valid}
 use Rattle.kmip_ttlv_types.specs.Places.{code_at, length_at}
 use Rattle.kmip_ttlv_types.specs.declared.typ.TtlvType.{TtlvType}
 use Rattle.kmip_ttlv_types.specs.declared.typ.TtlvType.TheVariants.{BigInteger, Boolean, ByteString, DateTime, Enumeration, Integer, Interval, LongInteger, Structure, TextString}
-use Rattle.kmip_ttlv_de.proofs.Heads.{code_more, length_more, refused_any, refused_first, refused_leaf}
-use Rattle.kmip_ttlv_de.proofs.PlaceLemmas.{code_one}
+use Rattle.kmip_ttlv_de.proofs.Heads.{code_more, length_more, part_more, refused_first}
+use Rattle.kmip_ttlv_de.proofs.PlaceLemmas.{code_one, eight}
 use Rattle.kmip_ttlv_de.specs.Answer.{Refused, Sort}
 use Rattle.kmip_ttlv_de.specs.Keeps.{Keep}
-use Rattle.kmip_ttlv_de.specs.Places.{LeafAt}
 use Rattle.kmip_ttlv_de.specs.Reading.{any_leaf}
 
 -- another length than the type's
@@ -37,8 +38,14 @@ leaf_not_length b p e k t n w r lt le typ-is len-is wide ne =
     let bad : is_valid x.typ x.content ≡ false = rw typ (short t w x.content wide (λ h. ne (sym same ∙ h))) in
     rw bad refl)
 
-pub leaf_bad : (b : List ℕ) (p e : ℕ) (k : List Keep) (t : TtlvType) (n : ℕ) (content : List ℕ) (q : ℕ) (r : Sort) → p < e → ((i : ℕ) → get_or b i 0 < 256) → LeafAt b p t n content q → is_valid t content ≡ false → Refused any_leaf b p e k r
-leaf_bad b p e k t n content q r lt fits l bad = refused_any any_leaf b p e k r (refused_leaf any_leaf b p e k t n content q lt fits l (λ xs. rw bad refl))
+-- content that is no value of its type, with its padding there or not
+pub leaf_invalid : (b : List ℕ) (p e : ℕ) (k : List Keep) (t : TtlvType) (n : ℕ) (content : List ℕ) (r : Sort) → p < e → p + 8 + n ≤ length b → code_at b p ≡ code t → n ≡ length_at b p → content ≡ take n (drop (p + 8) b) → is_valid t content ≡ false → Refused any_leaf b p e k r
+leaf_invalid b p e k t n content r lt le typ-is len-is content-is bad =
+    refused_first any_leaf b p e k r lt (λ after x xs item.
+      let typ : x.typ ≡ t = code_one x.typ t (item.typ ∙ code_more b after p (omega arith) ∙ typ-is) in
+      let same : x.content ≡ content = item.content ∙ ap (λ m. take m (drop (p + 8) (b ++ after))) (length_more b after p (omega arith) ∙ sym len-is) ∙ part_more b after (p + 8) n le ∙ sym content-is in
+      let invalid : is_valid x.typ x.content ≡ false = ap (is_valid x.typ) same ∙ ap (λ y. is_valid y content) typ ∙ bad in
+      rw invalid refl)
 
 -- a leaf of fixed length, or of any
 pub valid_default : (t : TtlvType) (content : List ℕ) → (t ≡ Boolean → ⊥) → (t ≡ TextString → ⊥) → t ≢ Structure → ((w : ℕ) → fixed_length t ≡ Some w → length content ≡ w) → true ≡ is_valid t content
@@ -55,3 +62,14 @@ valid_default Interval content b x s h = sym (eq-eqb (length content) 4 (h 4 ref
 
 pub not_utf8 : (c : List ℕ) → (IsUtf8 c → ⊥) → false ≡ is_utf8 c
 not_utf8 c bad = elim (is_utf8 c) as (λ b. is_utf8 c ≡ b → false ≡ b) [ true ↦ λ e. absurd (bad (IsUtf8-from_is_utf8 c e)) | false ↦ λ e. refl ] refl
+
+pub four_cells : (c : List ℕ) → length c ≡ 4 → get_or c 0 0 ∷ get_or c 1 0 ∷ get_or c 2 0 ∷ get_or c 3 0 ∷ [] ≡ c
+four_cells (a ∷ b ∷ c ∷ d ∷ []) e = refl
+four_cells [] e = absurd (omega arith)
+four_cells (a ∷ []) e = absurd (omega arith)
+four_cells (a ∷ b ∷ []) e = absurd (omega arith)
+four_cells (a ∷ b ∷ c ∷ []) e = absurd (omega arith)
+four_cells (a ∷ b ∷ c ∷ d ∷ x ∷ r) e = absurd (omega arith)
+
+pub eight_cells : (c : List ℕ) → length c ≡ 8 → get_or c 0 0 ∷ get_or c 1 0 ∷ get_or c 2 0 ∷ get_or c 3 0 ∷ get_or c 4 0 ∷ get_or c 5 0 ∷ get_or c 6 0 ∷ get_or c 7 0 ∷ [] ≡ c
+eight_cells c e = sym (eight c (omega arith)) ∙ take_all 8 c (omega arith)

@@ -2,9 +2,16 @@ pub mod PlaceLemmas
 pub mod ReadLemmas
 pub mod Heads
 pub mod Leaves
+pub mod FactLemmas
 pub mod Front
 pub mod Views
 pub mod Going
 pub mod Ignoring
 pub mod Whole
+pub mod WholeLemmas
 pub mod Giving
+pub mod NumberLemmas
+pub mod Cuts
+pub mod RuleLemmas
+pub mod SayLemmas
+pub mod RootLemmas

@@ -110,7 +110,7 @@ items_at_splits w p e (x ∷ xs) back bytes le at len s =
     (item, items_at_splits w (p + size x.typ (length_at w p)) e xs back rest item.there next (omega (arith, ap length s.3, length-append text rest, n-is, len)) s.4)
 
 -- the first eight cells
-eight : (d : List ℕ) → 8 ≤ length d → take 8 d ≡ get_or d 0 0 ∷ get_or d 1 0 ∷ get_or d 2 0 ∷ get_or d 3 0 ∷ get_or d 4 0 ∷ get_or d 5 0 ∷ get_or d 6 0 ∷ get_or d 7 0 ∷ []
+pub eight : (d : List ℕ) → 8 ≤ length d → take 8 d ≡ get_or d 0 0 ∷ get_or d 1 0 ∷ get_or d 2 0 ∷ get_or d 3 0 ∷ get_or d 4 0 ∷ get_or d 5 0 ∷ get_or d 6 0 ∷ get_or d 7 0 ∷ []
 eight [] le = absurd (omega arith)
 eight (a ∷ []) le = absurd (omega arith)
 eight (a ∷ b ∷ []) le = absurd (omega arith)

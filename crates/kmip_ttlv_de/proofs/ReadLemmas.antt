@@ -211,7 +211,7 @@ mutual
 as_got : {A : Type 0} (P : A → List Keep → List Raw → Type 0) (v : A) (k : List Keep) (xs : List Raw) (g : Got A) → got v k xs ≡ Some g → P v k xs → P g.value g.kept g.rest
 as_got P v k xs g e h = let same : record { value = v; kept = k; rest = xs } ≡ g = cc in subst (λ y. P y.value y.kept y.rest) same h
 
-is_structure_is : (t : TtlvType) → is_structure t ≡ true → t ≡ Structure
+pub is_structure_is : (t : TtlvType) → is_structure t ≡ true → t ≡ Structure
 is_structure_is Structure e = refl
 is_structure_is Integer e = absurd cc
 is_structure_is LongInteger e = absurd cc

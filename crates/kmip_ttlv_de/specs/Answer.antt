@@ -3,10 +3,11 @@ use Rattle.std.specs.Prelude.{◌≡◌, ℕ, ◌+◌, Bool, true, ◌<◌, ◌�
 use Rattle.kmip_ttlv_types.specs.Items.{Raw}
 use Rattle.kmip_ttlv_types.specs.Places.{ItemsAt}
 use Rattle.kmip_ttlv_base.specs.declared.error.Error.{Error}
-use Rattle.kmip_ttlv_base.specs.Errors.{Kind, io_error, out_of_memory, view_of_kind, kind_of}
+use Rattle.kmip_ttlv_base.specs.Errors.{Mismatch, Kind, io_error, out_of_memory, view_of_kind, kind_of}
 use Rattle.kmip_ttlv_base.specs.Values.{Value}
 use Rattle.kmip_ttlv_base.specs.Forms.{Form, Fields}
 use Rattle.kmip_ttlv_de.specs.Keeps.{Keep}
+use Rattle.kmip_ttlv_de.specs.Rules.{Choice, chosen, by_value, choice_refused}
 use Rattle.kmip_ttlv_de.specs.Reads.{is_like, Begins}
 use Rattle.kmip_ttlv_de.specs.Reading.{Got, got, rest_of}
 
@@ -76,3 +77,9 @@ RefusesAs s bytes other = (after : List ℕ) (v : Value) → Begins s (bytes ++ 
 
 abbrev pub Refuses : {A : Type 0} → Form → List ℕ → Error A → Type 0
 Refuses s bytes r = RefusesAs s bytes (sort_of r)
+
+-- the index of the chosen variant; none, where a number chooses; or the choice is refused
+abbrev pub Chooses : {A : Type 0} → Choice → Result (Option ℕ) (Error A) → Type 0
+Chooses choice (Ok (Some i)) = (choice ≡ chosen i)
+Chooses choice (Ok None) = (choice ≡ by_value)
+Chooses choice (Err r) = (m : Mismatch) × (choice ≡ choice_refused m)

@@ -17,6 +17,8 @@ use Rattle.kmip_ttlv_base.specs.Errors.{Mismatch, invalid_variant, invalid_rule,
 use Rattle.kmip_ttlv_base.specs.Forms.{Form, struct, option, seq, newtype, enum, Fields, no_fields, field}
 use Rattle.kmip_ttlv_de.specs.Reads.{has_fields, names_tag}
 use Rattle.kmip_ttlv_de.specs.Places.{Reached, IsEnd}
+use Rattle.kmip_ttlv_de.specs.Answer.{early_end, sort_of}
+use Rattle.kmip_ttlv_de.specs.Wholes.{AreWhole}
 
 -- what a form may have that makes reading refuse
 pub data Cause : Type 0 where
@@ -29,24 +31,24 @@ pub data Cause : Type 0 where
 abbrev pub is_bad_name : List ℕ → List ℕ → Bool
 is_bad_name name n = bytes_eq name n && is_none (tag_of n)
 
--- a struct's own name is no tag; it has no fields; no item of this tag may follow its fields
-abbrev pub struct_has : List ℕ → Fields → Bool → Cause → Bool
-struct_has name fs deny (bad_name n) = is_bad_name name n
-struct_has name fs deny empty_struct = not (has_fields fs)
-struct_has name fs deny (closed_to t) = deny || names_tag fs t
-struct_has name fs deny any_enum = false
+-- a name, of a struct or of a field, is no tag
+abbrev pub name_has : List ℕ → Cause → Bool
+name_has name (bad_name n) = is_bad_name name n
+name_has name empty_struct = false
+name_has name (closed_to t) = false
+name_has name any_enum = false
 
--- a field's name is no tag
-abbrev pub field_has : List ℕ → Cause → Bool
-field_has name (bad_name n) = is_bad_name name n
-field_has name empty_struct = false
-field_has name (closed_to t) = false
-field_has name any_enum = false
+-- a struct has no fields, or no item of this tag may follow them
+abbrev pub rest_has : Fields → Bool → Cause → Bool
+rest_has fs deny (bad_name n) = false
+rest_has fs deny empty_struct = not (has_fields fs)
+rest_has fs deny (closed_to t) = deny || names_tag fs t
+rest_has fs deny any_enum = false
 
 -- whether the form has such a cause anywhere; an enum stands for each of them
 abbrev mutual
   pub has : Form → Cause → Bool
-  has (struct name fs deny) c = struct_has name fs deny c || has_in fs c
+  has (struct name fs deny) c = name_has name c || (rest_has fs deny c || has_in fs c)
   has (option s) c = has s c
   has (seq s) c = has s c
   has (newtype name s) c = has s c
@@ -55,7 +57,15 @@ abbrev mutual
 
   pub has_in : Fields → Cause → Bool
   has_in no_fields c = false
-  has_in (field name s fs) c = field_has name c || (has s c || has_in fs c)
+  has_in (field name s fs) c = name_has name c || (has s c || has_in fs c)
+
+-- what a struct has but for its own name
+abbrev pub content_has : Fields → Bool → Cause → Bool
+content_has fs deny c = rest_has fs deny c || has_in fs c
+
+-- what an enum may have
+abbrev pub enum_has : Cause → Bool
+enum_has c = true
 
 -- the offset is so far behind an item's first byte, and tag and type are the item's
 pub record At (b : List ℕ) (s : ℕ) (t : TtlvType) (after : ℕ) (l : Location) : Type 0 where
@@ -65,6 +75,14 @@ pub record At (b : List ℕ) (s : ℕ) (t : TtlvType) (after : ℕ) (l : Locatio
   pub offset : l.offset ≡ Some (s + after)
   pub tag : l.tag ≡ Some (tag_at b s)
   pub typ : l.typ ≡ Some t
+
+-- so far behind an item's first byte, no parents known yet
+abbrev pub item_place : List ℕ → ℕ → ℕ → TtlvType → Location
+item_place b s after t = record { offset = Some (s + after); parents = []; tag = Some (tag_at b s); typ = Some t }
+
+-- behind an item's type code, no parents known yet
+abbrev pub code_place : List ℕ → ℕ → Location
+code_place b s = record { offset = Some (s + 3); parents = []; tag = Some (tag_at b s); typ = None }
 
 -- at an item's type code
 pub record AtCode (b : List ℕ) (s : ℕ) (l : Location) : Type 0 where
@@ -152,6 +170,22 @@ abbrev pub NotBefore : ℕ → Option ℕ → Type 0
 NotBefore low None = Unit {0}
 NotBefore low (Some o) = low ≤ o
 
+-- what a refusal at a place says, where it isn't for want of bytes
+pub record Told {A : Type 0} (h : Cause → Bool) (b : List ℕ) (low : ℕ) (e : Error A) : Type 0 where
+  pub facts : Facts h b e
+  pub late : NotBefore low (place_of e).offset
+  pub not_early : sort_of e ≡ early_end → ⊥
+
+-- what a refusal says of the items from one place to another
+pub record Says {A : Type 0} (h : Cause → Bool) (b : List ℕ) (low end : ℕ) (e : Error A) : Type 0 where
+  pub facts : Facts h b e
+  pub late : NotBefore low (place_of e).offset
+  pub not_early : AreWhole b low end → sort_of e ≡ early_end → ⊥
+
+-- the same but for its parents, or want of memory
+abbrev pub Widened : {A : Type 0} → Error A → Error A → Type 0
+Widened e r = IsMemory r ⊎ ((cause_of r ≡ cause_of e) × ((place_of r).offset ≡ (place_of e).offset) × ((place_of r).tag ≡ (place_of e).tag) × ((place_of r).typ ≡ (place_of e).typ) × ((place_of e).offset ≡ None → place_of r ≡ place_of e))
+
 -- a refusal, and where
 pub record Fault : Type 0 where
   pub kind : Kind
@@ -161,17 +195,13 @@ pub record Fault : Type 0 where
 abbrev pub at_first : Location
 at_first = record { offset = Some 0; parents = []; tag = None; typ = None }
 
--- at the first item's type
-abbrev pub at_first_type : List ℕ → TtlvType → Location
-at_first_type b t = record { offset = Some 4; parents = []; tag = Some (tag_at b 0); typ = Some t }
-
 -- the first item's type, by its code, is none; or its tag is another; or it is no Structure
 abbrev pub header_fault : ℕ → List ℕ → Option TtlvType → Option Fault
-header_fault tag b None = Some record { kind = malformed (malformeds.InvalidType (code_at b 0)); place = record { offset = Some 3; parents = []; tag = Some (tag_at b 0); typ = None } }
+header_fault tag b None = Some record { kind = malformed (malformeds.InvalidType (code_at b 0)); place = code_place b 0 }
 header_fault tag b (Some t) =
     if tag == tag_at b 0
-    then (if is_structure t then None else Some record { kind = malformed (malformeds.UnexpectedType Structure t); place = at_first_type b t })
-    else Some record { kind = mismatch (unexpected_tag tag (tag_at b 0)); place = at_first_type b t }
+    then (if is_structure t then None else Some record { kind = malformed (malformeds.UnexpectedType Structure t); place = item_place b 0 4 t })
+    else Some record { kind = mismatch (unexpected_tag tag (tag_at b 0)); place = item_place b 0 4 t }
 
 -- a name that is no tag, or else what the first eight bytes have
 abbrev pub named_fault : List ℕ → List ℕ → Option ℕ → Option Fault

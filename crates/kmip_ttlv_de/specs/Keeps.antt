@@ -7,6 +7,7 @@ pub record Keep : Type 0 where
   pub tag : ℕ
   pub text : List ℕ
 
+-- what a text in memory is kept as
 abbrev pub keep_of : {A : Type 0} → Kept A → Keep
 keep_of k = record { tag = k.tag; text = string_bytes k.text }
 

@@ -4,4 +4,6 @@ pub mod Reads
 pub mod Reading
 pub mod Places
 pub mod Answer
+pub mod Wholes
 pub mod Facts
+pub mod Leaves

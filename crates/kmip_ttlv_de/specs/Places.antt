@@ -1,9 +1,10 @@
 -- Places that reading comes to.
-use Rattle.std.specs.Prelude.{◌≡◌, ℕ, ◌+◌, ◌≤◌, List, length, take, drop}
+use Rattle.std.specs.Prelude.{◌≡◌, ℕ, ◌+◌, ◌≤◌, List, length, take, drop, Some}
 use Rattle.kmip_ttlv_types.specs.declared.typ.TtlvType.{TtlvType}
 use Rattle.kmip_ttlv_types.specs.declared.typ.TtlvType.TheVariants.{Structure}
 use Rattle.kmip_ttlv_types.specs.ItemTypes.{code}
-use Rattle.kmip_ttlv_types.specs.Places.{code_at, length_at, size}
+use Rattle.kmip_ttlv_types.specs.Names.{tag_of}
+use Rattle.kmip_ttlv_types.specs.Places.{tag_at, code_at, length_at, size}
 
 -- what was read of a leaf
 pub record LeafAt (b : List ℕ) (p : ℕ) (typ : TtlvType) (n : ℕ) (content : List ℕ) (q : ℕ) : Type 0 where
@@ -26,3 +27,11 @@ pub record IsEnd (b : List ℕ) (e : ℕ) : Type 0 where
   pub there : s + 8 ≤ length b
   pub typ : code_at b s ≡ code Structure
   pub is : e ≡ s + 8 + length_at b s
+
+-- a Structure of this name's tag begins here, with this length
+pub record StructAt (name b : List ℕ) (p t n : ℕ) : Type 0 where
+  pub typ_is : code_at b p ≡ code Structure
+  pub name_is : tag_of name ≡ Some t
+  pub tag_is : t ≡ tag_at b p
+  pub len_is : n ≡ length_at b p
+  pub header_there : p + 8 ≤ length b

@@ -1,5 +1,5 @@
 -- Rules in the names of variants: what they say of the texts that were read, and which variant they choose.
-use Rattle.std.specs.Prelude.{ℕ, suc, ◌+◌, Bool, true, false, List, [], ◌∷◌, drop, take, length, ◌-◌, codes, eqb, nat_le, ◌==◌, if◌then◌else◌, Option, Some, None, option_map, option_and_then, Result, Ok, Err, filter}
+use Rattle.std.specs.Prelude.{ℕ, ◌+◌, Bool, true, false, List, [], ◌∷◌, take, length, ◌-◌, codes, eqb, nat_le, ◌==◌, if◌then◌else◌, Option, Some, None, option_map, option_and_then, Result, Ok, Err, filter}
 use Rattle.std.specs.Option.{option_or}
 use Rattle.std.specs.List.{last_or, list_any, slice_split, ends_with}
 use Rattle.std.specs.Str.{bytes_eq, trim}
@@ -61,6 +61,7 @@ before_suffix suffix s = if ends_with eqb s suffix then Some (take (length s - l
 unfoldable pub in_brackets : List ℕ → Option (List ℕ)
 in_brackets s = option_and_then (before_suffix (codes "]")) (after_prefix (codes "[") s)
 
+-- the verdict of a rule that is not refused
 abbrev pub says : Bool → Verdict
 says true = holds
 says false = fails
@@ -70,20 +71,20 @@ abbrev pub needs : Option ℕ → List ℕ → (ℕ → Verdict) → Verdict
 needs None s follows = refused (invalid_tag s)
 needs (Some n) s follows = follows n
 
--- what follows from a text, where one is kept; else the rule doesn't hold
+-- what follows from a text, where there is one; else the rule doesn't hold
 abbrev pub with_text : Option (List ℕ) → (List ℕ → Verdict) → Verdict
 with_text None follows = fails
 with_text (Some text) follows = follows text
 
--- `==`: the item's type has this name, or the last text kept under a tag is this one
+-- `==`: the item's type has this name, or the last text kept under a tag is this one; not where there is no such tag
 unfoldable pub equal : List Keep → TtlvType → List ℕ → List ℕ → Verdict
 equal ks typ l x = if bytes_eq l (codes "type") then says (bytes_eq x (type_name typ)) else with_text (option_and_then (last ks) (tag_of l)) (λ text. says (bytes_eq text x))
 
--- `>=`: the last text kept under a tag is a number and at least this one
+-- `>=`: the last text kept under a tag is at least this number; refused with what is no tag or no number
 unfoldable pub at_least : List Keep → List ℕ → List ℕ → Verdict
 at_least ks l x = needs (tag_of l) l (λ t. with_text (last ks t) (λ text. needs (number text) text (λ m. needs (number x) x (λ n. says (nat_le n m)))))
 
--- `in`: the last text kept under a tag is one of these between commas, trimmed
+-- `in`: the last text kept under a tag is one of those between brackets and commas, trimmed; refused with what is no tag
 unfoldable pub member : List Keep → List ℕ → List ℕ → Verdict
 member ks l x = with_text (in_brackets x) (λ all. needs (tag_of l) l (λ t. with_text (last ks t) (λ text. says (list_any (λ m. bytes_eq (trim m) text) (slice_split (λ c. c == 44) all)))))
 
@@ -92,7 +93,7 @@ abbrev pub by : Option (List ℕ × List ℕ) → (List ℕ → List ℕ → Ver
 by None operator other = other
 by (Some x) operator other = operator x.0 x.1
 
--- the verdict of what follows `if `, where a name begins so: by the first of the operators `==`, `>=` and `in` that stands there
+-- the verdict of what follows `if `, where a name begins so: by `==`; where that stands nowhere, by `>=`; then by `in`
 abbrev pub verdict : List ℕ → Option (List ℕ) → List Keep → TtlvType → Verdict
 verdict name None ks typ = no_rule
 verdict name (Some body) ks typ =
@@ -122,17 +123,19 @@ abbrev pub choice : Variants → List Keep → TtlvType → Choice
 choice no_variants ks typ = by_value
 choice (variant name c vs) ks typ = first_by (rule name ks typ) (choice vs ks typ)
 
--- what the code's answers are
+-- why the code refuses a rule
 abbrev pub mismatch_of : RuleError → Mismatch
 mismatch_of (faults.InvalidVariantMatcherSyntax name) = invalid_rule name.now
 mismatch_of (faults.InvalidTag name) = invalid_tag name.now
 
+-- the verdict that the code answers
 abbrev pub verdict_of : Answer → Verdict
 verdict_of answers.NoRule = no_rule
 verdict_of answers.Holds = holds
 verdict_of answers.Fails = fails
 verdict_of (answers.Refused e) = refused (mismatch_of e)
 
+-- the choice that the code answers
 abbrev pub choice_of : Result (Option ℕ) RuleError → Choice
 choice_of (Ok (Some i)) = chosen i
 choice_of (Ok None) = by_value

@@ -13,8 +13,13 @@ ghost use Rattle.kmip_ttlv_de.specs.Reads.{Begins};
 ghost use Rattle.kmip_ttlv_de.specs.Answer.{Refuses};
 ghost use Rattle.kmip_ttlv_de.specs.Facts.{has, root_fault, RootFacts, FactsBut};
 
-pub mod keep;
-pub mod rules;
+mod head;
+mod keep;
+mod leaf;
+mod number;
+mod read;
+mod refuse;
+mod rules;
 
 use kmip_ttlv_base::error::{Error, Result};
 use kmip_ttlv_base::shape::Deserialize;
