@@ -42,10 +42,10 @@ leaf_not_length b p e k t n w r lt le typ-is len-is wide ne =
 pub leaf_invalid : (b : List ℕ) (p e : ℕ) (k : List Keep) (t : TtlvType) (n : ℕ) (content : List ℕ) (r : Sort) → p < e → p + 8 + n ≤ length b → code_at b p ≡ code t → n ≡ length_at b p → content ≡ take n (drop (p + 8) b) → is_valid t content ≡ false → Refused any_leaf b p e k r
 leaf_invalid b p e k t n content r lt le typ-is len-is content-is bad =
     refused_first any_leaf b p e k r lt (λ after x xs item.
-      let typ : x.typ ≡ t = code_one x.typ t (item.typ ∙ code_more b after p (omega arith) ∙ typ-is) in
-      let same : x.content ≡ content = item.content ∙ ap (λ m. take m (drop (p + 8) (b ++ after))) (length_more b after p (omega arith) ∙ sym len-is) ∙ part_more b after (p + 8) n le ∙ sym content-is in
-      let invalid : is_valid x.typ x.content ≡ false = ap (is_valid x.typ) same ∙ ap (λ y. is_valid y content) typ ∙ bad in
-      rw invalid refl)
+    let typ : x.typ ≡ t = code_one x.typ t (item.typ ∙ code_more b after p (omega arith) ∙ typ-is) in
+    let same : x.content ≡ content = item.content ∙ ap (λ m. take m (drop (p + 8) (b ++ after))) (length_more b after p (omega arith) ∙ sym len-is) ∙ part_more b after (p + 8) n le ∙ sym content-is in
+    let invalid : is_valid x.typ x.content ≡ false = ap (is_valid x.typ) same ∙ ap (λ y. is_valid y content) typ ∙ bad in
+    rw invalid refl)
 
 -- a leaf of fixed length, or of any
 pub valid_default : (t : TtlvType) (content : List ℕ) → (t ≡ Boolean → ⊥) → (t ≡ TextString → ⊥) → t ≢ Structure → ((w : ℕ) → fixed_length t ≡ Some w → length content ≡ w) → true ≡ is_valid t content

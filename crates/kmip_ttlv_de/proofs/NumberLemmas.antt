@@ -53,9 +53,9 @@ named_nowhere name vs i le h = sym (h ∙ ap (λ l. first_named name (variants_o
 pub number_not_type : (name : List ℕ) (vs : Variants) (b : List ℕ) (p e : ℕ) (k : List Keep) (t : TtlvType) (r : Sort) → p < e → p + 4 ≤ length b → code_at b p ≡ code t → is_number_type t ≡ false → Refused (read_number name vs) b p e k r
 number_not_type name vs b p e k t r lt le typ-is not_number =
     refused_first (read_number name vs) b p e k r lt (λ after x xs item.
-      let same : x.typ ≡ t = code_one x.typ t (item.typ ∙ code_more b after p le ∙ typ-is) in
-      let none : is_number_type x.typ ≡ false = ap is_number_type same ∙ not_number in
-      rw none refl)
+    let same : x.typ ≡ t = code_one x.typ t (item.typ ∙ code_more b after p le ∙ typ-is) in
+    let none : is_number_type x.typ ≡ false = ap is_number_type same ∙ not_number in
+    rw none refl)
 
 -- no value of its type
 pub number_no_value : (name : List ℕ) (vs : Variants) (k h : List Keep) (zs : List Raw) → any_leaf k zs ≡ None → read_number name vs h zs ≡ None

@@ -3,7 +3,7 @@ use Rattle.std.proofs.Common.{◌≡◌, ℕ, ◌+◌, ◌<◌, ◌≤◌, ◌�
 use Rattle.kmip_ttlv_types.specs.Names.{tag_of}
 use Rattle.kmip_ttlv_types.specs.Places.{ItemAt, length_at, size}
 use Rattle.kmip_ttlv_base.specs.Errors.{IsMemory, view_of_kind}
-use Rattle.kmip_ttlv_base.specs.Forms.{Fields, Form, struct}
+use Rattle.kmip_ttlv_base.specs.Forms.{Fields, struct}
 use Rattle.kmip_ttlv_base.specs.Values.{Values, struct_value}
 use Rattle.kmip_ttlv_base.specs.declared.error.Error.{Error}
 use Rattle.kmip_ttlv_de.proofs.Going.{struct_accepted}
@@ -31,25 +31,25 @@ facts_but None h b e f = f
 facts_but (Some x) h b e f = tt
 
 -- where the root is let pass
-pub root_passed : {X Y A : Type 0} (o : Option Fault) (b : List ℕ) (x : X) (y : Y) → RootFacts {X = X} {A = A} o b (Ok x) → RootFacts {X = Y} {A = A} o b (Ok y)
-root_passed None b x y h = tt
-root_passed (Some f) b x y h = absurd h
+pub root_passed : (X Y A : Type 0) (o : Option Fault) (b : List ℕ) (x : X) (y : Y) → RootFacts {X = X} {A = A} o b (Ok x) → RootFacts {X = Y} {A = A} o b (Ok y)
+root_passed X Y A None b x y h = tt
+root_passed X Y A (Some f) b x y h = absurd h
 
-pub root_behind : {X Y A : Type 0} (o : Option Fault) (b : List ℕ) (x : X) (e : Error A) → RootFacts {X = X} {A = A} o b (Ok x) → NotBefore 8 (place_of e).offset → RootFacts {X = Y} {A = A} o b (Err e)
-root_behind None b x e h late = λ le. late
-root_behind (Some f) b x e h late = absurd h
+pub root_behind : (X Y A : Type 0) (o : Option Fault) (b : List ℕ) (x : X) (e : Error A) → RootFacts {X = X} {A = A} o b (Ok x) → NotBefore 8 (place_of e).offset → RootFacts {X = Y} {A = A} o b (Err e)
+root_behind X Y A None b x e h late = λ le. late
+root_behind X Y A (Some f) b x e h late = absurd h
 
 pub root_named : {X A : Type 0} (name b : List ℕ) (t : ℕ) (r : Result X (Error A)) → tag_of name ≡ Some t → RootFacts (named_fault name b (Some t)) b r → RootFacts (named_fault name b (tag_of name)) b r
 root_named name b t r is h = subst (λ o. RootFacts (named_fault name b o) b r) (sym is) h
 
-pub root_err : {X Y A : Type 0} (o : Option Fault) (b : List ℕ) (e : Error A) → RootFacts {X = X} {A = A} o b (Err e) → RootFacts {X = Y} {A = A} o b (Err e)
-root_err None b e h = h
-root_err (Some f) b e h = h
+pub root_err : (X Y A : Type 0) (o : Option Fault) (b : List ℕ) (e : Error A) → RootFacts {X = X} {A = A} o b (Err e) → RootFacts {X = Y} {A = A} o b (Err e)
+root_err X Y A None b e h = h
+root_err X Y A (Some f) b e h = h
 
 -- a fault that is no early end
 pub fault_not_early : {A : Type 0} (f : Fault) (e : Error A) → (sort_of_kind f.kind ≡ early_end → ⊥) → IsMemory e ⊎ ((cause_of e ≡ f.kind) × (place_of e ≡ f.place)) → sort_of e ≡ early_end → ⊥
-fault_not_early f e no (inl m) s = absurd (let k : memory ≡ early_end = sym (ap (λ k. sort_of_kind (view_of_kind k)) m.kind) ∙ s in cc)
-fault_not_early f e no (inr h) s = no (ap sort_of_kind (sym h.0) ∙ s)
+fault_not_early f e never (inl m) s = absurd (let k : memory ≡ early_end = sym (ap (λ k. sort_of_kind (view_of_kind k)) m.kind) ∙ s in cc)
+fault_not_early f e never (inr h) s = never (ap sort_of_kind (sym h.0) ∙ s)
 
 -- ---- the first struct
 

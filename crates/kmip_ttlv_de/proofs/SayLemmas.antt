@@ -191,10 +191,10 @@ sort_widened e r (inr s) = inr (ap sort_of_kind s.0)
 pub says_widened : {A : Type 0} (h : Cause → Bool) (b : List ℕ) (p end : ℕ) (e r : Error A) → Widened e r → Says h b p end e → Says h b p end r
 says_widened h b p end e r (inl m) s = told_says h b p p end r (omega arith) (told_memory h b p r m)
 says_widened h b p end e r (inr w) s = record {
-    facts = subst (λ k. KindFacts h b (place_of r) k) (sym w.0) (widened_facts h b (place_of e) (place_of r) w.1 w.2 w.3 w.4 (cause_of e) s.facts);
-    late = subst (λ o. NotBefore p o) (sym w.1) s.late;
-    not_early = λ x y. s.not_early x (ap sort_of_kind (sym w.0) ∙ y);
-  }
+  facts = subst (λ k. KindFacts h b (place_of r) k) (sym w.0) (widened_facts h b (place_of e) (place_of r) w.1 w.2 w.3 w.4 (cause_of e) s.facts);
+  late = subst (λ o. NotBefore p o) (sym w.1) s.late;
+  not_early = λ x y. s.not_early x (ap sort_of_kind (sym w.0) ∙ y);
+}
 
 -- a name that is no tag is one that a form may have
 pub name_is_bad : (name : List ℕ) → tag_of name ≡ None → name_has name (bad_name name) ≡ true

@@ -57,7 +57,10 @@ pub fn length_at(bytes: &[u8], pos: usize) -> Option<u32>
         return None;
     }
     Some(u32::from_be_bytes([
-        bytes[pos + 4], bytes[pos + 5], bytes[pos + 6], bytes[pos + 7],
+        bytes[pos + 4],
+        bytes[pos + 5],
+        bytes[pos + 6],
+        bytes[pos + 7],
     ]))
 }
 

@@ -75,7 +75,8 @@ fn fixed_length(typ: TtlvType) -> Option<u32>
     match typ {
         TtlvType::Integer | TtlvType::Enumeration | TtlvType::Interval => Some(4),
         TtlvType::LongInteger | TtlvType::Boolean | TtlvType::DateTime => Some(8),
-        TtlvType::Structure | TtlvType::BigInteger | TtlvType::TextString | TtlvType::ByteString => None,
+        TtlvType::Structure | TtlvType::BigInteger | TtlvType::TextString | TtlvType::ByteString =>
+            None,
     }
 }
 
@@ -91,7 +92,8 @@ fn eight(content: &[u8]) -> [u8; 8]
     ensures { result ≡ content.now }
 {
     [
-        content[0], content[1], content[2], content[3], content[4], content[5], content[6], content[7],
+        content[0], content[1], content[2], content[3], content[4], content[5], content[6],
+        content[7],
     ]
 }
 

@@ -9,8 +9,12 @@ ghost use Rattle.std.specs.Prelude.{◌≡◌, List, ℕ, IfOk, IfErr};
 ghost use Rattle.kmip_ttlv_base.specs.Values.{Value};
 ghost use Rattle.kmip_ttlv_base.specs.Forms.{Form};
 ghost use Rattle.kmip_ttlv_base.specs.Gives.{Gives};
-ghost use Rattle.kmip_ttlv_de.specs.Reads.{Begins};
-ghost use Rattle.kmip_ttlv_de.specs.Answer.{Refuses};
+ghost use Rattle.kmip_ttlv_types.specs.Items.{Raw, Splits};
+ghost use Rattle.kmip_ttlv_de.specs.Keeps.{Keep};
+ghost use Rattle.kmip_ttlv_de.specs.Reads.{Reads, Begins};
+ghost use Rattle.kmip_ttlv_de.specs.Reading.{got, read_of};
+ghost use Rattle.kmip_ttlv_de.specs.Answer.{Refuses, early_end, sort_of};
+ghost use Rattle.kmip_ttlv_de.specs.Wholes.{BeginsWhole};
 ghost use Rattle.kmip_ttlv_de.specs.Facts.{has, root_fault, RootFacts, FactsBut};
 
 mod head;
@@ -21,7 +25,8 @@ mod read;
 mod refuse;
 mod rules;
 
-use kmip_ttlv_base::error::{Error, Result};
+use crate::read::read_root;
+use kmip_ttlv_base::error::Result;
 use kmip_ttlv_base::shape::Deserialize;
 use std::alloc::Allocator;
 
@@ -40,8 +45,12 @@ pub fn from_slice<T: Deserialize<A>, A: Allocator + Copy>(alloc: A, bytes: &[u8]
     ensures root { RootFacts (root_fault T.form bytes.now) bytes.now result }
     // Any other refusal names what stands in the bytes, and its place.
     ensures facts { IfErr result (λ e. FactsBut (root_fault T.form bytes.now) (has T.form) bytes.now e) }
+    // A Structure that is split into items at every depth is never refused as ending too early.
+    ensures whole { IfErr result (λ e. BeginsWhole bytes.now → sort_of e ≡ early_end → ⊥) }
 {
-    Err(Error::out_of_memory())
+    let shape = T::shape(alloc)?;
+    let data = read_root(alloc, &shape, bytes)?;
+    Ok(T::from_data(alloc, data)?)
 }
 
 /// What bytes begin with is of the form's kind and names.
@@ -52,4 +61,15 @@ pub fn what_begins_is_given()
 /// At most one value is read from the same bytes.
 pub fn one_value()
     ensures { (s : Form) (bytes : List ℕ) (v w : Value) → Begins s bytes v → Begins s bytes w → v ≡ w }
+{}
+
+/// At most one list of items splits bytes.
+pub fn one_split()
+    ensures { (bytes : List ℕ) (xs ys : List Raw) → Splits xs bytes → Splits ys bytes → xs ≡ ys }
+{}
+
+/// What a form reads by its rules, the function of the same meaning reads, and nothing else.
+pub fn read_by_rules()
+    ensures some { (s : Form) (k k' : List Keep) (xs ys : List Raw) (v : Value) → Reads s k xs v k' ys → read_of s k xs ≡ got v k' ys }
+    ensures only { (s : Form) (k k' : List Keep) (xs ys : List Raw) (v : Value) → read_of s k xs ≡ got v k' ys → Reads s k xs v k' ys }
 {}

@@ -48,7 +48,10 @@ fn number_text<A: Allocator>(alloc: A, content: &[u8]) -> std::result::Result<St
 }
 
 // The first variant of this name.
-fn first_named<'s, A: Allocator>(name: &str, variants: &'s [VariantShape<A>]) -> Option<&'s VariantShape<A>>
+fn first_named<'s, A: Allocator>(
+    name: &str,
+    variants: &'s [VariantShape<A>],
+) -> Option<&'s VariantShape<A>>
     ensures content { option_map (λ v. content_of v.now.content) result ≡ first_named name.now (variants_of variants.now) }
     ensures name { IfSome result (λ v. v.now.name.now ≡ name.now) }
 {
@@ -101,7 +104,12 @@ pub fn read_number<A: Allocator + Copy>(
     };
     match variant.content {
         VariantContent::Unit => {}
-        VariantContent::Newtype(_) => return Err(named_content(bytes, pos, typ, FieldType::LengthAndValue)),
+        VariantContent::Newtype(_) => return Err(named_content(
+            bytes,
+            pos,
+            typ,
+            FieldType::LengthAndValue,
+        )),
         VariantContent::Tuple(_) => return Err(named_content(bytes, pos, typ, FieldType::Length)),
     }
     let variant = variant.name;

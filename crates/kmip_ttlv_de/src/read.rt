@@ -23,7 +23,10 @@ use crate::head::{end_of, is_structure, length_at, tag_at, type_at};
 use crate::keep::Kept;
 use crate::leaf::{Leaf, leaf_at, read_leaf};
 use crate::number::read_number;
-use crate::refuse::{at_end, chosen_unit, closed, early, no_fields, no_root_tag, no_struct, no_structure, no_tag, other_tag, overflow, refused_rule, root_leaf, surplus, turned, within};
+use crate::refuse::{
+    at_end, chosen_unit, closed, early, no_fields, no_root_tag, no_struct, no_structure, no_tag,
+    other_tag, overflow, refused_rule, root_leaf, surplus, turned, within,
+};
 use crate::rules::choose;
 use kmip_ttlv_base::error::{Error, Result};
 use kmip_ttlv_base::shape::{Data, FieldShape, Shape, VariantContent, VariantShape};
@@ -86,7 +89,9 @@ fn read_shape<A: Allocator + Copy>(
         Shape::Bytes => read_leaf(alloc, Leaf::Bytes, bytes, pos, end, kept),
         Shape::Interval => read_leaf(alloc, Leaf::Interval, bytes, pos, end, kept),
         Shape::BigInteger => read_leaf(alloc, Leaf::BigInteger, bytes, pos, end, kept),
-        Shape::Enum { name, variants } => read_enum(alloc, owner, name, variants, bytes, pos, end, kept),
+        Shape::Enum { name, variants } => read_enum(
+            alloc, owner, name, variants, bytes, pos, end, kept,
+        ),
         Shape::Option(inner) => {
             let (data, next) = read_shape(alloc, owner, inner, bytes, pos, end, kept)?;
             Ok((Data::Some(Box::new(alloc, data)?), next))
@@ -100,7 +105,11 @@ fn read_shape<A: Allocator + Copy>(
             let (all, next) = read_seq(alloc, owner, inner, bytes, pos, end, kept)?;
             Ok((Data::Seq(all), next))
         }
-        Shape::Struct { name, fields, deny_unknown } => {
+        Shape::Struct {
+            name,
+            fields,
+            deny_unknown,
+        } => {
             let (fields, next) = read_struct(alloc, name, fields, *deny_unknown, bytes, pos, kept)?;
             Ok((Data::Struct { name, fields }, next))
         }
@@ -111,7 +120,12 @@ fn read_shape<A: Allocator + Copy>(
 ///
 /// Refused in this order: the code of no type, a name that is no tag, another tag, another type
 /// than Structure.
-fn open_struct<A: Allocator + Copy>(alloc: A, name: &str, bytes: &[u8], pos: usize) -> Result<(TtlvTag, u32), A>
+fn open_struct<A: Allocator + Copy>(
+    alloc: A,
+    name: &str,
+    bytes: &[u8],
+    pos: usize,
+) -> Result<(TtlvTag, u32), A>
     requires inside { pos ≤ length bytes.now }
     ensures ok { IfOk result (λ r. StructAt name.now bytes.now pos r.0 r.1) }
     ensures err { IfErr result (λ r. (fs : Fields) (deny : Bool) (read : FieldsReader) (k : List Keep) (e : ℕ) → pos < e → Refused (read_struct name.now fs deny read) bytes.now pos e k (sort_of r)) }
@@ -202,7 +216,17 @@ fn read_fields<A: Allocator + Copy>(
     let mut next = pos;
     let mut last = pos;
     for field in fields {
-        let (value, after) = read_field(alloc, tag, field.name, &field.shape, bytes, last, next, end, kept)?;
+        let (value, after) = read_field(
+            alloc,
+            tag,
+            field.name,
+            &field.shape,
+            bytes,
+            last,
+            next,
+            end,
+            kept,
+        )?;
         values.push(value)?;
         last = next;
         next = after;
@@ -316,7 +340,13 @@ fn read_field<A: Allocator + Copy>(
 }
 
 /// The item has another tag than the name's.
-fn wrong_tag<A: Allocator + Copy>(alloc: A, bytes: &[u8], pos: usize, typ: TtlvType, name: &str) -> Error<A>
+fn wrong_tag<A: Allocator + Copy>(
+    alloc: A,
+    bytes: &[u8],
+    pos: usize,
+    typ: TtlvType,
+    name: &str,
+) -> Error<A>
     requires there { pos + 4 ≤ length bytes.now }
     requires typ_is { code_at bytes.now pos ≡ code typ }
     requires differs { tag_of name.now ≢ Some (tag_at bytes.now pos) }
@@ -361,7 +391,13 @@ fn read_seq<A: Allocator + Copy>(
 }
 
 /// Whether the next item is there, with the first one's tag and type.
-fn goes_on<A: Allocator>(bytes: &[u8], first: usize, last: usize, next: usize, end: usize) -> Result<bool, A>
+fn goes_on<A: Allocator>(
+    bytes: &[u8],
+    first: usize,
+    last: usize,
+    next: usize,
+    end: usize,
+) -> Result<bool, A>
     requires first_inside { first + 4 ≤ length bytes.now }
     requires inside { next ≤ length bytes.now }
     ensures answers { (h : Raw) → ItemAt bytes.now first h → GoesOn h bytes.now next end result }
@@ -425,7 +461,18 @@ fn read_enum<A: Allocator + Copy>(
 {
     let typ = type_at(bytes, pos)?;
     match chosen(alloc, variants, kept, typ, bytes, pos)? {
-        Some(i) => read_variant(alloc, owner, name, variants[i].name, &variants[i].content, typ, bytes, pos, end, kept),
+        Some(i) => read_variant(
+            alloc,
+            owner,
+            name,
+            variants[i].name,
+            &variants[i].content,
+            typ,
+            bytes,
+            pos,
+            end,
+            kept,
+        ),
         None => read_number(alloc, owner, name, variants, typ, bytes, pos, end, kept),
     }
 }
@@ -457,19 +504,25 @@ fn read_variant<A: Allocator + Copy>(
         VariantContent::Newtype(inner) => {
             let (data, next) = read_shape(alloc, owner, inner, bytes, pos, end, kept)?;
             let inner = Box::new(alloc, data)?;
-            Ok((Data::NewtypeVariant {
-                name,
-                variant,
-                inner,
-            }, next))
+            Ok((
+                Data::NewtypeVariant {
+                    name,
+                    variant,
+                    inner,
+                },
+                next,
+            ))
         }
         VariantContent::Tuple(shapes) => {
             let (fields, next) = read_tuple(alloc, owner, shapes, typ, bytes, pos, kept)?;
-            Ok((Data::TupleVariant {
-                name,
-                variant,
-                fields,
-            }, next))
+            Ok((
+                Data::TupleVariant {
+                    name,
+                    variant,
+                    fields,
+                },
+                next,
+            ))
         }
     }
 }
@@ -572,7 +625,11 @@ fn read_first<A: Allocator + Copy>(
 /// The value with which the bytes begin, by a shape that may stand for a whole message: a struct,
 /// with options and newtypes around it.
 #[tactic(auto, using(crate::proofs::FactLemmas::memory_says))]
-pub fn read_root<A: Allocator + Copy>(alloc: A, shape: &Shape<A>, bytes: &[u8]) -> Result<Data<A>, A>
+pub fn read_root<A: Allocator + Copy>(
+    alloc: A,
+    shape: &Shape<A>,
+    bytes: &[u8],
+) -> Result<Data<A>, A>
     ensures found { IfOk result (λ d. Begins (form_of shape.now) bytes.now (view d)) }
     ensures refused { IfErr result (λ e. Refuses (form_of shape.now) bytes.now e) }
     ensures root { RootFacts (root_fault (form_of shape.now) bytes.now) bytes.now result }
@@ -589,7 +646,11 @@ pub fn read_root<A: Allocator + Copy>(alloc: A, shape: &Shape<A>, bytes: &[u8]) 
             let inner = Box::new(alloc, data)?;
             Ok(Data::Newtype { name, inner })
         }
-        Shape::Struct { name, fields, deny_unknown } => {
+        Shape::Struct {
+            name,
+            fields,
+            deny_unknown,
+        } => {
             if TtlvTag::from_name(name).is_none() {
                 return Err(no_root_tag(alloc, name));
             }

@@ -24,7 +24,10 @@ pub fn early<A: Allocator>() -> Error<A>
     ensures facts { (h : Cause → Bool) (b : List ℕ) → Facts h b result }
     ensures place { (place_of result).offset ≡ None }
 {
-    Error::new(ErrorKind::IoError(io::Error::from(io::ErrorKind::UnexpectedEof)), ErrorLocation::unknown())
+    Error::new(
+        ErrorKind::IoError(io::Error::from(io::ErrorKind::UnexpectedEof)),
+        ErrorLocation::unknown(),
+    )
 }
 
 // So far behind an item's first byte.
@@ -33,14 +36,24 @@ fn at<A: Allocator>(bytes: &[u8], s: usize, typ: TtlvType, after: usize) -> Erro
     requires fits { after < 2 ^ 33 }
     ensures { view_of_location result ≡ item_place bytes.now s after typ }
 {
-    ErrorLocation::at(Some(ByteOffset((s + after) as u64)), None, Some(tag_at(bytes, s)), Some(typ))
+    ErrorLocation::at(
+        Some(ByteOffset((s + after) as u64)),
+        None,
+        Some(tag_at(bytes, s)),
+        Some(typ),
+    )
 }
 
 // At an offset, in a struct of this tag.
 fn in_struct<A: Allocator>(offset: usize, tag: TtlvTag) -> ErrorLocation<A>
     ensures { view_of_location result ≡ record { offset = Some offset; parents = []; tag = Some tag; typ = Some TtlvType.Structure } }
 {
-    ErrorLocation::at(Some(ByteOffset(offset as u64)), None, Some(tag), Some(TtlvType::Structure))
+    ErrorLocation::at(
+        Some(ByteOffset(offset as u64)),
+        None,
+        Some(tag),
+        Some(TtlvType::Structure),
+    )
 }
 
 /// The code of no type.
@@ -53,12 +66,23 @@ pub fn bad_code<A: Allocator>(bytes: &[u8], s: usize) -> Error<A>
 {
     Error::new(
         ErrorKind::MalformedTtlv(MalformedTtlvError::InvalidType(bytes[s + 3])),
-        ErrorLocation::at(Some(ByteOffset((s + 3) as u64)), None, Some(tag_at(bytes, s)), None),
+        ErrorLocation::at(
+            Some(ByteOffset((s + 3) as u64)),
+            None,
+            Some(tag_at(bytes, s)),
+            None,
+        ),
     )
 }
 
 /// A length that no value of this type has.
-pub fn bad_length<A: Allocator>(bytes: &[u8], s: usize, typ: TtlvType, expected: u32, actual: u32) -> Error<A>
+pub fn bad_length<A: Allocator>(
+    bytes: &[u8],
+    s: usize,
+    typ: TtlvType,
+    expected: u32,
+    actual: u32,
+) -> Error<A>
     requires there { s + 8 ≤ length bytes.now }
     requires typ_is { code_at bytes.now s ≡ code typ }
     requires wanted { fixed_length typ ≡ Some expected }
@@ -67,13 +91,23 @@ pub fn bad_length<A: Allocator>(bytes: &[u8], s: usize, typ: TtlvType, expected:
     ensures told { (h : Cause → Bool) → Reached bytes.now s → Told h bytes.now s result }
 {
     Error::new(
-        ErrorKind::MalformedTtlv(MalformedTtlvError::InvalidLength { expected, actual, typ }),
+        ErrorKind::MalformedTtlv(MalformedTtlvError::InvalidLength {
+            expected,
+            actual,
+            typ,
+        }),
         at(bytes, s, typ, 8),
     )
 }
 
 /// The same of a number that an enum reads.
-pub fn bad_number_length<A: Allocator>(bytes: &[u8], s: usize, typ: TtlvType, expected: u32, actual: u32) -> Error<A>
+pub fn bad_number_length<A: Allocator>(
+    bytes: &[u8],
+    s: usize,
+    typ: TtlvType,
+    expected: u32,
+    actual: u32,
+) -> Error<A>
     requires there { s + 8 ≤ length bytes.now }
     requires typ_is { code_at bytes.now s ≡ code typ }
     requires wanted { fixed_length typ ≡ Some expected }
@@ -82,7 +116,11 @@ pub fn bad_number_length<A: Allocator>(bytes: &[u8], s: usize, typ: TtlvType, ex
     ensures told { (h : Cause → Bool) → h any_enum ≡ true → Reached bytes.now s → Told h bytes.now s result }
 {
     Error::new(
-        ErrorKind::MalformedTtlv(MalformedTtlvError::InvalidLength { expected, actual, typ }),
+        ErrorKind::MalformedTtlv(MalformedTtlvError::InvalidLength {
+            expected,
+            actual,
+            typ,
+        }),
         at(bytes, s, typ, 4),
     )
 }
@@ -120,14 +158,22 @@ pub fn no_structure<A: Allocator>(bytes: &[u8], s: usize, typ: TtlvType) -> Erro
 }
 
 /// A leaf of another type.
-pub fn other_type<A: Allocator>(bytes: &[u8], s: usize, expected: TtlvType, typ: TtlvType) -> Error<A>
+pub fn other_type<A: Allocator>(
+    bytes: &[u8],
+    s: usize,
+    expected: TtlvType,
+    typ: TtlvType,
+) -> Error<A>
     requires there { s + 4 ≤ length bytes.now }
     requires typ_is { code_at bytes.now s ≡ code typ }
     requires differs { expected ≢ typ }
     ensures told { (h : Cause → Bool) → Reached bytes.now s → Told h bytes.now s result }
 {
     Error::new(
-        ErrorKind::SerdeError(SerdeError::UnexpectedType { expected, actual: typ }),
+        ErrorKind::SerdeError(SerdeError::UnexpectedType {
+            expected,
+            actual: typ,
+        }),
         at(bytes, s, typ, 4),
     )
 }
@@ -151,13 +197,22 @@ pub fn other_tag<A: Allocator>(bytes: &[u8], s: usize, typ: TtlvType, expected: 
 }
 
 /// A name that is no tag.
-pub fn no_tag<A: Allocator + Copy>(alloc: A, bytes: &[u8], s: usize, typ: TtlvType, name: &str) -> Error<A>
+pub fn no_tag<A: Allocator + Copy>(
+    alloc: A,
+    bytes: &[u8],
+    s: usize,
+    typ: TtlvType,
+    name: &str,
+) -> Error<A>
     requires there { s + 4 ≤ length bytes.now }
     requires typ_is { code_at bytes.now s ≡ code typ }
     ensures told { (h : Cause → Bool) → h (bad_name name.now) ≡ true → Reached bytes.now s → Told h bytes.now s result }
 {
     match String::from_str(alloc, name) {
-        Ok(name) => Error::new(ErrorKind::SerdeError(SerdeError::InvalidTag(name)), at(bytes, s, typ, 4)),
+        Ok(name) => Error::new(
+            ErrorKind::SerdeError(SerdeError::InvalidTag(name)),
+            at(bytes, s, typ, 4),
+        ),
         Err(e) => Error::from(e),
     }
 }
@@ -207,7 +262,10 @@ pub fn no_fields<A: Allocator>(bytes: &[u8], s: usize, typ: TtlvType) -> Error<A
     requires typ_is { code_at bytes.now s ≡ code typ }
     ensures told { (h : Cause → Bool) → h empty_struct ≡ true → Reached bytes.now s → Told h bytes.now s result }
 {
-    Error::new(ErrorKind::SerdeError(SerdeError::MissingIdentifier), at(bytes, s, typ, 4))
+    Error::new(
+        ErrorKind::SerdeError(SerdeError::MissingIdentifier),
+        at(bytes, s, typ, 4),
+    )
 }
 
 /// The item that begins at `last` was read, and it ends at `next`, past the end.
@@ -216,8 +274,16 @@ pub fn overflow<A: Allocator>(bytes: &[u8], last: usize, next: usize, end: usize
     ensures told { (h : Cause → Bool) → IsEnd bytes.now end → Told h bytes.now next result }
 {
     let is_there = bytes.len() >= 4 && last <= bytes.len() - 4;
-    let tag = if is_there { Some(tag_at(bytes, last)) } else { None };
-    let typ = if is_there { TtlvType::from_code(bytes[last + 3]) } else { None };
+    let tag = if is_there {
+        Some(tag_at(bytes, last))
+    } else {
+        None
+    };
+    let typ = if is_there {
+        TtlvType::from_code(bytes[last + 3])
+    } else {
+        None
+    };
     Error::new(
         ErrorKind::MalformedTtlv(MalformedTtlvError::Overflow {
             field_end: ByteOffset(end as u64),
@@ -227,44 +293,80 @@ pub fn overflow<A: Allocator>(bytes: &[u8], last: usize, next: usize, end: usize
 }
 
 /// A refusal at the end of a structure, in the struct of this tag.
-pub fn at_end<A: Allocator + Copy>(alloc: A, bytes: &[u8], end: usize, tag: TtlvTag, text: &str) -> Error<A>
+pub fn at_end<A: Allocator + Copy>(
+    alloc: A,
+    bytes: &[u8],
+    end: usize,
+    tag: TtlvTag,
+    text: &str,
+) -> Error<A>
     ensures told { (h : Cause → Bool) → IsEnd bytes.now end → Told h bytes.now end result }
 {
     match String::from_str(alloc, text) {
-        Ok(text) => Error::new(ErrorKind::SerdeError(SerdeError::Other(text)), in_struct(end, tag)),
+        Ok(text) => Error::new(
+            ErrorKind::SerdeError(SerdeError::Other(text)),
+            in_struct(end, tag),
+        ),
         Err(e) => Error::from(e),
     }
 }
 
 /// An item that may not follow the fields of the struct of this tag.
-pub fn closed<A: Allocator + Copy>(alloc: A, bytes: &[u8], s: usize, tag: TtlvTag, text: &str) -> Error<A>
+pub fn closed<A: Allocator + Copy>(
+    alloc: A,
+    bytes: &[u8],
+    s: usize,
+    tag: TtlvTag,
+    text: &str,
+) -> Error<A>
     requires there { s + 4 ≤ length bytes.now }
     ensures told { (h : Cause → Bool) → h (closed_to (tag_at bytes.now s)) ≡ true → Reached bytes.now s → Told h bytes.now s result }
 {
     match String::from_str(alloc, text) {
-        Ok(text) => Error::new(ErrorKind::SerdeError(SerdeError::Other(text)), in_struct(s + 4, tag)),
+        Ok(text) => Error::new(
+            ErrorKind::SerdeError(SerdeError::Other(text)),
+            in_struct(s + 4, tag),
+        ),
         Err(e) => Error::from(e),
     }
 }
 
 /// An item too many for a tuple, in the struct of this tag.
-pub fn surplus<A: Allocator + Copy>(alloc: A, bytes: &[u8], s: usize, tag: TtlvTag, text: &str) -> Error<A>
+pub fn surplus<A: Allocator + Copy>(
+    alloc: A,
+    bytes: &[u8],
+    s: usize,
+    tag: TtlvTag,
+    text: &str,
+) -> Error<A>
     requires there { s ≤ length bytes.now }
     ensures told { (h : Cause → Bool) → h any_enum ≡ true → Reached bytes.now s → Told h bytes.now s result }
 {
     match String::from_str(alloc, text) {
-        Ok(text) => Error::new(ErrorKind::SerdeError(SerdeError::Other(text)), in_struct(s, tag)),
+        Ok(text) => Error::new(
+            ErrorKind::SerdeError(SerdeError::Other(text)),
+            in_struct(s, tag),
+        ),
         Err(e) => Error::from(e),
     }
 }
 
 /// A number that names no variant, in the struct of this tag.
-pub fn unknown_variant<A: Allocator + Copy>(alloc: A, bytes: &[u8], s: usize, tag: TtlvTag, text: &str) -> Error<A>
+pub fn unknown_variant<A: Allocator + Copy>(
+    alloc: A,
+    bytes: &[u8],
+    s: usize,
+    tag: TtlvTag,
+    text: &str,
+) -> Error<A>
     requires there { s + 16 ≤ length bytes.now }
     ensures told { (h : Cause → Bool) → h any_enum ≡ true → Reached bytes.now s → Told h bytes.now s result }
 {
     match String::from_str(alloc, text) {
-        Ok(text) => Error::new(ErrorKind::SerdeError(SerdeError::Other(text)), in_struct(s + 16, tag)),
+        Ok(text) => Error::new(
+            ErrorKind::SerdeError(SerdeError::Other(text)),
+            in_struct(s + 16, tag),
+        ),
         Err(e) => Error::from(e),
     }
 }
@@ -285,7 +387,12 @@ pub fn chosen_unit<A: Allocator>(bytes: &[u8], s: usize, typ: TtlvType) -> Error
 }
 
 /// A variant with content that a number chose.
-pub fn named_content<A: Allocator>(bytes: &[u8], s: usize, typ: TtlvType, actual: FieldType) -> Error<A>
+pub fn named_content<A: Allocator>(
+    bytes: &[u8],
+    s: usize,
+    typ: TtlvType,
+    actual: FieldType,
+) -> Error<A>
     requires there { s + 16 ≤ length bytes.now }
     requires typ_is { code_at bytes.now s ≡ code typ }
     ensures told { (h : Cause → Bool) → h any_enum ≡ true → Reached bytes.now s → Told h bytes.now s result }
@@ -300,7 +407,13 @@ pub fn named_content<A: Allocator>(bytes: &[u8], s: usize, typ: TtlvType, actual
 }
 
 /// A rule that is refused.
-pub fn refused_rule<'n, A: Allocator + Copy>(alloc: A, bytes: &[u8], s: usize, typ: TtlvType, rule: RuleError<'n>) -> Error<A>
+pub fn refused_rule<'n, A: Allocator + Copy>(
+    alloc: A,
+    bytes: &[u8],
+    s: usize,
+    typ: TtlvType,
+    rule: RuleError<'n>,
+) -> Error<A>
     requires there { s + 4 ≤ length bytes.now }
     requires typ_is { code_at bytes.now s ≡ code typ }
     ensures told { (h : Cause → Bool) → h any_enum ≡ true → ((n : List ℕ) → h (bad_name n) ≡ true) → Reached bytes.now s → Told h bytes.now s result }

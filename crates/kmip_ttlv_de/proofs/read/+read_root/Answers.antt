@@ -11,7 +11,7 @@ use Rattle.kmip_ttlv_de.specs.Answer.{sort_of}
 pub returns-in_err-data-in-Option-clause-refused : goal.returns-in_err-data-in-Option-clause-refused
 returns-in_err-data-in-Option-clause-refused g t c =
     let p = err_from_is_err_and c.from_residual.result c.from_residual.ensures.1 in
-    rw (p.1, p.2, c.in-Option.is) (refuses_option (form_of c.in-Option.inner.value) c.args.bytes.now (sort_of c.in_err-data-in-Option.field-0.0) (rw c.deref-in-Option.ensures at c.in_err-data-in-Option.ensures.refused))
+    rw (p.1, p.2, c.in-Option.is) (refuses_option (form_of c.in-Option.inner.value) c.args.bytes.now (sort_of c.in_err-data-in-Option.field-0.0) (rw c.deref.ensures at c.in_err-data-in-Option.ensures.refused))
 
 pub returns-in_err-data-in-Newtype-clause-refused : goal.returns-in_err-data-in-Newtype-clause-refused
 returns-in_err-data-in-Newtype-clause-refused g t c =
@@ -31,7 +31,7 @@ returns-in_err-fields-in-Struct-clause-facts g t c =
 pub returns-in_ok-new-in-Option-clause-found : goal.returns-in_ok-new-in-Option-clause-found
 returns-in_ok-new-in-Option-clause-found g t c =
     let made : view c.in_ok-new-in-Option.field-0.value ≡ view c.in_ok-data-in-Option.data = ap view (search rules) in
-    rw (c.in-Option.is, view-Some c.in_ok-new-in-Option.field-0, made) (begins_some (form_of c.in-Option.inner.value) c.args.bytes.now (view c.in_ok-data-in-Option.data) (rw c.deref-in-Option.ensures at c.in_ok-data-in-Option.ensures.found))
+    rw (c.in-Option.is, view-Some c.in_ok-new-in-Option.field-0, made) (begins_some (form_of c.in-Option.inner.value) c.args.bytes.now (view c.in_ok-data-in-Option.data) (rw c.deref.ensures at c.in_ok-data-in-Option.ensures.found))
 
 pub returns-in_ok-inner-in-Newtype-clause-found : goal.returns-in_ok-inner-in-Newtype-clause-found
 returns-in_ok-inner-in-Newtype-clause-found g t c =

@@ -22,8 +22,8 @@ returns-in_err-tag-clause-refused g c =
 pub returns-in_err-tag-clause-root : goal.returns-in_err-tag-clause-root
 returns-in_err-tag-clause-root g c =
     let p = err_from_is_err_and c.from_residual.result c.from_residual.ensures.1 in
-    let named = c.requires in
-    rw (p.1, p.2) (root_named c.args.name.now c.args.bytes.now named.0 _ named.1 (root_err (named_fault c.args.name.now c.args.bytes.now (Some named.0)) c.args.bytes.now c.in_err-tag.field-0.0 (c.in_err-tag.ensures.root refl named.0 named.1)))
+    let named = c.requires.named in
+    rw (p.1, p.2) (root_named c.args.name.now c.args.bytes.now named.0 _ named.1 (root_err _ _ _ (named_fault c.args.name.now c.args.bytes.now (Some named.0)) c.args.bytes.now c.in_err-tag.field-0.0 (c.in_err-tag.ensures.root refl named.0 named.1)))
 
 pub returns-in_err-tag-clause-facts : goal.returns-in_err-tag-clause-facts
 returns-in_err-tag-clause-facts g c =
@@ -45,8 +45,8 @@ returns-in-Ok-clause-found g c =
 
 pub returns-in-Ok-clause-root : goal.returns-in-Ok-clause-root
 returns-in-Ok-clause-root g c =
-    let named = c.requires in
-    root_named c.args.name.now c.args.bytes.now named.0 _ named.1 (root_passed (named_fault c.args.name.now c.args.bytes.now (Some named.0)) c.args.bytes.now _ _ (c.in_ok-tag.ensures.root refl named.0 named.1))
+    let named = c.requires.named in
+    root_named c.args.name.now c.args.bytes.now named.0 _ named.1 (root_passed _ _ _ (named_fault c.args.name.now c.args.bytes.now (Some named.0)) c.args.bytes.now _ _ (c.in_ok-tag.ensures.root refl named.0 named.1))
 
 pub returns-clause-refused : goal.returns-clause-refused
 returns-clause-refused g c =
@@ -61,13 +61,13 @@ returns-clause-refused g c =
 
 pub returns-clause-root : goal.returns-clause-root
 returns-clause-root g c =
-    let named = c.requires in
+    let named = c.requires.named in
     let b = c.args.bytes.now in
     let s = c.in_ok-tag.ensures.ok in
     let h = content_has (fields_of c.args.fields.now) c.args.deny in
     let told = c.in-Err.ensures.says (opened_reached c.args.name.now b 0 c.in_ok-tag.tag c.in_ok-tag.n at_start s) (opened_end c.args.name.now b 0 c.in_ok-tag.tag c.in_ok-tag.n at_start s) in
     let late = says_widened h b 8 (8 + c.in_ok-tag.n) c.within.result c.turned.result c.turned.ensures (says_widened h b 8 (8 + c.in_ok-tag.n) c.in-Err.e c.within.result c.within.ensures told) in
-    root_named c.args.name.now b named.0 _ named.1 (root_behind (named_fault c.args.name.now b (Some named.0)) b _ c.turned.result (c.in_ok-tag.ensures.root refl named.0 named.1) late.late)
+    root_named c.args.name.now b named.0 _ named.1 (root_behind _ _ _ (named_fault c.args.name.now b (Some named.0)) b _ c.turned.result (c.in_ok-tag.ensures.root refl named.0 named.1) late.late)
 
 pub returns-clause-facts : goal.returns-clause-facts
 returns-clause-facts g c =

@@ -30,11 +30,11 @@ returns-then-is_empty-clause-answers g c =
 pub returns-then-is_field-clause-answers : goal.returns-then-is_field-clause-answers
 returns-then-is_field-clause-answers g c =
     let named : names_tag (fields_of c.args.fields.now) (tag_at c.args.bytes.now c.args.pos) ≡ true = search rules in
-    λ k e lt. refused_named (fields_of c.args.fields.now) c.args.deny c.args.bytes.now c.args.pos e k (sort_of ( c.closed.result)) lt c.in_ok-typ.ensures.ok.0 named
+    λ k e lt. refused_named (fields_of c.args.fields.now) c.args.deny c.args.bytes.now c.args.pos e k (sort_of (c.closed.result)) lt c.in_ok-typ.ensures.ok.0 named
 
 pub returns-then-deny-clause-answers : goal.returns-then-deny-clause-answers
 returns-then-deny-clause-answers g c =
-    λ k e lt. refused_denied (fields_of c.args.fields.now) c.args.deny c.args.bytes.now c.args.pos e k (sort_of ( c.closed-then-deny.result)) lt c.if-deny.true
+    λ k e lt. refused_denied (fields_of c.args.fields.now) c.args.deny c.args.bytes.now c.args.pos e k (sort_of (c.closed-then-deny.result)) lt c.if-deny.true
 
 pub returns-in_err-next-clause-answers : goal.returns-in_err-next-clause-answers
 returns-in_err-next-clause-answers g c =
