@@ -15,3 +15,4 @@ pub mod Cuts
 pub mod RuleLemmas
 pub mod SayLemmas
 pub mod RootLemmas
+pub mod MessageLemmas

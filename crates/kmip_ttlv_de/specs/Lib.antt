@@ -7,3 +7,4 @@ pub mod Answer
 pub mod Wholes
 pub mod Facts
 pub mod Leaves
+pub mod Messages

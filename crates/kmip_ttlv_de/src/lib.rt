@@ -5,7 +5,7 @@
 //! which a form reads a value.
 #![tactic(auto)]
 
-ghost use Rattle.std.specs.Prelude.{◌≡◌, List, ℕ, IfOk, IfErr};
+ghost use Rattle.std.specs.Prelude.{◌≡◌, ◌++◌, ◌∷◌, [], List, ℕ, IfOk, IfErr};
 ghost use Rattle.kmip_ttlv_base.specs.Values.{Value};
 ghost use Rattle.kmip_ttlv_base.specs.Forms.{Form};
 ghost use Rattle.kmip_ttlv_base.specs.Gives.{Gives};
@@ -15,6 +15,7 @@ ghost use Rattle.kmip_ttlv_de.specs.Reads.{Reads, Begins};
 ghost use Rattle.kmip_ttlv_de.specs.Reading.{got, read_of};
 ghost use Rattle.kmip_ttlv_de.specs.Answer.{Refuses, early_end, sort_of};
 ghost use Rattle.kmip_ttlv_de.specs.Wholes.{BeginsWhole};
+ghost use Rattle.kmip_ttlv_de.specs.Messages.{outer, four_bytes, long_four, one_integer, one_integer_value, may_lack_first, lacks_first_value, chosen_by_first, chosen_by_first_value, integers};
 ghost use Rattle.kmip_ttlv_de.specs.Facts.{has, root_fault, RootFacts, FactsBut};
 
 mod head;
@@ -72,4 +73,19 @@ pub fn one_split()
 pub fn read_by_rules()
     ensures some { (s : Form) (k k' : List Keep) (xs ys : List Raw) (v : Value) → Reads s k xs v k' ys → read_of s k xs ≡ got v k' ys }
     ensures only { (s : Form) (k k' : List Keep) (xs ys : List Raw) (v : Value) → read_of s k xs ≡ got v k' ys → Reads s k xs v k' ys }
+{}
+
+/// What small messages are read as.
+pub fn small_messages()
+    // A required integer, also where its padding isn't zero, and with bytes behind the message.
+    ensures flat { Begins one_integer (outer 16 ++ four_bytes 187 2 3 0) (one_integer_value 3) }
+    ensures padded { Begins one_integer (outer 16 ++ four_bytes 187 2 3 255) (one_integer_value 3) }
+    ensures longer { Begins one_integer (outer 16 ++ four_bytes 187 2 3 0 ++ 9 ∷ []) (one_integer_value 3) }
+    // An option whose name isn't the item's is left out; a required integer is not.
+    ensures left_out { Begins may_lack_first (outer 16 ++ four_bytes 204 2 5 0) (lacks_first_value 5) }
+    ensures other_tag { (v : Value) → Begins one_integer (outer 16 ++ four_bytes 204 2 5 0) v → ⊥ }
+    // A rule sees the text of the number that was read before.
+    ensures chosen { Begins chosen_by_first (outer 32 ++ four_bytes 187 5 1 0 ++ four_bytes 204 2 7 0) (chosen_by_first_value 7) }
+    // A sequence ends at another type, and what follows is a field that was read already.
+    ensures duplicate { (v : Value) → Begins integers (outer 32 ++ four_bytes 187 2 3 0 ++ long_four) v → ⊥ }
 {}
