@@ -1,0 +1,75 @@
+-- Leaves: whether their content is valid, and what is read of them.
+use Rattle.std.proofs.Common.{◌≡◌, ◌≢◌, ℕ, zero, suc, ◌+◌, ◌-◌, ◌<◌, ◌≤◌, Bool, true, false, cond, List, [], ◌∷◌, ◌++◌, length, get_or, take, drop, Option, Some, None, refl, sym, ap, subst, ◌∙◌, arith, eqb}
+use Rattle.std.specs.Int.{w32, w64, from_be_bytes}
+use Rattle.std.proofs.lemmas.Bool.{eq-eqb, ne_eqb, eqb-true}
+use Rattle.std.proofs.lemmas.List.{take_all}
+use Rattle.std.proofs.Common.{◌⊎◌, inl, inr}
+use Rattle.std.specs.Str.{IsUtf8, is_utf8}
+use Rattle.std.proofs.lemmas.Str.{IsUtf8-from_is_utf8, is_utf8-from_IsUtf8}
+use Rattle.kmip_ttlv_types.specs.ItemTypes.{code, fixed_length}
+use Rattle.kmip_ttlv_types.specs.Leaves.{is_valid}
+use Rattle.kmip_ttlv_types.specs.Places.{code_at, length_at}
+use Rattle.kmip_ttlv_types.specs.declared.typ.TtlvType.{TtlvType}
+use Rattle.kmip_ttlv_types.specs.declared.typ.TtlvType.TheVariants.{BigInteger, Boolean, ByteString, DateTime, Enumeration, Integer, Interval, LongInteger, Structure, TextString}
+use Rattle.kmip_ttlv_de.proofs.Heads.{code_more, length_more, part_more, refused_first}
+use Rattle.kmip_ttlv_de.proofs.PlaceLemmas.{code_one, eight}
+use Rattle.kmip_ttlv_de.specs.Answer.{Refused, Sort}
+use Rattle.kmip_ttlv_de.specs.Keeps.{Keep}
+use Rattle.kmip_ttlv_de.specs.Reading.{any_leaf}
+
+-- another length than the type's
+short : (t : TtlvType) (w : ℕ) (content : List ℕ) → fixed_length t ≡ Some w → length content ≢ w → is_valid t content ≡ false
+short Structure w content e ne = refl
+short Integer w content e ne = let four : 4 ≡ w = cc in ne_eqb (length content) 4 (λ h. ne (h ∙ four))
+short LongInteger w content e ne = let eight : 8 ≡ w = cc in ne_eqb (length content) 8 (λ h. ne (h ∙ eight))
+short BigInteger w content e ne = absurd cc
+short Enumeration w content e ne = let four : 4 ≡ w = cc in ne_eqb (length content) 4 (λ h. ne (h ∙ four))
+short Boolean w content e ne = let eight : 8 ≡ w = cc in rw (ne_eqb (length content) 8 (λ h. ne (h ∙ eight))) refl
+short TextString w content e ne = absurd cc
+short ByteString w content e ne = absurd cc
+short DateTime w content e ne = let eight : 8 ≡ w = cc in ne_eqb (length content) 8 (λ h. ne (h ∙ eight))
+short Interval w content e ne = let four : 4 ≡ w = cc in ne_eqb (length content) 4 (λ h. ne (h ∙ four))
+
+pub leaf_not_length : (b : List ℕ) (p e : ℕ) (k : List Keep) (t : TtlvType) (n w : ℕ) (r : Sort) → p < e → p + 8 ≤ length b → code_at b p ≡ code t → n ≡ length_at b p → fixed_length t ≡ Some w → n ≢ w → Refused any_leaf b p e k r
+leaf_not_length b p e k t n w r lt le typ-is len-is wide ne =
+    refused_first any_leaf b p e k r lt (λ after x xs item.
+    let typ : x.typ ≡ t = code_one x.typ t (item.typ ∙ code_more b after p (omega arith) ∙ typ-is) in
+    let same : length x.content ≡ n = item.len ∙ length_more b after p le ∙ sym len-is in
+    let bad : is_valid x.typ x.content ≡ false = rw typ (short t w x.content wide (λ h. ne (sym same ∙ h))) in
+    rw bad refl)
+
+-- content that is no value of its type, with its padding there or not
+pub leaf_invalid : (b : List ℕ) (p e : ℕ) (k : List Keep) (t : TtlvType) (n : ℕ) (content : List ℕ) (r : Sort) → p < e → p + 8 + n ≤ length b → code_at b p ≡ code t → n ≡ length_at b p → content ≡ take n (drop (p + 8) b) → is_valid t content ≡ false → Refused any_leaf b p e k r
+leaf_invalid b p e k t n content r lt le typ-is len-is content-is bad =
+    refused_first any_leaf b p e k r lt (λ after x xs item.
+    let typ : x.typ ≡ t = code_one x.typ t (item.typ ∙ code_more b after p (omega arith) ∙ typ-is) in
+    let same : x.content ≡ content = item.content ∙ ap (λ m. take m (drop (p + 8) (b ++ after))) (length_more b after p (omega arith) ∙ sym len-is) ∙ part_more b after (p + 8) n le ∙ sym content-is in
+    let invalid : is_valid x.typ x.content ≡ false = ap (is_valid x.typ) same ∙ ap (λ y. is_valid y content) typ ∙ bad in
+    rw invalid refl)
+
+-- a leaf of fixed length, or of any
+pub valid_default : (t : TtlvType) (content : List ℕ) → (t ≡ Boolean → ⊥) → (t ≡ TextString → ⊥) → t ≢ Structure → ((w : ℕ) → fixed_length t ≡ Some w → length content ≡ w) → true ≡ is_valid t content
+valid_default Structure content b x s h = absurd (s refl)
+valid_default Integer content b x s h = sym (eq-eqb (length content) 4 (h 4 refl))
+valid_default LongInteger content b x s h = sym (eq-eqb (length content) 8 (h 8 refl))
+valid_default BigInteger content b x s h = refl
+valid_default Enumeration content b x s h = sym (eq-eqb (length content) 4 (h 4 refl))
+valid_default Boolean content b x s h = absurd (b refl)
+valid_default TextString content b x s h = absurd (x refl)
+valid_default ByteString content b x s h = refl
+valid_default DateTime content b x s h = sym (eq-eqb (length content) 8 (h 8 refl))
+valid_default Interval content b x s h = sym (eq-eqb (length content) 4 (h 4 refl))
+
+pub not_utf8 : (c : List ℕ) → (IsUtf8 c → ⊥) → false ≡ is_utf8 c
+not_utf8 c bad = elim (is_utf8 c) as (λ b. is_utf8 c ≡ b → false ≡ b) [ true ↦ λ e. absurd (bad (IsUtf8-from_is_utf8 c e)) | false ↦ λ e. refl ] refl
+
+pub four_cells : (c : List ℕ) → length c ≡ 4 → get_or c 0 0 ∷ get_or c 1 0 ∷ get_or c 2 0 ∷ get_or c 3 0 ∷ [] ≡ c
+four_cells (a ∷ b ∷ c ∷ d ∷ []) e = refl
+four_cells [] e = absurd (omega arith)
+four_cells (a ∷ []) e = absurd (omega arith)
+four_cells (a ∷ b ∷ []) e = absurd (omega arith)
+four_cells (a ∷ b ∷ c ∷ []) e = absurd (omega arith)
+four_cells (a ∷ b ∷ c ∷ d ∷ x ∷ r) e = absurd (omega arith)
+
+pub eight_cells : (c : List ℕ) → length c ≡ 8 → get_or c 0 0 ∷ get_or c 1 0 ∷ get_or c 2 0 ∷ get_or c 3 0 ∷ get_or c 4 0 ∷ get_or c 5 0 ∷ get_or c 6 0 ∷ get_or c 7 0 ∷ [] ≡ c
+eight_cells c e = sym (eight c (omega arith)) ∙ take_all 8 c (omega arith)

@@ -1,0 +1,100 @@
+-- The text of a number, and the variant that it names.
+use Rattle.std.proofs.Common.{◌≡◌, ℕ, ◌+◌, ◌<◌, ◌≤◌, ◌/◌, ◌%◌, Bool, true, false, cond, List, [], ◌∷◌, ◌++◌, length, get_or, drop, Option, Some, None, refl, sym, ap, ◌∙◌, append_assoc, arith, ◌&&◌}
+use Rattle.std.specs.List.{flat_map}
+use Rattle.std.specs.Str.{bytes_eq}
+use Rattle.std.specs.Fmt.{digit_glyph}
+use Rattle.std.proofs.lemmas.List.{drop_more, drop_all, append-nil}
+use Rattle.kmip_ttlv_types.specs.ItemTypes.{code, fixed_length}
+use Rattle.kmip_ttlv_types.specs.Items.{Raw}
+use Rattle.kmip_ttlv_types.specs.Leaves.{is_valid}
+use Rattle.kmip_ttlv_types.specs.Places.{code_at, length_at, tag_at}
+use Rattle.kmip_ttlv_types.specs.declared.typ.TtlvType.{TtlvType}
+use Rattle.kmip_ttlv_types.specs.declared.typ.TtlvType.TheVariants.{BigInteger, Boolean, ByteString, DateTime, Enumeration, Integer, Interval, LongInteger, Structure, TextString}
+use Rattle.kmip_ttlv_base.specs.Forms.{Variants, content_of, unit, variants_of}
+use Rattle.kmip_ttlv_base.specs.Values.{Value, unit_variant_value}
+use Rattle.kmip_ttlv_base.specs.declared.shape.VariantShape.{VariantShape}
+use Rattle.kmip_ttlv_de.proofs.Going.{refused_by}
+use Rattle.kmip_ttlv_de.proofs.Heads.{accepted_leaf, code_more, refused_any, refused_first, refused_leaf}
+use Rattle.kmip_ttlv_de.proofs.Leaves.{leaf_not_length}
+use Rattle.kmip_ttlv_de.proofs.PlaceLemmas.{code_one}
+use Rattle.kmip_ttlv_de.specs.Answer.{Accepted, Refused, Sort}
+use Rattle.kmip_ttlv_de.specs.Keeps.{Keep}
+use Rattle.kmip_ttlv_de.specs.Places.{LeafAt}
+use Rattle.kmip_ttlv_de.specs.Reading.{Got, any_leaf, got, read_number, unit_of, ◌>>=◌}
+use Rattle.kmip_ttlv_de.specs.Reads.{byte_digits, first_named, is_number_type, number_text}
+
+-- one more byte's digits
+pub text_step : (old content all : List ℕ) (i d e : ℕ) → i < length content → d ≡ digit_glyph true (get_or content i 0 / 16) → e ≡ digit_glyph true (get_or content i 0 % 16) → old ++ flat_map byte_digits (drop i content) ≡ all → ((old ++ d ∷ []) ++ e ∷ []) ++ flat_map byte_digits (drop (i + 1) content) ≡ all
+text_step old content all i d e lt ed ee h =
+    let others = flat_map byte_digits (drop (i + 1) content) in
+    append_assoc (old ++ d ∷ []) (e ∷ []) others ∙ append_assoc old (d ∷ []) (e ∷ others)
+    ∙ ap (λ (x : ℕ). old ++ x ∷ e ∷ others) ed ∙ ap (λ (x : ℕ). old ++ digit_glyph true (get_or content i 0 / 16) ∷ x ∷ others) ee
+    ∙ sym (ap (λ (r : List ℕ). old ++ flat_map byte_digits r) (drop_more content i 0 lt)) ∙ h
+
+pub text_done : (old content all : List ℕ) (i : ℕ) → length content ≤ i → old ++ flat_map byte_digits (drop i content) ≡ all → old ≡ all
+text_done old content all i le h = sym (append-nil old) ∙ sym (ap (λ (r : List ℕ). old ++ flat_map byte_digits r) (drop_all i content le)) ∙ h
+
+-- a variant on the way
+pub named_at : {A : Type 0} (name : List ℕ) (vs : List (VariantShape A)) (i : ℕ) (v : VariantShape A) → i < length vs → v ≡ get_or vs i v → first_named name (variants_of (drop i vs)) ≡ cond (bytes_eq v.name.now name) (Some (content_of v.content)) (first_named name (variants_of (drop (i + 1) vs)))
+named_at name vs i v lt is = ap (λ l. first_named name (variants_of l)) (drop_more vs i v lt) ∙ ap (λ w. cond (bytes_eq w.name.now name) (Some (content_of w.content)) (first_named name (variants_of (drop (i + 1) vs)))) (sym is)
+
+pub named_here : {A : Type 0} (name : List ℕ) (vs : List (VariantShape A)) (i : ℕ) (v : VariantShape A) → i < length vs → v ≡ get_or vs i v → true ≡ bytes_eq v.name.now name → first_named name (variants_of vs) ≡ first_named name (variants_of (drop i vs)) → Some (content_of v.content) ≡ first_named name (variants_of vs)
+named_here name vs i v lt is same h = sym (h ∙ named_at name vs i v lt is ∙ ap (λ b. cond b (Some (content_of v.content)) (first_named name (variants_of (drop (i + 1) vs)))) (sym same))
+
+pub named_later : {A : Type 0} (name : List ℕ) (vs : List (VariantShape A)) (i : ℕ) (v : VariantShape A) → i < length vs → v ≡ get_or vs i v → false ≡ bytes_eq v.name.now name → first_named name (variants_of vs) ≡ first_named name (variants_of (drop i vs)) → first_named name (variants_of vs) ≡ first_named name (variants_of (drop (i + 1) vs))
+named_later name vs i v lt is differs h = h ∙ named_at name vs i v lt is ∙ ap (λ b. cond b (Some (content_of v.content)) (first_named name (variants_of (drop (i + 1) vs)))) (sym differs)
+
+pub named_nowhere : {A : Type 0} (name : List ℕ) (vs : List (VariantShape A)) (i : ℕ) → length vs ≤ i → first_named name (variants_of vs) ≡ first_named name (variants_of (drop i vs)) → None ≡ first_named name (variants_of vs)
+named_nowhere name vs i le h = sym (h ∙ ap (λ l. first_named name (variants_of l)) (drop_all i vs le))
+
+-- ---- an enum by a number, at an item
+
+-- another type
+pub number_not_type : (name : List ℕ) (vs : Variants) (b : List ℕ) (p e : ℕ) (k : List Keep) (t : TtlvType) (r : Sort) → p < e → p + 4 ≤ length b → code_at b p ≡ code t → is_number_type t ≡ false → Refused (read_number name vs) b p e k r
+number_not_type name vs b p e k t r lt le typ-is not_number =
+    refused_first (read_number name vs) b p e k r lt (λ after x xs item.
+    let same : x.typ ≡ t = code_one x.typ t (item.typ ∙ code_more b after p le ∙ typ-is) in
+    let none : is_number_type x.typ ≡ false = ap is_number_type same ∙ not_number in
+    rw none refl)
+
+-- no value of its type
+pub number_no_value : (name : List ℕ) (vs : Variants) (k h : List Keep) (zs : List Raw) → any_leaf k zs ≡ None → read_number name vs h zs ≡ None
+number_no_value name vs k h [] e = refl
+number_no_value name vs k h (x ∷ xs) e =
+    let step = λ (v : Value). got v (h ++ record { tag = x.tag; text = number_text x.content } ∷ []) xs in
+    let found = unit_of name (number_text x.content) (first_named (number_text x.content) vs) >>= step in
+    elim (is_valid x.typ x.content) as (λ b. cond b (got x.content k xs) None ≡ None → cond (is_number_type x.typ && b) found None ≡ None) [
+      | true ↦ λ e. absurd cc
+      | false ↦ λ e. elim (is_number_type x.typ) as (λ t. ◌≡◌ {A = Option (Got Value)} (cond (t && false) found None) None) [ true ↦ refl | false ↦ refl ]
+    ] e
+
+-- another length than four
+pub number_not_length : (name : List ℕ) (vs : Variants) (b : List ℕ) (p e : ℕ) (k : List Keep) (t : TtlvType) (n : ℕ) (r : Sort) → p < e → p + 8 ≤ length b → code_at b p ≡ code t → n ≡ length_at b p → fixed_length t ≡ Some 4 → (n ≡ 4 → ⊥) → Refused (read_number name vs) b p e k r
+number_not_length name vs b p e k t n r lt le typ-is len-is wide ne =
+    refused_by any_leaf (read_number name vs) b p e k k r (number_no_value name vs k k) (leaf_not_length b p e k t n 4 r lt le typ-is len-is wide ne)
+
+-- no unit of that name
+pub number_not_unit : (name : List ℕ) (vs : Variants) (b : List ℕ) (p e : ℕ) (k : List Keep) (t : TtlvType) (n : ℕ) (content : List ℕ) (q : ℕ) (r : Sort) → p < e → ((i : ℕ) → get_or b i 0 < 256) → LeafAt b p t n content q → unit_of name (number_text content) (first_named (number_text content) vs) ≡ None → Refused (read_number name vs) b p e k r
+number_not_unit name vs b p e k t n content q r lt fits l none =
+    refused_any (read_number name vs) b p e k r (refused_leaf (read_number name vs) b p e k t n content q lt fits l (λ xs. no_unit (is_number_type t && is_valid t content) xs))
+  where
+    no_unit : (g : Bool) (xs : List Raw) → cond g (unit_of name (number_text content) (first_named (number_text content) vs) >>= λ v. got v (k ++ record { tag = tag_at b p; text = number_text content } ∷ []) xs) None ≡ None
+    no_unit true xs = ap (λ o. o >>= λ v. got v (k ++ record { tag = tag_at b p; text = number_text content } ∷ []) xs) none
+    no_unit false xs = refl
+
+-- a unit of that name
+pub number_accepted : (name : List ℕ) (vs : Variants) (b : List ℕ) (p e : ℕ) (k : List Keep) (t : TtlvType) (n : ℕ) (content : List ℕ) (q : ℕ) → p < e → p ≤ length b → ((i : ℕ) → get_or b i 0 < 256) → LeafAt b p t n content q → is_number_type t ≡ true → is_valid t content ≡ true → first_named (number_text content) vs ≡ Some unit → Accepted (read_number name vs) b p e k (k ++ record { tag = tag_at b p; text = number_text content } ∷ []) (unit_variant_value name (number_text content)) q
+number_accepted name vs b p e k t n content q lt le fits l number good found =
+    accepted_leaf (read_number name vs) b p e k (k ++ record { tag = tag_at b p; text = number_text content } ∷ []) (unit_variant_value name (number_text content)) t n content q lt le fits l (λ xs. rw (number, good, found) refl)
+
+pub number_length : (t : TtlvType) → is_number_type t ≡ true → fixed_length t ≡ Some 4
+number_length Integer e = refl
+number_length Enumeration e = refl
+number_length Structure e = absurd cc
+number_length LongInteger e = absurd cc
+number_length BigInteger e = absurd cc
+number_length Boolean e = absurd cc
+number_length TextString e = absurd cc
+number_length ByteString e = absurd cc
+number_length DateTime e = absurd cc
+number_length Interval e = absurd cc

@@ -1,0 +1,64 @@
+-- The first item of the bytes, from which the root reads.
+use Rattle.std.proofs.Common.{◌≡◌, ℕ, ◌+◌, ◌<◌, ◌≤◌, ◌⊎◌, inl, inr, Bool, List, [], ◌∷◌, ◌++◌, length, get_or, Option, Some, None, Result, Ok, Err, IfErr, refl, sym, ap, subst, ◌∙◌, arith}
+use Rattle.kmip_ttlv_types.specs.Names.{tag_of}
+use Rattle.kmip_ttlv_types.specs.Places.{ItemAt, length_at, size}
+use Rattle.kmip_ttlv_base.specs.Errors.{IsMemory, view_of_kind}
+use Rattle.kmip_ttlv_base.specs.Forms.{Fields, struct}
+use Rattle.kmip_ttlv_base.specs.Values.{Values, struct_value}
+use Rattle.kmip_ttlv_base.specs.declared.error.Error.{Error}
+use Rattle.kmip_ttlv_de.proofs.Going.{struct_accepted}
+use Rattle.kmip_ttlv_de.proofs.PlaceLemmas.{item_at_text}
+use Rattle.kmip_ttlv_de.proofs.Whole.{begins_found, begins_refused}
+use Rattle.kmip_ttlv_de.specs.Answer.{Accepted, Refused, RefusesAs, Sort, early_end, memory, sort_of, sort_of_kind}
+use Rattle.kmip_ttlv_de.specs.Facts.{Cause, Facts, FactsBut, Fault, NotBefore, RootFacts, Says, cause_of, named_fault, place_of}
+use Rattle.kmip_ttlv_de.specs.Keeps.{Keep}
+use Rattle.kmip_ttlv_de.specs.Places.{StructAt}
+use Rattle.kmip_ttlv_de.specs.Reading.{read_all, read_fields, read_of, read_struct}
+use Rattle.kmip_ttlv_de.specs.Reads.{Begins}
+use Rattle.kmip_ttlv_de.specs.Wholes.{AreWhole, BeginsWhole, more_deep, none_deep}
+
+-- bytes that begin with a whole Structure have it at their start
+pub whole_at_start : (b : List ℕ) → BeginsWhole b → (e : ℕ) × (0 < e) × AreWhole b 0 e
+whole_at_start b w =
+    let item : ItemAt b 0 w.item = item_at_text b 0 w.item w.item_text w.after (omega arith) w.parts w.is_text in
+    (0 + size w.item.typ (length_at b 0), omega arith, record { items = w.item ∷ []; are = (item, refl); deep = more_deep w.deep none_deep })
+
+pub says_whole : {A : Type 0} (h : Cause → Bool) (b : List ℕ) (r : Error A) → ((e : ℕ) → 0 < e → Says h b 0 e r) → BeginsWhole b → sort_of r ≡ early_end → ⊥
+says_whole h b r s w e = let x = whole_at_start b w in (s x.0 x.1).not_early x.2 e
+
+pub facts_but : {A : Type 0} (o : Option Fault) (h : Cause → Bool) (b : List ℕ) (e : Error A) → Facts h b e → FactsBut o h b e
+facts_but None h b e f = f
+facts_but (Some x) h b e f = tt
+
+-- where the root is let pass
+pub root_passed : (X Y A : Type 0) (o : Option Fault) (b : List ℕ) (x : X) (y : Y) → RootFacts {X = X} {A = A} o b (Ok x) → RootFacts {X = Y} {A = A} o b (Ok y)
+root_passed X Y A None b x y h = tt
+root_passed X Y A (Some f) b x y h = absurd h
+
+pub root_behind : (X Y A : Type 0) (o : Option Fault) (b : List ℕ) (x : X) (e : Error A) → RootFacts {X = X} {A = A} o b (Ok x) → NotBefore 8 (place_of e).offset → RootFacts {X = Y} {A = A} o b (Err e)
+root_behind X Y A None b x e h late = λ le. late
+root_behind X Y A (Some f) b x e h late = absurd h
+
+pub root_named : {X A : Type 0} (name b : List ℕ) (t : ℕ) (r : Result X (Error A)) → tag_of name ≡ Some t → RootFacts (named_fault name b (Some t)) b r → RootFacts (named_fault name b (tag_of name)) b r
+root_named name b t r is h = subst (λ o. RootFacts (named_fault name b o) b r) (sym is) h
+
+pub root_err : (X Y A : Type 0) (o : Option Fault) (b : List ℕ) (e : Error A) → RootFacts {X = X} {A = A} o b (Err e) → RootFacts {X = Y} {A = A} o b (Err e)
+root_err X Y A None b e h = h
+root_err X Y A (Some f) b e h = h
+
+-- a fault that is no early end
+pub fault_not_early : {A : Type 0} (f : Fault) (e : Error A) → (sort_of_kind f.kind ≡ early_end → ⊥) → IsMemory e ⊎ ((cause_of e ≡ f.kind) × (place_of e ≡ f.place)) → sort_of e ≡ early_end → ⊥
+fault_not_early f e never (inl m) s = absurd (let k : memory ≡ early_end = sym (ap (λ k. sort_of_kind (view_of_kind k)) m.kind) ∙ s in cc)
+fault_not_early f e never (inr h) s = never (ap sort_of_kind (sym h.0) ∙ s)
+
+-- ---- the first struct
+
+pub first_found : (name : List ℕ) (fs : Fields) (deny : Bool) (b : List ℕ) (t n : ℕ) (k' : List Keep) (vs : Values) → ((i : ℕ) → get_or b i 0 < 256) → StructAt name b 0 t n → Accepted (read_all fs deny (read_fields fs)) b 8 (8 + n) [] k' vs (8 + n) → Begins (struct name fs deny) b (struct_value name vs)
+unfolding read_of
+first_found name fs deny b t n k' vs fits s a =
+    let taken = struct_accepted name fs deny (read_fields fs) b 0 (8 + n) t n (8 + n) [] k' vs (omega arith) fits s a refl in
+    begins_found name fs deny b (8 + n) k' (struct_value name vs) (omega arith) taken
+
+pub first_refused : (name : List ℕ) (fs : Fields) (deny : Bool) (b : List ℕ) (r : Sort) → ((e : ℕ) → 0 < e → Refused (read_struct name fs deny (read_fields fs)) b 0 e [] r) → RefusesAs (struct name fs deny) b r
+unfolding read_of
+first_refused name fs deny b r h = begins_refused (struct name fs deny) b r (λ e lt. h e lt)

@@ -1,0 +1,110 @@
+use Rattle.std.proofs.Common.{◌≡◌, ◌≢◌, ap, refl, sym, ◌∙◌, arith, length, rules, subst, true, false, ◌≤◌, ◌+◌, List, ℕ, take, drop, not}
+use Rattle.std.proofs.lemmas.Result.{err_from_is_err_and}
+use Rattle.kmip_ttlv_de.proofs.read.read_ignored.Goals as goal
+use Rattle.kmip_ttlv_types.specs.ItemTypes.{is_structure}
+use Rattle.kmip_ttlv_types.specs.Places.{length_at, tag_at}
+use Rattle.kmip_ttlv_types.specs.declared.typ.TtlvType.TheVariants.{Structure}
+use Rattle.kmip_ttlv_base.specs.Forms.{fields_of}
+use Rattle.kmip_ttlv_de.proofs.FactLemmas.{told_says}
+use Rattle.kmip_ttlv_de.proofs.Heads.{refused_type}
+use Rattle.kmip_ttlv_de.proofs.Ignoring.{either_valid, fields_none, fields_some, ignored_leaf, refused_cut, refused_denied, refused_empty, refused_invalid, refused_named, refused_short, structure_leaf}
+use Rattle.kmip_ttlv_de.proofs.ReadLemmas.{is_structure_is}
+use Rattle.kmip_ttlv_de.proofs.SayLemmas.{not_structure, or_left, or_right}
+use Rattle.kmip_ttlv_de.proofs.WholeLemmas.{early_header, early_item, early_says}
+use Rattle.kmip_ttlv_de.specs.Answer.{sort_of}
+use Rattle.kmip_ttlv_de.specs.Facts.{rest_has}
+use Rattle.kmip_ttlv_de.specs.Places.{LeafAt}
+use Rattle.kmip_ttlv_de.specs.Reading.{rest_of}
+use Rattle.kmip_ttlv_de.specs.Reads.{names_tag}
+
+pub returns-in_err-typ-clause-answers : goal.returns-in_err-typ-clause-answers
+returns-in_err-typ-clause-answers g c =
+    let p = err_from_is_err_and c.from_residual.result c.from_residual.ensures.1 in
+    λ k e lt. rw (p.1, p.2) (refused_type (rest_of (fields_of c.args.fields.now) c.args.deny) c.args.bytes.now c.args.pos e k (sort_of c.in_err-typ.field-0.0) lt c.in_err-typ.ensures.err)
+
+pub returns-then-is_empty-clause-answers : goal.returns-then-is_empty-clause-answers
+returns-then-is_empty-clause-answers g c =
+    let none : length c.args.fields.now ≡ 0 = search rules in
+    λ k e lt. refused_empty (fields_of c.args.fields.now) c.args.deny c.args.bytes.now c.args.pos e k (sort_of c.no_fields.result) lt (fields_none c.args.fields.now none)
+
+pub returns-then-is_field-clause-answers : goal.returns-then-is_field-clause-answers
+returns-then-is_field-clause-answers g c =
+    let named : names_tag (fields_of c.args.fields.now) (tag_at c.args.bytes.now c.args.pos) ≡ true = search rules in
+    λ k e lt. refused_named (fields_of c.args.fields.now) c.args.deny c.args.bytes.now c.args.pos e k (sort_of (c.closed.result)) lt c.in_ok-typ.ensures.ok.0 named
+
+pub returns-then-deny-clause-answers : goal.returns-then-deny-clause-answers
+returns-then-deny-clause-answers g c =
+    λ k e lt. refused_denied (fields_of c.args.fields.now) c.args.deny c.args.bytes.now c.args.pos e k (sort_of (c.closed-then-deny.result)) lt c.if-deny.true
+
+pub returns-in_err-next-clause-answers : goal.returns-in_err-next-clause-answers
+returns-in_err-next-clause-answers g c =
+    let p = err_from_is_err_and c.from_residual-in_err-next.result c.from_residual-in_err-next.ensures.1 in
+    let leaf : c.in_ok-typ.typ ≢ Structure = not_structure c.in_ok-typ.typ (search rules) in
+    λ k e lt. rw (p.1, p.2) (refused_invalid (fields_of c.args.fields.now) c.args.deny c.args.bytes.now c.args.pos e k (sort_of c.in_err-next.field-0.0) c.in_ok-typ.typ lt c.in_ok-typ.ensures.ok.0 c.in_ok-typ.ensures.ok.1 leaf (c.in_err-next.ensures.err k e lt))
+
+pub returns-then-not-is_structure-clause-answers : goal.returns-then-not-is_structure-clause-answers
+returns-then-not-is_structure-clause-answers g c =
+    let other_name : names_tag (fields_of c.args.fields.now) (tag_at c.args.bytes.now c.args.pos) ≡ false = search rules in
+    let some_field : length c.args.fields.now ≡ 0 → ⊥ = search rules in
+    let l = c.in_ok-next.ensures.ok.0 in
+    λ k e lt. (omega (arith, l.next_is), ignored_leaf (fields_of c.args.fields.now) c.args.deny c.args.bytes.now c.args.pos e k c.in_ok-typ.typ (length_at c.args.bytes.now c.args.pos) _ _ lt c.requires.inside (λ i. omega (arith, c.type_inv.bytes i)) l (fields_some c.args.fields.now some_field) c.if-deny.false other_name (either_valid (is_structure c.in_ok-typ.typ) _ c.in_ok-next.ensures.ok.1))
+
+pub returns-in_default-clause-answers : goal.returns-in_default-clause-answers
+returns-in_default-clause-answers g c =
+    λ k e lt. refused_short (fields_of c.args.fields.now) c.args.deny c.args.bytes.now c.args.pos e k (sort_of c.early.result) c.early.ensures.sort lt c.in_default.ensures.none
+
+pub returns-in-None-clause-answers : goal.returns-in-None-clause-answers
+returns-in-None-clause-answers g c =
+    λ k e lt. refused_cut (fields_of c.args.fields.now) c.args.deny c.args.bytes.now c.args.pos e k (sort_of c.early-in-None.result) c.in_ok-typ.typ c.in-Some.n c.early-in-None.ensures.sort lt c.in_ok-typ.ensures.ok.1 c.in-Some.ensures.some.1 c.in-None.ensures.none
+
+pub returns-in-Some-end_of-clause-answers : goal.returns-in-Some-end_of-clause-answers
+returns-in-Some-end_of-clause-answers g c =
+    let other_name : names_tag (fields_of c.args.fields.now) (tag_at c.args.bytes.now c.args.pos) ≡ false = search rules in
+    let some_field : length c.args.fields.now ≡ 0 → ⊥ = search rules in
+    let structure : c.in_ok-typ.typ ≡ Structure = is_structure_is c.in_ok-typ.typ (search rules) in
+    let h = c.in-Some-end_of.ensures.some in
+    let content = take c.in-Some.n (drop (c.args.pos + 8) c.args.bytes.now) in
+    let l : LeafAt c.args.bytes.now c.args.pos Structure c.in-Some.n content c.in-Some-end_of.next = structure_leaf c.args.bytes.now c.args.pos c.in_ok-typ.typ c.in-Some.n c.in-Some-end_of.next structure c.in_ok-typ.ensures.ok.1 c.in-Some.ensures.some.1 h.0 h.1 in
+    λ k e lt. (omega (arith, h.0), ignored_leaf (fields_of c.args.fields.now) c.args.deny c.args.bytes.now c.args.pos e k Structure c.in-Some.n content c.in-Some-end_of.next lt c.requires.inside (λ i. omega (arith, c.type_inv.bytes i)) l (fields_some c.args.fields.now some_field) c.if-deny.false other_name refl)
+
+pub returns-in_err-typ-clause-says : goal.returns-in_err-typ-clause-says
+returns-in_err-typ-clause-says g c =
+    let p = err_from_is_err_and c.from_residual.result c.from_residual.ensures.1 in
+    rw (p.1, p.2) (λ e lt r. c.in_err-typ.ensures.says (rest_has (fields_of c.args.fields.now) c.args.deny) e lt r)
+
+pub returns-then-is_empty-clause-says : goal.returns-then-is_empty-clause-says
+returns-then-is_empty-clause-says g c =
+    let h = rest_has (fields_of c.args.fields.now) c.args.deny in
+    let none : length c.args.fields.now ≡ 0 = search rules in
+    λ e lt r. told_says h c.args.bytes.now c.args.pos c.args.pos e c.no_fields.result (omega arith) (c.no_fields.ensures.told h (ap not (fields_none c.args.fields.now none)) r)
+
+pub returns-then-is_field-clause-says : goal.returns-then-is_field-clause-says
+returns-then-is_field-clause-says g c =
+    let fs = fields_of c.args.fields.now in
+    let h = rest_has fs c.args.deny in
+    let named : names_tag fs (tag_at c.args.bytes.now c.args.pos) ≡ true = search rules in
+    λ e lt r. told_says h c.args.bytes.now c.args.pos c.args.pos e c.closed.result (omega arith) (c.closed.ensures.told h (or_right c.args.deny (names_tag fs (tag_at c.args.bytes.now c.args.pos)) named) r)
+
+pub returns-then-deny-clause-says : goal.returns-then-deny-clause-says
+returns-then-deny-clause-says g c =
+    let fs = fields_of c.args.fields.now in
+    let h = rest_has fs c.args.deny in
+    λ e lt r. told_says h c.args.bytes.now c.args.pos c.args.pos e c.closed-then-deny.result (omega arith) (c.closed-then-deny.ensures.told h (or_left c.args.deny (names_tag fs (tag_at c.args.bytes.now c.args.pos)) c.if-deny.true) r)
+
+pub returns-in_err-next-clause-says : goal.returns-in_err-next-clause-says
+returns-in_err-next-clause-says g c =
+    let p = err_from_is_err_and c.from_residual-in_err-next.result c.from_residual-in_err-next.ensures.1 in
+    rw (p.1, p.2) (λ e lt r. c.in_err-next.ensures.says (rest_has (fields_of c.args.fields.now) c.args.deny) e lt r)
+
+pub returns-in_default-clause-says : goal.returns-in_default-clause-says
+returns-in_default-clause-says g c =
+    let h = rest_has (fields_of c.args.fields.now) c.args.deny in
+    λ e lt r. early_says h c.args.bytes.now c.args.pos e c.early.result (c.early.ensures.facts h c.args.bytes.now) c.early.ensures.place (early_header c.args.bytes.now c.args.pos e lt c.in_default.ensures.none)
+
+pub returns-in-None-clause-says : goal.returns-in-None-clause-says
+returns-in-None-clause-says g c =
+    let h = rest_has (fields_of c.args.fields.now) c.args.deny in
+    λ e lt r. early_says h c.args.bytes.now c.args.pos e c.early-in-None.result (c.early-in-None.ensures.facts h c.args.bytes.now) c.early-in-None.ensures.place (early_item c.args.bytes.now c.args.pos e c.in_ok-typ.typ c.in-Some.n lt c.in_ok-typ.ensures.ok.1 c.in-Some.ensures.some.1 c.in-None.ensures.none)
+
+pub leaf_at-requires-clause-leaf : goal.leaf_at-requires-clause-leaf
+leaf_at-requires-clause-leaf g c = not_structure c.in_ok-typ.typ (search rules)

@@ -1,0 +1,54 @@
+use Rattle.std.proofs.Common.{◌≡◌, ap, refl, sym, ◌∙◌, arith, length, rules, ◌≤◌, ◌+◌, []}
+use Rattle.std.proofs.lemmas.Result.{err_from_is_err_and}
+use Rattle.kmip_ttlv_de.proofs.read.read_rest.Goals as goal
+use Rattle.kmip_ttlv_base.specs.Forms.{fields_of}
+use Rattle.kmip_ttlv_de.proofs.FactLemmas.{told_says}
+use Rattle.kmip_ttlv_de.proofs.Going.{goes_nowhere, goes_refused, goes_then, past_end, rest_done}
+use Rattle.kmip_ttlv_de.proofs.Heads.{refused_any}
+use Rattle.kmip_ttlv_de.proofs.SayLemmas.{covers_same, reached_goes, says_goes}
+use Rattle.kmip_ttlv_de.specs.Answer.{sort_of}
+use Rattle.kmip_ttlv_de.specs.Facts.{rest_has}
+use Rattle.kmip_ttlv_de.specs.Reading.{got, rest_of}
+
+pub read_ignored-requires : goal.read_ignored-requires
+read_ignored-requires g c = record { inside = (c.loop-next.invariant []).within }
+
+pub returns-in_err-after-clause-answers : goal.returns-in_err-after-clause-answers
+returns-in_err-after-clause-answers g c =
+    let p = err_from_is_err_and c.from_residual.result c.from_residual.ensures.1 in
+    let r = rest_of (fields_of c.args.fields.now) c.args.deny in
+    λ k. rw (p.1, p.2) (goes_refused r r c.args.bytes.now c.args.pos c.loop-next.next c.args.end k k (sort_of c.in_err-after.field-0.0) (c.loop-next.invariant k) (c.in_err-after.ensures.answers k c.args.end c.loop-next-test.true))
+
+pub loop-next-preserved : goal.loop-next-preserved
+loop-next-preserved g c =
+    let r = rest_of (fields_of c.args.fields.now) c.args.deny in
+    λ k. goes_then r r r c.args.bytes.now c.args.pos c.loop-next.next c.in_ok-after.after c.args.end k k k (c.loop-next.invariant k) (c.in_ok-after.ensures.answers k c.args.end c.loop-next-test.true).1
+
+pub returns-then-end-next-clause-answers : goal.returns-then-end-next-clause-answers
+returns-then-end-next-clause-answers g c =
+    let r = rest_of (fields_of c.args.fields.now) c.args.deny in
+    λ k. goes_refused r r c.args.bytes.now c.args.pos c.loop-next.next c.args.end k k (sort_of c.overflow.result) (c.loop-next.invariant k) (refused_any r c.args.bytes.now c.loop-next.next c.args.end k (sort_of c.overflow.result) (λ after zs items. absurd (past_end c.args.bytes.now after c.loop-next.next c.args.end zs c.if-end-next.true (c.loop-next.invariant k).within items)))
+
+pub returns-clause-answers : goal.returns-clause-answers
+returns-clause-answers g c =
+    let r = rest_of (fields_of c.args.fields.now) c.args.deny in
+    λ k. let g = c.loop-next.invariant k in goes_then r r (got tt) c.args.bytes.now c.args.pos c.loop-next.next c.args.end c.args.end k k k g (rest_done (fields_of c.args.fields.now) c.args.deny c.args.bytes.now c.loop-next.next c.args.end k g.within (omega arith))
+
+pub loop-next-init : goal.loop-next-init
+loop-next-init g c = λ k. goes_nowhere (rest_of (fields_of c.args.fields.now) c.args.deny) c.args.bytes.now c.args.pos c.args.end k c.requires.inside
+
+pub loop-next-smaller : goal.loop-next-smaller
+loop-next-smaller g c =
+    let step = c.in_ok-after.ensures.answers [] c.args.end c.loop-next-test.true in
+    omega (arith, step.0, step.1.within)
+
+pub returns-in_err-after-clause-says : goal.returns-in_err-after-clause-says
+returns-in_err-after-clause-says g c =
+    let p = err_from_is_err_and c.from_residual.result c.from_residual.ensures.1 in
+    let h = rest_has (fields_of c.args.fields.now) c.args.deny in
+    rw (p.1, p.2) (λ r z. says_goes h h c.args.bytes.now c.args.pos c.loop-next.next c.args.end c.in_err-after.field-0.0 (covers_same h) c.requires.inside (c.loop-next.invariant []) (c.in_err-after.ensures.says c.args.end c.loop-next-test.true (reached_goes r (c.loop-next.invariant []))))
+
+pub returns-then-end-next-clause-says : goal.returns-then-end-next-clause-says
+returns-then-end-next-clause-says g c =
+    let h = rest_has (fields_of c.args.fields.now) c.args.deny in
+    λ r z. told_says h c.args.bytes.now c.args.pos c.loop-next.next c.args.end c.overflow.result ((c.loop-next.invariant []).in_order) (c.overflow.ensures.told h z)

@@ -1,0 +1,25 @@
+-- The forms of leaves.
+use Rattle.kmip_ttlv_types.specs.declared.typ.TtlvType.{TtlvType}
+use Rattle.kmip_ttlv_types.specs.declared.typ.TtlvType.TheVariants.{Integer, LongInteger, BigInteger, Boolean, TextString, ByteString, Interval}
+use Rattle.kmip_ttlv_base.specs.Forms.{Form, int32, int64, boolean, text, octets, interval, big_integer}
+use Rattle.kmip_ttlv_de.specs.declared.leaf.Leaf.{Leaf}
+use Rattle.kmip_ttlv_de.specs.declared.leaf.Leaf.TheVariants as leaves
+
+abbrev pub form_of_leaf : Leaf → Form
+form_of_leaf leaves.I32 = int32
+form_of_leaf leaves.I64 = int64
+form_of_leaf leaves.Bool = boolean
+form_of_leaf leaves.Text = text
+form_of_leaf leaves.Bytes = octets
+form_of_leaf leaves.Interval = interval
+form_of_leaf leaves.BigInteger = big_integer
+
+-- the type that is named where another one is refused
+abbrev pub first_type : Leaf → TtlvType
+first_type leaves.I32 = Integer
+first_type leaves.I64 = LongInteger
+first_type leaves.Bool = Boolean
+first_type leaves.Text = TextString
+first_type leaves.Bytes = ByteString
+first_type leaves.Interval = Interval
+first_type leaves.BigInteger = BigInteger

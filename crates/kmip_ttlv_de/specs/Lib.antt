@@ -1,0 +1,10 @@
+pub mod Keeps
+pub mod Rules
+pub mod Reads
+pub mod Reading
+pub mod Places
+pub mod Answer
+pub mod Wholes
+pub mod Facts
+pub mod Leaves
+pub mod Messages

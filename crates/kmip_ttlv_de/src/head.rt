@@ -1,0 +1,103 @@
+//! The fields of an item, at its place among the bytes.
+
+ghost use Rattle.std.specs.Prelude.{◌≡◌, ◌≢◌, ℕ, Bool, ◌+◌, ◌<◌, ◌≤◌, ◌⊎◌, length, take, drop, None, Some, IfOk, IfErr, IfSome, IfNone};
+ghost use Rattle.kmip_ttlv_types.specs.ItemTypes.{code, type_of, padding, is_structure};
+ghost use Rattle.kmip_ttlv_types.specs.Places.{tag_at, code_at, length_at, size};
+ghost use Rattle.kmip_ttlv_base.specs.Errors.{malformed};
+ghost use Rattle.kmip_ttlv_base.specs.declared.error.MalformedTtlvError.TheVariants.{InvalidType as InvalidTypeFault};
+ghost use Rattle.kmip_ttlv_de.specs.Places.{Reached};
+ghost use Rattle.kmip_ttlv_de.specs.Answer.{sort_of, early_end};
+ghost use Rattle.kmip_ttlv_de.specs.Facts.{Cause, Says, cause_of, place_of, code_place};
+
+use crate::refuse::{bad_code, early};
+use kmip_ttlv_base::error::Result;
+use kmip_ttlv_base::types::{TtlvTag, TtlvType};
+use std::alloc::Allocator;
+
+/// The tag at a place.
+pub fn tag_at(bytes: &[u8], pos: usize) -> TtlvTag
+    requires { pos + 4 ≤ length bytes.now }
+    ensures { result ≡ tag_at bytes.now pos }
+{
+    TtlvTag::from([bytes[pos], bytes[pos + 1], bytes[pos + 2]])
+}
+
+/// The type at a place.
+///
+/// UnexpectedEof where its byte is missing, InvalidType where it is the code of none.
+pub fn type_at<A: Allocator>(bytes: &[u8], pos: usize) -> Result<TtlvType, A>
+    requires inside { pos ≤ length bytes.now }
+    ensures ok { IfOk result (λ t. (pos + 4 ≤ length bytes.now) × (code_at bytes.now pos ≡ code t)) }
+    ensures err { IfErr result (λ r. ((sort_of r ≡ early_end) × (length bytes.now < pos + 4)) ⊎ ((pos + 4 ≤ length bytes.now) × (type_of (code_at bytes.now pos) ≡ None))) }
+    ensures fault { IfErr result (λ r. pos + 4 ≤ length bytes.now → (cause_of r ≡ malformed (InvalidTypeFault (code_at bytes.now pos))) × (place_of r ≡ code_place bytes.now pos)) }
+    ensures says { IfErr result (λ r. (h : Cause → Bool) (e : ℕ) → pos < e → Reached bytes.now pos → Says h bytes.now pos e r) }
+{
+    if bytes.len() - pos < 4 {
+        return Err(early());
+    }
+    match TtlvType::from_code(bytes[pos + 3]) {
+        Some(typ) => Ok(typ),
+        None => Err(bad_code(bytes, pos)),
+    }
+}
+
+pub fn is_structure(typ: TtlvType) -> bool
+    ensures { result ≡ is_structure typ }
+{
+    typ == TtlvType::Structure
+}
+
+/// The length at a place, if its bytes are there.
+pub fn length_at(bytes: &[u8], pos: usize) -> Option<u32>
+    requires { pos + 4 ≤ length bytes.now }
+    ensures some { IfSome result (λ n. (pos + 8 ≤ length bytes.now) × (n ≡ length_at bytes.now pos)) }
+    ensures none { IfNone result (length bytes.now < pos + 8) }
+{
+    if bytes.len() - pos < 8 {
+        return None;
+    }
+    Some(u32::from_be_bytes([
+        bytes[pos + 4],
+        bytes[pos + 5],
+        bytes[pos + 6],
+        bytes[pos + 7],
+    ]))
+}
+
+// How many bytes pad a value.
+fn padding(typ: TtlvType, n: usize) -> usize
+    ensures { result ≡ padding typ n }
+{
+    match typ {
+        TtlvType::Structure => 0,
+        _ => (8 - n % 8) % 8,
+    }
+}
+
+/// The content of an item, if its bytes are there without the padding.
+pub fn content_at(bytes: &[u8], pos: usize, n: u32) -> Option<&[u8]>
+    requires { pos + 8 ≤ length bytes.now }
+    ensures some { IfSome result (λ r. (r.now ≡ take n (drop (pos + 8) bytes.now)) × (pos + 8 + n ≤ length bytes.now)) }
+    ensures none { IfNone result (length bytes.now < pos + 8 + n) }
+{
+    let n = n as usize;
+    let rest = &bytes[pos + 8..];
+    if rest.len() < n {
+        return None;
+    }
+    Some(&rest[..n])
+}
+
+/// The place behind an item, if all of it is there.
+pub fn end_of(bytes: &[u8], pos: usize, typ: TtlvType, n: u32) -> Option<usize>
+    requires { pos + 8 ≤ length bytes.now }
+    ensures some { IfSome result (λ q. (q ≡ pos + size typ n) × (q ≤ length bytes.now)) }
+    ensures none { IfNone result (length bytes.now < pos + size typ n) }
+{
+    let n = n as usize;
+    let taken = 8 + n + padding(typ, n);
+    if bytes.len() - pos < taken {
+        return None;
+    }
+    Some(pos + taken)
+}

@@ -1,0 +1,220 @@
+//! Leaves: their content, and the values that shapes read from it.
+
+ghost use Rattle.std.specs.Prelude.{◌≡◌, ◌≢◌, ℕ, Bool, ◌+◌, ◌<◌, ◌≤◌, ◌++◌, length, take, drop, None, Some, true, false, IfOk, IfErr, List, string_bytes};
+ghost use Rattle.kmip_ttlv_types.specs.ItemTypes.{code, fixed_length};
+ghost use Rattle.kmip_ttlv_types.specs.Leaves.{is_valid};
+ghost use Rattle.kmip_ttlv_types.specs.Places.{tag_at, code_at, length_at};
+ghost use Rattle.kmip_ttlv_types.specs.Items.{Raw};
+ghost use Rattle.kmip_ttlv_base.specs.Values.{view};
+ghost use Rattle.kmip_ttlv_base.specs.Errors.{IsMemory};
+ghost use Rattle.kmip_ttlv_de.specs.Places.{LeafAt, Reached};
+ghost use Rattle.kmip_ttlv_de.specs.Keeps.{Keep, keeps};
+ghost use Rattle.kmip_ttlv_de.specs.Reads.{takes, leaf_value, with_leaf, byte_digits, number_text};
+ghost use Rattle.kmip_ttlv_de.specs.Reading.{any_leaf, read_leaf};
+ghost use Rattle.kmip_ttlv_de.specs.Leaves.{form_of_leaf, first_type};
+ghost use Rattle.kmip_ttlv_de.specs.Answer.{Answers, Refused, sort_of};
+ghost use Rattle.kmip_ttlv_de.specs.Facts.{Cause, Says};
+
+use crate::head::{content_at, end_of, length_at, tag_at, type_at};
+use crate::keep::Kept;
+use crate::refuse::{bad_length, bad_value, early, other_type};
+use kmip_ttlv_base::error::Result;
+use kmip_ttlv_base::shape::Data;
+use kmip_ttlv_base::types::{TtlvTag, TtlvType};
+use std::alloc::{AllocError, Allocator};
+use std::str;
+
+/// The shapes of leaves.
+#[derive(Clone, Copy)]
+pub enum Leaf {
+    I32,
+    I64,
+    Bool,
+    Text,
+    Bytes,
+    Interval,
+    BigInteger,
+}
+
+impl Leaf {
+    // Whether the shape reads leaves of this type.
+    fn takes(self, typ: TtlvType) -> bool
+        ensures { result ≡ takes (form_of_leaf self) typ }
+    {
+        match self {
+            Leaf::I32 => typ == TtlvType::Integer,
+            Leaf::I64 => typ == TtlvType::LongInteger || typ == TtlvType::DateTime,
+            Leaf::Bool => typ == TtlvType::Boolean,
+            Leaf::Text => typ == TtlvType::TextString,
+            Leaf::Bytes => typ == TtlvType::ByteString || typ == TtlvType::BigInteger,
+            Leaf::Interval => typ == TtlvType::Interval,
+            Leaf::BigInteger => typ == TtlvType::BigInteger,
+        }
+    }
+
+    // The type that is named where another one is refused.
+    fn first_type(self) -> TtlvType
+        ensures { result ≡ first_type self }
+    {
+        match self {
+            Leaf::I32 => TtlvType::Integer,
+            Leaf::I64 => TtlvType::LongInteger,
+            Leaf::Bool => TtlvType::Boolean,
+            Leaf::Text => TtlvType::TextString,
+            Leaf::Bytes => TtlvType::ByteString,
+            Leaf::Interval => TtlvType::Interval,
+            Leaf::BigInteger => TtlvType::BigInteger,
+        }
+    }
+}
+
+/// How long a value of this type is, in bytes, if that is fixed.
+fn fixed_length(typ: TtlvType) -> Option<u32>
+    ensures { result ≡ fixed_length typ }
+{
+    match typ {
+        TtlvType::Integer | TtlvType::Enumeration | TtlvType::Interval => Some(4),
+        TtlvType::LongInteger | TtlvType::Boolean | TtlvType::DateTime => Some(8),
+        TtlvType::Structure | TtlvType::BigInteger | TtlvType::TextString | TtlvType::ByteString =>
+            None,
+    }
+}
+
+fn four(content: &[u8]) -> [u8; 4]
+    requires { length content.now ≡ 4 }
+    ensures { result ≡ content.now }
+{
+    [content[0], content[1], content[2], content[3]]
+}
+
+fn eight(content: &[u8]) -> [u8; 8]
+    requires { length content.now ≡ 8 }
+    ensures { result ≡ content.now }
+{
+    [
+        content[0], content[1], content[2], content[3], content[4], content[5], content[6],
+        content[7],
+    ]
+}
+
+// Whether content of its type's length is a value of the type.
+fn is_valid(typ: TtlvType, content: &[u8]) -> bool
+    requires long { (w : ℕ) → fixed_length typ ≡ Some w → length content.now ≡ w }
+    requires leaf { typ ≢ TtlvType.Structure }
+    ensures { result ≡ is_valid typ content.now }
+{
+    match typ {
+        TtlvType::Boolean => u64::from_be_bytes(eight(content)) < 2,
+        TtlvType::TextString => matches!(str::from_utf8(content), Ok(_)),
+        _ => true,
+    }
+}
+
+/// The content of a leaf, checked on the slice, and the place behind its padding.
+pub fn leaf_at<A: Allocator>(bytes: &[u8], pos: usize, typ: TtlvType) -> Result<(&[u8], usize), A>
+    requires there { pos + 4 ≤ length bytes.now }
+    requires typ_is { code_at bytes.now pos ≡ code typ }
+    requires leaf { typ ≢ TtlvType.Structure }
+    ensures ok { IfOk result (λ r. LeafAt bytes.now pos typ (length_at bytes.now pos) r.0.now r.1 × (is_valid typ r.0.now ≡ true)) }
+    ensures err { IfErr result (λ r. (k : List Keep) (e : ℕ) → pos < e → Refused any_leaf bytes.now pos e k (sort_of r)) }
+    ensures says { IfErr result (λ r. (h : Cause → Bool) (e : ℕ) → pos < e → Reached bytes.now pos → Says h bytes.now pos e r) }
+{
+    let Some(n) = length_at(bytes, pos) else {
+        return Err(early());
+    };
+    if let Some(w) = fixed_length(typ) {
+        if n != w {
+            return Err(bad_length(bytes, pos, typ, w, n));
+        }
+    }
+    let Some(content) = content_at(bytes, pos, n) else {
+        return Err(early());
+    };
+    if !is_valid(typ, content) {
+        return Err(bad_value(bytes, pos, typ, n));
+    }
+    let Some(next) = end_of(bytes, pos, typ, n) else {
+        return Err(early());
+    };
+    Ok((content, next))
+}
+
+// The text that valid content is.
+fn text_of<'b>(content: &'b [u8]) -> &'b str
+    requires { is_valid TtlvType.TextString content.now ≡ true }
+    ensures { result.now ≡ content.now }
+{
+    let Ok(text) = str::from_utf8(content) else {
+        unreachable!()
+    };
+    text
+}
+
+// The value that a leaf's content is.
+fn leaf_data<A: Allocator + Copy>(
+    alloc: A,
+    leaf: Leaf,
+    typ: TtlvType,
+    content: &[u8],
+) -> std::result::Result<Data<A>, AllocError>
+    requires takes { takes (form_of_leaf leaf) typ ≡ true }
+    requires valid { is_valid typ content.now ≡ true }
+    ensures { IfOk result (λ d. view d ≡ leaf_value (form_of_leaf leaf) content.now) }
+{
+    Ok(match leaf {
+        Leaf::I32 => Data::I32(i32::from_be_bytes(four(content))),
+        Leaf::I64 => Data::I64(i64::from_be_bytes(eight(content))),
+        Leaf::Bool => Data::Bool(u64::from_be_bytes(eight(content)) == 1),
+        Leaf::Text => Data::Text(String::from_str(alloc, text_of(content))?),
+        Leaf::Bytes => Data::Bytes(Vec::from_slice(alloc, content)?),
+        Leaf::Interval => Data::Interval(u32::from_be_bytes(four(content))),
+        Leaf::BigInteger => Data::BigInteger(Vec::from_slice(alloc, content)?),
+    })
+}
+
+// A text is kept under its item's tag, and no other leaf is.
+fn keep_leaf<A: Allocator + Copy>(
+    alloc: A,
+    leaf: Leaf,
+    tag: TtlvTag,
+    typ: TtlvType,
+    content: &[u8],
+    kept: &mut Vec<Kept<A>, A>,
+) -> Result<(), A>
+    requires takes { takes (form_of_leaf leaf) typ ≡ true }
+    requires valid { is_valid typ content.now ≡ true }
+    ensures ok { IfOk result (λ _. (x : Raw) → x.tag ≡ tag → x.content ≡ content.now → keeps kept.new.items ≡ with_leaf (form_of_leaf leaf) x (keeps kept.old.items)) }
+    ensures err { IfErr result (λ e. IsMemory e) }
+{
+    if let Leaf::Text = leaf {
+        let text = String::from_str(alloc, text_of(content))?;
+        kept.push(Kept { tag, text })?;
+    }
+    Ok(())
+}
+
+/// A leaf by its shape, within a structure that ends at `end`.
+#[tactic(auto, using(crate::proofs::FactLemmas::memory_says))]
+pub fn read_leaf<A: Allocator + Copy>(
+    alloc: A,
+    leaf: Leaf,
+    bytes: &[u8],
+    pos: usize,
+    end: usize,
+    kept: &mut Vec<Kept<A>, A>,
+) -> Result<(Data<A>, usize), A>
+    requires before_end { pos < end }
+    requires inside { pos ≤ length bytes.now }
+    ensures answers { Answers view (read_leaf (form_of_leaf leaf)) bytes.now pos end (keeps kept.old.items) (keeps kept.new.items) result }
+    ensures further { IfOk result (λ r. pos + 8 ≤ r.1) }
+    ensures says { IfErr result (λ r. (h : Cause → Bool) → Reached bytes.now pos → Says h bytes.now pos end r) }
+{
+    let typ = type_at(bytes, pos)?;
+    if !leaf.takes(typ) {
+        return Err(other_type(bytes, pos, leaf.first_type(), typ));
+    }
+    let (content, next) = leaf_at(bytes, pos, typ)?;
+    let data = leaf_data(alloc, leaf, typ, content)?;
+    keep_leaf(alloc, leaf, tag_at(bytes, pos), typ, content, kept)?;
+    Ok((data, next))
+}

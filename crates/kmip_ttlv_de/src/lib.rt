@@ -1,0 +1,91 @@
+//! Reading values from TTLV bytes by the shape of their type.
+//!
+//! `from_slice` is the entry. What a shape reads is defined in specs/: `Reads` has one rule for
+//! each way to read from a list of items, and `Begins` says that bytes begin with an item from
+//! which a form reads a value.
+#![tactic(auto)]
+
+ghost use Rattle.std.specs.Prelude.{◌≡◌, ◌++◌, ◌∷◌, [], List, ℕ, IfOk, IfErr};
+ghost use Rattle.kmip_ttlv_base.specs.Values.{Value};
+ghost use Rattle.kmip_ttlv_base.specs.Forms.{Form};
+ghost use Rattle.kmip_ttlv_base.specs.Gives.{Gives};
+ghost use Rattle.kmip_ttlv_types.specs.Items.{Raw, Splits};
+ghost use Rattle.kmip_ttlv_de.specs.Keeps.{Keep};
+ghost use Rattle.kmip_ttlv_de.specs.Reads.{Reads, Begins};
+ghost use Rattle.kmip_ttlv_de.specs.Reading.{got, read_of};
+ghost use Rattle.kmip_ttlv_de.specs.Answer.{Refuses, early_end, sort_of};
+ghost use Rattle.kmip_ttlv_de.specs.Wholes.{BeginsWhole};
+ghost use Rattle.kmip_ttlv_de.specs.Messages.{outer, four_bytes, long_four, one_integer, one_integer_value, may_lack_first, lacks_first_value, chosen_by_first, chosen_by_first_value, integers};
+ghost use Rattle.kmip_ttlv_de.specs.Facts.{has, root_fault, RootFacts, FactsBut};
+
+mod head;
+mod keep;
+mod leaf;
+mod number;
+mod read;
+mod refuse;
+mod rules;
+
+use crate::read::read_root;
+use kmip_ttlv_base::error::Result;
+use kmip_ttlv_base::shape::Deserialize;
+use std::alloc::Allocator;
+
+/// The value with which the bytes begin: one Structure, padding included, by the shape of `T`.
+/// Bytes behind that item are not read.
+///
+/// Each refusal says where it stands, in bytes from the first byte. `IoError` of kind
+/// UnexpectedEof: the bytes end too early. Every other refusal but `OutOfMemory` stands whatever
+/// bytes follow.
+pub fn from_slice<T: Deserialize<A>, A: Allocator + Copy>(alloc: A, bytes: &[u8]) -> Result<T, A>
+    // What is answered is the value for data with which the bytes begin.
+    ensures found { IfOk result (λ x. (v : Value) × Begins T.form bytes.now v × T.is_value v x) }
+    // Bytes that are refused begin with no data; but for an early end, whatever bytes follow.
+    ensures refused { IfErr result (λ e. Refuses T.form bytes.now e) }
+    // A root that is no struct, or has another name, tag or type, is refused first.
+    ensures root { RootFacts (root_fault T.form bytes.now) bytes.now result }
+    // Any other refusal names what stands in the bytes, and its place.
+    ensures facts { IfErr result (λ e. FactsBut (root_fault T.form bytes.now) (has T.form) bytes.now e) }
+    // A Structure that is split into items at every depth is never refused as ending too early.
+    ensures whole { IfErr result (λ e. BeginsWhole bytes.now → sort_of e ≡ early_end → ⊥) }
+{
+    let shape = T::shape(alloc)?;
+    let data = read_root(alloc, &shape, bytes)?;
+    Ok(T::from_data(alloc, data)?)
+}
+
+/// What bytes begin with is of the form's kind and names.
+pub fn what_begins_is_given()
+    ensures { (s : Form) (bytes : List ℕ) (v : Value) → Begins s bytes v → Gives s v }
+{}
+
+/// At most one value is read from the same bytes.
+pub fn one_value()
+    ensures { (s : Form) (bytes : List ℕ) (v w : Value) → Begins s bytes v → Begins s bytes w → v ≡ w }
+{}
+
+/// At most one list of items splits bytes.
+pub fn one_split()
+    ensures { (bytes : List ℕ) (xs ys : List Raw) → Splits xs bytes → Splits ys bytes → xs ≡ ys }
+{}
+
+/// What a form reads by its rules, the function of the same meaning reads, and nothing else.
+pub fn read_by_rules()
+    ensures some { (s : Form) (k k' : List Keep) (xs ys : List Raw) (v : Value) → Reads s k xs v k' ys → read_of s k xs ≡ got v k' ys }
+    ensures only { (s : Form) (k k' : List Keep) (xs ys : List Raw) (v : Value) → read_of s k xs ≡ got v k' ys → Reads s k xs v k' ys }
+{}
+
+/// What small messages are read as.
+pub fn small_messages()
+    // A required integer, also where its padding isn't zero, and with bytes behind the message.
+    ensures flat { Begins one_integer (outer 16 ++ four_bytes 187 2 3 0) (one_integer_value 3) }
+    ensures padded { Begins one_integer (outer 16 ++ four_bytes 187 2 3 255) (one_integer_value 3) }
+    ensures longer { Begins one_integer (outer 16 ++ four_bytes 187 2 3 0 ++ 9 ∷ []) (one_integer_value 3) }
+    // An option whose name isn't the item's is left out; a required integer is not.
+    ensures left_out { Begins may_lack_first (outer 16 ++ four_bytes 204 2 5 0) (lacks_first_value 5) }
+    ensures other_tag { (v : Value) → Begins one_integer (outer 16 ++ four_bytes 204 2 5 0) v → ⊥ }
+    // A rule sees the text of the number that was read before.
+    ensures chosen { Begins chosen_by_first (outer 32 ++ four_bytes 187 5 1 0 ++ four_bytes 204 2 7 0) (chosen_by_first_value 7) }
+    // A sequence ends at another type, and what follows is a field that was read already.
+    ensures duplicate { (v : Value) → Begins integers (outer 32 ++ four_bytes 187 2 3 0 ++ long_four) v → ⊥ }
+{}

@@ -1,0 +1,121 @@
+//! Enums that are read by a number: the text that names a variant.
+
+ghost use Rattle.std.specs.Prelude.{◌≡◌, ◌≢◌, ℕ, Bool, ◌+◌, ◌<◌, ◌≤◌, ◌++◌, List, length, Some, true, IfOk, IfErr, IfSome, option_map, string_bytes};
+ghost use Rattle.std.specs.Fmt.{digit_glyph};
+ghost use Rattle.kmip_ttlv_types.specs.ItemTypes.{code};
+ghost use Rattle.kmip_ttlv_types.specs.Places.{code_at};
+ghost use Rattle.kmip_ttlv_base.specs.Values.{view};
+ghost use Rattle.kmip_ttlv_base.specs.Forms.{variants_of, content_of};
+ghost use Rattle.kmip_ttlv_de.specs.Places.{Reached};
+ghost use Rattle.kmip_ttlv_de.specs.Keeps.{keeps};
+ghost use Rattle.kmip_ttlv_de.specs.Reads.{is_number_type, byte_digits, number_text, first_named};
+ghost use Rattle.kmip_ttlv_de.specs.Reading.{read_number};
+ghost use Rattle.kmip_ttlv_de.specs.Answer.{Answers};
+ghost use Rattle.kmip_ttlv_de.specs.Facts.{Says, enum_has};
+
+use crate::head::{length_at, tag_at};
+use crate::keep::Kept;
+use crate::leaf::leaf_at;
+use crate::refuse::{bad_number_length, named_content, other_type, unknown_variant};
+use kmip_ttlv_base::error::Result;
+use kmip_ttlv_base::shape::{Data, VariantContent, VariantShape};
+use kmip_ttlv_base::types::{FieldType, TtlvTag, TtlvType};
+use std::alloc::{AllocError, Allocator};
+
+// A hexadecimal digit in upper case.
+fn digit(n: u8) -> char
+    requires { n < 16 }
+    ensures value { result ≡ digit_glyph true n }
+    ensures ascii { result < 128 }
+{
+    if n < 10 {
+        char::from(48 + n)
+    } else {
+        char::from(55 + n)
+    }
+}
+
+// `0x` and the upper case digits of these bytes.
+fn number_text<A: Allocator>(alloc: A, content: &[u8]) -> std::result::Result<String<A>, AllocError>
+    ensures { IfOk result (λ s. string_bytes s ≡ number_text content.now) }
+{
+    let mut text = String::from_str(alloc, "0x")?;
+    for byte in content {
+        text.push(digit(byte / 16))?;
+        text.push(digit(byte % 16))?;
+    }
+    Ok(text)
+}
+
+// The first variant of this name.
+fn first_named<'s, A: Allocator>(
+    name: &str,
+    variants: &'s [VariantShape<A>],
+) -> Option<&'s VariantShape<A>>
+    ensures content { option_map (λ v. content_of v.now.content) result ≡ first_named name.now (variants_of variants.now) }
+    ensures name { IfSome result (λ v. v.now.name.now ≡ name.now) }
+{
+    for variant in variants {
+        if variant.name == name {
+            return Some(variant);
+        }
+    }
+    None
+}
+
+fn is_number_type(typ: TtlvType) -> bool
+    ensures { result ≡ is_number_type typ }
+{
+    typ == TtlvType::Integer || typ == TtlvType::Enumeration
+}
+
+/// The variant that a number names, within a structure that ends at `end`.
+#[tactic(auto, using(crate::proofs::FactLemmas::memory_says))]
+pub fn read_number<A: Allocator + Copy>(
+    alloc: A,
+    owner: TtlvTag,
+    name: &'static str,
+    variants: &[VariantShape<A>],
+    typ: TtlvType,
+    bytes: &[u8],
+    pos: usize,
+    end: usize,
+    kept: &mut Vec<Kept<A>, A>,
+) -> Result<(Data<A>, usize), A>
+    requires before_end { pos < end }
+    requires there { pos + 4 ≤ length bytes.now }
+    requires typ_is { code_at bytes.now pos ≡ code typ }
+    ensures answers { Answers view (read_number name.now (variants_of variants.now)) bytes.now pos end (keeps kept.old.items) (keeps kept.new.items) result }
+    ensures further { IfOk result (λ r. pos + 8 ≤ r.1) }
+    ensures says { IfErr result (λ r. Reached bytes.now pos → Says enum_has bytes.now pos end r) }
+{
+    if !is_number_type(typ) {
+        return Err(other_type(bytes, pos, TtlvType::Enumeration, typ));
+    }
+    if let Some(n) = length_at(bytes, pos) {
+        if n != 4 {
+            return Err(bad_number_length(bytes, pos, typ, 4, n));
+        }
+    }
+    let (content, next) = leaf_at(bytes, pos, typ)?;
+    let text = number_text(alloc, content)?;
+    let Some(variant) = first_named(&text, variants) else {
+        return Err(unknown_variant(alloc, bytes, pos, owner, "unknown variant"));
+    };
+    match variant.content {
+        VariantContent::Unit => {}
+        VariantContent::Newtype(_) => return Err(named_content(
+            bytes,
+            pos,
+            typ,
+            FieldType::LengthAndValue,
+        )),
+        VariantContent::Tuple(_) => return Err(named_content(bytes, pos, typ, FieldType::Length)),
+    }
+    let variant = variant.name;
+    kept.push(Kept {
+        tag: tag_at(bytes, pos),
+        text,
+    })?;
+    Ok((Data::UnitVariant { name, variant }, next))
+}

@@ -1,0 +1,473 @@
+//! Refusals: each is made by one function, with what it names and its place.
+
+ghost use Rattle.std.specs.Prelude.{◌≡◌, ◌≢◌, ℕ, Bool, ◌+◌, ◌^◌, ◌<◌, ◌≤◌, ◌⊎◌, List, [], ◌∷◌, length, take, drop, Some, None, true, false};
+ghost use Rattle.kmip_ttlv_types.specs.ItemTypes.{code, type_of, fixed_length};
+ghost use Rattle.kmip_ttlv_types.specs.Leaves.{is_valid};
+ghost use Rattle.kmip_ttlv_types.specs.Names.{tag_of};
+ghost use Rattle.kmip_ttlv_types.specs.Places.{tag_at, code_at, length_at};
+ghost use Rattle.kmip_ttlv_base.specs.Errors.{malformed, mismatch, invalid_tag, unexpected_tag, IsMemory, view_of_location};
+ghost use Rattle.kmip_ttlv_base.specs.declared.error.MalformedTtlvError.TheVariants.{InvalidType as InvalidTypeFault, UnexpectedType as UnexpectedTypeFault};
+ghost use Rattle.kmip_ttlv_de.specs.Places.{Reached, IsEnd};
+ghost use Rattle.kmip_ttlv_de.specs.Answer.{sort_of, early_end};
+ghost use Rattle.kmip_ttlv_de.specs.Facts.{Cause, bad_name, empty_struct, closed_to, any_enum, item_place, code_place, at_first, Facts, Told, Widened, cause_of, place_of, Fault, IsFault, no_struct_fault, leaf_fault};
+
+use crate::head::tag_at;
+use crate::rules::RuleError;
+use kmip_ttlv_base::error::{Error, ErrorKind, ErrorLocation, MalformedTtlvError, SerdeError};
+use kmip_ttlv_base::types::{ByteOffset, FieldType, TtlvTag, TtlvType};
+use std::alloc::Allocator;
+use std::io;
+
+/// The bytes end too early.
+pub fn early<A: Allocator>() -> Error<A>
+    ensures sort { sort_of result ≡ early_end }
+    ensures facts { (h : Cause → Bool) (b : List ℕ) → Facts h b result }
+    ensures place { (place_of result).offset ≡ None }
+{
+    Error::new(
+        ErrorKind::IoError(io::Error::from(io::ErrorKind::UnexpectedEof)),
+        ErrorLocation::unknown(),
+    )
+}
+
+// So far behind an item's first byte.
+fn at<A: Allocator>(bytes: &[u8], s: usize, typ: TtlvType, after: usize) -> ErrorLocation<A>
+    requires there { s + 4 ≤ length bytes.now }
+    requires fits { after < 2 ^ 33 }
+    ensures { view_of_location result ≡ item_place bytes.now s after typ }
+{
+    ErrorLocation::at(
+        Some(ByteOffset((s + after) as u64)),
+        None,
+        Some(tag_at(bytes, s)),
+        Some(typ),
+    )
+}
+
+// At an offset, in a struct of this tag.
+fn in_struct<A: Allocator>(offset: usize, tag: TtlvTag) -> ErrorLocation<A>
+    ensures { view_of_location result ≡ record { offset = Some offset; parents = []; tag = Some tag; typ = Some TtlvType.Structure } }
+{
+    ErrorLocation::at(
+        Some(ByteOffset(offset as u64)),
+        None,
+        Some(tag),
+        Some(TtlvType::Structure),
+    )
+}
+
+/// The code of no type.
+pub fn bad_code<A: Allocator>(bytes: &[u8], s: usize) -> Error<A>
+    requires there { s + 4 ≤ length bytes.now }
+    requires none { type_of (code_at bytes.now s) ≡ None }
+    ensures told { (h : Cause → Bool) → Reached bytes.now s → Told h bytes.now s result }
+    ensures cause { cause_of result ≡ malformed (InvalidTypeFault (code_at bytes.now s)) }
+    ensures place { place_of result ≡ code_place bytes.now s }
+{
+    Error::new(
+        ErrorKind::MalformedTtlv(MalformedTtlvError::InvalidType(bytes[s + 3])),
+        ErrorLocation::at(
+            Some(ByteOffset((s + 3) as u64)),
+            None,
+            Some(tag_at(bytes, s)),
+            None,
+        ),
+    )
+}
+
+/// A length that no value of this type has.
+pub fn bad_length<A: Allocator>(
+    bytes: &[u8],
+    s: usize,
+    typ: TtlvType,
+    expected: u32,
+    actual: u32,
+) -> Error<A>
+    requires there { s + 8 ≤ length bytes.now }
+    requires typ_is { code_at bytes.now s ≡ code typ }
+    requires wanted { fixed_length typ ≡ Some expected }
+    requires is { actual ≡ length_at bytes.now s }
+    requires differs { expected ≢ actual }
+    ensures told { (h : Cause → Bool) → Reached bytes.now s → Told h bytes.now s result }
+{
+    Error::new(
+        ErrorKind::MalformedTtlv(MalformedTtlvError::InvalidLength {
+            expected,
+            actual,
+            typ,
+        }),
+        at(bytes, s, typ, 8),
+    )
+}
+
+/// The same of a number that an enum reads.
+pub fn bad_number_length<A: Allocator>(
+    bytes: &[u8],
+    s: usize,
+    typ: TtlvType,
+    expected: u32,
+    actual: u32,
+) -> Error<A>
+    requires there { s + 8 ≤ length bytes.now }
+    requires typ_is { code_at bytes.now s ≡ code typ }
+    requires wanted { fixed_length typ ≡ Some expected }
+    requires is { actual ≡ length_at bytes.now s }
+    requires differs { expected ≢ actual }
+    ensures told { (h : Cause → Bool) → h any_enum ≡ true → Reached bytes.now s → Told h bytes.now s result }
+{
+    Error::new(
+        ErrorKind::MalformedTtlv(MalformedTtlvError::InvalidLength {
+            expected,
+            actual,
+            typ,
+        }),
+        at(bytes, s, typ, 4),
+    )
+}
+
+/// Content that is no value of this type.
+pub fn bad_value<A: Allocator>(bytes: &[u8], s: usize, typ: TtlvType, n: u32) -> Error<A>
+    requires there { s + 8 + n ≤ length bytes.now }
+    requires typ_is { code_at bytes.now s ≡ code typ }
+    requires is { n ≡ length_at bytes.now s }
+    requires invalid { is_valid typ (take n (drop (s + 8) bytes.now)) ≡ false }
+    ensures told { (h : Cause → Bool) → Reached bytes.now s → Told h bytes.now s result }
+{
+    Error::new(
+        ErrorKind::MalformedTtlv(MalformedTtlvError::InvalidValue { typ }),
+        at(bytes, s, typ, 8 + n as usize),
+    )
+}
+
+/// An item that has to be a Structure.
+pub fn no_structure<A: Allocator>(bytes: &[u8], s: usize, typ: TtlvType) -> Error<A>
+    requires there { s + 4 ≤ length bytes.now }
+    requires typ_is { code_at bytes.now s ≡ code typ }
+    requires differs { TtlvType.Structure ≢ typ }
+    ensures told { (h : Cause → Bool) → Reached bytes.now s → Told h bytes.now s result }
+    ensures cause { cause_of result ≡ malformed (UnexpectedTypeFault TtlvType.Structure typ) }
+    ensures place { place_of result ≡ item_place bytes.now s 4 typ }
+{
+    Error::new(
+        ErrorKind::MalformedTtlv(MalformedTtlvError::UnexpectedType {
+            expected: TtlvType::Structure,
+            actual: typ,
+        }),
+        at(bytes, s, typ, 4),
+    )
+}
+
+/// A leaf of another type.
+pub fn other_type<A: Allocator>(
+    bytes: &[u8],
+    s: usize,
+    expected: TtlvType,
+    typ: TtlvType,
+) -> Error<A>
+    requires there { s + 4 ≤ length bytes.now }
+    requires typ_is { code_at bytes.now s ≡ code typ }
+    requires differs { expected ≢ typ }
+    ensures told { (h : Cause → Bool) → Reached bytes.now s → Told h bytes.now s result }
+{
+    Error::new(
+        ErrorKind::SerdeError(SerdeError::UnexpectedType {
+            expected,
+            actual: typ,
+        }),
+        at(bytes, s, typ, 4),
+    )
+}
+
+/// An item of another tag.
+pub fn other_tag<A: Allocator>(bytes: &[u8], s: usize, typ: TtlvType, expected: TtlvTag) -> Error<A>
+    requires there { s + 4 ≤ length bytes.now }
+    requires typ_is { code_at bytes.now s ≡ code typ }
+    requires differs { expected ≢ tag_at bytes.now s }
+    ensures told { (h : Cause → Bool) → Reached bytes.now s → Told h bytes.now s result }
+    ensures cause { cause_of result ≡ mismatch (unexpected_tag expected (tag_at bytes.now s)) }
+    ensures place { place_of result ≡ item_place bytes.now s 4 typ }
+{
+    Error::new(
+        ErrorKind::SerdeError(SerdeError::UnexpectedTag {
+            expected,
+            actual: tag_at(bytes, s),
+        }),
+        at(bytes, s, typ, 4),
+    )
+}
+
+/// A name that is no tag.
+pub fn no_tag<A: Allocator + Copy>(
+    alloc: A,
+    bytes: &[u8],
+    s: usize,
+    typ: TtlvType,
+    name: &str,
+) -> Error<A>
+    requires there { s + 4 ≤ length bytes.now }
+    requires typ_is { code_at bytes.now s ≡ code typ }
+    ensures told { (h : Cause → Bool) → h (bad_name name.now) ≡ true → Reached bytes.now s → Told h bytes.now s result }
+{
+    match String::from_str(alloc, name) {
+        Ok(name) => Error::new(
+            ErrorKind::SerdeError(SerdeError::InvalidTag(name)),
+            at(bytes, s, typ, 4),
+        ),
+        Err(e) => Error::from(e),
+    }
+}
+
+/// The root struct's name, which is no tag.
+pub fn no_root_tag<A: Allocator + Copy>(alloc: A, name: &str) -> Error<A>
+    ensures fault { IsMemory result ⊎ ((cause_of result ≡ mismatch (invalid_tag name.now)) × (place_of result ≡ at_first)) }
+{
+    match String::from_str(alloc, name) {
+        Ok(name) => Error::new(
+            ErrorKind::SerdeError(SerdeError::InvalidTag(name)),
+            ErrorLocation::at(Some(ByteOffset(0)), None, None, None),
+        ),
+        Err(e) => Error::from(e),
+    }
+}
+
+/// A root that is a sequence or an enum.
+pub fn no_struct<A: Allocator + Copy>(alloc: A) -> Error<A>
+    ensures fault { (f : Fault) → no_struct_fault ≡ Some f → IsMemory result ⊎ ((cause_of result ≡ f.kind) × (place_of result ≡ f.place)) }
+{
+    match String::from_str(alloc, "no struct") {
+        Ok(text) => Error::new(
+            ErrorKind::SerdeError(SerdeError::Other(text)),
+            ErrorLocation::at(Some(ByteOffset(0)), None, None, None),
+        ),
+        Err(e) => Error::from(e),
+    }
+}
+
+/// A root that is a leaf.
+pub fn root_leaf<A: Allocator>() -> Error<A>
+    ensures fault { (f : Fault) → leaf_fault ≡ Some f → IsMemory result ⊎ ((cause_of result ≡ f.kind) × (place_of result ≡ f.place)) }
+{
+    Error::new(
+        ErrorKind::MalformedTtlv(MalformedTtlvError::UnexpectedTtlvField {
+            expected: FieldType::Tag,
+            actual: FieldType::LengthAndValue,
+        }),
+        ErrorLocation::at(Some(ByteOffset(0)), None, None, None),
+    )
+}
+
+/// An item in a struct without fields.
+pub fn no_fields<A: Allocator>(bytes: &[u8], s: usize, typ: TtlvType) -> Error<A>
+    requires there { s + 4 ≤ length bytes.now }
+    requires typ_is { code_at bytes.now s ≡ code typ }
+    ensures told { (h : Cause → Bool) → h empty_struct ≡ true → Reached bytes.now s → Told h bytes.now s result }
+{
+    Error::new(
+        ErrorKind::SerdeError(SerdeError::MissingIdentifier),
+        at(bytes, s, typ, 4),
+    )
+}
+
+/// The item that begins at `last` was read, and it ends at `next`, past the end.
+pub fn overflow<A: Allocator>(bytes: &[u8], last: usize, next: usize, end: usize) -> Error<A>
+    requires past { end < next }
+    ensures told { (h : Cause → Bool) → IsEnd bytes.now end → Told h bytes.now next result }
+{
+    let is_there = bytes.len() >= 4 && last <= bytes.len() - 4;
+    let tag = if is_there {
+        Some(tag_at(bytes, last))
+    } else {
+        None
+    };
+    let typ = if is_there {
+        TtlvType::from_code(bytes[last + 3])
+    } else {
+        None
+    };
+    Error::new(
+        ErrorKind::MalformedTtlv(MalformedTtlvError::Overflow {
+            field_end: ByteOffset(end as u64),
+        }),
+        ErrorLocation::at(Some(ByteOffset(next as u64)), None, tag, typ),
+    )
+}
+
+/// A refusal at the end of a structure, in the struct of this tag.
+pub fn at_end<A: Allocator + Copy>(
+    alloc: A,
+    bytes: &[u8],
+    end: usize,
+    tag: TtlvTag,
+    text: &str,
+) -> Error<A>
+    ensures told { (h : Cause → Bool) → IsEnd bytes.now end → Told h bytes.now end result }
+{
+    match String::from_str(alloc, text) {
+        Ok(text) => Error::new(
+            ErrorKind::SerdeError(SerdeError::Other(text)),
+            in_struct(end, tag),
+        ),
+        Err(e) => Error::from(e),
+    }
+}
+
+/// An item that may not follow the fields of the struct of this tag.
+pub fn closed<A: Allocator + Copy>(
+    alloc: A,
+    bytes: &[u8],
+    s: usize,
+    tag: TtlvTag,
+    text: &str,
+) -> Error<A>
+    requires there { s + 4 ≤ length bytes.now }
+    ensures told { (h : Cause → Bool) → h (closed_to (tag_at bytes.now s)) ≡ true → Reached bytes.now s → Told h bytes.now s result }
+{
+    match String::from_str(alloc, text) {
+        Ok(text) => Error::new(
+            ErrorKind::SerdeError(SerdeError::Other(text)),
+            in_struct(s + 4, tag),
+        ),
+        Err(e) => Error::from(e),
+    }
+}
+
+/// An item too many for a tuple, in the struct of this tag.
+pub fn surplus<A: Allocator + Copy>(
+    alloc: A,
+    bytes: &[u8],
+    s: usize,
+    tag: TtlvTag,
+    text: &str,
+) -> Error<A>
+    requires there { s ≤ length bytes.now }
+    ensures told { (h : Cause → Bool) → h any_enum ≡ true → Reached bytes.now s → Told h bytes.now s result }
+{
+    match String::from_str(alloc, text) {
+        Ok(text) => Error::new(
+            ErrorKind::SerdeError(SerdeError::Other(text)),
+            in_struct(s, tag),
+        ),
+        Err(e) => Error::from(e),
+    }
+}
+
+/// A number that names no variant, in the struct of this tag.
+pub fn unknown_variant<A: Allocator + Copy>(
+    alloc: A,
+    bytes: &[u8],
+    s: usize,
+    tag: TtlvTag,
+    text: &str,
+) -> Error<A>
+    requires there { s + 16 ≤ length bytes.now }
+    ensures told { (h : Cause → Bool) → h any_enum ≡ true → Reached bytes.now s → Told h bytes.now s result }
+{
+    match String::from_str(alloc, text) {
+        Ok(text) => Error::new(
+            ErrorKind::SerdeError(SerdeError::Other(text)),
+            in_struct(s + 16, tag),
+        ),
+        Err(e) => Error::from(e),
+    }
+}
+
+/// A unit variant that a rule chose.
+pub fn chosen_unit<A: Allocator>(bytes: &[u8], s: usize, typ: TtlvType) -> Error<A>
+    requires there { s + 4 ≤ length bytes.now }
+    requires typ_is { code_at bytes.now s ≡ code typ }
+    ensures told { (h : Cause → Bool) → h any_enum ≡ true → Reached bytes.now s → Told h bytes.now s result }
+{
+    Error::new(
+        ErrorKind::MalformedTtlv(MalformedTtlvError::UnexpectedTtlvField {
+            expected: FieldType::Length,
+            actual: FieldType::Tag,
+        }),
+        at(bytes, s, typ, 4),
+    )
+}
+
+/// A variant with content that a number chose.
+pub fn named_content<A: Allocator>(
+    bytes: &[u8],
+    s: usize,
+    typ: TtlvType,
+    actual: FieldType,
+) -> Error<A>
+    requires there { s + 16 ≤ length bytes.now }
+    requires typ_is { code_at bytes.now s ≡ code typ }
+    ensures told { (h : Cause → Bool) → h any_enum ≡ true → Reached bytes.now s → Told h bytes.now s result }
+{
+    Error::new(
+        ErrorKind::MalformedTtlv(MalformedTtlvError::UnexpectedTtlvField {
+            expected: FieldType::Tag,
+            actual,
+        }),
+        at(bytes, s, typ, 16),
+    )
+}
+
+/// A rule that is refused.
+pub fn refused_rule<'n, A: Allocator + Copy>(
+    alloc: A,
+    bytes: &[u8],
+    s: usize,
+    typ: TtlvType,
+    rule: RuleError<'n>,
+) -> Error<A>
+    requires there { s + 4 ≤ length bytes.now }
+    requires typ_is { code_at bytes.now s ≡ code typ }
+    ensures told { (h : Cause → Bool) → h any_enum ≡ true → ((n : List ℕ) → h (bad_name n) ≡ true) → Reached bytes.now s → Told h bytes.now s result }
+{
+    let (text, is_tag) = match rule {
+        RuleError::InvalidVariantMatcherSyntax(name) => (name, false),
+        RuleError::InvalidTag(name) => (name, true),
+    };
+    match String::from_str(alloc, text) {
+        Ok(text) => {
+            let kind = if is_tag {
+                SerdeError::InvalidTag(text)
+            } else {
+                SerdeError::InvalidVariantMatcherSyntax(text)
+            };
+            Error::new(ErrorKind::SerdeError(kind), at(bytes, s, typ, 4))
+        }
+        Err(e) => Error::from(e),
+    }
+}
+
+/// The same refusal, within the structure of this tag. Parents are added innermost first.
+pub fn within<A: Allocator + Copy>(alloc: A, tag: TtlvTag, error: Error<A>) -> Error<A>
+    ensures { Widened error result }
+{
+    let (kind, location) = error.into_parts();
+    let (offset, parents, item, typ) = location.into_parts();
+    if offset.is_none() {
+        return Error::new(kind, ErrorLocation::at(offset, parents, item, typ));
+    }
+    let mut tags = match parents {
+        Some(tags) => tags,
+        None => Vec::new(alloc),
+    };
+    match tags.push(tag) {
+        Ok(()) => Error::new(kind, ErrorLocation::at(offset, Some(tags), item, typ)),
+        Err(_) => Error::out_of_memory(),
+    }
+}
+
+/// The same refusal, its parents outermost first.
+pub fn turned<A: Allocator>(error: Error<A>) -> Error<A>
+    ensures { Widened error result }
+{
+    let (kind, location) = error.into_parts();
+    let (offset, parents, item, typ) = location.into_parts();
+    if offset.is_none() {
+        return Error::new(kind, ErrorLocation::at(offset, parents, item, typ));
+    }
+    match parents {
+        Some(mut tags) => {
+            tags.reverse();
+            Error::new(kind, ErrorLocation::at(offset, Some(tags), item, typ))
+        }
+        None => Error::new(kind, ErrorLocation::at(offset, None, item, typ)),
+    }
+}

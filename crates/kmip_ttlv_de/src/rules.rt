@@ -1,0 +1,324 @@
+//! Rules in the names of variants: `if TAG==TEXT`, `if type==TYPE`, `if TAG>=NUMBER` and
+//! `if TAG in [TEXT, ..]` say of the texts that were read, or of an item's type, whether a variant
+//! is read. Nothing here takes memory: a refusal borrows the text that it names.
+
+ghost use Rattle.std.specs.Prelude.{◌≡◌, ◌<◌, ◌==◌, length, reverse, IfOk, IfSome, option_map};
+ghost use Rattle.std.specs.List.{find};
+ghost use Rattle.std.specs.Option.{option_copied};
+ghost use Rattle.kmip_ttlv_base.specs.Forms.{variants_of};
+ghost use Rattle.kmip_ttlv_de.specs.Keeps.{keeps};
+ghost use Rattle.kmip_ttlv_de.specs.Rules.{rule, choice, last, type_name, sides, in_brackets, equal, at_least, member, verdict_of, choice_of, says};
+
+use crate::keep::Kept;
+use kmip_ttlv_base::shape::VariantShape;
+use kmip_ttlv_base::types::{TtlvTag, TtlvType, number};
+use std::alloc::Allocator;
+
+/// Why a rule is refused.
+#[derive(Clone, Copy, Debug, PartialEq, Eq)]
+pub enum RuleError<'n> {
+    /// The whole name of a variant that begins as a rule and has no operator.
+    InvalidVariantMatcherSyntax(&'n str),
+    /// A text that is no tag, or no number, where the rule needs one.
+    InvalidTag(&'n str),
+}
+
+/// What a variant's name says of the texts that were read and of an item's type.
+#[derive(Clone, Copy, Debug, PartialEq, Eq)]
+pub enum Verdict<'n> {
+    /// The name is no rule.
+    NoRule,
+    /// The rule holds: its variant is read.
+    Holds,
+    /// The rule doesn't hold.
+    Fails,
+    /// The name is no rule that can be tested: reading ends.
+    Refused(RuleError<'n>),
+}
+
+/// What the name of a variant says of the kept texts, of which the last one under a tag counts,
+/// and of an item's type.
+///
+/// A name that begins with `if ` is a rule. The rest is cut at its first `==`; without one at its
+/// first `>=`; without one at its first `in`; both sides are trimmed.
+///
+/// - `type==NAME` holds for the type of that name.
+/// - `TAG==TEXT` holds where the text kept under the tag is that one; not where there is no such
+///   tag.
+/// - `TAG>=NUMBER` holds where the text kept under the tag is a number and at least the other.
+/// - `TAG in [TEXT, ..]` holds where the text kept under the tag is one of those between the
+///   commas, each trimmed; not where the brackets are missing.
+///
+/// A rule without operator is refused with the whole name. `>=`, and `in` with brackets, are
+/// refused with the first side where it is no tag; `>=` where a text is kept, with that text or
+/// else the second side, where it is no number.
+#[tactic(auto, unfolding(crate::specs::Rules::rule))]
+pub fn rule<'n, A: Allocator>(name: &'n str, kept: &'n [Kept<A>], typ: TtlvType) -> Verdict<'n>
+    ensures { verdict_of result ≡ rule name.now (keeps kept.now) typ }
+{
+    let Some(body) = name.strip_prefix("if ") else {
+        return Verdict::NoRule;
+    };
+    if let Some((left, right)) = sides("==", body) {
+        return equal(left, right, kept, typ);
+    }
+    if let Some((left, right)) = sides(">=", body) {
+        return at_least(left, right, kept);
+    }
+    match sides("in", body) {
+        Some((left, right)) => member(left, right, kept),
+        None => Verdict::Refused(RuleError::InvalidVariantMatcherSyntax(name)),
+    }
+}
+
+/// The index of the first variant whose rule holds, and none where no rule does: the item's number
+/// chooses then. A rule that is refused before ends the search with its refusal.
+pub fn choose<'n, A: Allocator, B: Allocator>(
+    variants: &'n [VariantShape<B>],
+    kept: &'n [Kept<A>],
+    typ: TtlvType,
+) -> Result<Option<usize>, RuleError<'n>>
+    ensures choice { choice_of result ≡ choice (variants_of variants.now) (keeps kept.now) typ }
+    ensures inside { IfOk result (λ o. IfSome o (λ i. i < length variants.now)) }
+{
+    for (i, variant) in variants.iter().enumerate() {
+        match rule(variant.name, kept, typ) {
+            Verdict::Holds => return Ok(Some(i)),
+            Verdict::Refused(error) => return Err(error),
+            Verdict::NoRule | Verdict::Fails => {}
+        }
+    }
+    Ok(None)
+}
+
+// The verdict of a rule that is not refused.
+fn told<'n>(answer: bool) -> Verdict<'n>
+    ensures { verdict_of result ≡ says answer }
+{
+    if answer {
+        Verdict::Holds
+    } else {
+        Verdict::Fails
+    }
+}
+
+// Both sides of the first place where the operator stands, trimmed.
+fn sides<'n>(operator: &str, body: &'n str) -> Option<(&'n str, &'n str)>
+    ensures { option_map (λ x. (x.0.now, x.1.now)) result ≡ sides operator.now body.now }
+{
+    let (left, right) = body.split_once(operator)?;
+    Some((left.trim(), right.trim()))
+}
+
+// The last text that was kept under a tag.
+fn last<A: Allocator>(kept: &[Kept<A>], tag: TtlvTag) -> Option<&str>
+    ensures { option_copied result ≡ last (keeps kept.now) tag }
+{
+    Some(last_under(kept, tag)?.text.as_str())
+}
+
+// What was kept last under a tag.
+fn last_under<A: Allocator>(kept: &[Kept<A>], tag: TtlvTag) -> Option<&Kept<A>>
+    ensures { option_copied result ≡ find (λ k. k.tag == tag) (reverse kept.now) }
+{
+    kept.iter().rev().find(|k| k.tag == tag)
+}
+
+// The name by which a rule asks for a type.
+fn type_name(typ: TtlvType) -> &'static str
+    ensures { result.now ≡ type_name typ }
+{
+    match typ {
+        TtlvType::Structure => "Structure",
+        TtlvType::Integer => "Integer",
+        TtlvType::LongInteger => "LongInteger",
+        TtlvType::BigInteger => "BigInteger",
+        TtlvType::Enumeration => "Enumeration",
+        TtlvType::Boolean => "Boolean",
+        TtlvType::TextString => "TextString",
+        TtlvType::ByteString => "ByteString",
+        TtlvType::DateTime => "DateTime",
+        TtlvType::Interval => "Interval",
+    }
+}
+
+// `==`
+#[tactic(auto, unfolding(crate::specs::Rules::equal))]
+fn equal<'n, A: Allocator>(left: &str, right: &str, kept: &[Kept<A>], typ: TtlvType) -> Verdict<'n>
+    ensures { verdict_of result ≡ equal (keeps kept.now) typ left.now right.now }
+{
+    if left == "type" {
+        return told(right == type_name(typ));
+    }
+    let Some(tag) = TtlvTag::from_name(left) else {
+        return Verdict::Fails;
+    };
+    let Some(text) = last(kept, tag) else {
+        return Verdict::Fails;
+    };
+    told(text == right)
+}
+
+// `>=`
+#[tactic(auto, unfolding(crate::specs::Rules::at_least))]
+fn at_least<'n, A: Allocator>(left: &'n str, right: &'n str, kept: &'n [Kept<A>]) -> Verdict<'n>
+    ensures { verdict_of result ≡ at_least (keeps kept.now) left.now right.now }
+{
+    let Some(tag) = TtlvTag::from_name(left) else {
+        return Verdict::Refused(RuleError::InvalidTag(left));
+    };
+    let Some(text) = last(kept, tag) else {
+        return Verdict::Fails;
+    };
+    let Some(seen) = number(text) else {
+        return Verdict::Refused(RuleError::InvalidTag(text));
+    };
+    let Some(wanted) = number(right) else {
+        return Verdict::Refused(RuleError::InvalidTag(right));
+    };
+    told(seen >= wanted)
+}
+
+// `in`
+#[tactic(auto, unfolding(crate::specs::Rules::member))]
+fn member<'n, A: Allocator>(left: &'n str, right: &str, kept: &[Kept<A>]) -> Verdict<'n>
+    ensures { verdict_of result ≡ member (keeps kept.now) left.now right.now }
+{
+    let Some(all) = in_brackets(right) else {
+        return Verdict::Fails;
+    };
+    let Some(tag) = TtlvTag::from_name(left) else {
+        return Verdict::Refused(RuleError::InvalidTag(left));
+    };
+    let Some(text) = last(kept, tag) else {
+        return Verdict::Fails;
+    };
+    told(all.split(',').any(|one| one.trim() == text))
+}
+
+// What stands between a bracket at the start and a later one at the end.
+fn in_brackets(text: &str) -> Option<&str>
+    ensures { option_copied result ≡ in_brackets text.now }
+{
+    text.strip_prefix("[")?.strip_suffix("]")
+}
+
+#[cfg(test)]
+mod tests {
+    use super::*;
+    use kmip_ttlv_base::shape::VariantContent;
+    use std::alloc::{AllocError, Global};
+    use std::test::Fail;
+
+    const TAG: [u8; 3] = [0xBB, 0xBB, 0xBB];
+
+    fn keep(alloc: Global, kept: &mut Vec<Kept>, text: &str) -> Result<(), AllocError> {
+        let tag = TtlvTag::from(TAG);
+        let text = String::from_str(alloc, text)?;
+        kept.push(Kept { tag, text })?;
+        Ok(())
+    }
+
+    fn unit(name: &'static str) -> VariantShape {
+        VariantShape {
+            name,
+            content: VariantContent::Unit,
+        }
+    }
+
+    #[test]
+    fn rules_after_a_number(rt: HostRuntime) -> Result<(), Fail> {
+        let mut kept = Vec::new(rt.alloc());
+        keep(rt.alloc(), &mut kept, "0x00000001")?;
+        let rows = [
+            ("0xBBBBBB", Verdict::NoRule),
+            ("if", Verdict::NoRule),
+            ("if 0xBBBBBB==0x1", Verdict::Fails),
+            ("if 0xBBBBBB==0x00000001", Verdict::Holds),
+            ("if  0xBBBBBB == 0x00000001 ", Verdict::Holds),
+            ("if 0xBBBBBB>=0x2", Verdict::Fails),
+            ("if 0xBBBBBB>=1", Verdict::Holds),
+            ("if 0xBBBBBB in [a==b]", Verdict::Fails),
+            ("if 0xBBBBBB in [0x00000002, 0x00000001]", Verdict::Holds),
+            ("if 0xBBBBBB in 0x00000001", Verdict::Fails),
+            ("if 0xBBBBBB in []", Verdict::Fails),
+            ("if 0xBBBBBB in [", Verdict::Fails),
+            ("if 0xDDDDDD>=zz", Verdict::Fails),
+            ("if 0x1000000==x", Verdict::Fails),
+            ("if type==Integer", Verdict::Holds),
+            ("if type==TextString", Verdict::Fails),
+            ("if type in x", Verdict::Fails),
+            ("if ==", Verdict::Fails),
+            ("if in", Verdict::Fails),
+        ];
+        for (name, want) in rows {
+            assert_eq!(rt; rule(name, &kept, TtlvType::Integer), want, "{name}");
+        }
+        let rows = [
+            ("if 0xBBBBBB>=zz", "zz"),
+            ("if zz>=0x1", "zz"),
+            ("if 0x1000000 in [x]", "0x1000000"),
+            ("if >=", ""),
+            ("if type>=1", "type"),
+            ("if type in [x]", "type"),
+        ];
+        for (name, text) in rows {
+            let want = Verdict::Refused(RuleError::InvalidTag(text));
+            assert_eq!(rt; rule(name, &kept, TtlvType::Integer), want, "{name}");
+        }
+        let want = Verdict::Refused(RuleError::InvalidVariantMatcherSyntax("if "));
+        assert_eq!(rt; rule("if ", &kept, TtlvType::Integer), want);
+        Ok(())
+    }
+
+    #[test]
+    fn rules_of_types(rt: HostRuntime) -> Result<(), Fail> {
+        let kept: Vec<Kept> = Vec::new(rt.alloc());
+        let rows = [
+            ("if type==Structure", TtlvType::Structure),
+            ("if type==Integer", TtlvType::Integer),
+            ("if type==LongInteger", TtlvType::LongInteger),
+            ("if type==BigInteger", TtlvType::BigInteger),
+            ("if type==Enumeration", TtlvType::Enumeration),
+            ("if type==Boolean", TtlvType::Boolean),
+            ("if type==TextString", TtlvType::TextString),
+            ("if type==ByteString", TtlvType::ByteString),
+            ("if type==DateTime", TtlvType::DateTime),
+            ("if type==Interval", TtlvType::Interval),
+        ];
+        for (name, typ) in rows {
+            assert_eq!(rt; rule(name, &kept, typ), Verdict::Holds, "{name}");
+        }
+        Ok(())
+    }
+
+    #[test]
+    fn rules_of_the_last_text(rt: HostRuntime) -> Result<(), Fail> {
+        let mut kept = Vec::new(rt.alloc());
+        keep(rt.alloc(), &mut kept, "a")?;
+        keep(rt.alloc(), &mut kept, "")?;
+        let empty = rule("if 0xBBBBBB in []", &kept, TtlvType::Integer);
+        assert_eq!(rt; empty, Verdict::Holds);
+        keep(rt.alloc(), &mut kept, "b")?;
+        let first = rule("if 0xBBBBBB==a", &kept, TtlvType::Integer);
+        assert_eq!(rt; first, Verdict::Fails);
+        let last = rule("if 0xBBBBBB==b", &kept, TtlvType::Integer);
+        assert_eq!(rt; last, Verdict::Holds);
+        Ok(())
+    }
+
+    #[test]
+    fn choices_in_order(rt: HostRuntime) -> Result<(), Fail> {
+        let mut kept = Vec::new(rt.alloc());
+        keep(rt.alloc(), &mut kept, "0x00000001")?;
+        let holds = "if 0xBBBBBB==0x00000001";
+        let second = [unit("if 0xBBBBBB==0x1"), unit(holds), unit(holds)];
+        assert_eq!(rt; choose(&second, &kept, TtlvType::Integer), Ok(Some(1)));
+        let refused = [unit("if zz>=0x1"), unit(holds)];
+        let want = Err(RuleError::InvalidTag("zz"));
+        assert_eq!(rt; choose(&refused, &kept, TtlvType::Integer), want);
+        let none = [unit("0x00000001"), unit("if ==")];
+        assert_eq!(rt; choose(&none, &kept, TtlvType::Integer), Ok(None));
+        Ok(())
+    }
+}
