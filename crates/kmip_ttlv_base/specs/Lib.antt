@@ -6,6 +6,12 @@ pub use Rattle.kmip_ttlv_types.specs.Places
 pub use Rattle.kmip_ttlv_types.specs.Names
 pub use Rattle.kmip_ttlv_types.specs.TypeTexts
 pub use Rattle.kmip_ttlv_types.specs.FieldTexts
+pub use Rattle.kmip_ttlv_types.specs.Digits
+pub use Rattle.kmip_ttlv_types.specs.Streams
+pub use Rattle.kmip_ttlv_types.specs.Headers
+pub use Rattle.kmip_ttlv_types.specs.Primitives
+pub use Rattle.kmip_ttlv_types.specs.Machine
+pub use Rattle.kmip_ttlv_types.specs.Laws
 pub mod Values
 pub mod Forms
 pub mod Gives

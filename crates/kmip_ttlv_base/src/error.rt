@@ -10,9 +10,8 @@ use crate::location::{write_parents, write_position, write_tag, write_type};
 use crate::types;
 use crate::types::{ByteOffset, FieldType, TtlvTag, TtlvType};
 use std::alloc::{AllocError, AllocFailed, Allocator, Global};
-use std::fmt;
-use std::io;
 use std::io::Cursor;
+use std::{fmt, io};
 
 /// What reading and writing answer.
 pub type Result<T, A = Global> = std::result::Result<T, Error<A>>;
@@ -484,7 +483,10 @@ impl fmt::Display for MalformedTtlvError {
             MalformedTtlvError::InvalidValue { typ } => write!(f, "invalid value of {typ}"),
             MalformedTtlvError::Overflow { field_end } => {
                 let end = field_end.0;
-                write!(f, "an item passes the end at {end} of the structure around it")
+                write!(
+                    f,
+                    "an item passes the end at {end} of the structure around it"
+                )
             }
             MalformedTtlvError::UnexpectedTtlvField { expected, actual } => {
                 write!(f, "field {actual} where {expected} is expected")

@@ -134,7 +134,7 @@ pub trait Deserialize<A: Allocator>: Sized + Drop {
         ensures { IfOk result (λ s. form_of s ≡ form) };
 
     /// The value for data that the shape gives.
-    fn from_data(alloc: A, value: Data<A>) -> Result<Self, AllocError>
-        requires { Gives form (view value) }
-        ensures { IfOk result (λ v. is_value (view value) v) };
+    fn from_data(alloc: A, value: &Data<A>) -> Result<Self, AllocError>
+        requires { Gives form (view value.now) }
+        ensures { IfOk result (λ v. is_value (view value.now) v) };
 }

@@ -1,5 +1,5 @@
 -- What each refusal says of the bytes.
-use Rattle.std.proofs.Common.{◌≡◌, ◌≢◌, ℕ, ◌+◌, ◌<◌, ◌≤◌, ◌⊎◌, inl, inr, Bool, true, false, ◌||◌, List, [], ◌∷◌, length, take, drop, Option, Some, None, refl, sym, ap, subst, ◌∙◌, arith}
+use Rattle.std.proofs.Common.{◌≡◌, ℕ, ◌≤◌, Bool, List, Option, Some, None, refl, sym, ap, subst, ◌∙◌, arith}
 use Rattle.kmip_ttlv_base.specs.Errors.{IsMemory, Kind, Location, out_of_memory, unknown, view_of_kind}
 use Rattle.kmip_ttlv_base.specs.declared.error.Error.{Error}
 use Rattle.kmip_ttlv_de.specs.Answer.{early_end, sort_of_kind}

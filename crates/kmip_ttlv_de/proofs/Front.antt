@@ -1,5 +1,5 @@
 -- Values that were read before others.
-use Rattle.std.proofs.Common.{◌≡◌, List, [], ◌∷◌, ◌++◌, Option, refl, ap, sym, ◌∙◌}
+use Rattle.std.proofs.Common.{◌≡◌, List, [], ◌∷◌, ◌++◌, Option, refl, ap}
 use Rattle.kmip_ttlv_base.specs.Values.{Value, Values, no_values, seq_value, value, view, views}
 use Rattle.kmip_ttlv_base.specs.declared.shape.Data.{Data}
 use Rattle.kmip_ttlv_de.specs.Reading.{Got, got, ◌>>=◌}

@@ -1,8 +1,8 @@
 -- How the answers of readers join.
-use Rattle.std.proofs.Common.{◌≡◌, ℕ, zero, suc, ◌+◌, ◌-◌, ◌<◌, ◌≤◌, Bool, true, false, cond, List, [], ◌∷◌, ◌++◌, ◌&&◌, eqb, length, get_or, take, drop, Option, Some, None, Result, Ok, Err, refl, sym, ap, subst, ◌∙◌, arith, append_assoc, map}
-use Rattle.std.proofs.lemmas.List.{append-nil, length-append, length-take-le, length-drop, drop-append-le, take-append-le, drop_more, drop_all, take-append-drop}
+use Rattle.std.proofs.Common.{◌≡◌, ℕ, zero, suc, ◌+◌, ◌-◌, ◌<◌, ◌≤◌, Bool, true, false, cond, List, [], ◌∷◌, ◌++◌, ◌&&◌, eqb, length, get_or, take, drop, Option, Some, None, Result, Ok, Err, refl, sym, ap, subst, ◌∙◌, arith}
+use Rattle.std.proofs.lemmas.List.{append-nil, length-append, drop_more, drop_all, take-append-drop}
 use Rattle.std.proofs.Common.{◌⊎◌, inl, inr}
-use Rattle.std.proofs.lemmas.Bool.{eq-eqb, eqb-true, ne_eqb}
+use Rattle.std.proofs.lemmas.Bool.{eq-eqb, ne_eqb}
 use Rattle.kmip_ttlv_types.specs.ItemTypes.{code, is_structure}
 use Rattle.kmip_ttlv_types.specs.Items.{Raw, Splits}
 use Rattle.kmip_ttlv_types.specs.Names.{tag_of}
@@ -25,7 +25,7 @@ use Rattle.kmip_ttlv_de.specs.Answer.{Accepted, Answers, Goes, Refused, Sort, ea
 use Rattle.kmip_ttlv_de.specs.Keeps.{Keep}
 use Rattle.kmip_ttlv_de.specs.Places.{LeafAt, StructAt}
 use Rattle.kmip_ttlv_de.specs.Reading.{FieldsReader, Got, Reader, ended, got, read_all, read_choice, read_content, read_enum, read_field, read_fields, read_forms, read_number, read_of, read_seq, read_struct, read_tuple, read_used, read_variant, rest_of, run_of, split_of, used_up, ◌>>=◌}
-use Rattle.kmip_ttlv_de.specs.Reads.{is_like, is_option, is_struct, leaf, may_follow, may_ignore, names, names_tag}
+use Rattle.kmip_ttlv_de.specs.Reads.{is_like, is_option, is_struct, may_follow, may_ignore, names, names_tag}
 use Rattle.kmip_ttlv_de.specs.Rules.{by_value, choice, choice_refused, chosen}
 
 abbrev Reads' : Type 0 → Type 0

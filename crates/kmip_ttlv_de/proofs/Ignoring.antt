@@ -1,5 +1,5 @@
 -- Items that are ignored after the last field.
-use Rattle.std.proofs.Common.{◌≡◌, ◌≢◌, ℕ, zero, suc, ◌+◌, ◌-◌, ◌<◌, ◌≤◌, Bool, true, false, cond, not, ◌&&◌, ◌||◌, List, [], ◌∷◌, ◌++◌, length, get_or, take, drop, Option, Some, None, refl, sym, ap, subst, ◌∙◌, arith}
+use Rattle.std.proofs.Common.{◌≡◌, ◌≢◌, ℕ, ◌+◌, ◌<◌, ◌≤◌, Bool, true, false, cond, not, ◌&&◌, ◌||◌, List, [], ◌∷◌, ◌++◌, length, get_or, take, drop, None, refl, sym, ap, subst, ◌∙◌, arith}
 use Rattle.kmip_ttlv_types.specs.ItemTypes.{code, is_structure}
 use Rattle.kmip_ttlv_types.specs.Items.{Raw}
 use Rattle.kmip_ttlv_types.specs.Leaves.{is_valid}
@@ -11,7 +11,7 @@ use Rattle.kmip_ttlv_base.specs.declared.shape.FieldShape.{FieldShape}
 use Rattle.kmip_ttlv_de.proofs.Going.{refused_via, rest_ignored, rest_refused}
 use Rattle.kmip_ttlv_de.proofs.Heads.{code_more, first_of_items, item_of_leaf, refused_end, tag_more}
 use Rattle.kmip_ttlv_de.proofs.PlaceLemmas.{code_one, raw_with}
-use Rattle.kmip_ttlv_de.specs.Answer.{Goes, Refused, Sort, early_end, other}
+use Rattle.kmip_ttlv_de.specs.Answer.{Goes, Refused, Sort, early_end}
 use Rattle.kmip_ttlv_de.specs.Keeps.{Keep}
 use Rattle.kmip_ttlv_de.specs.Places.{LeafAt}
 use Rattle.kmip_ttlv_de.specs.Reading.{any_leaf, got, rest_of}

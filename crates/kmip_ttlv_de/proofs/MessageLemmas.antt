@@ -1,9 +1,8 @@
 -- What small messages begin with, computed.
-use Rattle.std.proofs.Common.{◌≡◌, ℕ, ◌+◌, ◌<◌, ◌≤◌, true, List, [], ◌∷◌, ◌++◌, length, take, drop, Option, Some, None, refl, sym, ap, ◌∙◌, arith, codes}
+use Rattle.std.proofs.Common.{◌≡◌, ℕ, true, List, [], ◌∷◌, ◌++◌, take, drop, Option, Some, None, refl, sym, ap, ◌∙◌, arith, codes}
 use Rattle.std.proofs.lemmas.List.{take-append-drop}
 use Rattle.std.specs.Str.{trim_end, chars, trim_start}
 use lib.Utf8.{encode}
-use Rattle.kmip_ttlv_types.specs.ItemTypes.{is_structure}
 use Rattle.kmip_ttlv_types.specs.Items.{Raw}
 use Rattle.kmip_ttlv_types.specs.Names.{number, tag_of}
 use Rattle.kmip_ttlv_types.specs.Places.{ItemAt, length_at, size}

@@ -1,5 +1,5 @@
 -- What is seen of shapes and data that the code makes and matches.
-use Rattle.std.proofs.Common.{◌≡◌, ℕ, Bool as Boole, ℤ, List, [], ◌∷◌, refl, ap, sym, ◌∙◌, Vec, String, string_bytes, Box, rules}
+use Rattle.std.proofs.Common.{◌≡◌, ℕ, Bool as Boole, ℤ, List, refl, ap, ◌∙◌, Vec, String, string_bytes, Box, rules}
 use Rattle.std.specs.Borrow.{Bor}
 use Rattle.kmip_ttlv_base.specs.declared.shape.Shape.{Shape, Row_of-FieldShape, end_of-FieldShape, more_of-FieldShape, items-the_row-FieldShape, items_hidden-the_row-FieldShape-0}
 use Rattle.kmip_ttlv_base.specs.declared.shape.Shape.TheVariants as shapes

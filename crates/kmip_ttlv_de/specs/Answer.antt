@@ -1,5 +1,5 @@
 -- What a reader answers, against what a form reads from items.
-use Rattle.std.specs.Prelude.{◌≡◌, ℕ, ◌+◌, Bool, true, ◌<◌, ◌≤◌, List, [], ◌∷◌, ◌++◌, length, Option, Some, None, Result, Ok, Err}
+use Rattle.std.specs.Prelude.{◌≡◌, ℕ, ◌+◌, Bool, true, ◌<◌, ◌≤◌, List, [], ◌++◌, length, Option, Some, None, Result, Ok, Err}
 use Rattle.kmip_ttlv_types.specs.Items.{Raw}
 use Rattle.kmip_ttlv_types.specs.Places.{ItemsAt}
 use Rattle.kmip_ttlv_base.specs.declared.error.Error.{Error}

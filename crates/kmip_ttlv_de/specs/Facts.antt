@@ -1,10 +1,9 @@
 -- What a refusal on reading says of the bytes and of the form.
-use Rattle.std.specs.Prelude.{◌≡◌, ◌≢◌, ℕ, ◌+◌, ◌<◌, ◌≤◌, ◌⊎◌, Bool, true, false, ◌&&◌, ◌||◌, not, List, [], ◌∷◌, length, take, drop, Option, Some, None, is_none, nat_le, ◌==◌, if◌then◌else◌, codes, Result, Ok, Err}
+use Rattle.std.specs.Prelude.{◌≡◌, ◌≢◌, ℕ, ◌+◌, ◌<◌, ◌≤◌, ◌⊎◌, Bool, true, false, ◌&&◌, ◌||◌, not, List, [], length, take, drop, Option, Some, None, is_none, nat_le, ◌==◌, if◌then◌else◌, codes, Result, Ok, Err}
 use Rattle.std.specs.Str.{bytes_eq}
 use Rattle.std.specs.declared.io.ErrorKind.TheVariants as io_kinds
 use Rattle.kmip_ttlv_types.specs.declared.typ.TtlvType.{TtlvType}
 use Rattle.kmip_ttlv_types.specs.declared.typ.TtlvType.TheVariants.{Structure}
-use Rattle.kmip_ttlv_types.specs.declared.field.FieldType.{FieldType}
 use Rattle.kmip_ttlv_types.specs.declared.field.FieldType.TheVariants as fields
 use Rattle.kmip_ttlv_types.specs.ItemTypes.{code, type_of, fixed_length, is_structure}
 use Rattle.kmip_ttlv_types.specs.Leaves.{is_valid}

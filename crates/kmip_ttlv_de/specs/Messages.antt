@@ -1,5 +1,5 @@
 -- Small messages, and the forms that read them or don't.
-use Rattle.std.specs.Prelude.{ℕ, false, List, [], ◌∷◌, ◌++◌, codes}
+use Rattle.std.specs.Prelude.{ℕ, false, List, [], ◌∷◌, codes}
 use Rattle.std.specs.Int.{w32, cast_signed}
 use Rattle.kmip_ttlv_base.specs.Values.{Value, i32_value, none, struct_value, unit_variant_value, newtype_variant_value, no_values, value}
 use Rattle.kmip_ttlv_base.specs.Forms.{Form, struct, option, seq, enum, int32, no_fields, field, no_variants, variant, unit, wrapped}

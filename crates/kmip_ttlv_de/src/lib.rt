@@ -51,7 +51,7 @@ pub fn from_slice<T: Deserialize<A>, A: Allocator + Copy>(alloc: A, bytes: &[u8]
 {
     let shape = T::shape(alloc)?;
     let data = read_root(alloc, &shape, bytes)?;
-    Ok(T::from_data(alloc, data)?)
+    Ok(T::from_data(alloc, &data)?)
 }
 
 /// What bytes begin with is of the form's kind and names.

@@ -1,5 +1,5 @@
 -- The second pass, step by step.
-use Rattle.std.proofs.Common.{◌≡◌, ℕ, ◌+◌, ◌-◌, ◌%◌, ◌<◌, ◌≤◌, ◌^◌, List, [], ◌∷◌, ◌++◌, length, replicate, Option, Some, None, refl, sym, ap, ◌∙◌, subst, arith, append_assoc, append-nil, length-append, true}
+use Rattle.std.proofs.Common.{◌≡◌, ℕ, ◌+◌, ◌-◌, ◌<◌, ◌≤◌, ◌^◌, List, [], ◌∷◌, ◌++◌, length, replicate, Option, Some, None, refl, sym, ap, ◌∙◌, subst, arith, append_assoc, append-nil, length-append, true}
 use Rattle.std.specs.List.{AllByRecursion}
 use Rattle.std.proofs.lemmas.List.Concat.{flat_map-append}
 use Rattle.kmip_ttlv_types.specs.declared.typ.TtlvType.{TtlvType}
@@ -9,10 +9,9 @@ use Rattle.kmip_ttlv_types.specs.Items.{header}
 use Rattle.kmip_ttlv_types.specs.Names.{number, transparent_name}
 use Rattle.std.specs.Int.{w32, to_be_bytes}
 use Rattle.kmip_ttlv_types.specs.Trees.{Tree, leaf, node, trees_of, leaf_bytes, node_bytes, bytes_below, bytes_all, Fits}
-use Rattle.kmip_ttlv_base.specs.declared.shape.Data.{Data}
-use Rattle.kmip_ttlv_base.specs.Values.{Value, Values, value, no_values, view, views, unit_variant_value, newtype_value, newtype_variant_value}
+use Rattle.kmip_ttlv_base.specs.Values.{Value, Values, value, unit_variant_value, newtype_value, newtype_variant_value}
 use Rattle.kmip_ttlv_ser.specs.declared.held.Held.{Held}
-use Rattle.kmip_ttlv_ser.specs.declared.held.Held.TheVariants.{Nothing, Plain}
+use Rattle.kmip_ttlv_ser.specs.declared.held.Held.TheVariants.{Plain}
 use Rattle.kmip_ttlv_ser.specs.Items.{◌>>=◌, is_wrapper, without_override, held_over, take_tag, one_leaf, one_node, one_structure, held_tag, some_item, held_after, left_over, sign_byte, sign_extended, enumeration, newtype_row, variant_row, items, items_in}
 use Rattle.kmip_ttlv_ser.specs.Sizes.{sizes, sizes_below, sizes_all}
 use Rattle.kmip_ttlv_ser.specs.Passes.{Planned, Emitted}

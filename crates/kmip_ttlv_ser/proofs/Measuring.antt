@@ -1,23 +1,21 @@
 -- The first pass, step by step.
-use Rattle.std.proofs.Common.{◌≡◌, ℕ, zero, suc, ◌+◌, ◌-◌, ◌<◌, ◌≤◌, ◌^◌, Bool, true, false, List, [], ◌∷◌, ◌++◌, length, set, Option, Some, None, Result, Ok, Err, IsErrAnd, MatchResult, ◌⊎◌, inl, inr, refl, sym, ap, ap₂, ◌∙◌, subst, arith, append_assoc, append-nil, length-append, not, is_some}
+use Rattle.std.proofs.Common.{◌≡◌, ℕ, ◌+◌, ◌-◌, ◌<◌, ◌≤◌, ◌^◌, Bool, true, false, List, [], ◌∷◌, ◌++◌, length, set, Option, Some, None, Result, Ok, Err, IsErrAnd, ◌⊎◌, inl, inr, refl, sym, ap, ap₂, ◌∙◌, subst, arith, append-nil, not, is_some}
 use Rattle.std.specs.Int.{w32, to_be_bytes}
-use Rattle.std.specs.List.{AllByRecursion}
-use Rattle.std.proofs.lemmas.List.Concat.{flat_map-append}
 use Rattle.kmip_ttlv_types.specs.declared.typ.TtlvType.{TtlvType}
 use Rattle.kmip_ttlv_types.specs.declared.typ.TtlvType.TheVariants.{Enumeration}
 use Rattle.kmip_ttlv_types.specs.ItemTypes.{pad_len}
 use Rattle.kmip_ttlv_types.specs.Names.{tag_of, number}
-use Rattle.kmip_ttlv_types.specs.Trees.{Tree, leaf, node, trees_of, bytes, bytes_below, bytes_all, Fits}
+use Rattle.kmip_ttlv_types.specs.Trees.{Tree, leaf, node, trees_of, bytes_below, bytes_all}
 use Rattle.kmip_ttlv_base.specs.Errors.{Kind, mismatch, invalid_variant}
 use Rattle.kmip_ttlv_base.specs.Values.{Value, unit_variant_value}
 use Rattle.kmip_ttlv_ser.specs.declared.held.Held.{Held}
-use Rattle.kmip_ttlv_ser.specs.declared.held.Held.TheVariants.{Nothing, Plain, Overriding}
+use Rattle.kmip_ttlv_ser.specs.declared.held.Held.TheVariants.{Plain}
 use Rattle.kmip_ttlv_ser.specs.declared.held.Place.{Place}
 use Rattle.kmip_ttlv_ser.specs.declared.refusal.Refusal.{Refusal}
 use Rattle.kmip_ttlv_ser.specs.declared.refusal.Refusal.TheVariants.{OutOfMemory, LengthOverflow, Refused}
-use Rattle.kmip_ttlv_ser.specs.Items.{◌>>=◌, take_tag, held_tag, one_leaf, one_node, one_structure, some_item, enumeration, items}
-use Rattle.kmip_ttlv_ser.specs.Sizes.{sizes, sizes_below, sizes_all}
-use Rattle.kmip_ttlv_ser.specs.Faults.{Fault, held_len, fault_at, name_kind, tag_unused, under_name, structure_fault, within, place_after, inside, opened_after, fault}
+use Rattle.kmip_ttlv_ser.specs.Items.{◌>>=◌, take_tag, held_tag, one_leaf, one_node, one_structure, some_item, enumeration}
+use Rattle.kmip_ttlv_ser.specs.Sizes.{sizes, sizes_all}
+use Rattle.kmip_ttlv_ser.specs.Faults.{Fault, held_len, fault_at, name_kind, tag_unused, under_name, structure_fault, within, place_after, inside}
 use Rattle.kmip_ttlv_ser.specs.Lengths.{reach, Under, structure_long, IsLongContent}
 use Rattle.kmip_ttlv_ser.specs.Passes.{Stops, StopsAt, StopsBefore, Overlong, Measured, Measures, MeasuresValue, Advances}
 use Rattle.kmip_ttlv_ser.proofs.Leaves.{place_len, below_is, one_leaf_len, one_node_len, some_len, fits_below, sizes_below_is, opened_below_is}

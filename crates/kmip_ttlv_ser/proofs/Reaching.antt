@@ -1,14 +1,14 @@
 -- A refusal stands no earlier than the place from which the value is written.
-use Rattle.std.proofs.Common.{◌≡◌, ℕ, ◌+◌, ◌≤◌, Bool, true, false, List, [], ◌∷◌, length, Option, Some, None, codes, refl, ap, arith}
+use Rattle.std.proofs.Common.{ℕ, ◌≤◌, Bool, true, false, List, Option, Some, None, codes, arith}
 use Rattle.kmip_ttlv_types.specs.Names.{tag_of, transparent_name}
-use Rattle.kmip_ttlv_types.specs.Trees.{Tree, bytes_all}
+use Rattle.kmip_ttlv_types.specs.Trees.{Tree}
 use Rattle.kmip_ttlv_base.specs.Errors.{Kind, mismatch, invalid_variant, unsupported_rust_type}
 use Rattle.kmip_ttlv_base.specs.Values.{Value, boolean_value, i8_value, i16_value, i32_value, u32_value, i64_value, u64_value, interval_value, text_value, bytes_value, big_integer_value, none, some, seq_value, struct_value, newtype_value, unit_variant_value, newtype_variant_value, tuple_variant_value, unsupported_value, Values, no_values, value}
 use Rattle.kmip_ttlv_ser.specs.declared.held.Held.{Held}
 use Rattle.kmip_ttlv_ser.specs.declared.held.Held.TheVariants.{Nothing, Plain}
 use Rattle.kmip_ttlv_ser.specs.declared.held.Place.{Place}
 use Rattle.kmip_ttlv_ser.specs.Items.{take_tag, held_over, without_override, is_wrapper, left_over, items}
-use Rattle.kmip_ttlv_ser.specs.Faults.{Fault, held_len, fault_at, name_kind, no_tag, under_name, within, newtype_fault, variant_fault, in_turn, place_after, inside, fault, fault_in}
+use Rattle.kmip_ttlv_ser.specs.Faults.{Fault, fault_at, name_kind, no_tag, under_name, within, newtype_fault, variant_fault, in_turn, place_after, inside, fault, fault_in}
 
 at_least : (k : Kind) (w : Held) (p : Place) → p.offset ≤ (fault_at k w p).offset
 at_least k w p = omega arith

@@ -1,12 +1,12 @@
 -- From what the first pass answers to what the calls answer.
-use Rattle.std.proofs.Common.{◌≡◌, ℕ, ◌+◌, ◌<◌, ◌≤◌, ◌^◌, Bool, true, false, List, [], ◌∷◌, ◌++◌, length, Option, Some, None, ◌⊎◌, inl, inr, refl, sym, ap, ◌∙◌, subst, arith, append-nil}
+use Rattle.std.proofs.Common.{◌≡◌, ℕ, ◌+◌, ◌≤◌, ◌^◌, Bool, true, false, List, [], ◌∷◌, ◌++◌, length, Option, Some, None, ◌⊎◌, inl, inr, refl, sym, ap, ◌∙◌, subst, arith, append-nil}
 use Rattle.std.specs.List.{AllByRecursion}
 use Rattle.kmip_ttlv_types.specs.declared.typ.TtlvType.{TtlvType}
 use Rattle.kmip_ttlv_types.specs.declared.typ.TtlvType.TheVariants.{BigInteger, TextString, ByteString}
-use Rattle.kmip_ttlv_types.specs.Names.{number, transparent_name}
-use Rattle.kmip_ttlv_types.specs.Trees.{Tree, leaf, node, trees_of, bytes_below, bytes_all, Fits}
+use Rattle.kmip_ttlv_types.specs.Names.{transparent_name}
+use Rattle.kmip_ttlv_types.specs.Trees.{Tree, leaf, node, trees_of, bytes_all, Fits}
 use Rattle.kmip_ttlv_base.specs.declared.error.Error.{Error}
-use Rattle.kmip_ttlv_base.specs.Errors.{Kind, out_of_memory, length_overflow, Location, unknown, kind_of, view_of_kind, location_of, view_of_location, IsMemory}
+use Rattle.kmip_ttlv_base.specs.Errors.{Location, view_of_kind, location_of, view_of_location, IsMemory}
 use Rattle.kmip_ttlv_base.specs.Values.{Value, boolean_value, i8_value, i16_value, i32_value, u32_value, i64_value, u64_value, interval_value, text_value, bytes_value, big_integer_value, none, some, seq_value, struct_value, newtype_value, unit_variant_value, newtype_variant_value, tuple_variant_value, unsupported_value, Values, no_values, value}
 use Rattle.kmip_ttlv_ser.specs.declared.held.Held.{Held}
 use Rattle.kmip_ttlv_ser.specs.declared.held.Held.TheVariants.{Nothing, Plain}
@@ -15,10 +15,10 @@ use Rattle.kmip_ttlv_ser.specs.declared.refusal.Cause.{Cause}
 use Rattle.kmip_ttlv_ser.specs.declared.refusal.Cause.TheVariants.{NoTag, TagUnused, InvalidTag, InvalidVariant, UnsupportedType}
 use Rattle.kmip_ttlv_ser.specs.declared.refusal.Refusal.{Refusal}
 use Rattle.kmip_ttlv_ser.specs.declared.refusal.Refusal.TheVariants.{OutOfMemory, LengthOverflow, Refused}
-use Rattle.kmip_ttlv_ser.specs.Items.{◌>>=◌, take_tag, held_tag, one_leaf, one_node, one_structure, some_item, held_over, without_override, is_wrapper, left_over, sign_extended, newtype_row, variant_row, items, items_in}
-use Rattle.kmip_ttlv_ser.specs.Sizes.{sizes_all, FitsAfter}
+use Rattle.kmip_ttlv_ser.specs.Items.{◌>>=◌, take_tag, held_tag, one_node, some_item, held_over, without_override, is_wrapper, left_over, sign_extended, newtype_row, variant_row, items, items_in}
+use Rattle.kmip_ttlv_ser.specs.Sizes.{sizes_all}
 use Rattle.kmip_ttlv_ser.specs.Faults.{Fault, place_after, opened_after, fault, fault_in}
-use Rattle.kmip_ttlv_ser.specs.Lengths.{HasLongLeaf, HaveLongLeaf, HasLongStructure, HaveLongStructure, IsLongContent, IsLong, Under, After, reach, content_start, structure_long, newtype_long, variant_long}
+use Rattle.kmip_ttlv_ser.specs.Lengths.{HasLongLeaf, HaveLongLeaf, HasLongStructure, HaveLongStructure, IsLongContent, Under, After, content_start, newtype_long, variant_long}
 use Rattle.kmip_ttlv_ser.specs.Passes.{Measured, Planned, Emitted, Stops, Overlong, kind_of_cause, IsErrorOf}
 use Rattle.kmip_ttlv_ser.specs.Answers.{at_offset, IsTooLongFor, IsRefusedAs, IsFirstRefusal, Refuses, AppendedTo}
 use Rattle.kmip_ttlv_ser.proofs.Leaves.{place_len, below_is, fits_each, each_front, each_back}

@@ -1,5 +1,5 @@
 -- Worked values, computed.
-use Rattle.std.proofs.Common.{◌≡◌, refl}
+use Rattle.std.proofs.Common.{refl}
 use Rattle.kmip_ttlv_types.specs.Names.{tag_of, number, transparent_name, override_name}
 use Rattle.kmip_ttlv_types.specs.Trees.{leaf_bytes, node_bytes}
 use Rattle.kmip_ttlv_ser.specs.Items.{take_tag, held_over, some_item, enumeration, is_wrapper, sign_extended}

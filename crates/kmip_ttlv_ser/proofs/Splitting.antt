@@ -1,12 +1,12 @@
 -- Canonical bytes are split by the trees' items.
-use Rattle.std.proofs.Common.{◌≡◌, ℕ, false, List, [], ◌∷◌, ◌++◌, map, length, replicate, refl, sym, ap, ◌∙◌, append_assoc, append-nil, subst}
+use Rattle.std.proofs.Common.{◌≡◌, ℕ, false, List, [], ◌∷◌, ◌++◌, map, length, replicate, refl, sym, ◌∙◌, append_assoc, append-nil, subst}
 use Rattle.std.specs.List.{AllByRecursion}
 use Rattle.std.proofs.Math.ListN.{length-replicate}
 use Rattle.kmip_ttlv_types.specs.declared.typ.TtlvType.{TtlvType}
 use Rattle.kmip_ttlv_types.specs.declared.typ.TtlvType.TheVariants.{Structure, Integer, LongInteger, BigInteger, Enumeration, Boolean, TextString, ByteString, DateTime, Interval}
 use Rattle.kmip_ttlv_types.specs.ItemTypes.{is_structure, pad_len, padding}
 use Rattle.kmip_ttlv_types.specs.Items.{header, IsTextOf, Splits}
-use Rattle.kmip_ttlv_types.specs.Trees.{Tree, leaf, node, Trees, leaf_bytes, node_bytes, bytes, bytes_below, bytes_all, raw_of}
+use Rattle.kmip_ttlv_types.specs.Trees.{Tree, leaf, node, leaf_bytes, node_bytes, bytes, bytes_below, bytes_all, raw_of}
 use Rattle.kmip_ttlv_base.specs.Values.{Value}
 use Rattle.kmip_ttlv_ser.specs.Answers.{IsWrittenAs}
 use Rattle.kmip_ttlv_ser.specs.Laws.{IsSound}

@@ -1,20 +1,19 @@
 -- The first pass over values one after the other.
-use Rattle.std.proofs.Common.{◌≡◌, ℕ, zero, suc, ◌+◌, ◌-◌, ◌<◌, ◌≤◌, ◌^◌, Bool, false, List, [], ◌∷◌, ◌++◌, length, Option, Some, None, Result, Ok, Err, ◌⊎◌, inl, inr, refl, sym, ap, ap₂, ◌∙◌, subst, arith, append_assoc, append-nil, eqb}
+use Rattle.std.proofs.Common.{◌≡◌, ℕ, zero, suc, ◌+◌, ◌-◌, ◌<◌, ◌≤◌, ◌^◌, Bool, false, List, [], ◌∷◌, ◌++◌, length, Option, Some, None, inl, inr, refl, sym, ap, ap₂, ◌∙◌, subst, arith, append_assoc, append-nil, eqb}
 use Rattle.std.proofs.lemmas.Bool.Decides.{nat_tests}
 use Rattle.std.specs.List.{AllByRecursion}
 use Rattle.std.proofs.lemmas.List.Concat.{flat_map-append}
 use Rattle.kmip_ttlv_types.specs.Trees.{Tree, bytes_all, Fits}
-use Rattle.kmip_ttlv_base.specs.declared.shape.Data.{Data}
-use Rattle.kmip_ttlv_base.specs.Values.{Value, Values, no_values, value, view, views}
+use Rattle.kmip_ttlv_base.specs.Values.{Value, Values, no_values, value}
 use Rattle.kmip_ttlv_ser.specs.declared.held.Held.{Held}
 use Rattle.kmip_ttlv_ser.specs.declared.held.Held.TheVariants.{Nothing}
 use Rattle.kmip_ttlv_ser.specs.declared.held.Place.{Place}
 use Rattle.kmip_ttlv_ser.specs.declared.refusal.Refusal.{Refusal}
 use Rattle.kmip_ttlv_ser.specs.Items.{◌>>=◌, held_after, left_over, items, items_in}
 use Rattle.kmip_ttlv_ser.specs.Sizes.{sizes, sizes_all}
-use Rattle.kmip_ttlv_ser.specs.Faults.{Fault, in_turn, place_after, opened_after, fault, fault_in}
+use Rattle.kmip_ttlv_ser.specs.Faults.{Fault, in_turn, place_after, fault, fault_in}
 use Rattle.kmip_ttlv_ser.specs.Lengths.{HasLongLeaf, HaveLongLeaf, HasLongStructure, HaveLongStructure, After, reach}
-use Rattle.kmip_ttlv_ser.specs.Passes.{Stops, Overlong, Measured, MeasuresValue, MeasuresValues}
+use Rattle.kmip_ttlv_ser.specs.Passes.{Stops, Overlong, Measured}
 use Rattle.kmip_ttlv_ser.proofs.Leaves.{place_len, len_append, each_append, opened_append, some_len}
 use Rattle.kmip_ttlv_ser.proofs.Reaching.{fault_in_least}
 use Rattle.kmip_ttlv_ser.proofs.Measuring.{stops_up, long_up}

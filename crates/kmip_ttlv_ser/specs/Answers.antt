@@ -1,5 +1,5 @@
 -- What the writer's calls answer.
-use Rattle.std.specs.Prelude.{◌≡◌, ℕ, ◌≤◌, Bool, true, false, List, [], ◌∷◌, ◌++◌, length, take, Option, Some, None, Result, Ok, Err, IsErrAnd}
+use Rattle.std.specs.Prelude.{◌≡◌, ℕ, ◌≤◌, Bool, true, false, List, [], ◌++◌, length, take, Option, Some, None, Result, Ok, Err, IsErrAnd}
 use Rattle.std.specs.declared.vec.Vec.{Vec}
 use Rattle.std.specs.Io.KnownBytes.{Appends, Keeps}
 use Rattle.kmip_ttlv_types.specs.Trees.{Tree, bytes_all}
@@ -35,6 +35,7 @@ abbrev pub IsTooLongFor : Value → Place → Option (List Tree) → Type 0
 IsTooLongFor v p None = IsLong v p
 IsTooLongFor v p (Some ts) = ¬ (FitsAfter p.offset ts)
 
+-- what LengthOverflow says of a value at a place
 abbrev pub IsTooLong : Value → Place → Type 0
 IsTooLong v p = IsTooLongFor v p (items v Nothing)
 
@@ -53,6 +54,7 @@ IsRefusedAs v p (mismatch e) location = IsFirstRefusal v p (mismatch e) location
 IsRefusedAs v p (io_error e) location = ⊥
 IsRefusedAs v p (exceeds_limit n) location = ⊥
 
+-- why a value is refused at a place, as an error says it
 abbrev pub Refuses : {A : Type 0} → Value → Place → Error A → Type 0
 Refuses v p e = IsRefusedAs v p (view_of_kind (kind_of e)) (view_of_location (location_of e))
 
@@ -96,9 +98,11 @@ pub record Progress : Type 0 where
   pub opened : Bool
   pub refused : Bool
 
+-- what a serializer was given, without where it lies in memory
 abbrev pub progress : {A : Type 0} → TtlvSerializer A → Progress
 progress s = record { bytes = s.out.items; opened = s.opened; refused = s.refused }
 
+-- the place that a serializer has reached
 abbrev pub place_of : Progress → Place
 place_of s = record { offset = length s.bytes; opened = s.opened }
 

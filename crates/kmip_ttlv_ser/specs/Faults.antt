@@ -46,6 +46,7 @@ abbrev mutual
   opened_below b no_trees = b
   opened_below b (tree t ts) = opened_below (opened_by t) ts
 
+-- the same after a list of trees, where it was b before
 abbrev pub opened_after : Bool → List Tree → Bool
 opened_after b [] = b
 opened_after b (t ∷ ts) = opened_after (opened_by t) ts
@@ -58,6 +59,7 @@ place_after p ts = record { offset = p.offset + length (bytes_all ts); opened = 
 abbrev pub inside : Place → Place
 inside p = record { offset = p.offset + 8; opened = true }
 
+-- a refusal of the field that comes at a place, after the tag that waits
 abbrev pub fault_at : Kind → Held → Place → Fault
 fault_at kind w p = record { kind = kind; offset = p.offset + held_len w }
 

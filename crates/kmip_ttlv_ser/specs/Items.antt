@@ -28,9 +28,11 @@ held_tag Nothing = None
 held_tag (Plain t) = Some t
 held_tag (Overriding t) = Some t
 
+-- one leaf under the waiting tag
 abbrev pub one_leaf : Held → TtlvType → List ℕ → Option (List Tree)
 one_leaf w typ content = held_tag w >>= λ t. Some (leaf t typ content ∷ [])
 
+-- one structure of what is below
 abbrev pub one_node : ℕ → Option (List Tree) → Option (List Tree)
 one_node t below = below >>= λ ts. Some (node t (trees_of ts) ∷ [])
 
@@ -80,6 +82,7 @@ abbrev pub newtype_row : Option (List ℕ) → List ℕ → Held → (Held → O
 newtype_row None name w inside = one_structure w name (inside Nothing)
 newtype_row (Some n) name w inside = take_tag w n >>= λ t. inside (Plain t) >>= some_item
 
+-- whether a newtype variant of this name is a wrapper
 unfoldable pub is_wrapper : List ℕ → Bool
 is_wrapper variant = bytes_eq variant (codes "Transparent")
 

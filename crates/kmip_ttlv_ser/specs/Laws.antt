@@ -1,5 +1,5 @@
 -- Trees that their bytes tell apart.
-use Rattle.std.specs.Prelude.{◌≡◌, ℕ, ◌<◌, ◌^◌, false, List, length}
+use Rattle.std.specs.Prelude.{◌≡◌, ◌<◌, ◌^◌, false, length}
 use Rattle.kmip_ttlv_types.specs.ItemTypes.{is_structure}
 use Rattle.kmip_ttlv_types.specs.Trees.{Tree, leaf, node, Trees, no_trees, tree, bytes_below}
 

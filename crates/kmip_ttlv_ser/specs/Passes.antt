@@ -1,21 +1,20 @@
 -- What the two passes over a value do.
-use Rattle.std.specs.Prelude.{◌≡◌, ℕ, Bool, ◌+◌, ◌-◌, ◌<◌, ◌≤◌, ◌^◌, List, [], ◌∷◌, ◌++◌, length, Option, Some, None, Result, Ok, Err, ◌⊎◌}
+use Rattle.std.specs.Prelude.{◌≡◌, ℕ, Bool, ◌+◌, ◌<◌, ◌≤◌, ◌^◌, List, ◌++◌, length, Option, Some, None, Result, Ok, Err, ◌⊎◌}
 use Rattle.std.specs.List.{AllByRecursion}
-use Rattle.kmip_ttlv_types.specs.Names.{tag_of}
 use Rattle.kmip_ttlv_types.specs.Trees.{Tree, bytes_all, Fits}
 use Rattle.kmip_ttlv_base.specs.declared.error.Error.{Error}
-use Rattle.kmip_ttlv_base.specs.Errors.{Kind, malformed, mismatch, invalid_tag, invalid_variant, unsupported_rust_type, length_overflow, unknown, kind_of, view_of_kind, location_of, view_of_location, IsMemory}
+use Rattle.kmip_ttlv_base.specs.Errors.{Kind, mismatch, invalid_tag, invalid_variant, unsupported_rust_type, length_overflow, unknown, kind_of, view_of_kind, location_of, view_of_location, IsMemory}
 use Rattle.kmip_ttlv_base.specs.Values.{Value, Values}
 use Rattle.kmip_ttlv_ser.specs.declared.held.Held.{Held}
-use Rattle.kmip_ttlv_ser.specs.declared.held.Held.TheVariants.{Nothing, Plain, Overriding}
+use Rattle.kmip_ttlv_ser.specs.declared.held.Held.TheVariants.{Nothing}
 use Rattle.kmip_ttlv_ser.specs.declared.held.Place.{Place}
 use Rattle.kmip_ttlv_ser.specs.declared.refusal.Cause.{Cause}
 use Rattle.kmip_ttlv_ser.specs.declared.refusal.Cause.TheVariants.{NoTag, TagUnused, InvalidTag, InvalidVariant, UnsupportedType}
 use Rattle.kmip_ttlv_ser.specs.declared.refusal.Refusal.{Refusal}
 use Rattle.kmip_ttlv_ser.specs.declared.refusal.Refusal.TheVariants.{OutOfMemory, LengthOverflow, Refused}
-use Rattle.kmip_ttlv_ser.specs.Items.{◌>>=◌, take_tag, some_item, one_structure, items, items_in}
+use Rattle.kmip_ttlv_ser.specs.Items.{◌>>=◌, some_item, one_structure, items, items_in}
 use Rattle.kmip_ttlv_ser.specs.Sizes.{sizes_all}
-use Rattle.kmip_ttlv_ser.specs.Faults.{held_len, fault_at, name_kind, Fault, fault, fault_in, no_tag, tag_unused, place_after, inside, within, structure_fault}
+use Rattle.kmip_ttlv_ser.specs.Faults.{held_len, Fault, fault, fault_in, no_tag, tag_unused, place_after, inside, within, structure_fault}
 use Rattle.kmip_ttlv_ser.specs.Lengths.{HasLongLeaf, HaveLongLeaf, HasLongStructure, HaveLongStructure, IsLongContent, content_start, structure_long, reach}
 use Rattle.kmip_ttlv_ser.specs.Answers.{at_offset}
 
@@ -69,9 +68,11 @@ abbrev pub Measures : Type 0 → Type 0 → Option (List Tree) → Fault → Pla
 Measures leaf structure o stop p old new (Ok q) = Measured o p q old new
 Measures leaf structure o stop p old new (Err e) = Stops e o stop (Overlong leaf structure o stop p.offset)
 
+-- the first pass over a value
 abbrev pub MeasuresValue : Value → Held → Place → List ℕ → List ℕ → Result Place Refusal → Type 0
 MeasuresValue v w p old new r = Measures (HasLongLeaf v) (HasLongStructure v w) (items v w) (fault v w p) p old new r
 
+-- the first pass over values one after the other
 abbrev pub MeasuresValues : Values → Held → Place → List ℕ → List ℕ → Result Place Refusal → Type 0
 MeasuresValues vs w p old new r = Measures (HaveLongLeaf vs) (HaveLongStructure vs w) (items_in vs w) (fault_in vs w p) p old new r
 

@@ -13,6 +13,7 @@ abbrev mutual
   sizes_below no_trees = []
   sizes_below (tree t ts) = sizes t ++ sizes_below ts
 
+-- the lengths of the structures of a list of trees
 abbrev pub sizes_all : List Tree → List ℕ
 sizes_all ts = flat_map sizes ts
 
@@ -21,5 +22,6 @@ pub record FitsAfter (n : ℕ) (ts : List Tree) : Type 0 where
   pub each : AllByRecursion Fits ts
   pub total : n + length (bytes_all ts) < 2 ^ 64
 
+-- what fits from the first byte on
 abbrev pub FitsAll : List Tree → Type 0
 FitsAll ts = FitsAfter 0 ts

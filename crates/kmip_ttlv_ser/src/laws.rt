@@ -34,8 +34,7 @@ pub fn equal_bytes_have_equal_items()
 pub fn written_bytes_are_split()
     ensures { (v : Value) (n : ℕ) (bytes : List ℕ) → (written : IsWrittenAs v n bytes)
         → Splits (map raw_of written.trees) bytes }
-{
-}
+{}
 
 /// Values of each kind of name, and their bytes by the definitions.
 pub fn worked_values_have_bytes()

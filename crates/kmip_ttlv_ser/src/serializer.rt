@@ -22,6 +22,9 @@ use std::io::Write;
 /// (UnexpectedTtlvField). The first of these in document order is answered. LengthOverflow, of
 /// unknown location, comes only where a length is above 2^32 - 1 or all bytes are more than
 /// 2^64 - 1, and OutOfMemory only where memory was refused.
+///
+/// The call recurses as the value nests: a stack of 8 MiB carries some 10,000 structures in one
+/// another.
 pub fn to_vec<A: Allocator + Copy, T: Serialize>(alloc: A, value: &T) -> Result<Vec<u8, A>, A>
     ensures { Writes (T.stated value.now) result }
 {

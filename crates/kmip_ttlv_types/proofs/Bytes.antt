@@ -1,6 +1,6 @@
 -- Numbers and the bytes that they are written as.
-use Rattle.std.proofs.Common.{◌≡◌, ℕ, zero, suc, ◌<◌, ◌^◌, List, [], ◌∷◌, length, get_or, drop, ap, ◌∙◌, arith, w32, w64}
-use Rattle.std.specs.Int.{from_be_bytes, to_be_bytes, bytes_high_first}
+use Rattle.std.proofs.Common.{◌≡◌, ℕ, zero, suc, ◌<◌, List, ◌∷◌, length, get_or, drop, ap, arith, w32}
+use Rattle.std.specs.Int.{from_be_bytes, bytes_high_first}
 use Rattle.std.proofs.lemmas.Nat.{be_bytes_4}
 
 front_zero : (bs : List ℕ) → ((i : ℕ) → get_or bs i 0 < 256) → (i : ℕ) → get_or (0 ∷ bs) i 0 < 256

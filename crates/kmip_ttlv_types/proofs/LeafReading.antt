@@ -1,5 +1,5 @@
 -- A leaf's length, content and padding, read one after the other.
-use Rattle.std.proofs.Common.{◌≡◌, ◌≢◌, ℕ, ◌+◌, ◌^◌, ◌<◌, ◌≤◌, List, [], ◌∷◌, ◌++◌, Bool, true, false, Option, None, Some, Ok, Err, IfSome, length, take, drop, sym, ap, ◌∙◌, subst, arith, refl, le_refl, length-append, take_all, inl, inr, ◌⊎◌, cond, eqb}
+use Rattle.std.proofs.Common.{◌≡◌, ◌≢◌, ℕ, ◌+◌, ◌^◌, ◌<◌, ◌≤◌, List, [], ◌++◌, Bool, true, false, Option, None, Some, Ok, Err, IfSome, length, take, sym, ap, ◌∙◌, subst, arith, refl, le_refl, length-append, take_all, inl, inr, ◌⊎◌, cond}
 use Rattle.std.proofs.lemmas.Bool.{eqb-true}
 use Rattle.std.proofs.lemmas.List.{take-append-le}
 use Rattle.std.proofs.lemmas.Nat.{from_be_bytes-to_be_bytes_4}
@@ -18,7 +18,7 @@ use Rattle.kmip_ttlv_types.specs.ItemTypes.{pad_len, fixed_length}
 use Rattle.kmip_ttlv_types.specs.Leaves.{is_valid}
 use Rattle.kmip_ttlv_types.specs.Streams.{ConsumesUpTo, IsShort, Lacks}
 use Rattle.kmip_ttlv_types.specs.Headers.{ReadsNumber}
-use Rattle.kmip_ttlv_types.specs.Primitives.{CanHaveLength, Skips, ReadsValue, ReadsLeaf, ConsumesLeaf, StaysWithin, stated_length, stated_content, IsCut, HasWrongLength, HasWrongContent, length_and_content}
+use Rattle.kmip_ttlv_types.specs.Primitives.{CanHaveLength, Skips, ReadsValue, ReadsLeaf, StaysWithin, stated_length, stated_content, IsCut, HasWrongLength, HasWrongContent, length_and_content}
 use Rattle.kmip_ttlv_types.proofs.Taken.{ConsumesUpTo-after}
 
 -- a fact of known bytes, from the part that was consumed and the part that is left
@@ -74,37 +74,40 @@ module _ (typ : TtlvType) (a b : Option (List ℕ)) (n : ℕ) (low : n < 2 ^ 32)
   -- the content didn't come
   cut_in_content : CanHaveLength typ n → IsShort b n → IfSome a (IsCut typ)
   cut_in_content can short = front_of a b (to_be_bytes w32 n) (IsCut typ) taken (λ ys is.
-    let few : length ys < n = if_known b (λ l. length l < n) ys is short in
-    let eq = stated n ys low in
-    inr (subst (CanHaveLength typ) (sym eq) can, inl (omega (arith, few, eq))))
+      let few : length ys < n = if_known b (λ l. length l < n) ys is short in
+      let eq = stated n ys low in
+      inr (subst (CanHaveLength typ) (sym eq) can, inl (omega (arith, few, eq))))
 
   wrong_length : (expected : ℕ) → fixed_length typ ≡ Some expected → (n ≢ expected) → IfSome a (HasWrongLength typ expected n)
   wrong_length expected fixed differs = front_of a b (to_be_bytes w32 n) (HasWrongLength typ expected n) taken (λ ys is.
-    (omega arith, stated n ys low, fixed, differs))
+      (omega arith, stated n ys low, fixed, differs))
 
 module _ (typ : TtlvType) (a b c : Option (List ℕ)) (n : ℕ) (low : n < 2 ^ 32) (taken : Consumes a b (to_be_bytes w32 n))
-  (content : List ℕ) (read : Consumes b c content) (long : length content ≡ n) where
-
+    (content : List ℕ) (read : Consumes b c content) (long : length content ≡ n) where
   all_taken : Consumes a c (to_be_bytes w32 n ++ content)
   all_taken = Consumes-trans a b c _ _ taken read
 
   same_content : (zs : List ℕ) → stated_content ((to_be_bytes w32 n ++ content) ++ zs) ≡ content
   same_content zs =
-    ap (λ k. take k (content ++ zs)) (stated n (content ++ zs) low ∙ sym long) ∙ take-append-le (length content) content zs (le_refl _) ∙ take_all (length content) content (le_refl _)
+      ap (λ k. take k (content ++ zs)) (stated n (content ++ zs) low ∙ sym long) ∙ take-append-le (length content) content zs (le_refl _) ∙ take_all (length content) content (le_refl _)
 
   wrong_content : CanHaveLength typ n → is_valid typ content ≡ false → IfSome a (HasWrongContent typ)
   wrong_content can invalid = front_of a c (to_be_bytes w32 n ++ content) (HasWrongContent typ) all_taken (λ zs is.
-    let eq = stated n (content ++ zs) low in
-    (subst (CanHaveLength typ) (sym eq) can, omega (arith, eq, long, length-append content zs), ap (is_valid typ) (same_content zs) ∙ invalid))
+      let eq = stated n (content ++ zs) low in
+      (subst (CanHaveLength typ) (sym eq) can, omega (arith, eq, long, length-append content zs), ap (is_valid typ) (same_content zs) ∙ invalid))
 
   -- the padding didn't come
   cut_in_padding : is_valid typ content ≡ true → IsShort c (pad_len n) → IfSome a (IsCut typ)
   cut_in_padding valid short = front_of a c (to_be_bytes w32 n ++ content) (IsCut typ) all_taken (λ zs is.
-    let few : length zs < pad_len n = if_known c (λ l. length l < pad_len n) zs is short in
-    let eq = stated n (content ++ zs) low in
-    inr (subst (CanHaveLength typ) (long ∙ sym eq) (length-valid typ content valid),
-    inr (ap (is_valid typ) (same_content zs) ∙ valid,
-    subst (λ k. length ((to_be_bytes w32 n ++ content) ++ zs) < 4 + k + pad_len k) (sym eq) (omega (arith, few, long, length-append content zs)))))
+      let few : length zs < pad_len n = if_known c (λ l. length l < pad_len n) zs is short in
+      let eq = stated n (content ++ zs) low in
+      inr (
+        subst (CanHaveLength typ) (long ∙ sym eq) (length-valid typ content valid),
+        inr (
+          ap (is_valid typ) (same_content zs) ∙ valid,
+          subst (λ k. length ((to_be_bytes w32 n ++ content) ++ zs) < 4 + k + pad_len k) (sym eq) (omega (arith, few, long, length-append content zs)),
+        ),
+      ))
 
 module _ (typ : TtlvType) (cf : Bool) where
   content_lacks : (a b : Option (List ℕ)) (n : ℕ) (e : IoFault) → n < 2 ^ 32 → Consumes a b (to_be_bytes w32 n) → CanHaveLength typ n → Lacks cf b n e
@@ -155,9 +158,10 @@ module _ (T A : Type 0) (typ : TtlvType) (bytes_of : T → List ℕ) (tm cf : Bo
     module _ (d : Option (List ℕ)) (v : T) (read : Consumes b c (bytes_of v)) (long : length (bytes_of v) ≡ n) (valid : is_valid typ (bytes_of v) ≡ true) where
       -- the padding was refused
       pub padding_refused : (P : Type 0) (e : Error A) → Skips {T = P} (pad_len n) cf c d (Err e) → ReadsLeaf {T = T} typ bytes_of tm cf a d (Err e)
-      padding_refused P (errors.IoError e) (lacks, upto) =
-          (padding_lacks typ cf a b c n (bytes_of v) e low taken read long valid lacks,
-          within a b d n (length (bytes_of v) + pad_len n) low taken (omega (arith, long)) (ConsumesUpTo-after b c d (bytes_of v) (pad_len n) _ read upto (omega (arith, long))))
+      padding_refused P (errors.IoError e) (lacks, upto) = (
+        padding_lacks typ cf a b c n (bytes_of v) e low taken read long valid lacks,
+        within a b d n (length (bytes_of v) + pad_len n) low taken (omega (arith, long)) (ConsumesUpTo-after b c d (bytes_of v) (pad_len n) _ read upto (omega (arith, long))),
+      )
       padding_refused P (errors.InvalidTtlvTag text) h = absurd h
       padding_refused P (errors.UnexpectedTtlvField x y) h = absurd h
       padding_refused P (errors.UnsupportedTtlvType x) h = absurd h
@@ -171,10 +175,12 @@ module _ (T A : Type 0) (typ : TtlvType) (bytes_of : T → List ℕ) (tm cf : Bo
       -- all of it was read
       pub leaf_read : (P : Type 0) (p : P) → Skips {T = P} {A = A} (pad_len n) cf c d (Ok p) → ReadsLeaf {T = T} {A = A} typ bytes_of tm cf a d (Ok v)
       unfolding length_and_content
-      leaf_read P p (pad, size, skipped) =
-          (record {
+      leaf_read P p (pad, size, skipped) = (
+        record {
           fits = omega (arith, long);
           pad = pad;
           pad_length = size ∙ ap pad_len (sym long);
           consumes = Consumes-trans a c d _ _ (subst (λ k. Consumes a c (to_be_bytes w32 k ++ bytes_of v)) (sym long) (all_taken typ a b c n low taken (bytes_of v) read long)) skipped;
-        }, valid)
+        },
+        valid,
+      )

@@ -1,17 +1,16 @@
 -- What was written is read back.
-use Rattle.std.proofs.Common.{◌≡◌, ◌≢◌, ℕ, ◌+◌, ◌^◌, ◌<◌, ◌≤◌, List, [], ◌∷◌, ◌++◌, Bool, true, false, Option, Some, None, Result, Ok, Err, IfSome, length, take, drop, replicate, sym, ap, ◌∙◌, subst, arith, refl, le_refl, length-append, take_all, append_assoc, inl, inr, ◌⊎◌, Global}
+use Rattle.std.proofs.Common.{◌≡◌, ◌≢◌, ℕ, ◌+◌, ◌^◌, ◌<◌, List, [], ◌∷◌, ◌++◌, Bool, true, false, Option, Some, None, Result, Ok, Err, IfSome, length, take, drop, replicate, sym, ap, ◌∙◌, subst, arith, refl, le_refl, length-append, take_all, append_assoc, inl, inr, Global}
 use Rattle.std.proofs.lemmas.List.{take-append-le, length-replicate}
 use Rattle.std.specs.Prelude.{MatchResult, IsTrue}
 use Rattle.std.specs.Int.{w32, to_be_bytes}
-use Rattle.std.specs.Io.KnownBytes.{Consumes}
 use Rattle.kmip_ttlv_types.specs.declared.error.Error.{Error}
 use Rattle.kmip_ttlv_types.specs.declared.error.Error.TheVariants as errors
 use Rattle.kmip_ttlv_types.specs.declared.typ.TtlvType.{TtlvType}
 use Rattle.kmip_ttlv_types.specs.declared.typ.TtlvType.TheVariants.{Structure, Integer, LongInteger, BigInteger, Enumeration, Boolean, TextString, ByteString, DateTime, Interval}
 use Rattle.kmip_ttlv_types.specs.ItemTypes.{pad_len, fixed_length}
 use Rattle.kmip_ttlv_types.specs.Leaves.{is_valid}
-use Rattle.kmip_ttlv_types.specs.Laws.{IsReadBack, ReadsWholeLeaves, written_rest}
-use Rattle.kmip_ttlv_types.specs.Primitives.{content_of, length_and_content, CanHaveLength, ReadsLeaf, ConsumesLeaf, IsCut, HasWrongLength, HasWrongContent, stated_length, stated_content}
+use Rattle.kmip_ttlv_types.specs.Laws.{IsReadBack, ReadsWholeLeaves}
+use Rattle.kmip_ttlv_types.specs.Primitives.{content_of, length_and_content, CanHaveLength, ReadsLeaf, ConsumesLeaf, IsCut, stated_length, stated_content}
 use Rattle.kmip_ttlv_types.proofs.LeafReading.{stated, length-valid}
 
 -- the content that is written is valid
@@ -57,7 +56,7 @@ wrong_length typ n expected actual can same fixed differs =
     let is : n ≡ expected = subst (λ (o : Option ℕ). IfSome o (λ k. n ≡ k)) fixed can in differs (sym same ∙ is)
 
 module _ {T : Type 0} (typ : TtlvType) (bytes_of : T → List ℕ) (tm : Bool) (content zeros rest : List ℕ) (low : length content < 2 ^ 32)
-  (padded : length zeros ≡ pad_len (length content)) (valid : is_valid typ content ≡ true) where
+    (padded : length zeros ≡ pad_len (length content)) (valid : is_valid typ content ≡ true) where
   abbrev pub there : List ℕ
   there = ((to_be_bytes w32 (length content) ++ content) ++ zeros) ++ rest
 
@@ -65,9 +64,9 @@ module _ {T : Type 0} (typ : TtlvType) (bytes_of : T → List ℕ) (tm : Bool) (
   unfolding length_and_content
   value_there w ys leaf =
       let same_length : length (bytes_of w) ≡ length content =
-          sym (stated (length (bytes_of w)) ((bytes_of w ++ leaf.pad) ++ ys) leaf.fits) ∙ ap stated_length (sym leaf.consumes) ∙ n_is content zeros rest low in
+      sym (stated (length (bytes_of w)) ((bytes_of w ++ leaf.pad) ++ ys) leaf.fits) ∙ ap stated_length (sym leaf.consumes) ∙ n_is content zeros rest low in
       let parts : content ++ (zeros ++ rest) ≡ bytes_of w ++ (leaf.pad ++ ys) =
-          sym (append_assoc content zeros rest) ∙ ap (drop 4) leaf.consumes ∙ append_assoc (bytes_of w) leaf.pad ys in
+      sym (append_assoc content zeros rest) ∙ ap (drop 4) leaf.consumes ∙ append_assoc (bytes_of w) leaf.pad ys in
       let pads : zeros ++ rest ≡ leaf.pad ++ ys = same_rest content (bytes_of w) _ _ (sym same_length) parts in
       (sym (same_front content (bytes_of w) _ _ (sym same_length) parts), sym (same_rest zeros leaf.pad rest ys (padded ∙ ap pad_len (sym same_length) ∙ sym leaf.pad_length) pads))
 

@@ -1,8 +1,8 @@
 -- What several reads or writes, one after the other, did to known bytes.
-use Rattle.std.proofs.Common.{◌≡◌, ℕ, ◌+◌, ◌-◌, ◌<◌, ◌≤◌, List, [], ◌++◌, Option, None, Some, Result, Ok, Err, IfOk, IfSome, length, take, drop, sym, ap, ◌∙◌, subst, arith, take-add, take_all, length-append, length-drop, append-nil, drop_at, length-take-le, refl, le_refl}
+use Rattle.std.proofs.Common.{◌≡◌, ℕ, ◌+◌, ◌-◌, ◌<◌, ◌≤◌, List, ◌++◌, Option, None, Some, Result, Ok, Err, IfOk, length, take, drop, sym, ap, ◌∙◌, subst, arith, take-add, take_all, length-append, length-drop, append-nil, drop_at, refl, le_refl}
 use Rattle.std.proofs.lemmas.List.{take-append-le}
 use Rattle.std.specs.Io.{ReadsAtMost}
-use Rattle.std.specs.Io.KnownBytes.{Appends, Consumes, IsAtEnd, Keeps}
+use Rattle.std.specs.Io.KnownBytes.{Appends, Consumes, IsAtEnd}
 use Rattle.std.proofs.KnownBytes.{Consumes-trans, Appends-trans}
 use Rattle.kmip_ttlv_types.specs.Streams.{IsShort, AppendsFront, ConsumesUpTo}
 
@@ -67,4 +67,3 @@ ConsumesUpTo-after a b c bs m n taken more low = record {
   within = omega (arith, more.within, length-append bs more.bytes);
   consumes = Consumes-trans a b c _ _ taken more.consumes;
 }
-

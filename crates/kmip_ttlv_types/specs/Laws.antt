@@ -1,5 +1,5 @@
 -- Laws of the definitions, which the functions of the module `laws` promise.
-use Rattle.std.specs.Prelude.{◌≡◌, ◌≢◌, ◌↔◌, ℕ, ◌+◌, ◌%◌, ◌^◌, ◌<◌, ◌≤◌, ◌⊎◌, IsOk, None, List, ◌∷◌, ◌++◌, length, replicate, Bool, true, false, IsTrue, Option, Some, Result, Ok, Err, MatchResult}
+use Rattle.std.specs.Prelude.{◌≡◌, ◌↔◌, ℕ, ◌+◌, ◌%◌, ◌^◌, ◌<◌, ◌≤◌, ◌⊎◌, IsOk, None, List, ◌∷◌, ◌++◌, length, replicate, Bool, true, false, IsTrue, Option, Some, Result, MatchResult}
 use Rattle.std.specs.declared.alloc.Global.{Global}
 use Rattle.kmip_ttlv_types.specs.declared.error.Error.{Error}
 use Rattle.kmip_ttlv_types.specs.declared.error.Error.TheVariants.{OutOfMemory, InvalidTtlvType}

@@ -5,8 +5,7 @@ ghost use Rattle.std.specs.Fmt.{DisplaysOnOk};
 ghost use Rattle.std.specs.Str.{IsAscii};
 ghost use Rattle.kmip_ttlv_types.specs.Digits.{digit, six_digits, eight_digits};
 
-use std::fmt;
-use std::str;
+use std::{fmt, str};
 
 fn digit_of(n: u32) -> u8
     requires { n < 16 }

@@ -123,7 +123,11 @@ impl SerializableTtlvType for TtlvLongInteger {
         Ok(8)
     }
 
-    fn read_value<S: Source>(_alloc: Global, src: &mut S, value_len: u32) -> Result<TtlvLongInteger> {
+    fn read_value<S: Source>(
+        _alloc: Global,
+        src: &mut S,
+        value_len: u32,
+    ) -> Result<TtlvLongInteger> {
         let bytes = read_long(src, value_len, TtlvType::LongInteger)?;
         Ok(TtlvLongInteger(signed_long_of(&bytes)))
     }
@@ -167,7 +171,11 @@ impl SerializableTtlvType for TtlvEnumeration {
         Ok(4)
     }
 
-    fn read_value<S: Source>(_alloc: Global, src: &mut S, value_len: u32) -> Result<TtlvEnumeration> {
+    fn read_value<S: Source>(
+        _alloc: Global,
+        src: &mut S,
+        value_len: u32,
+    ) -> Result<TtlvEnumeration> {
         let bytes = read_word(src, value_len, TtlvType::Enumeration)?;
         Ok(TtlvEnumeration(word_of(&bytes)))
     }

@@ -1,7 +1,7 @@
 //! Laws of reading and writing, each a function that does nothing and whose contract is the law, and
 //! a function that uses them over any primitive.
 
-ghost use Rattle.std.specs.Prelude.{◌≡◌, IfOk};
+ghost use Rattle.std.specs.Prelude.{◌≡◌, IfOk, IsTrue};
 ghost use Rattle.kmip_ttlv_types.specs.Laws.{IsReadBack, ReadsWholeLeaves, ReadsHeaders, WritesWhereRoom, ReadsEachField, SkipsIgnoredTags, PadsToEight, LeavesAreTagAndRest};
 ghost use Rattle.kmip_ttlv_types.specs.Primitives.{content_of};
 
@@ -14,58 +14,51 @@ use crate::stream::{MemorySink, MemorySource};
 use crate::tag::TtlvTag;
 use crate::typ::TtlvType;
 use std::alloc::Allocator;
+use std::hash::Hash;
 
 /// What was written is read back: the value of the bytes that were written, with nothing of what
 /// follows.
 pub fn what_was_written_is_read_back<T: SerializableTtlvType>(value: &T)
     ensures { IsReadBack T.HasTtlvType.TTLV_TYPE T.SerializableTtlvType.value_bytes T.SerializableTtlvType.takes_memory value.now }
-{
-}
+{}
 
 /// A whole leaf in memory is read, whatever its padding: want of memory is the only refusal, and comes
 /// only where reading takes memory.
 pub fn a_whole_leaf_in_memory_is_read<T: SerializableTtlvType>()
     ensures { ReadsWholeLeaves T.HasTtlvType.TTLV_TYPE T.SerializableTtlvType.value_bytes T.SerializableTtlvType.takes_memory }
-{
-}
+{}
 
 /// A tag, a type and a length are read from memory that has their bytes, save a byte that is no type.
 pub fn headers_in_memory_are_read()
     ensures { ReadsHeaders }
-{
-}
+{}
 
 /// What goes into memory that has the room is written, save a length that four bytes can't hold.
 pub fn memory_with_room_is_written()
     ensures { WritesWhereRoom }
-{
-}
+{}
 
 /// While deserializing, the machine answers true for each field that it accepts.
 pub fn deserializing_reads_each_field()
     ensures { ReadsEachField }
-{
-}
+{}
 
 /// While serializing, the machine answers false for a field that it accepts exactly where that is a
 /// tag to be ignored.
 pub fn serializing_skips_ignored_tags()
     ensures { SkipsIgnoredTags }
-{
-}
+{}
 
 /// A content and its padding are a multiple of eight bytes.
 pub fn padding_fills_up_to_eight()
     ensures { PadsToEight }
-{
-}
+{}
 
 /// A leaf's canonical bytes are those of its tag, and then what the call `write` of its value writes.
 /// Together they are a multiple of eight bytes.
 pub fn a_leaf_is_its_tag_and_the_rest()
     ensures { LeavesAreTagAndRest }
-{
-}
+{}
 
 /// A tag that is written as three bytes and read from them is the same.
 pub fn tag_of_its_bytes(tag: TtlvTag) -> TtlvTag
@@ -75,41 +68,41 @@ pub fn tag_of_its_bytes(tag: TtlvTag) -> TtlvTag
     TtlvTag::from(bytes)
 }
 
+/// Tags that compare as equal are the same, and hash alike.
+pub fn equal_tags_hash_alike(a: TtlvTag, b: TtlvTag)
+    ensures { IsTrue (⟦<TtlvTag as PartialEq>⟧.eq a b)
+        → (a ≡ b) × (⟦<TtlvTag as Hash>⟧.hash_input a ≡ ⟦<TtlvTag as Hash>⟧.hash_input b) }
+{}
+
 /// Two values of the same bytes are the same.
 pub fn an_integer_is_told_by_its_bytes(a: TtlvInteger, b: TtlvInteger)
     ensures { ⟦<TtlvInteger as SerializableTtlvType>⟧.value_bytes a ≡ ⟦<TtlvInteger as SerializableTtlvType>⟧.value_bytes b → a ≡ b }
-{
-}
+{}
 
 /// Two values of the same bytes are the same.
 pub fn a_long_integer_is_told_by_its_bytes(a: TtlvLongInteger, b: TtlvLongInteger)
     ensures { ⟦<TtlvLongInteger as SerializableTtlvType>⟧.value_bytes a ≡ ⟦<TtlvLongInteger as SerializableTtlvType>⟧.value_bytes b → a ≡ b }
-{
-}
+{}
 
 /// Two values of the same bytes are the same.
 pub fn an_enumeration_is_told_by_its_bytes(a: TtlvEnumeration, b: TtlvEnumeration)
     ensures { ⟦<TtlvEnumeration as SerializableTtlvType>⟧.value_bytes a ≡ ⟦<TtlvEnumeration as SerializableTtlvType>⟧.value_bytes b → a ≡ b }
-{
-}
+{}
 
 /// Two values of the same bytes are the same.
 pub fn a_boolean_is_told_by_its_bytes(a: TtlvBoolean, b: TtlvBoolean)
     ensures { ⟦<TtlvBoolean as SerializableTtlvType>⟧.value_bytes a ≡ ⟦<TtlvBoolean as SerializableTtlvType>⟧.value_bytes b → a ≡ b }
-{
-}
+{}
 
 /// Two values of the same bytes are the same.
 pub fn a_date_time_is_told_by_its_bytes(a: TtlvDateTime, b: TtlvDateTime)
     ensures { ⟦<TtlvDateTime as SerializableTtlvType>⟧.value_bytes a ≡ ⟦<TtlvDateTime as SerializableTtlvType>⟧.value_bytes b → a ≡ b }
-{
-}
+{}
 
 /// Two values of the same bytes are the same.
 pub fn an_interval_is_told_by_its_bytes(a: TtlvInterval, b: TtlvInterval)
     ensures { ⟦<TtlvInterval as SerializableTtlvType>⟧.value_bytes a ≡ ⟦<TtlvInterval as SerializableTtlvType>⟧.value_bytes b → a ≡ b }
-{
-}
+{}
 
 /// Writes a value into memory, and reads it from there: the value of the bytes that were written.
 ///

@@ -1,8 +1,10 @@
-//! The parts of the TTLV encoding: tags, types and lengths of items.
+//! The parts of the TTLV encoding: tags, types and lengths of items, the values of leaves, and the
+//! order of an item's fields. A user can stand on these alone, over any reader and any writer.
 //!
 //! The wire is that of OASIS KMIP 1.0, section 9.1. Definitions that every layer above speaks of
 //! stand in specs/: the types of items, what a leaf may hold, items with their texts, trees with
-//! their canonical bytes, names of tags.
+//! their canonical bytes, names of tags, and what reading and writing do to a stream. `stream` has
+//! what bytes come from and go to, `laws` the laws that a user may rest on.
 #![tactic(auto)]
 
 mod digits;

@@ -92,7 +92,11 @@ impl TtlvStateMachine {
         self.ignores_tag
             && matches!(
                 (self.mode, self.due, next),
-                (TtlvStateMachineMode::Serializing, FieldType::Typ, FieldType::Tag)
+                (
+                    TtlvStateMachineMode::Serializing,
+                    FieldType::Typ,
+                    FieldType::Tag
+                )
             )
     }
 

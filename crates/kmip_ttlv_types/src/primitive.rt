@@ -13,7 +13,8 @@ use crate::stream::{Sink, Source, fill_all};
 use crate::typ::TtlvType;
 use std::alloc::Allocator;
 
-/// What has one type of items.
+/// What has one type of items. It stands apart from `SerializableTtlvType` since two members of one
+/// trait, as this and `ttlv_type`, may not differ in case alone.
 pub trait HasTtlvType {
     /// The type of these items.
     const TTLV_TYPE: TtlvType;

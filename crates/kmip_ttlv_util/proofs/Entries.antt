@@ -1,34 +1,36 @@
 -- Entries at places.
-use Rattle.std.proofs.Common.{Bor, ◌≡◌, ◌≢◌, ℕ, zero, suc, ◌+◌, ◌-◌, ◌<◌, ◌≤◌, Bool, true, false, ◌&&◌, cond, eqb, leb, List, [], ◌∷◌, ◌++◌, length, take, drop, get_or, Option, Some, None, refl, sym, ap, subst, ◌∙◌, arith, add-zero}
+use Rattle.std.proofs.Common.{Bor, ◌≡◌, ◌≢◌, ℕ, ◌+◌, ◌<◌, ◌≤◌, Bool, true, false, ◌&&◌, cond, eqb, leb, List, length, take, drop, get_or, Option, Some, None, refl, sym, ap, subst, ◌∙◌, arith, add-zero}
 use Rattle.std.specs.Int.{w32, from_be_bytes}
 use Rattle.std.proofs.lemmas.List.{get_or-take, get_or-drop, length-take-le, length-drop}
-use Rattle.std.proofs.lemmas.Bool.{eq-eqb, ne_eqb, le-leb, lt-leb}
+use Rattle.std.proofs.lemmas.Bool.{le-leb, lt-leb}
 use Rattle.kmip_ttlv_types.specs.declared.typ.TtlvType.{TtlvType}
 use Rattle.kmip_ttlv_types.specs.declared.typ.TtlvType.TheVariants.{Structure, Integer, LongInteger, BigInteger, Enumeration, Boolean, TextString, ByteString, DateTime, Interval}
-use Rattle.kmip_ttlv_util.specs.declared.item.Item.{Item}
-use Rattle.kmip_ttlv_types.specs.ItemTypes.{code, padding}
 use Rattle.kmip_ttlv_types.specs.Leaves.{is_valid}
 use Rattle.kmip_ttlv_types.specs.Places.{tag_at, code_at, length_at, size}
 use Rattle.kmip_ttlv_types.specs.ItemTypes.{type_of}
-use Rattle.kmip_ttlv_util.specs.Traces.{Detail, Entry, no_detail, value, validity, detail_of, detail_at, entry_at, is_fine, extent, type_if, type_read, kept}
+use Rattle.kmip_ttlv_util.specs.Traces.{Detail, detail_of, detail_at, entry_at, is_fine, extent, type_if, type_read, kept}
 use Rattle.kmip_ttlv_util.specs.Answer.{IsItem}
 
 module _ (w : List ℕ) (p : ℕ) where
   cell : (i : ℕ) → i < 8 → get_or (take 8 (drop p w)) i 0 ≡ get_or w (p + i) 0
   cell i lt = get_or-take 8 (drop p w) i 0 lt ∙ get_or-drop p w i 0
 
+  -- an entry's tag, code and length are those at its place
   pub entry_tag : tag_at (entry_at w p).header 0 ≡ tag_at w p
   unfolding entry_at
   entry_tag = rw (cell 0 (omega arith), cell 1 (omega arith), cell 2 (omega arith), add-zero) refl
 
+  -- its code
   pub entry_code : code_at (entry_at w p).header 0 ≡ code_at w p
   unfolding entry_at
   entry_code = cell 3 (omega arith)
 
+  -- its length
   pub entry_length : length_at (entry_at w p).header 0 ≡ length_at w p
   unfolding entry_at
   entry_length = rw (cell 4 (omega arith), cell 5 (omega arith), cell 6 (omega arith), cell 7 (omega arith)) refl
 
+-- an entry has its eight header bytes
 pub extent_least : (t : TtlvType) (n : ℕ) → 8 ≤ extent t n
 extent_least Structure n = omega arith
 extent_least Integer n = omega arith
@@ -41,6 +43,7 @@ extent_least ByteString n = omega arith
 extent_least DateTime n = omega arith
 extent_least Interval n = omega arith
 
+-- of a leaf, the whole
 pub extent_leaf : (t : TtlvType) (n : ℕ) → t ≢ Structure → extent t n ≡ size t n
 extent_leaf Structure n ne = absurd (ne refl)
 extent_leaf Integer n ne = refl
@@ -79,15 +82,19 @@ kept_none ByteString d ne = refl
 kept_none DateTime d ne = refl
 kept_none Interval d ne = refl
 
+-- a valid enumeration's value is kept
 pub kept_enumeration : (content : List ℕ) → is_valid Enumeration content ≡ true → kept Enumeration (detail_of Enumeration content) ≡ Some (from_be_bytes w32 content)
 kept_enumeration content valid = rw valid refl
 
+-- a type is read where its bytes are there and its content is valid
 test_true : (a b : ℕ) (c : Bool) (t : TtlvType) → a ≤ b → c ≡ true → cond (leb a b && c) (Some t) None ≡ Some t
 test_true a b c t le e = rw (le-leb a b le, e) refl
 
+-- not where bytes are missing
 test_order : (a b : ℕ) (c : Bool) (t : TtlvType) → b < a → cond (leb a b && c) (Some t) None ≡ None
 test_order a b c t lt = rw (lt-leb a b lt) refl
 
+-- not where content is invalid
 test_false : (b c : Bool) (t : TtlvType) → c ≡ false → cond (b && c) (Some t) None ≡ None
 test_false true c t e = rw e refl
 test_false false c t e = refl
@@ -98,9 +105,11 @@ module _ (w : List ℕ) (p : ℕ) where
   unfolding type_read
   read_at o e = ap (type_if (length w) p (entry_at w p)) (ap type_of (entry_code w p) ∙ e)
 
+  -- an entry of no type is not read
   pub read_none : type_of (code_at w p) ≡ None → type_read (length w) p (entry_at w p) ≡ None
   read_none e = read_at None e
 
+  -- nor one without its header
   pub read_short : length w < p + 8 → type_read (length w) p (entry_at w p) ≡ None
   read_short lt = by (type_of (code_at w p)) refl
     where
@@ -114,30 +123,36 @@ module _ (w : List ℕ) (p : ℕ) where
       let same : extent t (length_at (entry_at w p).header 0) ≡ size t n = ap (extent t) (entry_length w p ∙ sym len) ∙ extent_leaf t n ne in
       read_at (Some t) code-is ∙ test_order (p + extent t (length_at (entry_at w p).header 0)) (length w) _ t (omega arith)
 
+  -- what is kept of content that is there
   pub detail_here : (t : TtlvType) (n : ℕ) → type_of (code_at w p) ≡ Some t → n ≡ length_at w p → p + size t n ≤ length w → (entry_at w p).detail ≡ detail_of t (take n (drop (p + 8) w))
   unfolding entry_at
   detail_here t n code-is len le =
       let here : p + size t (length_at w p) ≤ length w = subst (λ (m : ℕ). p + size t m ≤ length w) len le in
       ap (detail_at w p) code-is ∙ rw (le-leb (p + size t (length_at w p)) (length w) here) (ap (λ (m : ℕ). detail_of t (take m (drop (p + 8) w))) (sym len))
 
+  -- what is kept tells whether that content is valid
   fine_here : (t : TtlvType) (n : ℕ) → type_of (code_at w p) ≡ Some t → t ≢ Structure → n ≡ length_at w p → p + size t n ≤ length w → is_fine t (length_at (entry_at w p).header 0) (entry_at w p).detail ≡ is_valid t (take n (drop (p + 8) w))
   fine_here t n code-is ne len le =
       let long : n ≤ length (drop (p + 8) w) = omega (arith, length-drop (p + 8) w) in
       ap (is_fine t (length_at (entry_at w p).header 0)) (detail_here t n code-is len le)
       ∙ fine_is t (length_at (entry_at w p).header 0) (take n (drop (p + 8) w)) ne (length-take-le n (drop (p + 8) w) long ∙ len ∙ sym (entry_length w p))
 
+  -- an entry of invalid content is not read
   pub read_invalid : (t : TtlvType) (n : ℕ) → type_of (code_at w p) ≡ Some t → t ≢ Structure → n ≡ length_at w p → p + size t n ≤ length w → is_valid t (take n (drop (p + 8) w)) ≡ false → type_read (length w) p (entry_at w p) ≡ None
   read_invalid t n code-is ne len le bad =
       read_at (Some t) code-is ∙ test_false _ _ t (fine_here t n code-is ne len le ∙ bad)
 
+  -- a leaf whose valid content is there is read
   pub read_leaf : (t : TtlvType) (n : ℕ) → type_of (code_at w p) ≡ Some t → t ≢ Structure → n ≡ length_at w p → p + size t n ≤ length w → is_valid t (take n (drop (p + 8) w)) ≡ true → type_read (length w) p (entry_at w p) ≡ Some t
   read_leaf t n code-is ne len le good =
       let same : extent t (length_at (entry_at w p).header 0) ≡ size t n = ap (extent t) (entry_length w p ∙ sym len) ∙ extent_leaf t n ne in
       read_at (Some t) code-is ∙ test_true (p + extent t (length_at (entry_at w p).header 0)) (length w) _ t (omega arith) (fine_here t n code-is ne len le ∙ good)
 
+  -- a structure whose header is there is read
   pub read_structure : type_of (code_at w p) ≡ Some Structure → p + 8 ≤ length w → type_read (length w) p (entry_at w p) ≡ Some Structure
   read_structure code-is le = read_at (Some Structure) code-is ∙ test_true (p + 8) (length w) true Structure le refl
 
+  -- the item of a structure
   pub item_structure : (tag n : ℕ) (t : TtlvType) (b : Bor (List ℕ)) → t ≡ Structure → type_of (code_at w p) ≡ Some t → p + 8 ≤ length w → tag ≡ tag_at w p → n ≡ length_at w p → IsItem w p record { tag = tag; typ = t; length = n; value = None; content = b; next = p + 8 }
   item_structure tag n t b is code-is le tag-is len = record {
     typ = read_structure (code-is ∙ ap Some is) le ∙ ap Some (sym is);
@@ -150,6 +165,7 @@ module _ (w : List ℕ) (p : ℕ) where
     valid = λ ne. absurd (ne is);
   }
 
+  -- the item of a leaf, with its value
   item_leaf : (tag n next : ℕ) (t : TtlvType) (b : Bor (List ℕ)) (v : Option ℕ) → type_of (code_at w p) ≡ Some t → t ≢ Structure → tag ≡ tag_at w p → n ≡ length_at w p → b.now ≡ take n (drop (p + 8) w) → next ≡ p + size t n → next ≤ length w → is_valid t b.now ≡ true → v ≡ kept t (detail_of t b.now) → IsItem w p record { tag = tag; typ = t; length = n; value = v; content = b; next = next }
   item_leaf tag n next t b v code-is ne tag-is len content-is next-is within good kept-is =
       let le : p + size t n ≤ length w = omega arith in
@@ -164,9 +180,11 @@ module _ (w : List ℕ) (p : ℕ) where
         valid = λ _. good;
       }
 
+  -- the item of a leaf without a value
   pub item_plain : (tag n next : ℕ) (t : TtlvType) (b : Bor (List ℕ)) → type_of (code_at w p) ≡ Some t → t ≢ Structure → t ≢ Enumeration → tag ≡ tag_at w p → n ≡ length_at w p → b.now ≡ take n (drop (p + 8) w) → next ≡ p + size t n → next ≤ length w → is_valid t b.now ≡ true → IsItem w p record { tag = tag; typ = t; length = n; value = None; content = b; next = next }
   item_plain tag n next t b code-is ne plain tag-is len content-is next-is within good = item_leaf tag n next t b None code-is ne tag-is len content-is next-is within good (sym (kept_none t (detail_of t b.now) plain))
 
+  -- the item of an enumeration
   pub item_enumeration : (tag n next v : ℕ) (t : TtlvType) (b : Bor (List ℕ)) → type_of (code_at w p) ≡ Some t → t ≡ Enumeration → tag ≡ tag_at w p → n ≡ length_at w p → b.now ≡ take n (drop (p + 8) w) → next ≡ p + size t n → next ≤ length w → is_valid t b.now ≡ true → v ≡ from_be_bytes w32 b.now → IsItem w p record { tag = tag; typ = t; length = n; value = Some v; content = b; next = next }
   item_enumeration tag n next v t b code-is is tag-is len content-is next-is within good value-is =
       item_leaf tag n next t b (Some v) code-is (λ h. let k : Enumeration ≡ Structure = sym is ∙ h in cc) tag-is len content-is next-is within good

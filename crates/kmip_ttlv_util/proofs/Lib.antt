@@ -1,6 +1,8 @@
 pub mod Entries
 pub mod Fronts
+pub mod Longest
 pub mod Loop
+pub mod MapClones
 pub mod Message
 pub mod Padding
 pub mod Parts

@@ -1,12 +1,12 @@
 -- The loop of a printer: what is written, with what is left to write, is the whole text.
-use Rattle.std.proofs.Common.{◌≡◌, ◌≢◌, ℕ, zero, suc, ◌+◌, ◌-◌, ◌*◌, ◌<◌, ◌≤◌, ◌/◌, Bool, true, false, List, [], ◌∷◌, ◌++◌, length, Option, Some, None, refl, sym, ap, subst, ◌∙◌, arith, append_assoc, append-nil}
+use Rattle.std.proofs.Common.{◌≡◌, ℕ, suc, ◌+◌, ◌-◌, ◌*◌, ◌<◌, ◌≤◌, ◌/◌, Bool, true, false, List, [], ◌∷◌, ◌++◌, length, None, refl, sym, ap, subst, ◌∙◌, arith, append_assoc}
 use Rattle.std.specs.Prelude.{reverse}
 use Rattle.std.proofs.lemmas.List.{length-reverse}
 use Rattle.kmip_ttlv_types.specs.declared.typ.TtlvType.{TtlvType}
 use Rattle.kmip_ttlv_types.specs.declared.typ.TtlvType.TheVariants.{Structure, Integer, LongInteger, BigInteger, Enumeration, Boolean, TextString, ByteString, DateTime, Interval}
 use Rattle.kmip_ttlv_util.specs.declared.item.Item.{Item}
 use Rattle.kmip_ttlv_types.specs.Places.{length_at}
-use Rattle.kmip_ttlv_util.specs.Traces.{Place, start, left_at, has_end, opened, after, entry_at, type_read, kept, extent, trace, Style, told}
+use Rattle.kmip_ttlv_util.specs.Traces.{Place, start, left_at, has_end, opened, after, entry_at, type_read, extent, trace, Style, told}
 use Rattle.kmip_ttlv_util.specs.Answer.{IsItem, Ready, Closed, Passed}
 use Rattle.kmip_ttlv_util.proofs.Entries.{extent_least}
 use Rattle.kmip_ttlv_util.proofs.Rest.{place, text_from, count_from, text_start, count_start, text_reads, count_reads, text_unreadable, count_unreadable, text_closes, count_closes, text_over, count_over, text_past, count_past}
@@ -26,11 +26,13 @@ pub record Written (style : Style) (closed : Bool) (bytes out : List ℕ) (count
   pub counts : count ≡ length (trace closed bytes)
   pub bounded : count ≤ length bytes / 8 + 1
 
+-- opening a structure goes on behind its header
 opened_pos : (b : Bool) (p n : ℕ) (es : List ℕ) (k : ℕ) (z : Bool) → (opened b p n es k z).pos ≡ p
 opened_pos true p n es k z = refl
 opened_pos false p n [] k z = refl
 opened_pos false p n (e ∷ es) k z = refl
 
+-- a step goes on behind the entry
 pub after_pos : (closed : Bool) (s : Place) (t : TtlvType) (n : ℕ) → (after closed s t n).pos ≡ s.pos + extent t n
 unfolding after
 after_pos closed s Structure n = opened_pos (has_end closed n) (s.pos + 8) n (left_at s.pos s.ends) s.endless s.loose
@@ -66,9 +68,11 @@ module _ (style : Style) (closed : Bool) (bytes : List ℕ) where
         depth = omega arith;
       }
 
+  -- a turn is left while bytes are left
   fuel_is : (count : ℕ) → count ≤ length bytes → suc (length bytes) - count ≡ suc (suc (length bytes) - (count + 1))
   fuel_is count le = omega arith
 
+  -- an entry is read
   pub walking_reads : (out new : List ℕ) (count : ℕ) (s t : Place) (i : Item) → Walking style closed bytes out count s → Ready s → IsItem bytes s.pos i → new ≡ out ++ style.item (s.endless + length s.ends) s.pos (entry_at bytes s.pos) i.typ → t ≡ after closed s i.typ i.length → Walking style closed bytes new (count + 1) t
   walking_reads out new count s t i w ready item writes goes =
       let at : t.pos ≡ i.next = ap (λ (v : Place). v.pos) goes ∙ after_pos closed s i.typ i.length ∙ sym item.next in
@@ -88,6 +92,7 @@ module _ (style : Style) (closed : Bool) (bytes : List ℕ) where
         depth = subst (λ (u : Place). u.endless + length u.ends ≤ count + 1) (sym goes) (omega (arith, w.depth, deeper closed s i.typ i.length ready));
       }
 
+  -- an entry can't be read
   pub walking_unreadable : (out new : List ℕ) (count : ℕ) (s : Place) → Walking style closed bytes out count s → Ready s → type_read (length bytes) s.pos (entry_at bytes s.pos) ≡ None → new ≡ out ++ style.unreadable → Written style closed bytes new (count + 1)
   walking_unreadable out new count s w ready none writes =
       let f = suc (length bytes) - (count + 1) in
@@ -98,6 +103,7 @@ module _ (style : Style) (closed : Bool) (bytes : List ℕ) where
         bounded = omega (arith, w.eighths, w.within);
       }
 
+  -- a structure closes
   pub walking_closes : (out new : List ℕ) (count : ℕ) (s t : Place) → Walking style closed bytes out count s → Closed s t → new ≡ out ++ style.close → Walking style closed bytes new count t
   walking_closes out new count s t w k writes =
       let f = suc (length bytes) - count in
@@ -112,6 +118,7 @@ module _ (style : Style) (closed : Bool) (bytes : List ℕ) where
         depth = subst (λ (u : Place). u.endless + length u.ends ≤ count) (sym k.is) (omega (arith, w.depth, ap length k.ends));
       }
 
+  -- the last structure closes
   pub walking_over : (out new : List ℕ) (count : ℕ) (s : Place) → Walking style closed bytes out count s → s.ends ≡ s.pos ∷ [] → new ≡ out ++ style.close → Written style closed bytes new count
   walking_over out new count s w k writes =
       let f = suc (length bytes) - count in
@@ -122,6 +129,7 @@ module _ (style : Style) (closed : Bool) (bytes : List ℕ) where
         bounded = omega (arith, w.eighths, w.within);
       }
 
+  -- an end was passed
   pub walking_past : (out new : List ℕ) (count : ℕ) (s : Place) → Walking style closed bytes out count s → Passed s → new ≡ out ++ style.passed → Written style closed bytes new count
   walking_past out new count s w k writes =
       let f = suc (length bytes) - count in

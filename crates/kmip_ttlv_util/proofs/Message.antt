@@ -1,26 +1,25 @@
 -- The diagnostic of a well-formed message.
-use Rattle.std.proofs.Common.{◌≡◌, ◌≢◌, ℕ, zero, suc, ◌+◌, ◌-◌, ◌*◌, ◌<◌, ◌≤◌, ◌^◌, Bool, true, false, List, [], ◌∷◌, ◌++◌, length, take, drop, get_or, Option, Some, None, refl, sym, ap, subst, ◌∙◌, arith, append_assoc, append-nil, length-append, add-zero}
+use Rattle.std.proofs.Common.{◌≡◌, ℕ, suc, ◌+◌, ◌-◌, ◌<◌, ◌≤◌, ◌^◌, Bool, true, false, List, [], ◌∷◌, ◌++◌, length, get_or, None, refl, sym, ap, subst, ◌∙◌, arith}
 use Rattle.std.proofs.Common.{◌⊎◌, inl, inr}
-use Rattle.std.specs.Prelude.{Result, Ok, Err, IfOk, string_bytes}
+use Rattle.std.specs.Prelude.{◌↔◌, Result, Ok, Err, IfOk, string_bytes}
 use Rattle.std.proofs.Common.{String}
 use Rattle.std.specs.Int.{w32, from_be_bytes}
-use Rattle.std.proofs.lemmas.List.{take_at, drop_at, length-drop, drop-drop, get_or_append_left, get_or-append_right, get_or_past}
-use Rattle.std.proofs.lemmas.Bool.{lt-ltb, cases_lt}
+use Rattle.std.proofs.lemmas.List.{get_or_append_left, get_or-append_right, get_or_past}
+use Rattle.std.proofs.lemmas.Bool.{cases_lt}
 use Rattle.kmip_ttlv_types.specs.declared.typ.TtlvType.{TtlvType}
 use Rattle.kmip_ttlv_types.specs.declared.typ.TtlvType.TheVariants.{Structure, Integer, LongInteger, BigInteger, Enumeration, Boolean, TextString, ByteString, DateTime, Interval}
-use Rattle.kmip_ttlv_types.specs.Items.{Raw, header, IsTextOf}
+use Rattle.kmip_ttlv_types.specs.Items.{Raw, IsTextOf}
 use Rattle.kmip_ttlv_types.specs.Leaves.{is_valid}
-use Rattle.kmip_ttlv_types.specs.Places.{tag_at, code_at, length_at, size, ItemAt}
-use Rattle.kmip_ttlv_types.specs.Trees.{Tree, Trees, leaf, node, no_trees, tree, IsTreeText, AreTreeTexts, HasNoEmpty, HaveNoEmpty, IsStructure}
-use Rattle.kmip_ttlv_util.specs.Outlines.{Outline, Outlines, IsKept, IsOutline, AreOutlines, value_of, outline_of, outlines_of, mark, diag, diag_all}
-use Rattle.kmip_ttlv_util.specs.Traces.{Entry, entry_at, kept, detail_of, trace}
+use Rattle.kmip_ttlv_types.specs.Trees.{Tree, Trees, leaf, node, no_trees, tree, IsTreeText, AreTreeTexts, HasNoEmpty, IsStructure}
+use Rattle.kmip_ttlv_util.specs.Outlines.{IsKept, IsOutline, AreOutlines, value_of, outline_of, outlines_of, mark, diag, diag_all}
+use Rattle.kmip_ttlv_util.specs.Traces.{entry_at, kept, detail_of, trace}
 use Rattle.kmip_ttlv_util.specs.Diagnostics.{diag_style, hostile}
 use Rattle.kmip_ttlv_util.specs.declared.item.Item.{Item}
 use Rattle.kmip_ttlv_util.specs.Answer.{IsExact, IsItem}
 use Rattle.kmip_ttlv_util.proofs.Unique.{diag_one}
 use Rattle.kmip_ttlv_util.proofs.PlaceLemmas.{raw_of, header_of}
 use Rattle.kmip_ttlv_util.proofs.Entries.{kept_enumeration}
-use Rattle.kmip_ttlv_util.proofs.Walked.{Drawing, Draws, LeafHere, NodeHere, drawn, drawn_all, message_told, leaf_not}
+use Rattle.kmip_ttlv_util.proofs.Walked.{Drawing, Draws, drawn, drawn_all, message_told, leaf_not}
 
 -- what is kept of a leaf is its value in the outline
 kept_is : (typ : TtlvType) (content : List ℕ) → is_valid typ content ≡ true → kept typ (detail_of typ content) ≡ value_of typ content
@@ -41,9 +40,11 @@ kept_is Interval content valid = refl
 pub item_mark : (prefix bytes : List ℕ) (depth p : ℕ) (i : Item) → IsItem bytes p i → mark prefix i.tag i.typ i.value ≡ (diag_style prefix).item depth p (entry_at bytes p) i.typ
 item_mark prefix bytes depth p i item = rw (item.tag, item.value) refl
 
+-- what a diagnostic writes of leaves and of openings
 diag_drawing : List ℕ → Drawing
 diag_drawing prefix = record { of_leaf = λ depth tag typ content. mark prefix tag typ (value_of typ content); of_node = λ depth tag. mark prefix tag Structure None }
 
+-- its style writes that
 diag_draws : (prefix : List ℕ) (closed : Bool) (w : List ℕ) → Draws (diag_style prefix) (diag_drawing prefix) closed w
 unfolding diag_drawing
 diag_draws prefix closed w = record {
@@ -54,14 +55,17 @@ diag_draws prefix closed w = record {
 mutual
   unfolding diag_drawing
 
+  -- which is the text of the outline
   drawn_diag : (prefix : List ℕ) (depth : ℕ) (t : Tree) → drawn (diag_drawing prefix) (93 ∷ []) depth t ≡ diag prefix (outline_of t)
   drawn_diag prefix depth (leaf tag typ content) = refl
   drawn_diag prefix depth (node tag below) = ap (λ (r : List ℕ). mark prefix tag Structure None ++ (r ++ (93 ∷ []))) (drawn_diags prefix (suc depth) below)
 
+  -- and of several
   drawn_diags : (prefix : List ℕ) (depth : ℕ) (ts : Trees) → drawn_all (diag_drawing prefix) (93 ∷ []) depth ts ≡ diag_all prefix (outlines_of ts)
   drawn_diags prefix depth no_trees = refl
   drawn_diags prefix depth (tree t ts) = ap (λ (r : List ℕ). r ++ drawn_all (diag_drawing prefix) (93 ∷ []) depth ts) (drawn_diag prefix depth t) ∙ ap (λ (r : List ℕ). diag prefix (outline_of t) ++ r) (drawn_diags prefix depth ts)
 
+-- the diagnostic of a well-formed message is that of its outline
 pub message_text : (prefix : List ℕ) (closed : Bool) (w : List ℕ) (t : Tree) → IsTreeText t w → IsStructure t → (closed ≡ false → HasNoEmpty t) → hostile prefix closed (length w) (trace closed w) ≡ diag prefix (outline_of t)
 unfolding hostile
 message_text prefix closed w t h root none = message_told (diag_style prefix) (diag_drawing prefix) closed w (diag_draws prefix closed w) t h root none ∙ drawn_diag prefix 0 t
@@ -71,6 +75,7 @@ message_text prefix closed w t h root none = message_told (diag_style prefix) (d
 abbrev AreBytes : List ℕ → Type 0
 AreBytes bs = (i : ℕ) → get_or bs i 0 < 256
 
+-- a front of bytes is bytes
 bytes_left : (xs ys : List ℕ) → AreBytes (xs ++ ys) → AreBytes xs
 bytes_left xs ys all i = by (cases_lt i (length xs))
   where
@@ -78,6 +83,7 @@ bytes_left xs ys all i = by (cases_lt i (length xs))
     by (inl lt) = let e : get_or (xs ++ ys) i 0 ≡ get_or xs i 0 = get_or_append_left xs ys 0 i lt in omega (arith, all i, e)
     by (inr le) = let e : get_or xs i 0 ≡ 0 = get_or_past xs i 0 le in omega (arith, e)
 
+-- and so is what follows
 bytes_right : (xs ys : List ℕ) → AreBytes (xs ++ ys) → AreBytes ys
 bytes_right xs ys all i =
     let e : get_or (xs ++ ys) (length xs + i) 0 ≡ get_or ys (length xs + i - length xs) 0 = get_or-append_right xs ys (length xs) (length xs + i) 0 refl (omega arith) in
@@ -85,12 +91,15 @@ bytes_right xs ys all i =
     let k : get_or ys (length xs + i - length xs) 0 ≡ get_or ys i 0 = ap (λ (m : ℕ). get_or ys m 0) j in
     omega (arith, all (length xs + i), e, k)
 
+-- an item's content is bytes
 content_bytes : (x : Raw) (text : List ℕ) → IsTextOf x text → AreBytes text → AreBytes x.content
 content_bytes x text t all = bytes_left x.content t.pad (bytes_right (header_of x) (x.content ++ t.pad) (subst AreBytes t.parts all))
 
+-- four bytes are below 2^32
 value_small : (content : List ℕ) → AreBytes content → from_be_bytes w32 content < 2 ^ 32
 value_small content all = omega (arith, all 0, all 1, all 2, all 3)
 
+-- what is kept of a leaf fits an outline
 kept_fits : (typ : TtlvType) (content : List ℕ) → is_valid typ content ≡ true → AreBytes content → IsKept typ (value_of typ content)
 kept_fits Structure content valid all = leaf_not Structure content valid refl
 kept_fits Integer content valid all = tt
@@ -104,16 +113,19 @@ kept_fits DateTime content valid all = tt
 kept_fits Interval content valid all = tt
 
 mutual
+  -- a message's outline is one
   is_outline : (t : Tree) (text : List ℕ) → IsTreeText t text → AreBytes text → IsOutline (outline_of t)
   is_outline (leaf tag typ content) text h all = (h.1.tag_fits, kept_fits typ content h.0 (content_bytes (raw_of tag typ content) text h.1 all))
   is_outline (node tag ts) text h all = (h.1.tag_fits, are_outlines ts h.0 h.2 (content_bytes (raw_of tag Structure h.0) text h.1 all))
 
+  -- and those in it
   are_outlines : (ts : Trees) (text : List ℕ) → AreTreeTexts ts text → AreBytes text → AreOutlines (outlines_of ts)
   are_outlines no_trees text h all = tt
   are_outlines (tree t ts) text h all =
       let both : AreBytes (h.0 ++ h.1) = subst AreBytes h.2 all in
       (is_outline t h.0 h.3 (bytes_left h.0 h.1 both), are_outlines ts h.1 h.4 (bytes_right h.0 h.1 both))
 
+-- the text of one outline and of no other
 pub exact : (prefix : List ℕ) (closed : Bool) (w text : List ℕ) → AreBytes w → text ≡ hostile prefix closed (length w) (trace closed w) → IsExact prefix closed w text
 exact prefix closed w text all is t h root none =
     let e : text ≡ diag prefix (outline_of t) = is ∙ message_text prefix closed w t h root none in
@@ -126,3 +138,19 @@ exact prefix closed w text all is t h root none =
 pub exact_ok : {A E : Type 0} (prefix given : List ℕ) (closed : Bool) (w : List ℕ) (r : Result (String A × ℕ) E) → AreBytes w → given ≡ prefix → IfOk r (λ x. string_bytes x.0 ≡ hostile given closed (length w) (trace closed w)) → IfOk r (λ x. IsExact prefix closed w (string_bytes x.0))
 exact_ok prefix given closed w (Ok x) all same is = exact prefix closed w (string_bytes x.0) all (is ∙ ap (λ (p : List ℕ). hostile p closed (length w) (trace closed w)) same)
 exact_ok prefix given closed w (Err e) all same is = tt
+
+-- bytes at each index are bytes
+pub each_byte : (bs : List ℕ) → ((i : ℕ) → i < length bs → get_or bs i 0 < 256) → AreBytes bs
+each_byte bs each i = by (cases_lt i (length bs))
+  where
+    by : (i < length bs) ⊎ (length bs ≤ i) → get_or bs i 0 < 256
+    by (inl lt) = each i lt
+    by (inr le) = let e : get_or bs i 0 ≡ 0 = get_or_past bs i 0 le in omega (arith, e)
+
+-- two messages' diagnostics
+pub tells_outlines : (prefix : List ℕ) (closed : Bool) (a b : List ℕ) (t u : Tree) → AreBytes a → AreBytes b → IsTreeText t a → IsTreeText u b → IsStructure t → IsStructure u → (closed ≡ false → HasNoEmpty t) → (closed ≡ false → HasNoEmpty u)
+    → (hostile prefix closed (length a) (trace closed a) ≡ hostile prefix closed (length b) (trace closed b)) ↔ (outline_of t ≡ outline_of u)
+tells_outlines prefix closed a b t u bytes-a bytes-b text-a text-b root-t root-u none-t none-u =
+    let one = message_text prefix closed a t text-a root-t none-t in
+    let two = message_text prefix closed b u text-b root-u none-u in
+    ((λ e. diag_one prefix (outline_of t) (outline_of u) (is_outline t a text-a bytes-a) (is_outline u b text-b bytes-b) (sym one ∙ e ∙ two)), (λ e. one ∙ ap (diag prefix) e ∙ sym two))

@@ -1,10 +1,11 @@
 -- Digits with zeros in front, as `{:04X}` writes them.
-use Rattle.std.proofs.Common.{◌≡◌, ℕ, ◌+◌, ◌-◌, ◌^◌, Bool, true, false, List, [], ◌∷◌, ◌++◌, length, refl, sym, ap, ◌∙◌, arith, append-nil}
+use Rattle.std.proofs.Common.{◌≡◌, ℕ, ◌-◌, ◌^◌, true, false, List, [], ◌++◌, length, ap, ◌∙◌, arith, append-nil}
 use Rattle.std.specs.Prelude.{replicate, Option, Some, Result, Ok, Err, OnOk}
 use Rattle.std.specs.Option.{option_map}
 use Rattle.std.specs.Fmt.{padded_integral, format_spec, char_count, digits, AppendsText, option_append}
-use Rattle.kmip_ttlv_util.specs.Lines.{at_least, hex_padded}
+use Rattle.kmip_ttlv_util.specs.Lines.{at_least}
 
+-- the padded form is zeros and digits
 pub padded_zeros : (width : ℕ) (ds : List ℕ) → padded_integral (format_spec 32 0 4 width (2 ^ 64 - 1)) false [] ds ≡ at_least width ds
 unfolding padded_integral char_count at_least
 padded_zeros width ds =

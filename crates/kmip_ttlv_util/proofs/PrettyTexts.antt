@@ -1,26 +1,25 @@
 -- The readable text of bytes and of a well-formed message.
-use Rattle.std.proofs.Common.{◌≡◌, ◌≢◌, ℕ, zero, suc, ◌+◌, ◌<◌, ◌≤◌, Bool, true, false, cond, eqb, Bor, List, [], ◌∷◌, ◌++◌, length, take, drop, get_or, Option, Some, None, refl, sym, ap, subst, ◌∙◌, arith, append_assoc, append-nil, add-zero}
-use Rattle.std.specs.Prelude.{codes, Result, Ok, Err, IfOk, string_bytes}
+use Rattle.std.proofs.Common.{◌≡◌, ◌≢◌, ℕ, suc, ◌+◌, ◌<◌, Bool, true, List, [], ◌∷◌, ◌++◌, length, take, drop, get_or, Option, refl, sym, ap, ◌∙◌, append-nil}
+use Rattle.std.specs.Prelude.{Result, Ok, Err, IfOk, string_bytes}
 use Rattle.std.proofs.Common.{String}
 use Rattle.std.proofs.lemmas.List.{take_more}
 use Rattle.std.proofs.lemmas.Grind.{flat_map-append}
-use Rattle.std.proofs.lemmas.Bool.{lt-ltb}
 use Rattle.kmip_ttlv_types.specs.declared.typ.TtlvType.{TtlvType}
 use Rattle.kmip_ttlv_types.specs.declared.typ.TtlvType.TheVariants.{Structure, Integer, LongInteger, BigInteger, Enumeration, Boolean, TextString, ByteString, DateTime, Interval}
-use Rattle.kmip_ttlv_types.specs.Leaves.{is_valid}
 use Rattle.kmip_ttlv_types.specs.Places.{tag_at, length_at}
-use Rattle.kmip_ttlv_types.specs.Trees.{Tree, Trees, leaf, node, no_trees, tree, IsTreeText, IsStructure, HasNoEmpty}
+use Rattle.kmip_ttlv_types.specs.Trees.{Tree, Trees, leaf, node, no_trees, tree}
 use Rattle.kmip_ttlv_util.specs.declared.item.Item.{Item}
-use Rattle.kmip_ttlv_util.specs.Traces.{Entry, entry_at, has_end, trace, told}
+use Rattle.kmip_ttlv_util.specs.Traces.{entry_at, has_end}
 use Rattle.kmip_ttlv_util.specs.Pretty.{two_digits, hex_bytes, data_shown, pretty_line, pretty, pretty_all, warning, pretty_style, IsPrinted, IsPretty}
 use Rattle.kmip_ttlv_util.specs.Answer.{IsItem}
-use Rattle.kmip_ttlv_util.proofs.Walked.{Drawing, Draws, LeafHere, NodeHere, drawn, drawn_all, message_told, leaf_not}
+use Rattle.kmip_ttlv_util.proofs.Walked.{Drawing, Draws, drawn, drawn_all, message_told, leaf_not}
 
 -- one byte more
 pub hex_more : (xs : List ℕ) (i : ℕ) → i < length xs → hex_bytes (take (i + 1) xs) ≡ hex_bytes (take i xs) ++ two_digits (get_or xs i 0)
 unfolding hex_bytes
 hex_more xs i lt = rw (take_more xs i 0 lt) (flat_map-append two_digits (take i xs) (get_or xs i 0 ∷ []))
 
+-- no bytes, no digits
 pub hex_none : (old : List ℕ) → old ≡ old ++ hex_bytes []
 unfolding hex_bytes
 hex_none old = sym (append-nil old)
@@ -52,6 +51,7 @@ module _ (names : ℕ → Option (List ℕ)) where
 
   -- ---- a well-formed message
 
+  -- a leaf has no warning
   no_warning : (closed : Bool) (typ : TtlvType) (n : ℕ) → typ ≢ Structure → warning closed typ n ≡ []
   unfolding warning
   no_warning closed Structure n ne = absurd (ne refl)
@@ -65,13 +65,16 @@ module _ (names : ℕ → Option (List ℕ)) where
   no_warning closed DateTime n ne = refl
   no_warning closed Interval n ne = refl
 
+  -- nor has a structure with an end of its own
   closed_warning : (closed : Bool) (n : ℕ) → has_end closed n ≡ true → warning closed Structure n ≡ []
   unfolding warning
   closed_warning closed n own = rw own refl
 
+  -- what is written of leaves and of openings
   pretty_drawing : Drawing
   pretty_drawing = record { of_leaf = λ depth tag typ content. pretty_line names depth tag typ content; of_node = λ depth tag. pretty_line names depth tag Structure [] }
 
+  -- the style writes that
   pretty_draws : (closed : Bool) (w wording : List ℕ) → Draws (pretty_style names closed w wording) pretty_drawing closed w
   unfolding pretty_drawing
   pretty_draws closed w wording = record {
@@ -100,6 +103,7 @@ module _ (names : ℕ → Option (List ℕ)) where
     drawn_pretties depth no_trees = refl
     drawn_pretties depth (tree t ts) = ap (λ (r : List ℕ). r ++ drawn_all pretty_drawing [] depth ts) (drawn_pretty depth t) ∙ ap (λ (r : List ℕ). pretty names depth t ++ r) (drawn_pretties depth ts)
 
+  -- the text of a well-formed message is its lines
   pub message_pretty : (closed : Bool) (w text : List ℕ) → IsPrinted names closed w text → IsPretty names closed w text
   message_pretty closed w text (wording, is) t h root none = is ∙ message_told (pretty_style names closed w wording) pretty_drawing closed w (pretty_draws closed w wording) t h root none ∙ drawn_pretty 0 t
 

@@ -1,22 +1,21 @@
 -- A diagnostic text is read back as its outline's lines.
-use Rattle.std.proofs.Common.{◌≡◌, ◌≢◌, ℕ, zero, suc, ◌+◌, ◌-◌, ◌*◌, ◌/◌, ◌%◌, ◌<◌, ◌≤◌, ◌^◌, Bool, true, false, not, ◌&&◌, cond, eqb, ltb, leb, List, [], ◌∷◌, ◌++◌, length, take, drop, get_or, Option, Some, None, refl, sym, ap, subst, ◌∙◌, arith, append_assoc, append-nil, length-append}
+use Rattle.std.proofs.Common.{◌≡◌, ◌≢◌, ℕ, zero, suc, ◌+◌, ◌/◌, ◌%◌, ◌<◌, ◌≤◌, ◌^◌, Bool, true, false, not, ◌&&◌, cond, eqb, ltb, List, [], ◌∷◌, ◌++◌, length, take, drop, Option, Some, None, refl, sym, ap, subst, ◌∙◌, arith, append_assoc, append-nil, length-append}
 use Rattle.std.specs.List.{AllByRecursion, prefix_len, position_or_len}
 use Rattle.std.proofs.Common.{◌⊎◌, inl, inr}
 use Rattle.std.specs.Prelude.{option_and_then}
 use Rattle.std.specs.Char.{digit_value, is_digit}
-use Rattle.std.specs.Fmt.{digit_glyph, digits}
+use Rattle.std.specs.Fmt.{digit_glyph}
 use Rattle.std.specs.Str.Parse.{digits_value, without_leading_plus}
 use Rattle.std.proofs.lemmas.Fmt.{digits_is_IsNumeral}
-use Rattle.std.proofs.lemmas.Bool.{ltb-true, ltb-false, lt-ltb, le-ltb, le-leb, lt-leb, ne_eqb, eq-eqb, and_right}
+use Rattle.std.proofs.lemmas.Bool.{ltb-true, ltb-false, lt-ltb, le-ltb, le-leb, lt-leb, ne_eqb, and_right}
 use Rattle.std.proofs.lemmas.List.{take_at, drop_at}
 use Rattle.kmip_ttlv_types.specs.declared.typ.TtlvType.{TtlvType}
 use Rattle.kmip_ttlv_types.specs.declared.typ.TtlvType.TheVariants.{Structure, Integer, LongInteger, BigInteger, Enumeration, Boolean, TextString, ByteString, DateTime, Interval}
 use Rattle.kmip_ttlv_types.specs.Names.{tag_of, number, numeral, without_0x, all_digits, below_tag_limit}
 use Rattle.kmip_ttlv_util.specs.Outlines.{Outline, Outlines, leaf_outline, node_outline, no_outlines, outline, IsKept, IsOutline, AreOutlines, hex_upper, six_digits, stripped, letter, value_text, mark, diag, diag_all}
-use Rattle.kmip_ttlv_util.specs.Undiag.{is_hex, type_of_letter, Step, goes, stops, line, hidden, value_step, data_step, letter_step, tag_step, digits_step, step, written_by, undiag_from, undiag_lines, shown, lines, lines_all, Begins, AllBegin, AllsBegin}
-use Rattle.std.specs.Str.{trim_end}
+use Rattle.kmip_ttlv_util.specs.Undiag.{is_hex, type_of_letter, reads_on, line, value_step, data_step, tag_step, digits_step, step, undiag_from, undiag_lines, shown, lines, lines_all, Begins, AllBegin, AllsBegin}
 use Rattle.kmip_ttlv_util.proofs.Texts.{stripped_some}
-use Rattle.kmip_ttlv_util.proofs.Unique.{IsDigit, AllDigits, hex_digits, glyph_digit, step_1, step_2, step_3, step_4, step_5, step_6}
+use Rattle.kmip_ttlv_util.proofs.Unique.{AllDigits, hex_digits, glyph_digit, step_1, step_2, step_3, step_4, step_5, step_6}
 
 -- a number has a digit
 pub hex_some : (n : ℕ) → n < 2 ^ 32 → 0 < length (hex_upper n)
@@ -30,6 +29,7 @@ module _ (names : ℕ → Option (List ℕ)) where
 
   -- ---- the six digits are the tag
 
+  -- a digit's value
   glyph_value : (d : ℕ) → d < 16 → digit_value (digit_glyph true d) ≡ d
   glyph_value d small = by (ltb d 10) refl
     where
@@ -37,6 +37,7 @@ module _ (names : ℕ → Option (List ℕ)) where
       by true e = let lt : d < 10 = ltb-true d 10 e in rw (le-ltb (48 + d) 48 (omega arith), lt-ltb (48 + d) 58 (omega arith)) (omega arith)
       by false e = let le : 10 ≤ d = ltb-false d 10 e in rw (le-ltb (55 + d) 48 (omega arith), le-ltb (55 + d) 58 (omega arith), le-ltb (55 + d) 65 (omega arith), lt-ltb (55 + d) 91 (omega arith)) (omega arith)
 
+  -- a digit is no lower than 0
   glyph_low : (d : ℕ) → d < 16 → 48 ≤ digit_glyph true d
   glyph_low d small = by (ltb d 10) refl
     where
@@ -44,6 +45,7 @@ module _ (names : ℕ → Option (List ℕ)) where
       by true e = omega arith
       by false e = omega arith
 
+  -- a digit is hexadecimal
   glyph_hex : (d : ℕ) → d < 16 → is_hex (digit_glyph true d) ≡ true
   glyph_hex d small = by (ltb d 10) refl
     where
@@ -54,27 +56,34 @@ module _ (names : ℕ → Option (List ℕ)) where
   abbrev AllHex : List ℕ → Type 0
   AllHex ds = AllByRecursion (λ d. is_hex d ≡ true) ds
 
+  -- six digits are
   six_hex : (n : ℕ) → AllHex (six_digits n)
   unfolding six_digits
   six_hex n = (glyph_hex (n / 1048576 % 16) (omega arith), (glyph_hex (n / 65536 % 16) (omega arith), (glyph_hex (n / 4096 % 16) (omega arith), (glyph_hex (n / 256 % 16) (omega arith), (glyph_hex (n / 16 % 16) (omega arith), (glyph_hex (n % 16) (omega arith), tt))))))
 
+  -- six digits are the tag
   six_value : (n : ℕ) → n < 2 ^ 24 → digits_value 16 (six_digits n) ≡ n
   unfolding six_digits
   six_value n small = rw (glyph_value (n / 1048576 % 16) (omega arith), glyph_value (n / 65536 % 16) (omega arith), glyph_value (n / 4096 % 16) (omega arith), glyph_value (n / 256 % 16) (omega arith), glyph_value (n / 16 % 16) (omega arith), glyph_value (n % 16) (omega arith)) (omega (arith, step_1 n, step_2 n, step_3 n, step_4 n, step_5 n, step_6 n small))
 
+  -- a digit has a value below sixteen
   glyph_is : (d : ℕ) → d < 16 → is_digit (digit_glyph true d) 16 ≡ true
   glyph_is d small = rw (glyph_value d small, lt-ltb d 16 small) refl
 
+  -- two tests that hold
   both_true : (a b : Bool) → a ≡ true → b ≡ true → (a && b) ≡ true
   both_true a b e f = rw (e, f) refl
 
+  -- six digits have
   six_all_digits : (n : ℕ) → all_digits 16 (six_digits n) ≡ true
   unfolding six_digits
   six_all_digits n = both_true _ _ (glyph_is (n / 1048576 % 16) (omega arith)) (both_true _ _ (glyph_is (n / 65536 % 16) (omega arith)) (both_true _ _ (glyph_is (n / 4096 % 16) (omega arith)) (both_true _ _ (glyph_is (n / 256 % 16) (omega arith)) (both_true _ _ (glyph_is (n / 16 % 16) (omega arith)) (both_true _ _ (glyph_is (n % 16) (omega arith)) refl)))))
 
+  -- digits are a numeral
   numeral_is : (ds : List ℕ) (n : ℕ) → 0 < length ds → all_digits 16 ds ≡ true → digits_value 16 ds ≡ n → n < 2 ^ 24 → numeral ds ≡ Some n
   numeral_is ds n some all is small = rw (lt-ltb 0 (length ds) some, all, is, lt-ltb n (2 ^ 32) (omega arith)) refl
 
+  -- a name of digits is its tag
   named : (a b n : ℕ) (ds : List ℕ) → a ≢ 43 → b ≢ 120 → all_digits 16 (a ∷ b ∷ ds) ≡ true → digits_value 16 (a ∷ b ∷ ds) ≡ n → n < 2 ^ 24 → tag_of (48 ∷ 120 ∷ a ∷ b ∷ ds) ≡ Some n
   unfolding tag_of number
   named a b n ds plus x all is small =
@@ -84,6 +93,7 @@ module _ (names : ℕ → Option (List ℕ)) where
       ∙ ap (λ (t : List ℕ). option_and_then below_tag_limit (numeral t)) bare
       ∙ ap (option_and_then below_tag_limit) (numeral_is (a ∷ b ∷ ds) n (omega arith) all is small) ∙ rw (lt-ltb n (2 ^ 24) small) refl
 
+  -- a digit is no other character
   glyph_ne : (d x : ℕ) → d < 16 → (x < 48) ⊎ (70 < x) → digit_glyph true d ≢ x
   glyph_ne d x small out e = by out
     where
@@ -97,15 +107,18 @@ module _ (names : ℕ → Option (List ℕ)) where
       by (inl h) = omega (arith, e, h, low)
       by (inr h) = omega (arith, e, h, g.0)
 
+  -- six digits name their tag
   six_tag : (n : ℕ) → n < 2 ^ 24 → tag_of (48 ∷ 120 ∷ six_digits n) ≡ Some n
   unfolding six_digits
   six_tag n small = named (digit_glyph true (n / 1048576 % 16)) (digit_glyph true (n / 65536 % 16)) n _ (glyph_ne (n / 1048576 % 16) 43 (omega arith) (inl (omega arith))) (glyph_ne (n / 65536 % 16) 120 (omega arith) (inr (omega arith))) (six_all_digits n) (six_value n small) small
 
   -- ---- one part
 
+  -- a digit is no `]`
   hex_ne : (d : ℕ) → is_hex d ≡ true → d ≢ 93
   hex_ne d h e = let k : is_hex 93 ≡ true = ap is_hex (sym e) ∙ h in cc
 
+  -- a step over digits and a letter
   step_digits : (prefix : List ℕ) (depth : ℕ) (ds s : List ℕ) (c : ℕ) → AllHex ds → is_hex c ≡ false → c ≢ 93 → step names prefix depth (ds ++ (c ∷ s)) ≡ tag_step names depth (c ∷ s) (tag_of (48 ∷ 120 ∷ (prefix ++ ds)))
   unfolding step
   step_digits prefix depth [] s c all none ne = rw (ne_eqb c 93 ne, none) refl
@@ -114,7 +127,8 @@ module _ (names : ℕ → Option (List ℕ)) where
       ∙ ap (λ (r : List ℕ). tag_step names depth r (tag_of (48 ∷ 120 ∷ (prefix ++ take (length (d ∷ ds)) ((d ∷ ds) ++ (c ∷ s)))))) (drop_at (d ∷ ds) (c ∷ s) (length (d ∷ ds)) refl)
       ∙ ap (λ (r : List ℕ). tag_step names depth (c ∷ s) (tag_of (48 ∷ 120 ∷ (prefix ++ r)))) (take_at (d ∷ ds) (c ∷ s) (length (d ∷ ds)) refl))
 
-  letter_back : (t : TtlvType) → type_of_letter (letter t) ≡ Some t
+  -- a letter's type
+  pub letter_back : (t : TtlvType) → type_of_letter (letter t) ≡ Some t
   letter_back Structure = refl
   letter_back Integer = refl
   letter_back LongInteger = refl
@@ -126,6 +140,7 @@ module _ (names : ℕ → Option (List ℕ)) where
   letter_back DateTime = refl
   letter_back Interval = refl
 
+  -- a letter is no digit and no `]`
   letter_no : (t : TtlvType) → (is_hex (letter t) ≡ false) × (letter t ≢ 93)
   letter_no Structure = (refl, λ e. omega (arith, e))
   letter_no Integer = (refl, λ e. omega (arith, e))
@@ -144,16 +159,19 @@ module _ (names : ℕ → Option (List ℕ)) where
     pub is : six_digits tag ≡ prefix ++ rest
     pub cut : stripped prefix (six_digits tag) ≡ rest
 
+  -- what is left of the six digits
   starts : (prefix : List ℕ) (tag : ℕ) → Begins prefix (six_digits tag) → Starts prefix tag
   starts prefix tag b =
       let back : drop (length prefix) (six_digits tag) ≡ b.0 = ap (drop (length prefix)) b.1 ∙ drop_at prefix b.0 (length prefix) refl in
       let whole : six_digits tag ≡ prefix ++ drop (length prefix) (six_digits tag) = b.1 ∙ ap (λ (r : List ℕ). prefix ++ r) (sym back) in
       record { rest = b.0; is = b.1; cut = sym (stripped_some prefix (six_digits tag) (length prefix) refl whole) ∙ back }
 
+  -- what follows digits is digits
   all_right : (xs ys : List ℕ) → AllHex (xs ++ ys) → AllHex ys
   all_right [] ys all = all
   all_right (x ∷ xs) ys all = all_right xs ys all.1
 
+  -- a step over a mark
   mark_step : (prefix : List ℕ) (depth tag : ℕ) (typ : TtlvType) (v : Option ℕ) (s : List ℕ) → tag < 2 ^ 24 → Starts prefix tag → step names prefix depth (mark prefix tag typ v ++ s) ≡ data_step names depth tag typ (value_text v ++ s)
   unfolding mark
   mark_step prefix depth tag typ v s small st =
@@ -170,10 +188,12 @@ module _ (names : ℕ → Option (List ℕ)) where
   not_colon [] all = tt
   not_colon (d ∷ ds) all = (rw (ne_eqb d 58 all.0.1) refl, not_colon ds all.1)
 
-  chosen : (depth tag : ℕ) (xs : List ℕ) (n : ℕ) (ds s : List ℕ) → ltb 0 n ≡ true → ltb n (length xs) ≡ true → take n xs ≡ ds → drop (n + 1) xs ≡ s → value_step names depth tag xs n ≡ goes (line names depth tag Enumeration ds) depth s
+  -- a value that was found
+  chosen : (depth tag : ℕ) (xs : List ℕ) (n : ℕ) (ds s : List ℕ) → ltb 0 n ≡ true → ltb n (length xs) ≡ true → take n xs ≡ ds → drop (n + 1) xs ≡ s → value_step names depth tag xs n ≡ reads_on (line names depth tag Enumeration ds) depth s
   chosen depth tag xs n ds s a b front back = rw (a, b, front, back) refl
 
-  value_back : (depth tag : ℕ) (ds s : List ℕ) → 0 < length ds → AllDigits ds → data_step names depth tag Enumeration ((ds ++ (58 ∷ [])) ++ s) ≡ goes (line names depth tag Enumeration ds) depth s
+  -- a step over an enumeration's value
+  value_back : (depth tag : ℕ) (ds s : List ℕ) → 0 < length ds → AllDigits ds → data_step names depth tag Enumeration ((ds ++ (58 ∷ [])) ++ s) ≡ reads_on (line names depth tag Enumeration ds) depth s
   value_back depth tag [] s some all = absurd (omega arith)
   value_back depth tag (d ∷ ds) s some all =
       let xs = (d ∷ ds) ++ (58 ∷ s) in
@@ -197,7 +217,8 @@ module _ (names : ℕ → Option (List ℕ)) where
     parts_all no_outlines f = f
     parts_all (outline o os) f = parts o (parts_all os f)
 
-  leaf_data : (depth tag : ℕ) (typ : TtlvType) (v : Option ℕ) (c : ℕ) (s : List ℕ) → IsKept typ v → data_step names depth tag typ (value_text v ++ (c ∷ s)) ≡ goes (line names depth tag typ (shown typ v)) depth (c ∷ s)
+  -- a step over a leaf
+  leaf_data : (depth tag : ℕ) (typ : TtlvType) (v : Option ℕ) (c : ℕ) (s : List ℕ) → IsKept typ v → data_step names depth tag typ (value_text v ++ (c ∷ s)) ≡ reads_on (line names depth tag typ (shown typ v)) depth (c ∷ s)
   leaf_data depth tag Structure v c s k = absurd k
   leaf_data depth tag Enumeration None c s k = absurd k
   leaf_data depth tag Enumeration (Some n) c s k = value_back depth tag (hex_upper n) (c ∷ s) (hex_some n k) (hex_digits n)
@@ -218,19 +239,23 @@ module _ (names : ℕ → Option (List ℕ)) where
   leaf_data depth tag DateTime (Some n) c s k = absurd k
   leaf_data depth tag Interval (Some n) c s k = absurd k
 
-  undiag_goes : (f : ℕ) (prefix : List ℕ) (depth : ℕ) (s w : List ℕ) (d : ℕ) (r : List ℕ) → step names prefix depth s ≡ goes w d r → undiag_from names (suc f) prefix depth s ≡ w ++ undiag_from names f prefix d r
+  -- a part and what is left
+  undiag_goes : (f : ℕ) (prefix : List ℕ) (depth : ℕ) (s w : List ℕ) (d : ℕ) (r : List ℕ) → step names prefix depth s ≡ reads_on w d r → undiag_from names (suc f) prefix depth s ≡ w ++ undiag_from names f prefix d r
   unfolding undiag_from
   undiag_goes f prefix depth s w d r e = rw e refl
 
-  close_goes : (prefix : List ℕ) (depth : ℕ) (s : List ℕ) → step names prefix (suc depth) (93 ∷ s) ≡ goes [] depth s
+  -- a `]` goes up a level
+  close_goes : (prefix : List ℕ) (depth : ℕ) (s : List ℕ) → step names prefix (suc depth) (93 ∷ s) ≡ reads_on [] depth s
   unfolding step
   close_goes prefix depth s = refl
 
-  open_goes : (prefix : List ℕ) (depth tag : ℕ) (s : List ℕ) → 0 < length s → tag < 2 ^ 24 → Starts prefix tag → step names prefix depth (mark prefix tag Structure None ++ s) ≡ goes (line names depth tag Structure []) (suc depth) s
+  -- an opening goes down a level
+  open_goes : (prefix : List ℕ) (depth tag : ℕ) (s : List ℕ) → 0 < length s → tag < 2 ^ 24 → Starts prefix tag → step names prefix depth (mark prefix tag Structure None ++ s) ≡ reads_on (line names depth tag Structure []) (suc depth) s
   open_goes prefix depth tag [] some small st = absurd (omega arith)
   open_goes prefix depth tag (c ∷ s) some small st = mark_step prefix depth tag Structure None (c ∷ s) small st
 
-  leaf_goes : (prefix : List ℕ) (depth tag : ℕ) (typ : TtlvType) (v : Option ℕ) (s : List ℕ) → 0 < length s → tag < 2 ^ 24 → Starts prefix tag → IsKept typ v → step names prefix depth (mark prefix tag typ v ++ s) ≡ goes (line names depth tag typ (shown typ v)) depth s
+  -- a leaf stays on its level
+  leaf_goes : (prefix : List ℕ) (depth tag : ℕ) (typ : TtlvType) (v : Option ℕ) (s : List ℕ) → 0 < length s → tag < 2 ^ 24 → Starts prefix tag → IsKept typ v → step names prefix depth (mark prefix tag typ v ++ s) ≡ reads_on (line names depth tag typ (shown typ v)) depth s
   leaf_goes prefix depth tag typ v [] some small st k = absurd (omega arith)
   leaf_goes prefix depth tag typ v (c ∷ s) some small st k = mark_step prefix depth tag typ v (c ∷ s) small st ∙ leaf_data depth tag typ v c s k
 
@@ -265,6 +290,7 @@ module _ (names : ℕ → Option (List ℕ)) where
         ∙ ap (λ (r : List ℕ). lines names depth o ++ r) (backs os prefix depth f s some io.1 st.1)
         ∙ sym (append_assoc (lines names depth o) (lines_all names depth os) (undiag_from names f prefix depth s))
 
+  -- nothing is left
   undiag_end : (f : ℕ) (prefix : List ℕ) → undiag_from names f prefix 0 [] ≡ []
   unfolding undiag_from step
   undiag_end zero prefix = refl
@@ -279,6 +305,7 @@ module _ (names : ℕ → Option (List ℕ)) where
 
   -- ---- the text is enough turns
 
+  -- a mark is not empty
   mark_some : (prefix : List ℕ) (tag : ℕ) (typ : TtlvType) (v : Option ℕ) → 1 ≤ length (mark prefix tag typ v)
   unfolding mark
   mark_some prefix tag typ v = omega (arith, length-append (stripped prefix (six_digits tag)) (letter typ ∷ value_text v))
@@ -288,9 +315,11 @@ module _ (names : ℕ → Option (List ℕ)) where
     is : g ≡ m left
     enough : g ≤ left + n
 
+  -- how long a structure's text is
   node_size : (prefix : List ℕ) (tag : ℕ) (below : Outlines) → length (diag prefix (node_outline tag below)) ≡ length (mark prefix tag Structure None) + length (diag_all prefix below) + 1
   node_size prefix tag below = omega (arith, length-append (mark prefix tag Structure None) (diag_all prefix below ++ (93 ∷ [])), length-append (diag_all prefix below) (93 ∷ []))
 
+  -- a number that is not zero
   one_less : (n k : ℕ) → 1 ≤ n → (m : ℕ) × (n ≡ suc m)
   one_less zero k h = absurd (omega arith)
   one_less (suc n) k h = (n, refl)

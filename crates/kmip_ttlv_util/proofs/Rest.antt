@@ -1,19 +1,20 @@
 -- The text and the count of what a walk has left.
-use Rattle.std.proofs.Common.{◌≡◌, ◌≢◌, ℕ, zero, suc, ◌+◌, ◌-◌, ◌*◌, ◌<◌, ◌≤◌, Bool, true, false, cond, eqb, ltb, List, [], ◌∷◌, ◌++◌, length, take, drop, get_or, Option, Some, None, refl, sym, ap, subst, ◌∙◌, arith, append_assoc, append-nil, length-append}
+use Rattle.std.proofs.Common.{◌≡◌, ◌≢◌, ℕ, zero, suc, ◌+◌, ◌<◌, ◌≤◌, Bool, true, false, cond, eqb, List, [], ◌∷◌, ◌++◌, length, Option, Some, None, refl, ap, ◌∙◌, arith, append_assoc, append-nil}
 use Rattle.std.proofs.lemmas.Bool.{eq-eqb, ne_eqb, lt-ltb, le-ltb}
 use Rattle.kmip_ttlv_types.specs.declared.typ.TtlvType.{TtlvType}
-use Rattle.kmip_ttlv_types.specs.declared.typ.TtlvType.TheVariants.{Structure}
 use Rattle.kmip_ttlv_types.specs.Places.{length_at}
 use Rattle.kmip_ttlv_util.specs.Answer.{Ready}
-use Rattle.kmip_ttlv_util.specs.Traces.{Entry, entry_at, type_read, Place, left_at, closes, depth_at, Turn, turn_left, over, past, reads, turn, after, entries_by, entries_from, start, trace, Style, end_text, text_by, told_from, told}
+use Rattle.kmip_ttlv_util.specs.Traces.{Entry, entry_at, type_read, Place, left_at, closes, Turn, turn_left, all_closed, end_passed, entry_follows, turn, after, entries_by, entries_from, start, trace, Style, end_text, told_from, told}
 
 abbrev pub place : ℕ → List ℕ → ℕ → Bool → Place
 place p es k z = record { pos = p; ends = es; endless = k; loose = z }
 
+-- a walk in no structure that ends reads on
 pub ready_root : (p k : ℕ) (z : Bool) → Ready (place p [] k z)
 unfolding turn left_at
 ready_root p k z = record { turns = refl; left = refl }
 
+-- and so does one before the end
 pub ready_before : (p e : ℕ) (es : List ℕ) (k : ℕ) (z : Bool) → p < e → Ready (place p (e ∷ es) k z)
 unfolding turn left_at
 ready_before p e es k z lt =
@@ -21,20 +22,23 @@ ready_before p e es k z lt =
     let off : eqb e p ≡ false = ne_eqb e p ne in
     record { turns = rw off (by z); left = rw off refl }
   where
-    by : (z : Bool) → turn_left z p (e ∷ es) ≡ reads
+    by : (z : Bool) → turn_left z p (e ∷ es) ≡ entry_follows
     by true = refl
     by false = rw (le-ltb e p (omega arith)) refl
 
+-- and one whose ends may be passed
 pub ready_loose : (p e : ℕ) (es : List ℕ) (k : ℕ) → e ≢ p → Ready (place p (e ∷ es) k true)
 unfolding turn left_at
 ready_loose p e es k ne =
     let off : eqb e p ≡ false = ne_eqb e p ne in
     record { turns = rw off refl; left = rw off refl }
 
+-- either list is no longer
 shorter_by : (b : Bool) (xs : List ℕ) (f : ℕ) (fs : List ℕ) → length xs ≤ length fs → length (cond b xs (f ∷ fs)) ≤ length (f ∷ fs)
 shorter_by true xs f fs le = omega arith
 shorter_by false xs f fs le = omega arith
 
+-- removing ends makes no list longer
 shorter : (q : ℕ) (fs : List ℕ) → length (left_at q fs) ≤ length fs
 unfolding left_at
 shorter q [] = omega arith
@@ -59,101 +63,122 @@ module _ (style : Style) (closed : Bool) (bytes : List ℕ) where
   pub count_from : ℕ → Place → ℕ
   count_from f s = length (entries_from f closed bytes s)
 
+  -- what is left before the first byte
   pub text_start : text_from (suc (length bytes)) start ≡ told style closed (length bytes) (trace closed bytes)
   unfolding text_from told trace
   text_start = refl
 
+  -- and how many entries
   pub count_start : 0 + count_from (suc (length bytes)) start ≡ length (trace closed bytes)
   unfolding count_from trace
   count_start = omega arith
 
-  reads_entries : (f : ℕ) (s : Place) (o : Option TtlvType) → turn s ≡ reads → type_read (length bytes) s.pos (entry_at bytes s.pos) ≡ o → entries_from (suc f) closed bytes s ≡ entries_by reads (entry_at bytes s.pos) o (λ t. entries_from f closed bytes (after closed s t (length_at (entry_at bytes s.pos).header 0)))
+  -- the entries from one that comes
+  reads_entries : (f : ℕ) (s : Place) (o : Option TtlvType) → turn s ≡ entry_follows → type_read (length bytes) s.pos (entry_at bytes s.pos) ≡ o → entries_from (suc f) closed bytes s ≡ entries_by entry_follows (entry_at bytes s.pos) o (λ t. entries_from f closed bytes (after closed s t (length_at (entry_at bytes s.pos).header 0)))
   unfolding entries_from
   reads_entries f s o turns is = rw (turns, is) refl
 
+  -- one entry and the others
   pub count_reads : (f : ℕ) (s : Place) (t : TtlvType) → Ready s → type_read (length bytes) s.pos (entry_at bytes s.pos) ≡ Some t → count_from (suc f) s ≡ suc (count_from f (after closed s t (length_at (entry_at bytes s.pos).header 0)))
   unfolding count_from
   count_reads f s t ready is = ap length (reads_entries f s (Some t) ready.turns is)
 
+  -- an unreadable entry is the last
   pub count_unreadable : (f : ℕ) (s : Place) → Ready s → type_read (length bytes) s.pos (entry_at bytes s.pos) ≡ None → count_from (suc f) s ≡ 1
   unfolding count_from
   count_unreadable f s ready is = ap length (reads_entries f s None ready.turns is)
 
+  -- what is written of an entry and of the others
   pub text_reads : (f : ℕ) (s : Place) (t : TtlvType) → Ready s → type_read (length bytes) s.pos (entry_at bytes s.pos) ≡ Some t
       → text_from (suc f) s ≡ style.item (s.endless + length s.ends) s.pos (entry_at bytes s.pos) t ++ text_from f (after closed s t (length_at (entry_at bytes s.pos).header 0))
   unfolding text_from told_from
   text_reads f s t ready is = rw (reads_entries f s (Some t) ready.turns is) (rw (ready_closes style.close s.pos s.ends ready.left, is, ready.left) refl)
 
+  -- of an unreadable one
   pub text_unreadable : (f : ℕ) (s : Place) → Ready s → type_read (length bytes) s.pos (entry_at bytes s.pos) ≡ None → text_from (suc f) s ≡ style.unreadable
   unfolding text_from told_from
   text_unreadable f s ready is = rw (reads_entries f s None ready.turns is) (rw (ready_closes style.close s.pos s.ends ready.left, is) refl)
 
   -- ---- an end is reached
 
+  -- closing one structure changes no turn
   same_turn : (p e : ℕ) (es : List ℕ) (k : ℕ) (z : Bool) → turn (place p (p ∷ e ∷ es) k z) ≡ turn (place p (e ∷ es) k z)
   unfolding turn left_at
   same_turn p e es k z = rw (eq-eqb p p refl) refl
 
+  -- nor the ends that are left
   same_left : (p : ℕ) (es : List ℕ) → left_at p (p ∷ es) ≡ left_at p es
   unfolding left_at
   same_left p es = rw (eq-eqb p p refl) refl
 
+  -- one close more
   more_closes : (p : ℕ) (es : List ℕ) → closes style.close p (p ∷ es) ≡ style.close ++ closes style.close p es
   unfolding closes
   more_closes p es = rw (eq-eqb p p refl) refl
 
+  -- nor the entries
   same_entries : (f p e : ℕ) (es : List ℕ) (k : ℕ) (z : Bool) → entries_from f closed bytes (place p (p ∷ e ∷ es) k z) ≡ entries_from f closed bytes (place p (e ∷ es) k z)
   unfolding entries_from after
   same_entries zero p e es k z = refl
   same_entries (suc f) p e es k z = rw (same_turn p e es k z, same_left p (e ∷ es)) refl
 
+  -- what is written has one close more
   same_told : (p e : ℕ) (es : List ℕ) (k : ℕ) (z : Bool) (xs : List Entry) → told_from style closed (length bytes) (place p (p ∷ e ∷ es) k z) xs ≡ style.close ++ told_from style closed (length bytes) (place p (e ∷ es) k z) xs
   unfolding told_from after
   same_told p e es k z [] = rw (same_turn p e es k z, more_closes p (e ∷ es)) (append_assoc style.close (closes style.close p (e ∷ es)) (end_text style (turn (place p (e ∷ es) k z))))
   same_told p e es k z (x ∷ xs) = rw (more_closes p (e ∷ es), same_left p (e ∷ es)) (append_assoc style.close (closes style.close p (e ∷ es)) _)
 
+  -- so where a structure closes
   pub text_closes : (f p e : ℕ) (es : List ℕ) (k : ℕ) (z : Bool) → text_from f (place p (p ∷ e ∷ es) k z) ≡ style.close ++ text_from f (place p (e ∷ es) k z)
   unfolding text_from
   text_closes f p e es k z = ap (told_from style closed (length bytes) (place p (p ∷ e ∷ es) k z)) (same_entries f p e es k z) ∙ same_told p e es k z (entries_from f closed bytes (place p (e ∷ es) k z))
 
+  -- the count stays
   pub count_closes : (f p e : ℕ) (es : List ℕ) (k : ℕ) (z : Bool) → count_from f (place p (p ∷ e ∷ es) k z) ≡ count_from f (place p (e ∷ es) k z)
   unfolding count_from
   count_closes f p e es k z = ap length (same_entries f p e es k z)
 
   -- ---- the walk ends
 
-  no_entries : (f : ℕ) (s : Place) → turn s ≢ reads → entries_from f closed bytes s ≡ []
+  -- no entry comes where the walk ends
+  no_entries : (f : ℕ) (s : Place) → turn s ≢ entry_follows → entries_from f closed bytes s ≡ []
   unfolding entries_from
   no_entries zero s ne = refl
   no_entries (suc f) s ne = by (turn s) ne
     where
-      by : (t : Turn) → t ≢ reads → entries_by t (entry_at bytes s.pos) (type_read (length bytes) s.pos (entry_at bytes s.pos)) (λ t. entries_from f closed bytes (after closed s t (length_at (entry_at bytes s.pos).header 0))) ≡ []
-      by over h = refl
-      by past h = refl
-      by reads h = absurd (h refl)
+      by : (t : Turn) → t ≢ entry_follows → entries_by t (entry_at bytes s.pos) (type_read (length bytes) s.pos (entry_at bytes s.pos)) (λ t. entries_from f closed bytes (after closed s t (length_at (entry_at bytes s.pos).header 0))) ≡ []
+      by all_closed h = refl
+      by end_passed h = refl
+      by entry_follows h = absurd (h refl)
 
-  pub last_turn : (p k : ℕ) (z : Bool) → turn (place p (p ∷ []) k z) ≡ over
+  -- at the last end all is closed
+  pub last_turn : (p k : ℕ) (z : Bool) → turn (place p (p ∷ []) k z) ≡ all_closed
   unfolding turn left_at
   last_turn p k z = rw (eq-eqb p p refl) refl
 
+  -- the last close
   pub text_over : (f p k : ℕ) (z : Bool) → text_from f (place p (p ∷ []) k z) ≡ style.close
   unfolding text_from told_from closes
   text_over f p k z = rw (no_entries f (place p (p ∷ []) k z) (λ h. let m = last_turn p k z in cc)) (rw (last_turn p k z, eq-eqb p p refl) (append-nil (style.close ++ []) ∙ append-nil style.close))
 
+  -- no entry more
   pub count_over : (f p k : ℕ) (z : Bool) → count_from f (place p (p ∷ []) k z) ≡ 0
   unfolding count_from
   count_over f p k z = ap length (no_entries f (place p (p ∷ []) k z) (λ h. let m = last_turn p k z in cc))
 
-  pub past_turn : (p e : ℕ) (es : List ℕ) (k : ℕ) → e < p → turn (place p (e ∷ es) k false) ≡ past
+  -- an end was passed
+  pub past_turn : (p e : ℕ) (es : List ℕ) (k : ℕ) → e < p → turn (place p (e ∷ es) k false) ≡ end_passed
   unfolding turn left_at
   past_turn p e es k lt = let ne : e ≢ p = omega arith in rw (ne_eqb e p ne, lt-ltb e p lt) refl
 
+  -- what is written then
   pub text_past : (f p e : ℕ) (es : List ℕ) (k : ℕ) → e < p → text_from f (place p (e ∷ es) k false) ≡ style.passed
   unfolding text_from told_from closes
   text_past f p e es k lt =
       let ne : e ≢ p = omega arith in
       rw (no_entries f (place p (e ∷ es) k false) (λ h. let m = past_turn p e es k lt in cc)) (rw (past_turn p e es k lt, ne_eqb e p ne) refl)
 
+  -- no entry more either
   pub count_past : (f p e : ℕ) (es : List ℕ) (k : ℕ) → e < p → count_from f (place p (e ∷ es) k false) ≡ 0
   unfolding count_from
   count_past f p e es k lt = ap length (no_entries f (place p (e ∷ es) k false) (λ h. let m = past_turn p e es k lt in cc))

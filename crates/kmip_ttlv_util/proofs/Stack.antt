@@ -1,5 +1,5 @@
 -- A stack's list, from its last element on.
-use Rattle.std.proofs.Common.{◌≡◌, ◌≢◌, ℕ, zero, suc, ◌+◌, ◌-◌, ◌<◌, ◌≤◌, Bool, true, false, List, [], ◌∷◌, ◌++◌, length, take, drop, get_or, Option, Some, None, refl, sym, ap, subst, ◌∙◌, arith}
+use Rattle.std.proofs.Common.{◌≡◌, ◌≢◌, ℕ, suc, ◌+◌, ◌-◌, ◌<◌, ◌≤◌, Bool, true, false, List, [], ◌∷◌, ◌++◌, length, take, get_or, Some, None, refl, sym, ap, ◌∙◌, arith}
 use Rattle.std.specs.Prelude.{reverse}
 use Rattle.std.specs.List.{slice_get}
 use Rattle.std.proofs.lemmas.List.{reverse-append, take_more, take_all}
@@ -7,19 +7,20 @@ use Rattle.std.proofs.lemmas.Option.{slice_get_within, slice_get-get_or, get_or_
 use Rattle.kmip_ttlv_util.specs.Traces.{Place, has_end, opened, onward, after}
 use Rattle.kmip_ttlv_util.specs.Answer.{Ready, Closed, Passed}
 use Rattle.std.proofs.lemmas.List.{length-reverse}
-use Rattle.std.proofs.lemmas.Bool.{lt-ltb}
 use Rattle.std.proofs.Common.{◌⊎◌, inl, inr}
 use Rattle.kmip_ttlv_types.specs.declared.typ.TtlvType.{TtlvType}
 use Rattle.kmip_ttlv_types.specs.declared.typ.TtlvType.TheVariants.{Structure, Integer, LongInteger, BigInteger, Enumeration, Boolean, TextString, ByteString, DateTime, Interval}
 use Rattle.kmip_ttlv_util.specs.Traces.{extent}
 use Rattle.kmip_ttlv_util.proofs.Rest.{place, ready_root, ready_before, ready_loose}
 
+-- an empty stack has no last
 pub last_none : (xs : List ℕ) → slice_get xs (length xs - 1) ≡ None → xs ≡ []
 last_none [] e = refl
 last_none (x ∷ xs) e =
     let k : slice_get (x ∷ xs) (length (x ∷ xs) - 1) ≡ Some (get_or (x ∷ xs) (length (x ∷ xs) - 1) 0) = slice_get-get_or (x ∷ xs) (length (x ∷ xs) - 1) 0 (omega arith) in
     cc
 
+-- the last is the innermost
 pub last_some : (xs : List ℕ) (e : ℕ) → slice_get xs (length xs - 1) ≡ Some e → reverse xs ≡ e ∷ reverse (take (length xs - 1) xs)
 last_some xs e is =
     let lt : length xs - 1 < length xs = slice_get_within xs (length xs - 1) e is in
@@ -35,13 +36,16 @@ pushed xs e = reverse-append xs (e ∷ [])
 pub comes_root : (p : ℕ) (xs : List ℕ) (k : ℕ) (z : Bool) → slice_get xs (length xs - 1) ≡ None → Ready (place p (reverse xs) k z)
 comes_root p xs k z e = rw (last_none xs e) (ready_root p k z)
 
+-- an item comes before the end
 pub comes_read : (p e : ℕ) (xs : List ℕ) (k : ℕ) (z : Bool) → slice_get xs (length xs - 1) ≡ Some e → e ≢ p → (z ≡ true) ⊎ (p ≤ e) → Ready (place p (reverse xs) k z)
 comes_read p e xs k z is ne (inl t) = rw (last_some xs e is, t) (ready_loose p e (reverse (take (length xs - 1) xs)) k ne)
 comes_read p e xs k z is ne (inr le) = rw (last_some xs e is) (ready_before p e (reverse (take (length xs - 1) xs)) k z (omega arith))
 
+-- an end was passed
 pub comes_past : (p e : ℕ) (xs : List ℕ) (k : ℕ) (z : Bool) → slice_get xs (length xs - 1) ≡ Some e → e < p → z ≡ false → Passed (place p (reverse xs) k z)
 comes_past p e xs k z is lt f = record { next = e; others = reverse (take (length xs - 1) xs); ends = last_some xs e is; strict = f; passed = lt }
 
+-- the last end is reached
 pub comes_over : (p e : ℕ) (xs ys : List ℕ) → slice_get xs (length xs - 1) ≡ Some e → e ≡ p → ys ≡ take (length xs - 1) xs → length ys ≡ 0 → reverse xs ≡ p ∷ []
 comes_over p e xs ys is same rest none = last_some xs e is ∙ rw (same, ← rest, length-zero ys none) refl
   where
@@ -49,6 +53,7 @@ comes_over p e xs ys is same rest none = last_some xs e is ∙ rw (same, ← res
     length-zero [] h = refl
     length-zero (y ∷ ys) h = absurd (omega (arith, h))
 
+-- an end is reached
 pub comes_close : (p e : ℕ) (xs ys : List ℕ) (k : ℕ) (z : Bool) → slice_get xs (length xs - 1) ≡ Some e → e ≡ p → ys ≡ take (length xs - 1) xs → length ys ≢ 0 → Closed (place p (reverse xs) k z) (place p (reverse ys) k z)
 comes_close p e xs ys k z is same rest some = by (reverse ys) refl
   where
@@ -58,6 +63,7 @@ comes_close p e xs ys k z is same rest some = by (reverse ys) refl
 
 -- ---- a step
 
+-- past a leaf
 pub step_leaf : (closed : Bool) (s : Place) (t : TtlvType) (n next : ℕ) → Ready s → t ≢ Structure → next ≡ s.pos + extent t n → place next s.ends s.endless s.loose ≡ after closed s t n
 unfolding after
 step_leaf closed s t n next ready ne is = rw ready.left (by t ne is)
@@ -74,6 +80,7 @@ step_leaf closed s t n next ready ne is = rw ready.left (by t ne is)
     by DateTime ne is = ap (λ (q : ℕ). place q s.ends s.endless s.loose) is
     by Interval ne is = ap (λ (q : ℕ). place q s.ends s.endless s.loose) is
 
+-- past the opening of a structure with an end
 pub step_opens : (closed : Bool) (s : Place) (t : TtlvType) (n next : ℕ) (ends : List ℕ) → Ready s → t ≡ Structure → next ≡ s.pos + extent t n → has_end closed n ≡ true → ends ≡ (next + n) ∷ s.ends → place next ends s.endless s.loose ≡ after closed s t n
 unfolding after
 step_opens closed s t n next ends ready is to own ends-are =

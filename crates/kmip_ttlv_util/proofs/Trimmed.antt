@@ -1,19 +1,19 @@
 -- Lines trimmed at the end: where the last character is visible, a trim takes the line feed alone.
-use Rattle.std.proofs.Common.{◌≡◌, ◌≢◌, ℕ, zero, suc, ◌+◌, ◌-◌, ◌/◌, ◌%◌, ◌<◌, ◌≤◌, ◌^◌, Bool, true, false, ◌&&◌, cond, eqb, ltb, List, [], ◌∷◌, ◌++◌, length, take, drop, get_or, Option, Some, None, refl, sym, ap, subst, ◌∙◌, arith, append_assoc, append-nil, length-append}
-use Rattle.std.specs.Prelude.{codes, Result, Ok, Err, IfOk, string_bytes, ⊤}
+use Rattle.std.proofs.Common.{◌≡◌, ◌≢◌, ℕ, zero, suc, ◌+◌, ◌-◌, ◌/◌, ◌%◌, ◌<◌, ◌≤◌, Bool, true, false, ◌&&◌, cond, eqb, ltb, List, [], ◌∷◌, ◌++◌, length, get_or, Option, Some, None, refl, sym, ap, subst, ◌∙◌, arith, append_assoc, append-nil, length-append}
+use Rattle.std.specs.Prelude.{codes, Result, Ok, Err, IfOk, string_bytes}
 use Rattle.std.proofs.Common.{String}
 use Rattle.std.specs.List.{AllByRecursion}
 use Rattle.std.specs.Char.{is_whitespace}
 use Rattle.std.specs.Fmt.{digit_glyph, digits, digits_onto}
-use Rattle.std.specs.Str.{IsUtf8, IsAscii, IsCharBoundary, chars, drop_trailing_whitespace, trim_end, encode_utf8_all}
+use Rattle.std.specs.Str.{IsUtf8, IsAscii, chars, drop_trailing_whitespace, trim_end, encode_utf8_all}
 use Rattle.std.proofs.lemmas.Str.{IsUtf8-take, IsUtf8-append, IsUtf8-from_ascii, IsCharBoundary-before_ascii, chars-append, chars-IsAscii, encodes-chars}
-use Rattle.std.proofs.lemmas.Bool.{ne_eqb, lt-ltb, le-ltb, ltb-true, ltb-false}
-use Rattle.std.proofs.lemmas.List.{take_at, get_or-append_right, get_or_append_left}
+use Rattle.std.proofs.lemmas.Bool.{ne_eqb, lt-ltb, le-ltb}
+use Rattle.std.proofs.lemmas.List.{take_at, get_or-append_right}
 use Rattle.kmip_ttlv_types.specs.declared.typ.TtlvType.{TtlvType}
 use Rattle.kmip_ttlv_types.specs.declared.typ.TtlvType.TheVariants.{Structure, Integer, LongInteger, BigInteger, Enumeration, Boolean, TextString, ByteString, DateTime, Interval}
-use Rattle.kmip_ttlv_util.specs.Outlines.{Outline, Outlines, leaf_outline, node_outline, no_outlines, outline, IsKept, IsOutline, AreOutlines, hex_upper, diag}
+use Rattle.kmip_ttlv_util.specs.Outlines.{Outline, Outlines, leaf_outline, node_outline, no_outlines, outline, IsKept, IsOutline, AreOutlines, hex_upper}
 use Rattle.kmip_ttlv_util.specs.Lines.{typ_part}
-use Rattle.kmip_ttlv_util.specs.Undiag.{line, hidden, shown, lines, lines_all, undiag, undiag_lines, AllBegin, NoneEmpty, AllNoneEmpty, IsNode, IsReadBack}
+use Rattle.kmip_ttlv_util.specs.Undiag.{line, hidden, shown, lines, lines_all, undiag, undiag_lines, NoneEmpty, AllNoneEmpty, IsReadBack}
 use Rattle.kmip_ttlv_util.proofs.ReadBack.{undiag_message, hex_some}
 
 -- ---- a visible character before a line feed
@@ -23,13 +23,16 @@ record Visible (c : ℕ) : Type 0 where
   above : 33 ≤ c
   below : c < 128
 
+-- a visible character is no white space
 visible_dark : (c : ℕ) → Visible c → is_whitespace c ≡ false
 visible_dark c v = rw (le-ltb c 14 (omega (arith, v.above)), lt-ltb 8 c (omega (arith, v.above)), ne_eqb c 32 (omega (arith, v.above)), ne_eqb c 133 (omega (arith, v.below)), ne_eqb c 160 (omega (arith, v.below)), ne_eqb c 5760 (omega (arith, v.below)), le-ltb 8191 c (omega (arith, v.below)), ne_eqb c 8232 (omega (arith, v.below)), ne_eqb c 8233 (omega (arith, v.below)), ne_eqb c 8239 (omega (arith, v.below)), ne_eqb c 8287 (omega (arith, v.below)), ne_eqb c 12288 (omega (arith, v.below))) refl
 
+-- a character before others is kept
 stays_on : (b : Bool) (n z : ℕ) (rest : List ℕ) → n ≢ 0 → cond (b && eqb n 0) [] (z ∷ rest) ≡ z ∷ rest
 stays_on true n z rest ne = rw (ne_eqb n 0 ne) refl
 stays_on false n z rest ne = refl
 
+-- dropping white space drops the line feed alone
 drop_end : (zs : List ℕ) (c : ℕ) → Visible c → drop_trailing_whitespace (zs ++ (c ∷ 10 ∷ [])) ≡ zs ++ (c ∷ [])
 drop_end [] c v = rw (visible_dark c v) refl
 drop_end (z ∷ zs) c v =
@@ -37,15 +40,18 @@ drop_end (z ∷ zs) c v =
     let some : length (drop_trailing_whitespace (zs ++ (c ∷ 10 ∷ []))) ≢ 0 = λ h. omega (arith, h, ap length k, length-append zs (c ∷ [])) in
     stays_on (is_whitespace z) (length (drop_trailing_whitespace (zs ++ (c ∷ 10 ∷ [])))) z (drop_trailing_whitespace (zs ++ (c ∷ 10 ∷ []))) some ∙ ap (λ (r : List ℕ). z ∷ r) k
 
+-- one ASCII character
 ascii_one : (c : ℕ) → c < 128 → IsAscii (c ∷ [])
 ascii_one c lt zero = lt
 ascii_one c lt (suc i) = omega arith
 
+-- and a line feed
 ascii_two : (c : ℕ) → c < 128 → IsAscii (c ∷ 10 ∷ [])
 ascii_two c lt zero = lt
 ascii_two c lt (suc zero) = omega arith
 ascii_two c lt (suc (suc i)) = omega arith
 
+-- what stands before an ASCII character is UTF-8
 front_utf8 : (xs : List ℕ) (c : ℕ) → IsUtf8 (xs ++ (c ∷ 10 ∷ [])) → c < 128 → IsUtf8 xs
 front_utf8 xs c utf8 lt =
     let bs = xs ++ (c ∷ 10 ∷ []) in
@@ -54,6 +60,7 @@ front_utf8 xs c utf8 lt =
     let cell : get_or bs (length xs) 0 < 128 = omega (arith, is) in
     subst IsUtf8 (take_at xs (c ∷ 10 ∷ []) (length xs) refl) (IsUtf8-take bs (length xs) utf8 (IsCharBoundary-before_ascii bs (length xs) (omega (arith, length-append xs (c ∷ 10 ∷ []))) cell))
 
+-- a trim takes the line feed alone
 trim_line : (xs : List ℕ) (c : ℕ) → IsUtf8 (xs ++ (c ∷ 10 ∷ [])) → Visible c → trim_end (xs ++ (c ∷ 10 ∷ [])) ≡ xs ++ (c ∷ [])
 unfolding trim_end
 trim_line xs c utf8 v =
@@ -73,12 +80,14 @@ record Ends (text : List ℕ) : Type 0 where
   is : text ≡ front ++ (last ∷ [])
   visible : Visible last
 
+-- a text behind another
 ends_behind : (xs text : List ℕ) → Ends text → Ends (xs ++ text)
 ends_behind xs text e = record { front = xs ++ e.front; last = e.last; is = ap (λ (s : List ℕ). xs ++ s) e.is ∙ sym (append_assoc xs e.front (e.last ∷ [])); visible = e.visible }
 
 abbrev AllVisible : List ℕ → Type 0
 AllVisible cs = AllByRecursion Visible cs
 
+-- a digit is visible
 glyph_visible : (d : ℕ) → d < 16 → Visible (digit_glyph true d)
 glyph_visible d small = by (ltb d 10) refl
   where
@@ -86,31 +95,38 @@ glyph_visible d small = by (ltb d 10) refl
     by true e = record { above = omega arith; below = omega arith }
     by false e = record { above = omega arith; below = omega arith }
 
+-- either of two lists
 pick : (b : Bool) (xs ys : List ℕ) → AllVisible xs → AllVisible ys → AllVisible (cond b xs ys)
 pick true xs ys p q = p
 pick false xs ys p q = q
 
+-- digits in front of visible ones
 onto_visible : (k n : ℕ) (acc : List ℕ) → AllVisible acc → AllVisible (digits_onto k 16 true n acc)
 onto_visible zero n acc all = all
 onto_visible (suc k) n acc all =
     let more : AllVisible (digit_glyph true (n % 16) ∷ acc) = (glyph_visible (n % 16) (omega arith), all) in
     pick (eqb (n / 16) 0) _ _ more (onto_visible k (n / 16) _ more)
 
+-- digits are visible
 hex_visible : (n : ℕ) → AllVisible (hex_upper n)
 unfolding digits
 hex_visible n = onto_visible 64 n [] tt
 
+-- a list of visible characters ends with one
 last_visible : (d : ℕ) (ds : List ℕ) → AllVisible (d ∷ ds) → Ends (d ∷ ds)
 last_visible d [] all = record { front = []; last = d; is = refl; visible = all.0 }
 last_visible d (e ∷ ds) all = ends_behind (d ∷ []) (e ∷ ds) (last_visible e ds all.1)
 
+-- if it is not empty
 some_visible : (ds : List ℕ) → 0 < length ds → AllVisible ds → Ends ds
 some_visible [] some all = absurd (omega arith)
 some_visible (d ∷ ds) some all = last_visible d ds all
 
+-- the mark of a hidden value
 hidden_ends : Ends hidden
 hidden_ends = record { front = codes "<redacted"; last = 62; is = refl; visible = record { above = omega arith; below = omega arith } }
 
+-- what a line shows
 shown_ends : (typ : TtlvType) (v : Option ℕ) → IsKept typ v → Ends (shown typ v)
 shown_ends Structure v k = absurd k
 shown_ends Enumeration None k = absurd k
@@ -139,9 +155,11 @@ record EndsLine (text : List ℕ) : Type 0 where
   is : text ≡ front ++ (last ∷ 10 ∷ [])
   visible : Visible last
 
+-- a line behind other text
 line_behind : (xs text : List ℕ) → EndsLine text → EndsLine (xs ++ text)
 line_behind xs text e = record { front = xs ++ e.front; last = e.last; is = ap (λ (s : List ℕ). xs ++ s) e.is ∙ sym (append_assoc xs e.front (e.last ∷ 10 ∷ [])); visible = e.visible }
 
+-- a line feed behind a visible character
 fed : (text : List ℕ) → Ends text → EndsLine (text ++ (10 ∷ []))
 fed text e = record { front = e.front; last = e.last; is = ap (λ (s : List ℕ). s ++ (10 ∷ [])) e.is ∙ append_assoc e.front (e.last ∷ []) (10 ∷ []); visible = e.visible }
 
@@ -160,6 +178,7 @@ module _ (names : ℕ → Option (List ℕ)) where
     all_end depth text no_outlines e ios nones = subst EndsLine (sym (append-nil text)) e
     all_end depth text (outline p os) e ios nones = line_behind text _ (all_end depth (lines names depth p) os (lines_end depth p ios.0 nones.0) ios.1 nones.1)
 
+  -- a trim and a line feed give the lines back
   trimmed_line : (text : List ℕ) → IsUtf8 text → EndsLine text → trim_end text ++ (10 ∷ []) ≡ text
   trimmed_line text utf8 e =
       ap (λ (s : List ℕ). trim_end s ++ (10 ∷ [])) e.is ∙ ap (λ (s : List ℕ). s ++ (10 ∷ [])) (trim_line e.front e.last (subst IsUtf8 e.is utf8) e.visible)

@@ -1,5 +1,5 @@
 -- A diagnostic text reads back in one way.
-use Rattle.std.proofs.Common.{◌≡◌, ◌≢◌, ℕ, zero, suc, ◌+◌, ◌-◌, ◌*◌, ◌/◌, ◌%◌, ◌<◌, ◌≤◌, ◌^◌, Bool, true, false, cond, eqb, ltb, List, [], ◌∷◌, ◌++◌, length, take, drop, get_or, Option, Some, None, refl, sym, ap, subst, ◌∙◌, arith, append_assoc, length-append}
+use Rattle.std.proofs.Common.{◌≡◌, ◌≢◌, ℕ, zero, suc, ◌+◌, ◌*◌, ◌/◌, ◌%◌, ◌<◌, ◌≤◌, ◌^◌, Bool, true, false, cond, eqb, ltb, List, [], ◌∷◌, ◌++◌, length, drop, get_or, Option, Some, None, refl, sym, ap, subst, ◌∙◌, arith, append_assoc}
 use Rattle.std.proofs.Common.{◌⊎◌, inl, inr}
 use Rattle.std.proofs.lemmas.Bool.{ltb-true, ltb-false}
 use Rattle.std.proofs.lemmas.List.{length-drop}
@@ -30,6 +30,7 @@ record Front (xs ys r s : List ℕ) (c d : ℕ) : Type 0 where
   first : c ≡ d
   rest : r ≡ s
 
+-- equal texts have equal fronts of digits
 front_one : (xs ys r s : List ℕ) (c d : ℕ) → AllDigits xs → AllDigits ys → (IsDigit c → ⊥) → (IsDigit d → ⊥) → xs ++ (c ∷ r) ≡ ys ++ (d ∷ s) → Front xs ys r s c d
 front_one [] [] r s c d ax ay nc nd e = record { front = refl; first = cc; rest = cc }
 front_one [] (y ∷ ys) r s c d ax ay nc nd e = let k : c ≡ y = cc in absurd (nc (subst IsDigit (sym k) ay.0))
@@ -42,6 +43,7 @@ front_one (x ∷ xs) (y ∷ ys) r s c d ax ay nc nd e =
 
 -- ---- numbers
 
+-- a digit is no letter, bracket or colon
 pub glyph_digit : (d : ℕ) → d < 16 → IsDigit (digit_glyph true d)
 glyph_digit d small = by (ltb d 10) refl
   where
@@ -49,6 +51,7 @@ glyph_digit d small = by (ltb d 10) refl
     by true e = (omega (arith, ltb-true _ _ e), λ h. omega (arith, ltb-true _ _ e, h))
     by false e = (omega arith, λ h. omega (arith, ltb-false _ _ e, h))
 
+-- digits in front of digits
 onto_digits : (k n : ℕ) (acc : List ℕ) → AllDigits acc → AllDigits (digits_onto k 16 true n acc)
 onto_digits zero n acc all = all
 onto_digits (suc k) n acc all =
@@ -59,17 +62,21 @@ onto_digits (suc k) n acc all =
     either true xs ys p q = p
     either false xs ys p q = q
 
+-- a number is written in digits
 pub hex_digits : (n : ℕ) → AllDigits (hex_upper n)
 unfolding digits
 hex_digits n = onto_digits 64 n [] tt
 
+-- equal digits, equal numbers
 hex_one : (m n : ℕ) → m < 2 ^ 32 → n < 2 ^ 32 → hex_upper m ≡ hex_upper n → m ≡ n
 hex_one m n p q e = sym (digits_is_IsNumeral 16 true (omega arith) (omega arith) m (omega arith)).1 ∙ ap (digits_value 16) e ∙ (digits_is_IsNumeral 16 true (omega arith) (omega arith) n (omega arith)).1
 
+-- six digits are digits
 six_all : (n : ℕ) → AllDigits (six_digits n)
 unfolding six_digits
 six_all n = (glyph_digit (n / 1048576 % 16) (omega arith), (glyph_digit (n / 65536 % 16) (omega arith), (glyph_digit (n / 4096 % 16) (omega arith), (glyph_digit (n / 256 % 16) (omega arith), (glyph_digit (n / 16 % 16) (omega arith), (glyph_digit (n % 16) (omega arith), tt))))))
 
+-- equal digits, equal values
 glyph_one : (a b : ℕ) → a < 16 → b < 16 → digit_glyph true a ≡ digit_glyph true b → a ≡ b
 glyph_one a b ha hb = by (ltb a 10) (ltb b 10) refl refl
   where
@@ -79,14 +86,17 @@ glyph_one a b ha hb = by (ltb a 10) (ltb b 10) refl refl
     by false true p q e = omega (arith, ltb-false _ _ p, ltb-true _ _ q, e)
     by false false p q e = omega arith
 
+-- digits are ASCII
 all_ascii : (cs : List ℕ) → AllDigits cs → (i : ℕ) → get_or cs i 0 < 128
 all_ascii [] all i = omega arith
 all_ascii (c ∷ cs) all zero = omega (arith, all.0.0)
 all_ascii (c ∷ cs) all (suc i) = all_ascii cs all.1 i
 
+-- six digits are a text
 pub six_utf8 : (n : ℕ) → IsUtf8 (six_digits n)
 six_utf8 n = IsUtf8-from_ascii (six_digits n) (all_ascii (six_digits n) (six_all n))
 
+-- there are six
 six_length : (n : ℕ) → length (six_digits n) ≡ 6
 unfolding six_digits
 six_length n = refl

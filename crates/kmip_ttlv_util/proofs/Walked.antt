@@ -1,17 +1,15 @@
 -- What any style writes of a well-formed message.
-use Rattle.std.proofs.Common.{◌≡◌, ◌≢◌, ℕ, zero, suc, ◌+◌, ◌-◌, ◌*◌, ◌<◌, ◌≤◌, ◌^◌, Bool, true, false, List, [], ◌∷◌, ◌++◌, length, take, drop, get_or, Option, Some, None, refl, sym, ap, subst, ◌∙◌, arith, append_assoc, append-nil, length-append, add-zero}
-use Rattle.std.proofs.Common.{◌⊎◌, inl, inr}
-use Rattle.std.specs.Int.{w32, from_be_bytes}
-use Rattle.std.proofs.lemmas.List.{take_at, drop_at, length-drop, drop-drop, get_or_append_left, get_or-append_right, get_or_past}
-use Rattle.std.proofs.lemmas.Bool.{lt-ltb, cases_lt}
+use Rattle.std.proofs.Common.{◌≡◌, ◌≢◌, ℕ, zero, suc, ◌+◌, ◌<◌, ◌≤◌, Bool, true, false, List, [], ◌∷◌, ◌++◌, length, take, drop, refl, sym, ap, ◌∙◌, arith, append_assoc, append-nil, length-append}
+use Rattle.std.proofs.lemmas.List.{drop_at, length-drop, drop-drop}
+use Rattle.std.proofs.lemmas.Bool.{lt-ltb}
 use Rattle.kmip_ttlv_types.specs.declared.typ.TtlvType.{TtlvType}
-use Rattle.kmip_ttlv_types.specs.declared.typ.TtlvType.TheVariants.{Structure, Integer, LongInteger, BigInteger, Enumeration, Boolean, TextString, ByteString, DateTime, Interval}
-use Rattle.kmip_ttlv_types.specs.Items.{Raw, header, IsTextOf}
+use Rattle.kmip_ttlv_types.specs.declared.typ.TtlvType.TheVariants.{Structure}
+use Rattle.kmip_ttlv_types.specs.Items.{Raw, IsTextOf}
 use Rattle.kmip_ttlv_types.specs.ItemTypes.{type_of}
 use Rattle.kmip_ttlv_types.specs.Leaves.{is_valid}
-use Rattle.kmip_ttlv_types.specs.Places.{tag_at, code_at, length_at, size, ItemAt}
+use Rattle.kmip_ttlv_types.specs.Places.{tag_at, length_at, size}
 use Rattle.kmip_ttlv_types.specs.Trees.{Tree, Trees, leaf, node, no_trees, tree, IsTreeText, AreTreeTexts, HasNoEmpty, HaveNoEmpty, IsStructure}
-use Rattle.kmip_ttlv_util.specs.Traces.{Entry, Place, start, entry_at, type_read, has_end, after, detail_of, extent, trace, Style, told}
+use Rattle.kmip_ttlv_util.specs.Traces.{Entry, start, entry_at, has_end, after, detail_of, extent, trace, Style, told}
 use Rattle.kmip_ttlv_util.specs.Answer.{Ready}
 use Rattle.kmip_ttlv_util.proofs.PlaceLemmas.{raw_of, header_of, item_at_text, text_length, type_of-code}
 use Rattle.kmip_ttlv_util.proofs.Entries.{entry_tag, entry_length, detail_here, read_leaf, read_structure, extent_leaf}
@@ -20,6 +18,7 @@ use Rattle.kmip_ttlv_util.proofs.Stack.{step_leaf, step_opens}
 
 -- as many turns more as the tree has items
 abbrev mutual
+  -- the turns of a tree
   more : Tree → ℕ → ℕ
   more (leaf tag typ content) f = suc f
   more (node tag ts) f = suc (more_all ts f)
@@ -28,9 +27,11 @@ abbrev mutual
   more_all no_trees f = f
   more_all (tree t ts) f = more t (more_all ts f)
 
+-- valid content is no structure
 pub leaf_not : (typ : TtlvType) (content : List ℕ) → is_valid typ content ≡ true → typ ≢ Structure
 leaf_not typ content valid h = let k : is_valid Structure content ≡ true = ap (λ (u : TtlvType). is_valid u content) (sym h) ∙ valid in cc
 
+-- an item has its header
 size_least : (typ : TtlvType) (n : ℕ) → 8 + n ≤ size typ n
 size_least typ n = omega arith
 
@@ -45,10 +46,12 @@ record Turns (g n : ℕ) (m : ℕ → ℕ) : Type 0 where
   is : g ≡ m left
   enough : g ≤ left + n
 
+-- how long a structure's text is
 node_length : (tag : ℕ) (ts : Trees) (text : List ℕ) (h : IsTreeText (node tag ts) text) → length text ≡ 8 + length h.0
 node_length tag ts text h = text_length (raw_of tag Structure h.0) text h.1 ∙ omega arith
 
 mutual
+  -- a tree takes no more turns than it has bytes
   turns : (t : Tree) (text : List ℕ) (g : ℕ) → IsTreeText t text → length text ≤ g → Turns g (length text) (more t)
   turns (leaf tag typ content) text zero h le = absurd (omega (arith, tree_length (leaf tag typ content) text h))
   turns (leaf tag typ content) text (suc g) h le = record { left = g; is = refl; enough = omega (arith, tree_length (leaf tag typ content) text h) }
@@ -57,6 +60,7 @@ mutual
       let k = turns_all ts h.0 g h.2 (omega (arith, node_length tag ts text h)) in
       record { left = k.left; is = ap suc k.is; enough = omega (arith, k.enough, node_length tag ts text h) }
 
+  -- nor do several
   turns_all : (ts : Trees) (text : List ℕ) (g : ℕ) → AreTreeTexts ts text → length text ≤ g → Turns g (length text) (more_all ts)
   turns_all no_trees text g h le = record { left = g; is = refl; enough = omega arith }
   turns_all (tree t ts) text g h le =
@@ -66,14 +70,17 @@ mutual
 
 -- ---- structures with an end of their own
 
+-- what is in a structure has no empty ones
 inner : (tag : ℕ) (ts : Trees) → HasNoEmpty (node tag ts) → HaveNoEmpty ts
 inner tag no_trees h = tt
 inner tag (tree t ts) h = h
 
+-- such a structure has content
 first_length : (tag : ℕ) (ts : Trees) (text : List ℕ) → HasNoEmpty (node tag ts) → AreTreeTexts ts text → 0 < length text
 first_length tag no_trees text none h = absurd none
 first_length tag (tree t ts) text none h = omega (arith, tree_length t h.0 h.3, ap length h.2, length-append h.0 h.1)
 
+-- so it has an end of its own
 ends_itself : (closed : Bool) (tag : ℕ) (ts : Trees) (text : List ℕ) → (closed ≡ false → HasNoEmpty (node tag ts)) → AreTreeTexts ts text → has_end closed (length text) ≡ true
 ends_itself true tag ts text none h = refl
 ends_itself false tag ts text none h = lt-ltb 0 (length text) (first_length tag ts text (none refl) h)
@@ -84,9 +91,11 @@ ends_itself false tag ts text none h = lt-ltb 0 (length text) (first_length tag 
 next_at : (w : List ℕ) (p : ℕ) (a rest : List ℕ) → drop p w ≡ a ++ rest → drop (p + length a) w ≡ rest
 next_at w p a rest e = sym (drop-drop (length a) p w) ∙ ap (drop (length a)) e ∙ drop_at a rest (length a) refl
 
+-- a text that stands at a place is within the bytes
 within_at : (w : List ℕ) (p : ℕ) (a rest : List ℕ) → p ≤ length w → drop p w ≡ a ++ rest → p + length a ≤ length w
 within_at w p a rest le e = omega (arith, ap length e, length-append a rest, length-drop p w)
 
+-- where its content stands
 content_at_text : (w : List ℕ) (p : ℕ) (x : Raw) (text rest : List ℕ) (t : IsTextOf x text) → drop p w ≡ text ++ rest → drop (p + 8) w ≡ x.content ++ (t.pad ++ rest)
 content_at_text w p x text rest t e =
     let r : drop p w ≡ (header_of x ++ x.content ++ t.pad) ++ rest = e ∙ ap (λ (s : List ℕ). s ++ rest) t.parts in
@@ -101,6 +110,7 @@ pub record Drawing : Type 0 where
   pub of_node : (depth tag : ℕ) → List ℕ
 
 abbrev mutual
+  -- the text of a tree so deep
   pub drawn : Drawing → List ℕ → ℕ → Tree → List ℕ
   drawn d shut depth (leaf tag typ content) = d.of_leaf depth tag typ content
   drawn d shut depth (node tag below) = d.of_node depth tag ++ (drawn_all d shut (suc depth) below ++ shut)
@@ -148,6 +158,7 @@ module _ (style : Style) (d : Drawing) (closed : Bool) (w : List ℕ) (draws : D
       let goes : after closed (place p es k z) typ m ≡ place (p + length text) es k z = sym (step_leaf closed (place p es k z) typ m (p + length text) ready ne size-is) in
       text_reads style closed w f (place p es k z) typ ready reads ∙ rw (draws.leafs (k + length es) p tag typ content here, goes) refl
 
+  -- a structure's opening
   node_step : (tag : ℕ) (ts : Trees) (p f : ℕ) (es : List ℕ) (k : ℕ) (z : Bool) (text rest : List ℕ) (h : IsTreeText (node tag ts) text) → (closed ≡ false → HasNoEmpty (node tag ts)) → drop p w ≡ text ++ rest → p ≤ length w → Ready (place p es k z)
       → text_from style closed w (suc f) (place p es k z) ≡ d.of_node (k + length es) tag ++ text_from style closed w f (place (p + 8) ((p + 8 + length h.0) ∷ es) k z)
   node_step tag ts p f es k z text rest h none at le ready =

@@ -1,5 +1,5 @@
 -- What the printer's calls answer.
-use Rattle.std.specs.Prelude.{◌≡◌, ◌≢◌, ℕ, Bool, true, false, ◌+◌, ◌<◌, ◌≤◌, List, [], ◌∷◌, ◌↔◌, length, take, drop, reverse, Option, Some, None}
+use Rattle.std.specs.Prelude.{slice_index, EachIndex, ◌≡◌, ◌≢◌, ℕ, Bool, true, false, ◌+◌, ◌<◌, ◌≤◌, List, [], ◌∷◌, ◌↔◌, length, take, drop, reverse, Some}
 use Rattle.kmip_ttlv_types.specs.declared.typ.TtlvType.TheVariants.{Structure}
 use Rattle.kmip_ttlv_types.specs.Leaves.{is_valid}
 use Rattle.kmip_ttlv_types.specs.Places.{tag_at, length_at}
@@ -9,7 +9,8 @@ use Rattle.kmip_ttlv_util.specs.declared.walk.Walk.{Walk}
 use Rattle.kmip_ttlv_util.specs.declared.walk.Next.{Next}
 use Rattle.kmip_ttlv_util.specs.declared.walk.Next.TheVariants.{Closes, Over, Past, Reads}
 use Rattle.kmip_ttlv_util.specs.Outlines.{Outline, IsOutline, diag, outline_of}
-use Rattle.kmip_ttlv_util.specs.Traces.{Entry, entry_at, type_read, Place, left_at, turn, reads, kept, extent}
+use Rattle.kmip_ttlv_util.specs.Traces.{entry_at, type_read, Place, left_at, turn, entry_follows, kept, extent, trace}
+use Rattle.kmip_ttlv_util.specs.Diagnostics.{hostile}
 
 -- the item at a place is read
 pub record IsItem (bytes : List ℕ) (p : ℕ) (i : Item) : Type 0 where
@@ -28,7 +29,7 @@ place_of w = record { pos = w.pos; ends = reverse w.ends.items; endless = w.endl
 
 -- nothing closes, and an entry is read
 pub record Ready (s : Place) : Type 0 where
-  pub turns : turn s ≡ reads
+  pub turns : turn s ≡ entry_follows
   pub left : left_at s.pos s.ends ≡ s.ends
 
 -- the innermost structure closes, and others stay open
@@ -61,3 +62,9 @@ pub record Exact (prefix : List ℕ) (t : Tree) (text : List ℕ) : Type 0 where
 -- of a well-formed message, which has no empty structure unless these are closed
 abbrev pub IsExact : List ℕ → Bool → List ℕ → List ℕ → Type 0
 IsExact prefix closed bytes text = (t : Tree) → IsTreeText t bytes → IsStructure t → (closed ≡ false → HasNoEmpty t) → Exact prefix t text
+
+-- two well-formed messages have equal diagnostics exactly if their outlines are equal
+abbrev pub TellsOutlines : Type 0
+TellsOutlines = (prefix : List ℕ) (closed : Bool) (a b : List ℕ) (t u : Tree) → EachIndex a (λ i. slice_index a i < 256) → EachIndex b (λ i. slice_index b i < 256)
+    → IsTreeText t a → IsTreeText u b → IsStructure t → IsStructure u → (closed ≡ false → HasNoEmpty t) → (closed ≡ false → HasNoEmpty u)
+    → (hostile prefix closed (length a) (trace closed a) ≡ hostile prefix closed (length b) (trace closed b)) ↔ (outline_of t ≡ outline_of u)

@@ -1,5 +1,5 @@
 -- The names of tags.
-use Rattle.std.specs.Prelude.{ℕ, List, Option, ◌==◌}
+use Rattle.std.specs.Prelude.{ℕ, List, Option, None, ◌==◌}
 use Rattle.std.specs.Option.{option_map}
 use Rattle.std.specs.Borrow.{Bor}
 use Rattle.std.specs.declared.hash.FoldHasher.{FoldHasher}
@@ -13,3 +13,7 @@ NameMap = HashMap ℕ (Bor (List ℕ)) (BuildHasherDefault FoldHasher)
 -- the name that a map has for a tag
 abbrev pub name_in : NameMap → ℕ → Option (List ℕ)
 name_in names tag = option_map (λ s. s.now) (get (λ a b. a == b) names tag)
+
+-- no tag has a name
+abbrev pub no_names : ℕ → Option (List ℕ)
+no_names tag = None

@@ -19,6 +19,7 @@ bracketed text = codes " (" ++ (text ++ codes ")")
 abbrev pub two_digits : ℕ → List ℕ
 two_digits b = digit_glyph true (b / 16) ∷ digit_glyph true (b % 16) ∷ []
 
+-- bytes in uppercase hexadecimal
 unfoldable pub hex_bytes : List ℕ → List ℕ
 hex_bytes bytes = flat_map two_digits bytes
 

@@ -2,32 +2,35 @@
 use Rattle.std.specs.Prelude.{ℕ, zero, suc, ◌+◌, Bool, true, false, ◌&&◌, List, [], ◌∷◌, ◌++◌, length, take, drop, Option, Some, None, if◌then◌else◌, ◌==◌, nat_le, nat_lt}
 use Rattle.std.specs.Int.{w32, from_be_bytes}
 use Rattle.kmip_ttlv_types.specs.declared.typ.TtlvType.{TtlvType}
-use Rattle.kmip_ttlv_types.specs.declared.typ.TtlvType.TheVariants.{Structure, Integer, LongInteger, BigInteger, Enumeration, Boolean, TextString, ByteString, DateTime, Interval}
+use Rattle.kmip_ttlv_types.specs.declared.typ.TtlvType.TheVariants.{Structure, Integer, LongInteger, Enumeration, Boolean, TextString, DateTime, Interval}
 use Rattle.kmip_ttlv_types.specs.ItemTypes.{type_of}
 use Rattle.kmip_ttlv_types.specs.Leaves.{is_valid}
-use Rattle.kmip_ttlv_types.specs.Places.{tag_at, code_at, length_at, size}
+use Rattle.kmip_ttlv_types.specs.Places.{code_at, length_at, size}
 
 -- what is kept of content that is there: an enumeration's value, and whether a boolean or a text is valid
 pub data Detail : Type 0 where
   no_detail : Detail
-  value : ℕ → Detail
-  validity : Bool → Detail
+  kept_value : ℕ → Detail
+  kept_validity : Bool → Detail
 
 -- of an entry: the header bytes that are there, and that
 pub record Entry : Type 0 where
   pub header : List ℕ
   pub detail : Detail
 
+-- what is kept of content of a type
 abbrev pub detail_of : TtlvType → List ℕ → Detail
-detail_of Enumeration content = if length content == 4 then value (from_be_bytes w32 content) else no_detail
-detail_of Boolean content = validity (is_valid Boolean content)
-detail_of TextString content = validity (is_valid TextString content)
+detail_of Enumeration content = if length content == 4 then kept_value (from_be_bytes w32 content) else no_detail
+detail_of Boolean content = kept_validity (is_valid Boolean content)
+detail_of TextString content = kept_validity (is_valid TextString content)
 detail_of _ content = no_detail
 
+-- what is kept of the content at a place, where all of it is there
 abbrev pub detail_at : List ℕ → ℕ → Option TtlvType → Detail
 detail_at bytes p None = no_detail
 detail_at bytes p (Some typ) = if nat_le (p + size typ (length_at bytes p)) (length bytes) then detail_of typ (take (length_at bytes p) (drop (p + 8) bytes)) else no_detail
 
+-- the entry at a place
 unfoldable pub entry_at : List ℕ → ℕ → Entry
 entry_at bytes p = record { header = take 8 (drop p bytes); detail = detail_at bytes p (type_of (code_at bytes p)) }
 
@@ -38,9 +41,9 @@ is_fine LongInteger n d = n == 8
 is_fine Enumeration n d = n == 4
 is_fine DateTime n d = n == 8
 is_fine Interval n d = n == 4
-is_fine Boolean n (validity b) = b
+is_fine Boolean n (kept_validity b) = b
 is_fine Boolean n d = false
-is_fine TextString n (validity b) = b
+is_fine TextString n (kept_validity b) = b
 is_fine TextString n d = false
 is_fine _ n d = true
 
@@ -49,6 +52,7 @@ abbrev pub extent : TtlvType → ℕ → ℕ
 extent Structure n = 8
 extent typ n = size typ n
 
+-- a type, where its bytes are there among so many and its content is valid
 abbrev pub type_if : ℕ → ℕ → Entry → Option TtlvType → Option TtlvType
 type_if count p x None = None
 type_if count p x (Some t) = if nat_le (p + extent t (length_at x.header 0)) count && is_fine t (length_at x.header 0) x.detail then Some t else None
@@ -59,7 +63,7 @@ type_read count p x = type_if count p x (type_of (code_at x.header 0))
 
 -- an enumeration's value
 abbrev pub kept : TtlvType → Detail → Option ℕ
-kept Enumeration (value n) = Some n
+kept Enumeration (kept_value n) = Some n
 kept _ d = None
 
 -- where a walk stands: at a position, in structures with these ends, the innermost first, and within
@@ -70,11 +74,12 @@ pub record Place : Type 0 where
   pub endless : ℕ
   pub loose : Bool
 
--- the ends that are left where those that are reached are removed, and what is written for each of these
+-- the ends that are left where those that are reached are removed
 unfoldable pub left_at : ℕ → List ℕ → List ℕ
 left_at p [] = []
 left_at p (e ∷ es) = if e == p then left_at p es else e ∷ es
 
+-- what is written for each end that is removed
 unfoldable pub closes : List ℕ → ℕ → List ℕ → List ℕ
 closes shut p [] = []
 closes shut p (e ∷ es) = if e == p then shut ++ closes shut p es else []
@@ -85,19 +90,22 @@ depth_at s = s.endless + length (left_at s.pos s.ends)
 
 -- all is closed, an end was passed, or an entry is read
 pub data Turn : Type 0 where
-  over : Turn
-  past : Turn
-  reads : Turn
+  all_closed : Turn
+  end_passed : Turn
+  entry_follows : Turn
 
+-- the turn where these ends are left
 abbrev pub turn_left : Bool → ℕ → List ℕ → Turn
-turn_left loose p [] = over
-turn_left true p (e ∷ es) = reads
-turn_left false p (e ∷ es) = if nat_lt e p then past else reads
+turn_left loose p [] = all_closed
+turn_left true p (e ∷ es) = entry_follows
+turn_left false p (e ∷ es) = if nat_lt e p then end_passed else entry_follows
 
+-- a walk in no structure that ends reads on
 abbrev pub turn_at : Bool → ℕ → List ℕ → Turn
-turn_at loose p [] = reads
+turn_at loose p [] = entry_follows
 turn_at loose p (e ∷ es) = turn_left loose p (left_at p (e ∷ es))
 
+-- what comes next at a place
 unfoldable pub turn : Place → Turn
 turn s = turn_at s.loose s.pos s.ends
 
@@ -112,6 +120,7 @@ opened true p n es k loose = record { pos = p; ends = (p + n) ∷ es; endless = 
 opened false p n [] k loose = record { pos = p; ends = []; endless = suc k; loose = true }
 opened false p n (e ∷ es) k loose = record { pos = p; ends = e ∷ e ∷ es; endless = k; loose = true }
 
+-- past an entry that stands in front of these ends
 abbrev pub onward : Bool → ℕ → List ℕ → ℕ → Bool → TtlvType → ℕ → Place
 onward closed p es k loose Structure n = opened (has_end closed n) (p + 8) n es k loose
 onward closed p es k loose typ n = record { pos = p + size typ n; ends = es; endless = k; loose = loose }
@@ -120,11 +129,12 @@ onward closed p es k loose typ n = record { pos = p + size typ n; ends = es; end
 unfoldable pub after : Bool → Place → TtlvType → ℕ → Place
 after closed s typ n = onward closed s.pos (left_at s.pos s.ends) s.endless s.loose typ n
 
+-- the entries from one on, by what comes next and by its type
 abbrev pub entries_by : Turn → Entry → Option TtlvType → (TtlvType → List Entry) → List Entry
-entries_by over x o more = []
-entries_by past x o more = []
-entries_by reads x None more = x ∷ []
-entries_by reads x (Some t) more = x ∷ more t
+entries_by all_closed x o more = []
+entries_by end_passed x o more = []
+entries_by entry_follows x None more = x ∷ []
+entries_by entry_follows x (Some t) more = x ∷ more t
 
 -- the entries from a place on, at most so many
 unfoldable pub entries_from : ℕ → Bool → List ℕ → Place → List Entry
@@ -132,6 +142,7 @@ entries_from zero closed bytes s = []
 entries_from (suc most) closed bytes s =
     entries_by (turn s) (entry_at bytes s.pos) (type_read (length bytes) s.pos (entry_at bytes s.pos)) (λ t. entries_from most closed bytes (after closed s t (length_at (entry_at bytes s.pos).header 0)))
 
+-- before the first byte
 abbrev pub start : Place
 start = record { pos = 0; ends = []; endless = 0; loose = false }
 
@@ -147,10 +158,12 @@ pub record Style : Type 0 where
   pub passed : List ℕ
   pub unreadable : List ℕ
 
+-- what is written where the entries end
 abbrev pub end_text : Style → Turn → List ℕ
-end_text style past = style.passed
+end_text style end_passed = style.passed
 end_text style _ = []
 
+-- what is written of an entry, by its type
 abbrev pub text_by : Style → Option TtlvType → (TtlvType → List ℕ) → List ℕ
 text_by style None more = style.unreadable
 text_by style (Some t) more = more t

@@ -1,6 +1,6 @@
 //! The diagnostic of any bytes: its parts, and the loop that writes them.
 
-ghost use Rattle.std.specs.Prelude.{◌≡◌, ℕ, ◌+◌, ◌/◌, ◌<◌, ◌≤◌, ◌^◌, ◌++◌, List, length, IfOk, OnOk, IfSome, string_bytes};
+ghost use Rattle.std.specs.Prelude.{◌≡◌, ℕ, ◌+◌, ◌/◌, ◌<◌, ◌≤◌, ◌^◌, ◌++◌, ◌∷◌, List, [], length, IfOk, OnOk, IfSome, string_bytes};
 ghost use Rattle.std.specs.Prelude.{true};
 ghost use Rattle.std.specs.Fmt.{digit_glyph};
 ghost use Rattle.kmip_ttlv_util.specs.Outlines.{six_digits, stripped, letter, value_text, mark};
@@ -99,6 +99,13 @@ fn push_mark<A: Allocator>(
     Ok(())
 }
 
+/// The close of a structure.
+fn push_close<A: Allocator>(out: &mut String<A>) -> Result<(), AllocError>
+    ensures { OnOk result (string_bytes out.new ≡ string_bytes out.old ++ (93 ∷ [])) }
+{
+    out.push(']')
+}
+
 /// The diagnostic of any bytes, and how many items were tried.
 pub fn diagnose<A: Allocator + Copy>(
     alloc: A,
@@ -115,9 +122,11 @@ pub fn diagnose<A: Allocator + Copy>(
     let mut walk = Walk::new(alloc);
     'walk: loop {
         match walk.next() {
-            Next::Closes => out.push(']')?,
+            Next::Closes => {
+                push_close(&mut out)?;
+            }
             Next::Over => {
-                out.push(']')?;
+                push_close(&mut out)?;
                 return Ok((out, count));
             }
             Next::Past => {

@@ -8,6 +8,7 @@
 
 mod diagnostic;
 mod item;
+pub mod laws;
 mod lines;
 mod pretty;
 mod printer;

@@ -1,14 +1,14 @@
 //! The printer: a prefix, names of tags and a setting, and the texts that it makes with them.
 
-ghost use Rattle.std.specs.Prelude.{◌≡◌, ℕ, ◌+◌, ◌/◌, ◌≤◌, ◌<◌, Bool, false, Option, None, List, [], length, IfOk, string_bytes};
+ghost use Rattle.std.specs.Prelude.{◌≡◌, ℕ, ◌+◌, ◌/◌, ◌≤◌, ◌<◌, Bool, false, List, [], length, IfOk, string_bytes};
 ghost use Rattle.std.specs.Borrow.{sem};
 ghost use Rattle.kmip_ttlv_util.specs.Traces.{trace};
 ghost use Rattle.kmip_ttlv_util.specs.Diagnostics.{hostile};
 ghost use Rattle.kmip_ttlv_util.specs.Answer.{IsExact};
 ghost use Rattle.kmip_ttlv_util.specs.Pretty.{IsPrinted, IsPretty};
 ghost use Rattle.kmip_ttlv_util.specs.Printers.{prefix_of, names_of, closes_empty};
-ghost use Rattle.kmip_ttlv_util.specs.Names.{name_in};
-ghost use Rattle.kmip_ttlv_util.specs.Undiag.{undiag, IsReadBack};
+ghost use Rattle.kmip_ttlv_util.specs.Names.{name_in, no_names};
+ghost use Rattle.kmip_ttlv_util.specs.Undiag.{undiag, ReadsLongest, IsReadBack};
 
 use crate::diagnostic::diagnose;
 use crate::lines::TagMap;
@@ -35,7 +35,7 @@ impl<A: Allocator + Copy> PrettyPrinter<A> {
     /// A printer with an empty prefix and no names, under which empty structures stay open.
     pub fn new(alloc: A) -> PrettyPrinter<A>
         ensures prefix { prefix_of result ≡ [] }
-        ensures names { (tag : ℕ) → names_of result tag ≡ None }
+        ensures names { names_of result ≡ no_names }
         ensures setting { closes_empty result ≡ false }
     {
         PrettyPrinter {
@@ -82,7 +82,7 @@ impl<A: Allocator + Copy> PrettyPrinter<A> {
     /// A printer with the same prefix, names and setting.
     pub fn clone(&self) -> Result<PrettyPrinter<A>, AllocError>
         ensures prefix { IfOk result (λ p. prefix_of p ≡ prefix_of self.now) }
-        ensures names { IfOk result (λ p. (tag : ℕ) → names_of p tag ≡ names_of self.now tag) }
+        ensures names { IfOk result (λ p. names_of p ≡ names_of self.now) }
         ensures setting { IfOk result (λ p. closes_empty p ≡ closes_empty self.now) }
     {
         Ok(PrettyPrinter {
@@ -147,6 +147,7 @@ impl<A: Allocator + Copy> PrettyPrinter<A> {
     /// linear in the text and in what is written.
     pub fn from_diag_string(&self, text: &str) -> Result<String<A>, AllocError>
         ensures undiag { IfOk result (λ r. string_bytes r ≡ undiag (names_of self.now) (prefix_of self.now) text.now) }
+        ensures longest { IfOk result (λ r. ReadsLongest (names_of self.now) (prefix_of self.now) text.now (string_bytes r)) }
         ensures redacted { IfOk result (λ r. IsReadBack (names_of self.now) (prefix_of self.now) text.now (string_bytes r)) }
     {
         read_back(

@@ -33,9 +33,16 @@ fn byte_of(c: u8) -> u8 {
 
 fn bytes_of(alloc: Global, hex: &str) -> Result<Vec<u8>, Fail> {
     let mut bytes = Vec::new(alloc);
-    let digits = hex.as_bytes();
-    for i in 0..digits.len() / 2 {
-        bytes.push(byte_of(digits[2 * i]) * 16 + byte_of(digits[2 * i + 1]))?;
+    let mut high = None;
+    for c in hex.as_bytes() {
+        let digit = byte_of(*c);
+        match high {
+            None => high = Some(digit),
+            Some(first) => {
+                bytes.push((first << 4) | digit)?;
+                high = None;
+            }
+        }
     }
     Ok(bytes)
 }
@@ -301,7 +308,7 @@ fn read_back(rt: HostRuntime) -> Result<(), Fail> {
 fn read_back_with_names(rt: HostRuntime) -> Result<(), Fail> {
     let mut names = HashMap::new(rt.alloc());
     if let Some(tag) = TtlvTag::from_number(0x42_0069) {
-        names.insert(tag, "Protocol Version")?;
+        assert!(rt; names.insert(tag, "Protocol Version").is_ok());
     }
     let mut printer = printer(rt.alloc(), "4200", false)?;
     printer.with_tag_map(names);
@@ -510,7 +517,7 @@ fn readable_values(rt: HostRuntime) -> Result<(), Fail> {
 fn readable_names(rt: HostRuntime) -> Result<(), Fail> {
     let mut names = HashMap::new(rt.alloc());
     if let Some(tag) = TtlvTag::from_number(0x42_006A) {
-        names.insert(tag, "Protocol Version Major")?;
+        assert!(rt; names.insert(tag, "Protocol Version Major").is_ok());
     }
     let mut printer = printer(rt.alloc(), "4200", false)?;
     printer.with_tag_map(names);
@@ -520,5 +527,130 @@ fn readable_names(rt: HostRuntime) -> Result<(), Fail> {
         text.as_str(),
         "Tag: 0x420069, Type: Structure (0x01), Data:\n  Tag: Protocol Version Major (0x42006A), Type: Integer (0x02), Data: 0x000001 (1)\n  Tag: 0x42006B, Type: Integer (0x02), Data: 0x000000 (0)\n"
     );
+    Ok(())
+}
+
+#[test]
+fn cut_messages(rt: HostRuntime) -> Result<(), Fail> {
+    let printer = printer(rt.alloc(), "4200", false)?;
+    let bytes = bytes_of(rt.alloc(), CREATE_RESPONSE)?;
+    for length in 0..200 {
+        let cut = bytes.get(..length).unwrap_or(&[]);
+        let text = printer.to_diag_string(cut)?;
+        assert!(rt; text.as_str().ends_with("ERR"));
+    }
+    let text = printer.to_diag_string(&bytes)?;
+    assert!(rt; text.as_str().ends_with("]]]"));
+    let first = bytes_of(rt.alloc(), "AAAAAA0100000010BBBBBB020000000400000003000000")?;
+    let second = bytes_of(rt.alloc(), "AAAAAA0100000010BBBBBB020000000400000004000000")?;
+    assert_eq!(rt; printer.to_diag_string(&first)?.as_str(), "AAAAAA[ERR");
+    assert_eq!(rt; printer.to_diag_string(&second)?.as_str(), "AAAAAA[ERR");
+    Ok(())
+}
+
+fn repeated(alloc: Global, part: &str, count: usize, end: &str) -> Result<String, Fail> {
+    let mut text = String::new(alloc);
+    for _ in 0..count {
+        text.push_str(part)?;
+    }
+    text.push_str(end)?;
+    Ok(text)
+}
+
+#[test]
+fn many_empty_structures(rt: HostRuntime) -> Result<(), Fail> {
+    for count in [1_000, 1_000_000] {
+        let hex = repeated(rt.alloc(), "4200690100000000", count, "")?;
+        let text = repeated(rt.alloc(), "69[", count, "ERR")?;
+        assert!(rt;
+            shows(
+                rt.alloc(),
+                false,
+                "4200",
+                hex.as_str(),
+                text.as_str(),
+                count + 1
+            )?
+        );
+        assert!(rt; shows(rt.alloc(), true, "4200", hex.as_str(), "69[]", 1)?);
+    }
+    Ok(())
+}
+
+#[test]
+fn deep_and_long_diagnostics(rt: HostRuntime) -> Result<(), Fail> {
+    let printer = printer(rt.alloc(), "4200", false)?;
+    let deep = repeated(rt.alloc(), "69[", 1_000, "")?;
+    let lines = printer.from_diag_string(deep.as_str())?;
+    assert_eq!(rt; lines.as_str().lines().count(), 1_000);
+    let mut long = String::from_str(rt.alloc(), "78[")?;
+    long.push_str(repeated(rt.alloc(), "69[6Ai]", 100_000, "]")?.as_str())?;
+    let lines = printer.from_diag_string(long.as_str())?;
+    assert_eq!(rt; lines.as_str().lines().count(), 200_001);
+    Ok(())
+}
+
+#[test]
+fn debug(rt: HostRuntime) -> Result<(), Fail> {
+    let printer = printer(rt.alloc(), "4200", true)?;
+    let text = format!(in rt.alloc(); "{printer:?}")?;
+    assert!(rt; text.as_str().starts_with("PrettyPrinter"));
+    assert!(rt; text.as_str().contains("4200"));
+    Ok(())
+}
+
+const DESTROY_REQUEST: &str =
+    "42007801000000904200770100000038420069010000002042006A0200000004000000010000000042006B0200000004000000000000000042000D0200000004000000010000000042000F010000004842005C050000000400000014000000004200790100000030420094070000002466633838333364652D373064322D346563652D623036332D66656465336133633539666500000000";
+
+const DESTROY_RESPONSE: &str =
+    "42007B01000000B042007A0100000048420069010000002042006A0200000004000000010000000042006B020000000400000000000000004200920900000008000000004AFBE7C542000D0200000004000000010000000042000F010000005842005C0500000004000000140000000042007F0500000004000000000000000042007C0100000030420094070000002466633838333364652D373064322D346563652D623036332D66656465336133633539666500000000";
+
+#[test]
+fn further_messages(rt: HostRuntime) -> Result<(), Fail> {
+    assert!(rt;
+        shows(
+            rt.alloc(),
+            false,
+            "4200",
+            DESTROY_REQUEST,
+            "78[77[69[6Ai6Bi]0Di]0F[5Ce14:79[94t]]]",
+            10
+        )?
+    );
+    assert!(rt;
+        shows(
+            rt.alloc(),
+            false,
+            "4200",
+            DESTROY_RESPONSE,
+            "7B[7A[69[6Ai6Bi]92d0Di]0F[5Ce14:7Fe0:7C[94t]]]",
+            12
+        )?
+    );
+    let zero = "42006B02000000040000000000000000";
+    let first = format!(in rt.alloc(); "420069010000002842006A0100000010{zero}{zero}")?;
+    assert!(rt;
+        shows(
+            rt.alloc(),
+            false,
+            "4200",
+            first.as_str(),
+            "69[6A[6Bi]6Bi]",
+            4
+        )?
+    );
+    let second = format!(in rt.alloc(); "420069010000002842006A0100000020{zero}{zero}")?;
+    assert!(rt;
+        shows(
+            rt.alloc(),
+            false,
+            "4200",
+            second.as_str(),
+            "69[6A[6Bi6Bi]]",
+            4
+        )?
+    );
+    let behind = format!(in rt.alloc(); "{VERSION}FF")?;
+    assert!(rt; shows(rt.alloc(), false, "4200", behind.as_str(), "69[6Ai6Bi]", 3)?);
     Ok(())
 }

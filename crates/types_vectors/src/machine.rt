@@ -33,7 +33,12 @@ fn reading_ignores_no_tag(rt: HostRuntime) -> Result<(), Fail> {
     assert!(rt; matches!(machine.advance(FieldType::Tag), Ok(true)));
     assert!(rt; matches!(machine.advance(FieldType::Typ), Ok(true)));
     assert!(rt; matches!(machine.advance(FieldType::LengthAndValue), Ok(true)));
-    assert!(rt; matches!(machine.ignore_next_tag(), Err(Error::InvalidStateMachineOperation)));
+    assert!(rt;
+        matches!(
+            machine.ignore_next_tag(),
+            Err(Error::InvalidStateMachineOperation)
+        )
+    );
     machine.reset();
     assert!(rt; machine.advance(FieldType::Value).is_err());
     assert!(rt; matches!(machine.advance(FieldType::Tag), Ok(true)));

@@ -95,11 +95,20 @@ fn texts_of_tags_and_lengths(rt: HostRuntime) -> Result<(), Fail> {
     assert_eq!(rt; format!(in rt.alloc(); "{length}")?.as_str(), "0x000100AB");
     assert_eq!(rt; format!(in rt.alloc(); "{length:?}")?.as_str(), "0x100AB");
     assert_eq!(rt; format!(in rt.alloc(); "{length:X}")?.as_str(), "100AB");
-    assert_eq!(rt; format!(in rt.alloc(); "{length:08X}")?.as_str(), "000100AB");
+    assert_eq!(rt;
+        format!(in rt.alloc(); "{length:08X}")?.as_str(),
+        "000100AB"
+    );
     let number = TtlvInteger(-5);
-    assert_eq!(rt; format!(in rt.alloc(); "{number:?}")?.as_str(), "TtlvInteger(-5)");
+    assert_eq!(rt;
+        format!(in rt.alloc(); "{number:?}")?.as_str(),
+        "TtlvInteger(-5)"
+    );
     let text = TtlvTextString(String::from_str(rt.alloc(), "a")?);
-    assert_eq!(rt; format!(in rt.alloc(); "{text:?}")?.as_str(), "TtlvTextString(\"a\")");
+    assert_eq!(rt;
+        format!(in rt.alloc(); "{text:?}")?.as_str(),
+        "TtlvTextString(\"a\")"
+    );
     Ok(())
 }
 

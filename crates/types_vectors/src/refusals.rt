@@ -30,13 +30,22 @@ fn texts_of_places(rt: HostRuntime) -> Result<(), Fail> {
     let unknown: ErrorLocation = ErrorLocation::unknown();
     assert_eq!(rt; format!(in rt.alloc(); "{unknown}")?.as_str(), "Unknown");
     let place = whole_place(rt.alloc())?;
-    assert_eq!(rt; format!(in rt.alloc(); "{place}")?.as_str(),
-        "pos: 16 bytes, parent tags: 0xAAAAAA > 0xBBBBBB, tag: 0xCCCCCC, type: Integer (0x02)");
+    assert_eq!(rt;
+        format!(in rt.alloc(); "{place}")?.as_str(),
+        "pos: 16 bytes, parent tags: 0xAAAAAA > 0xBBBBBB, tag: 0xCCCCCC, type: Integer (0x02)"
+    );
     let typ: ErrorLocation = ErrorLocation::at(None, None, None, Some(TtlvType::Boolean));
-    assert_eq!(rt; format!(in rt.alloc(); "{typ}")?.as_str(), "type: Boolean (0x06)");
+    assert_eq!(rt;
+        format!(in rt.alloc(); "{typ}")?.as_str(),
+        "type: Boolean (0x06)"
+    );
     let none = Vec::new(rt.alloc());
-    let tag: ErrorLocation =
-        ErrorLocation::at(None, Some(none), Some(TtlvTag::from([0, 0, 1])), None);
+    let tag: ErrorLocation = ErrorLocation::at(
+        None,
+        Some(none),
+        Some(TtlvTag::from([0, 0, 1])),
+        None,
+    );
     assert_eq!(rt; format!(in rt.alloc(); "{tag}")?.as_str(), "tag: 0x000001");
     Ok(())
 }
@@ -75,7 +84,10 @@ fn clones_of_places(rt: HostRuntime) -> Result<(), Fail> {
     let place: ErrorLocation = ErrorLocation::at(None, Some(parents), None, None);
     let copy = place.clone()?;
     assert_eq!(rt; copy.parent_tags().len(), 1);
-    assert_eq!(rt; format!(in rt.alloc(); "{copy}")?.as_str(), "parent tags: 0xAAAAAA");
+    assert_eq!(rt;
+        format!(in rt.alloc(); "{copy}")?.as_str(),
+        "parent tags: 0xAAAAAA"
+    );
     Ok(())
 }
 
@@ -84,7 +96,10 @@ fn kinds_of_low_refusals(rt: HostRuntime) -> Result<(), Fail> {
     let low: types::Error = types::Error::InvalidStateMachineOperation;
     match &ErrorKind::from_types(rt.alloc(), low) {
         ErrorKind::SerdeError(SerdeError::Other(words)) => {
-            assert_eq!(rt; words.as_str(), "Internal error: invalid state machine operaiton");
+            assert_eq!(rt;
+                words.as_str(),
+                "Internal error: invalid state machine operaiton"
+            );
         }
         _ => assert!(rt; false),
     }
@@ -131,19 +146,31 @@ fn texts_of_refusals(rt: HostRuntime) -> Result<(), Fail> {
         ErrorKind::ResponseSizeExceedsLimit(24),
         ErrorLocation::unknown(),
     );
-    assert_eq!(rt; format!(in rt.alloc(); "{error}")?.as_str(),
-        "Response size 24 exceeds the configured limit");
+    assert_eq!(rt;
+        format!(in rt.alloc(); "{error}")?.as_str(),
+        "Response size 24 exceeds the configured limit"
+    );
     let failed = io::Error::from(io::ErrorKind::BrokenPipe);
     assert!(rt; begins(rt.alloc(), ErrorKind::from(failed), "IO error ")?);
     let malformed = MalformedTtlvError::UnexpectedTtlvField {
         expected: FieldType::Typ,
         actual: FieldType::Tag,
     };
-    assert!(rt; begins(rt.alloc(), ErrorKind::from(malformed),
-        "Malformed TTLV: field Tag where Type is expected (at pos: 3 bytes)")?);
+    assert!(rt;
+        begins(
+            rt.alloc(),
+            ErrorKind::from(malformed),
+            "Malformed TTLV: field Tag where Type is expected (at pos: 3 bytes)"
+        )?
+    );
     let serde: SerdeError = SerdeError::InvalidVariant("Create");
-    assert!(rt; begins(rt.alloc(), ErrorKind::from(serde),
-        "Serde error : the variant Create is no number (at ")?);
+    assert!(rt;
+        begins(
+            rt.alloc(),
+            ErrorKind::from(serde),
+            "Serde error : the variant Create is no number (at "
+        )?
+    );
     assert!(rt; begins(rt.alloc(), ErrorKind::OutOfMemory, "Out of memory")?);
     assert!(rt; begins(rt.alloc(), ErrorKind::LengthOverflow, "Length overflow")?);
     Ok(())
@@ -171,7 +198,10 @@ fn texts_of_kinds(rt: HostRuntime) -> Result<(), Fail> {
             MalformedTtlvError::overflow(12u64),
             "an item passes the end at 12 of the structure around it",
         ),
-        (MalformedTtlvError::UnsupportedType(10), "unsupported type 0x0A"),
+        (
+            MalformedTtlvError::UnsupportedType(10),
+            "unsupported type 0x0A",
+        ),
         (
             MalformedTtlvError::UnknownStructureLength,
             "unknown structure length",

@@ -13,7 +13,9 @@ use std::io::ErrorKind;
 use std::test::Fail;
 
 const FOUR: &[u8] = b"\x00\x00\x00\x04\x00\x00\x00\x08\x00\x00\x00\x00";
+
 const EIGHT: &[u8] = b"\x00\x00\x00\x08\x00\x00\x00\x00\x00\x00\x00\x01";
+
 const TEXT: &[u8] = b"\x00\x00\x00\x03abc\x00\x00\x00\x00\x00";
 
 // Whether `T` is read from the bytes, one a call, with an interruption at any one call, and a failure
@@ -193,7 +195,12 @@ fn memory_with_room(rt: HostRuntime) -> Result<(), Fail> {
     let mut source = MemorySource(sink.0.as_slice());
     assert!(rt; matches!(TtlvTag::read(&mut source), Ok(tag) if *tag == 0x42_0020));
     assert!(rt; matches!(TtlvType::read(&mut source), Ok(TtlvType::Integer)));
-    assert!(rt; matches!(TtlvInteger::read(rt.alloc(), &mut source), Ok(TtlvInteger(8))));
+    assert!(rt;
+        matches!(
+            TtlvInteger::read(rt.alloc(), &mut source),
+            Ok(TtlvInteger(8))
+        )
+    );
     match TtlvTag::read(&mut source) {
         Err(Error::IoError(e)) => assert_eq!(rt; e.kind(), ErrorKind::UnexpectedEof),
         _ => assert!(rt; false),

@@ -47,11 +47,13 @@ fn big_integers_are_read_as_they_stand(rt: HostRuntime) -> Result<(), Fail> {
 fn booleans_are_refused(rt: HostRuntime) -> Result<(), Fail> {
     let mut short: &[u8] = b"\x00\x00\x00\x04\x00\x00\x00\x01\x00\x00\x00\x00";
     match TtlvBoolean::read(rt.alloc(), &mut short) {
-        Err(Error::InvalidTtlvValueLength {
-            expected,
-            actual,
-            typ,
-        }) => assert!(rt; expected == 8 && actual == 4 && typ == TtlvType::Boolean),
+        Err(
+            Error::InvalidTtlvValueLength {
+                expected,
+                actual,
+                typ,
+            },
+        ) => assert!(rt; expected == 8 && actual == 4 && typ == TtlvType::Boolean),
         _ => assert!(rt; false),
     }
     let mut two: &[u8] = b"\x00\x00\x00\x08\x00\x00\x00\x00\x00\x00\x00\x02";
@@ -64,11 +66,13 @@ fn booleans_are_refused(rt: HostRuntime) -> Result<(), Fail> {
 fn lengths_are_refused(rt: HostRuntime) -> Result<(), Fail> {
     let mut five: &[u8] = b"\x00\x00\x00\x05\x00\x00\x00\x01\x00\x00\x00\x00";
     match TtlvInterval::read(rt.alloc(), &mut five) {
-        Err(Error::InvalidTtlvValueLength {
-            expected,
-            actual,
-            typ,
-        }) => assert!(rt; expected == 4 && actual == 5 && typ == TtlvType::Interval),
+        Err(
+            Error::InvalidTtlvValueLength {
+                expected,
+                actual,
+                typ,
+            },
+        ) => assert!(rt; expected == 4 && actual == 5 && typ == TtlvType::Interval),
         _ => assert!(rt; false),
     }
     assert_eq!(rt; five.len(), 8);

@@ -52,7 +52,8 @@ fn a_long_integer(rt: HostRuntime) -> Result<(), Fail> {
 
 #[test]
 fn a_big_integer(rt: HostRuntime) -> Result<(), Fail> {
-    let bytes = b"\x42\x00\x20\x04\x00\x00\x00\x10\x00\x00\x00\x00\x03\xFD\x35\xEB\x6B\xC2\xDF\x46\x18\x08\x00\x00";
+    let bytes =
+        b"\x42\x00\x20\x04\x00\x00\x00\x10\x00\x00\x00\x00\x03\xFD\x35\xEB\x6B\xC2\xDF\x46\x18\x08\x00\x00";
     let number = b"\x03\xFD\x35\xEB\x6B\xC2\xDF\x46\x18\x08\x00\x00";
     let value = TtlvBigInteger(Vec::from_slice(rt.alloc(), number)?);
     assert!(rt; is_written_as(rt.alloc(), &value, bytes));
@@ -69,7 +70,12 @@ fn an_enumeration(rt: HostRuntime) -> Result<(), Fail> {
     let bytes = b"\x42\x00\x20\x05\x00\x00\x00\x04\x00\x00\x00\xFF\x00\x00\x00\x00";
     assert!(rt; is_written_as(rt.alloc(), &TtlvEnumeration(255), bytes));
     let mut rest = after_head(bytes, TtlvType::Enumeration).unwrap_or(&[]);
-    assert!(rt; matches!(TtlvEnumeration::read(rt.alloc(), &mut rest), Ok(TtlvEnumeration(255))));
+    assert!(rt;
+        matches!(
+            TtlvEnumeration::read(rt.alloc(), &mut rest),
+            Ok(TtlvEnumeration(255))
+        )
+    );
     Ok(())
 }
 
@@ -78,7 +84,12 @@ fn a_boolean(rt: HostRuntime) -> Result<(), Fail> {
     let bytes = b"\x42\x00\x20\x06\x00\x00\x00\x08\x00\x00\x00\x00\x00\x00\x00\x01";
     assert!(rt; is_written_as(rt.alloc(), &TtlvBoolean(true), bytes));
     let mut rest = after_head(bytes, TtlvType::Boolean).unwrap_or(&[]);
-    assert!(rt; matches!(TtlvBoolean::read(rt.alloc(), &mut rest), Ok(TtlvBoolean(true))));
+    assert!(rt;
+        matches!(
+            TtlvBoolean::read(rt.alloc(), &mut rest),
+            Ok(TtlvBoolean(true))
+        )
+    );
     Ok(())
 }
 
@@ -124,7 +135,12 @@ fn an_interval(rt: HostRuntime) -> Result<(), Fail> {
     let bytes = b"\x42\x00\x20\x0A\x00\x00\x00\x04\x00\x0D\x2F\x00\x00\x00\x00\x00";
     assert!(rt; is_written_as(rt.alloc(), &TtlvInterval(864_000), bytes));
     let mut rest = after_head(bytes, TtlvType::Interval).unwrap_or(&[]);
-    assert!(rt; matches!(TtlvInterval::read(rt.alloc(), &mut rest), Ok(TtlvInterval(864_000))));
+    assert!(rt;
+        matches!(
+            TtlvInterval::read(rt.alloc(), &mut rest),
+            Ok(TtlvInterval(864_000))
+        )
+    );
     Ok(())
 }
 
@@ -149,7 +165,8 @@ fn write_structure(alloc: Global, out: &mut Vec<u8>) -> Option<()> {
 
 #[test]
 fn a_structure(rt: HostRuntime) -> Result<(), Fail> {
-    let bytes = b"\x42\x00\x20\x01\x00\x00\x00\x20\x42\x00\x04\x05\x00\x00\x00\x04\x00\x00\x00\xFE\x00\x00\x00\x00\x42\x00\x05\x02\x00\x00\x00\x04\x00\x00\x00\xFF\x00\x00\x00\x00";
+    let bytes =
+        b"\x42\x00\x20\x01\x00\x00\x00\x20\x42\x00\x04\x05\x00\x00\x00\x04\x00\x00\x00\xFE\x00\x00\x00\x00\x42\x00\x05\x02\x00\x00\x00\x04\x00\x00\x00\xFF\x00\x00\x00\x00";
     let mut out = Vec::new(rt.alloc());
     assert!(rt; write_structure(rt.alloc(), &mut out).is_some());
     assert_eq!(rt; out.as_slice(), bytes.as_slice());
@@ -157,10 +174,20 @@ fn a_structure(rt: HostRuntime) -> Result<(), Fail> {
     assert!(rt; matches!(TtlvLength::read(&mut rest), Ok(length) if *length == 32));
     assert!(rt; matches!(TtlvTag::read(&mut rest), Ok(tag) if *tag == 0x42_0004));
     assert!(rt; matches!(TtlvType::read(&mut rest), Ok(TtlvType::Enumeration)));
-    assert!(rt; matches!(TtlvEnumeration::read(rt.alloc(), &mut rest), Ok(TtlvEnumeration(254))));
+    assert!(rt;
+        matches!(
+            TtlvEnumeration::read(rt.alloc(), &mut rest),
+            Ok(TtlvEnumeration(254))
+        )
+    );
     assert!(rt; matches!(TtlvTag::read(&mut rest), Ok(tag) if *tag == 0x42_0005));
     assert!(rt; matches!(TtlvType::read(&mut rest), Ok(TtlvType::Integer)));
-    assert!(rt; matches!(TtlvInteger::read(rt.alloc(), &mut rest), Ok(TtlvInteger(255))));
+    assert!(rt;
+        matches!(
+            TtlvInteger::read(rt.alloc(), &mut rest),
+            Ok(TtlvInteger(255))
+        )
+    );
     assert!(rt; rest.is_empty());
     Ok(())
 }

@@ -1,4 +1,4 @@
-use Rattle.std.proofs.Common.{◌+◌, arith}
+use Rattle.std.proofs.Common.{arith}
 use Rattle.kmip_ttlv_de.proofs.WholeLemmas.{early_says, early_header}
 use Rattle.kmip_ttlv_de.proofs.head.type_at.Goals as goal
 

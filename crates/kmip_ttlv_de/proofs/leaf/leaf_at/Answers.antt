@@ -1,7 +1,4 @@
-use Rattle.std.proofs.Common.{◌≡◌, ◌≢◌, ℕ, ◌+◌, ◌≤◌, refl, sym, ap, ◌∙◌, arith, rules, List, length, get_or}
-use Rattle.kmip_ttlv_types.specs.ItemTypes.{padding}
-use Rattle.kmip_ttlv_types.specs.Places.{length_at, size}
-use Rattle.kmip_ttlv_de.specs.Places.{LeafAt}
+use Rattle.std.proofs.Common.{arith, rules}
 use Rattle.kmip_ttlv_de.specs.Answer.{sort_of}
 use Rattle.kmip_ttlv_de.proofs.Leaves.{leaf_not_length, leaf_invalid}
 use Rattle.kmip_ttlv_de.proofs.FactLemmas.{told_says}

@@ -1,4 +1,4 @@
-use Rattle.std.proofs.Common.{◌≡◌, ◌≢◌, ℕ, ◌+◌, ◌≤◌, refl, sym, ap, ◌∙◌, arith, rules, List, length, get_or, false}
+use Rattle.std.proofs.Common.{◌≡◌, refl, sym, arith, rules, false}
 use Rattle.std.proofs.lemmas.Result.{err_from_is_err_and}
 use Rattle.kmip_ttlv_types.specs.Places.{tag_at, length_at}
 use Rattle.kmip_ttlv_de.specs.Keeps.{keeps}

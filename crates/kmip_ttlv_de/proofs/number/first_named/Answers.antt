@@ -1,4 +1,3 @@
-use Rattle.std.proofs.Common.{◌≡◌, refl, sym, ◌∙◌}
 use Rattle.kmip_ttlv_de.proofs.NumberLemmas.{named_here, named_later, named_nowhere}
 use Rattle.kmip_ttlv_de.proofs.number.first_named.Goals as goal
 

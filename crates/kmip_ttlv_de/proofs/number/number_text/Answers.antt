@@ -1,4 +1,4 @@
-use Rattle.std.proofs.Common.{◌≡◌, ◌++◌, ◌∷◌, [], ap, refl, sym, ◌∙◌, string_bytes, drop}
+use Rattle.std.proofs.Common.{◌≡◌, ◌++◌, ◌∷◌, [], ap, ◌∙◌, string_bytes, drop}
 use Rattle.std.specs.List.{flat_map}
 use Rattle.kmip_ttlv_de.specs.Reads.{byte_digits, number_text}
 use Rattle.kmip_ttlv_de.proofs.NumberLemmas.{text_step, text_done}

@@ -1,6 +1,5 @@
-use Rattle.std.proofs.Common.{◌≡◌, ℕ, ◌+◌, ◌≤◌, ◌++◌, ◌∷◌, [], refl, sym, ap, ◌∙◌, arith, rules, List, Option, Some, None, string_bytes, false, true, Bool}
+use Rattle.std.proofs.Common.{◌≡◌, refl, sym, ap, ◌∙◌, arith, rules, Some, None, false, true}
 use Rattle.std.proofs.lemmas.Result.{err_from_is_err_and}
-use Rattle.kmip_ttlv_types.specs.ItemTypes.{fixed_length}
 use Rattle.kmip_ttlv_types.specs.Places.{tag_at, length_at}
 use Rattle.kmip_ttlv_base.specs.Values.{view, unit_variant_value}
 use Rattle.kmip_ttlv_base.specs.Forms.{variants_of, content_of, wrapped, tuple, unit, form_of, forms_of}

@@ -1,9 +1,6 @@
-use Rattle.std.proofs.Common.{rules, ◌≡◌, ℕ, Bool, ◌+◌, ◌<◌, ◌≤◌, List, length, IfOk, ◌-◌, ◌*◌, ◌/◌, ◌%◌, true, false, nat_eq, nat_lt, [], ◌∷◌, ◌++◌, slice_index_or, slice_set, bit_and, bit_or, Fits, w8, w32, w64, Bor, MutBor}
+use Rattle.std.proofs.Common.{rules, ◌≡◌, ◌+◌, ◌<◌, ◌≤◌, length, true, false, [], ◌∷◌, ◌++◌}
 use Rattle.std.proofs.Common.{refl, ap, sym, ◌∙◌, arith, Some}
-use mir.Val.{SFits}
-use Rattle.std.proofs.lemmas.Int.{to_z-of_z}
 use Rattle.std.proofs.lemmas.Result.{err_from_is_err_and}
-use Rattle.std.proofs.Common.{inl, inr, subst}
 use Rattle.kmip_ttlv_de.proofs.read.+reader.Goals.{read_field-then-not-is_struct+in_ok-typ+else-ne, read_field-else-not-is_struct}
 use Rattle.kmip_ttlv_de.proofs.read.+reader.Goals as goal
 use Rattle.kmip_ttlv_types.specs.ItemTypes.{code}

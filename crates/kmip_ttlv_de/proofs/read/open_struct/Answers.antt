@@ -1,4 +1,4 @@
-use Rattle.std.proofs.Common.{◌≡◌, ◌≢◌, ℕ, ◌+◌, ◌≤◌, ap, refl, sym, ◌∙◌, arith, length, rules, subst, true, false, Some, None, inl, inr}
+use Rattle.std.proofs.Common.{◌≡◌, sym, arith, rules, None}
 use Rattle.std.proofs.lemmas.Result.{err_from_is_err_and}
 use Rattle.kmip_ttlv_de.proofs.read.open_struct.Goals as goal
 use Rattle.kmip_ttlv_types.specs.Names.{tag_of}

@@ -1,4 +1,4 @@
-use Rattle.std.proofs.Common.{◌≡◌, ℕ, ◌+◌, ◌<◌, ◌≤◌, [], refl, sym, ap, ◌∙◌, arith, rules, length, Some}
+use Rattle.std.proofs.Common.{◌≡◌, ◌+◌, [], refl, ap, arith, Some}
 use Rattle.std.proofs.lemmas.Result.{err_from_is_err_and}
 use Rattle.kmip_ttlv_de.proofs.read.read_first.Goals as goal
 use Rattle.kmip_ttlv_base.specs.Forms.{fields_of, struct}

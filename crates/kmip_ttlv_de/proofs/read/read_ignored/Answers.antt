@@ -1,4 +1,4 @@
-use Rattle.std.proofs.Common.{◌≡◌, ◌≢◌, ap, refl, sym, ◌∙◌, arith, length, rules, subst, true, false, ◌≤◌, ◌+◌, List, ℕ, take, drop, not}
+use Rattle.std.proofs.Common.{◌≡◌, ◌≢◌, ap, refl, arith, length, rules, true, false, ◌+◌, take, drop, not}
 use Rattle.std.proofs.lemmas.Result.{err_from_is_err_and}
 use Rattle.kmip_ttlv_de.proofs.read.read_ignored.Goals as goal
 use Rattle.kmip_ttlv_types.specs.ItemTypes.{is_structure}

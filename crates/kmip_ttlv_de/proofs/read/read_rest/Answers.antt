@@ -1,4 +1,4 @@
-use Rattle.std.proofs.Common.{◌≡◌, ap, refl, sym, ◌∙◌, arith, length, rules, ◌≤◌, ◌+◌, []}
+use Rattle.std.proofs.Common.{arith, []}
 use Rattle.std.proofs.lemmas.Result.{err_from_is_err_and}
 use Rattle.kmip_ttlv_de.proofs.read.read_rest.Goals as goal
 use Rattle.kmip_ttlv_base.specs.Forms.{fields_of}

@@ -1,4 +1,4 @@
-use Rattle.std.proofs.Common.{◌≡◌, ◌-◌, ◌≤◌, ℕ, List, length}
+use Rattle.std.proofs.Common.{◌-◌, List, length}
 use Rattle.kmip_ttlv_de.proofs.read.read_rest.Given as goal
 use Rattle.kmip_ttlv_base.specs.Forms.{fields_of}
 use Rattle.kmip_ttlv_de.specs.Answer.{Goes}

@@ -1,18 +1,18 @@
-use Rattle.std.proofs.Common.{◌≡◌, ◌+◌, ◌-◌, ◌<◌, ◌≤◌, List, [], ◌∷◌, drop, length, true, Some, None, vec_len, vec_capacity, refl, sym, ap, ◌∙◌, subst, arith, rules}
+use Rattle.std.proofs.Common.{◌≡◌, ◌+◌, ◌-◌, ◌≤◌, [], ◌∷◌, drop, length, true, Some, vec_len, vec_capacity, refl, sym, ap, ◌∙◌, subst, arith, rules}
 use Rattle.std.specs.Int.{w32, to_be_bytes}
 use Rattle.std.proofs.lemmas.List.{drop_more, drop_all}
 use Rattle.std.proofs.lemmas.Grind.{common_steps}
 use borrow.Author.Rules.{get_or_read}
 use Rattle.kmip_ttlv_types.specs.declared.typ.TtlvType.TheVariants.{Enumeration}
-use Rattle.kmip_ttlv_types.specs.Names.{number, transparent_name}
+use Rattle.kmip_ttlv_types.specs.Names.{transparent_name}
 use Rattle.kmip_ttlv_types.specs.Trees.{bytes_all}
 use Rattle.kmip_ttlv_base.specs.declared.shape.Data.{the_lemmas}
-use Rattle.kmip_ttlv_base.specs.Values.{view, views, no_values, value, struct_value, newtype_value, unit_variant_value, newtype_variant_value, tuple_variant_value}
+use Rattle.kmip_ttlv_base.specs.Values.{view, views, no_values, value, newtype_value, unit_variant_value, newtype_variant_value}
 use Rattle.kmip_ttlv_ser.specs.declared.held.Held.TheVariants.{Nothing, Plain}
 use Rattle.kmip_ttlv_ser.specs.Items.{◌>>=◌, some_item, one_leaf, one_structure, items, items_in, held_after, held_over, without_override, is_wrapper, take_tag}
 use Rattle.kmip_ttlv_ser.specs.Passes.{Planned, Emitted}
 use Rattle.kmip_ttlv_ser.proofs.Views.{view-Struct, view-TupleVariant, view-Newtype, view-UnitVariant, view-NewtypeVariant}
-use Rattle.kmip_ttlv_ser.proofs.Emitting.{at_plan, at_emitted, unplanned, structure_room, structure_rest, structure_emitted, unwrapped_plan, wrapped_emitted, unit_items, unit_no_items, transparent_items, wrapper_items, Emitting, emitting_start, emitting_end, written_len, emitted_len, loop_plan, loop_emit}
+use Rattle.kmip_ttlv_ser.proofs.Emitting.{at_plan, at_emitted, unplanned, structure_room, structure_rest, structure_emitted, unwrapped_plan, wrapped_emitted, unit_items, unit_no_items, transparent_items, wrapper_items, Emitting, emitting_start, emitting_end, emitted_len, loop_plan, loop_emit}
 use Rattle.kmip_ttlv_ser.proofs.emit.+emit.Goals as goal
 
 pub emit-emit-requires-in-Some-transparent_name : goal.emit-emit-requires-in-Some-transparent_name

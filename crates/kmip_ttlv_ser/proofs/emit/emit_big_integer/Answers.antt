@@ -1,7 +1,6 @@
-use Rattle.std.proofs.Common.{◌≡◌, ◌+◌, ◌-◌, ◌<◌, ◌≤◌, ◌^◌, ◌++◌, Some, length, replicate, vec_len, vec_capacity, sym, ap, ◌∙◌, arith}
+use Rattle.std.proofs.Common.{◌-◌, ◌++◌, replicate, vec_len, vec_capacity, sym, ap, ◌∙◌, arith}
 use Rattle.kmip_ttlv_types.specs.declared.typ.TtlvType.TheVariants.{BigInteger}
-use Rattle.kmip_ttlv_types.specs.ItemTypes.{pad_len}
-use Rattle.kmip_ttlv_ser.specs.Items.{held_tag, sign_extended}
+use Rattle.kmip_ttlv_ser.specs.Items.{sign_extended}
 use Rattle.kmip_ttlv_ser.proofs.Leaves.{extended_len}
 use Rattle.kmip_ttlv_ser.proofs.Emitting.{leaf_room, emitted_big_integer}
 use Rattle.kmip_ttlv_ser.proofs.emit.emit_big_integer.Goals as goal

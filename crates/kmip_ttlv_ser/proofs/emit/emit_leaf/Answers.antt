@@ -1,6 +1,4 @@
-use Rattle.std.proofs.Common.{◌≡◌, ◌+◌, ◌-◌, ◌<◌, ◌≤◌, ◌^◌, ◌++◌, Some, length, replicate, vec_len, vec_capacity, sym, ap, ◌∙◌, arith}
-use Rattle.kmip_ttlv_types.specs.ItemTypes.{pad_len}
-use Rattle.kmip_ttlv_ser.specs.Items.{held_tag}
+use Rattle.std.proofs.Common.{◌-◌, ◌++◌, replicate, vec_len, vec_capacity, sym, ap, ◌∙◌, arith}
 use Rattle.kmip_ttlv_ser.proofs.Emitting.{leaf_room, emitted_leaf}
 use Rattle.kmip_ttlv_ser.proofs.emit.emit_leaf.Goals as goal
 

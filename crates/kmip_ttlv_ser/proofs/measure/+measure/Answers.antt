@@ -1,5 +1,4 @@
-use Rattle.std.proofs.Common.{◌≡◌, ℕ, ◌+◌, ◌-◌, ◌<◌, ◌≤◌, ◌^◌, List, [], ◌∷◌, ◌++◌, drop, length, replicate, true, Some, None, Result, Ok, Err, string_bytes, refl, sym, ap, ◌∙◌, subst, arith, rules, length-append}
-use Rattle.std.proofs.Math.ListN.{length-replicate}
+use Rattle.std.proofs.Common.{◌≡◌, ◌+◌, ◌-◌, ◌≤◌, ◌^◌, [], ◌∷◌, drop, length, Some, None, Err, string_bytes, refl, sym, ap, ◌∙◌, subst, arith, rules}
 use Rattle.std.proofs.lemmas.List.{drop_more, drop_all}
 use Rattle.std.specs.Int.{w32, w64, to_be_bytes, cast_unsigned, from_bool}
 use Rattle.kmip_ttlv_types.specs.declared.typ.TtlvType.TheVariants.{Integer, LongInteger, BigInteger, Enumeration, Boolean, TextString, ByteString, DateTime, Interval}
@@ -7,15 +6,14 @@ use Rattle.kmip_ttlv_types.specs.ItemTypes.{pad_len}
 use Rattle.kmip_ttlv_types.specs.Names.{number}
 use Rattle.kmip_ttlv_base.specs.Values.{view, views, no_values, value, boolean_value, i8_value, i16_value, i32_value, u32_value, i64_value, u64_value, interval_value, text_value, bytes_value, big_integer_value, unit_variant_value}
 use Rattle.kmip_ttlv_ser.specs.declared.held.Held.TheVariants.{Nothing, Plain}
-use Rattle.kmip_ttlv_ser.specs.declared.refusal.Refusal.TheVariants.{LengthOverflow}
-use Rattle.kmip_ttlv_ser.specs.Items.{◌>>=◌, take_tag, some_item, one_leaf, one_structure, items, items_in, held_after, sign_byte, sign_extended}
-use Rattle.kmip_ttlv_ser.specs.Faults.{no_tag, fault_at, inside, place_after, within, structure_fault, fault, fault_in}
+use Rattle.kmip_ttlv_ser.specs.Items.{◌>>=◌, take_tag, some_item, one_leaf, one_structure, items, items_in, sign_extended}
+use Rattle.kmip_ttlv_ser.specs.Faults.{no_tag, fault_at, inside, within, structure_fault, fault, fault_in}
 use Rattle.kmip_ttlv_ser.specs.Lengths.{HasLongLeaf, HaveLongLeaf, HasLongStructure, HaveLongStructure, IsLongContent, content_start, structure_long}
-use Rattle.kmip_ttlv_ser.specs.Passes.{Stops, Overlong, Measures, Measured, MeasuresValue, MeasuresValues}
+use Rattle.kmip_ttlv_ser.specs.Passes.{Measured, MeasuresValue, MeasuresValues}
 use Rattle.kmip_ttlv_ser.proofs.Views.{view-Bool, view-I8, view-I16, view-I32, view-U32, view-I64, view-U64, view-Interval, view-Text, view-Bytes, view-BigInteger, view-UnitVariant}
 use Rattle.kmip_ttlv_ser.proofs.Leaves.{extended_len, place_len}
 use Rattle.kmip_ttlv_ser.proofs.Reaching.{fault_least, fault_in_least}
-use Rattle.kmip_ttlv_ser.proofs.Measuring.{at_value, measures_up, carried, none_of, some_of, unit_refused, unit_measured, name_stops, structure_ends, structure_too_long, structure_stops, header_too_far, wrapper_ends, wrapper_empty, wrapper_stops}
+use Rattle.kmip_ttlv_ser.proofs.Measuring.{at_value, measures_up, carried, none_of, some_of, unit_refused, unit_measured, structure_ends, structure_too_long, structure_stops, header_too_far, wrapper_ends, wrapper_empty, wrapper_stops}
 use Rattle.kmip_ttlv_ser.proofs.Walking.{Walked, walk_start, walk_step, walk_end, walk_stops}
 use Rattle.kmip_ttlv_ser.proofs.measure.+measure.Goals as goal
 

@@ -1,6 +1,5 @@
-use Rattle.std.proofs.Common.{◌≡◌, ◌+◌, ◌<◌, ◌≤◌, ◌^◌, Option, Some, None, rules, arith, subst, false, sym, ◌∙◌}
+use Rattle.std.proofs.Common.{◌+◌, ◌≤◌, ◌^◌, arith, subst, false, sym}
 use Rattle.kmip_ttlv_types.specs.ItemTypes.{pad_len}
-use Rattle.kmip_ttlv_ser.specs.Items.{held_tag}
 use Rattle.kmip_ttlv_ser.specs.Faults.{no_tag, fault_at}
 use Rattle.kmip_ttlv_ser.specs.Passes.{Advances}
 use Rattle.kmip_ttlv_ser.proofs.Measuring.{leaf_measured}

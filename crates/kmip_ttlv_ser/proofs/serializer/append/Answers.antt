@@ -1,9 +1,9 @@
-use Rattle.std.proofs.Common.{◌≡◌, ℕ, ◌+◌, ◌-◌, ◌≤◌, [], length, List, vec_len, vec_capacity, refl, sym, ap, ◌∙◌, subst, arith, rules}
+use Rattle.std.proofs.Common.{◌≡◌, ◌-◌, [], length, vec_len, vec_capacity, refl, subst, arith, rules}
 use Rattle.kmip_ttlv_base.specs.Values.{view}
 use Rattle.kmip_ttlv_ser.specs.declared.held.Held.TheVariants.{Nothing}
 use Rattle.kmip_ttlv_ser.specs.declared.held.Place.{Place}
 use Rattle.kmip_ttlv_ser.specs.Items.{items}
-use Rattle.kmip_ttlv_ser.specs.Passes.{Measured, Planned, Emitted}
+use Rattle.kmip_ttlv_ser.specs.Passes.{Measured, Emitted}
 use Rattle.kmip_ttlv_ser.specs.Answers.{Refuses}
 use Rattle.kmip_ttlv_ser.proofs.Leaves.{place_len}
 use Rattle.kmip_ttlv_ser.proofs.Refusing.{refused, planned_by, appended}

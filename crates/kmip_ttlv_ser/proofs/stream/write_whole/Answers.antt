@@ -1,4 +1,4 @@
-use Rattle.std.proofs.Common.{◌≤◌, ◌+◌, ◌-◌, length, take, drop, arith, subst, length-drop, length-take}
+use Rattle.std.proofs.Common.{◌-◌, length, drop, arith, subst, length-drop, length-take}
 use Rattle.std.specs.Io.KnownBytes.{Appends}
 use Rattle.std.proofs.KnownBytes.{Appends-trans}
 use Rattle.kmip_ttlv_ser.proofs.Sent.{take-slice_end}

@@ -1,6 +1,5 @@
-use Rattle.std.proofs.Common.{◌≡◌, ◌<◌, ◌≤◌, ◌+◌, arith, rules, length-take-le, take, length, length-take, refl}
+use Rattle.std.proofs.Common.{◌≡◌, ◌+◌, arith, take, length, length-take, refl}
 use Rattle.std.proofs.KnownBytes.{Consumes-kept}
-use Rattle.kmip_ttlv_types.specs.Streams.{ConsumesUpTo}
 use Rattle.kmip_ttlv_types.proofs.Taken.{Consumes-more, IsShort-at_end}
 use Rattle.kmip_ttlv_types.proofs.stream.fill_from.Goals as goal
 

@@ -1,4 +1,4 @@
-use Rattle.std.proofs.Common.{◌≡◌, ◌≤◌, ◌+◌, ◌∙◌, take, drop, length, vec_len, subst, ap, sym, arith, length-drop, take_all, inl, inr}
+use Rattle.std.proofs.Common.{◌≤◌, ◌+◌, drop, length, arith, length-drop, inl, inr}
 use Rattle.std.proofs.lemmas.Grind.{common_steps}
 use Rattle.kmip_ttlv_types.proofs.Taken.{IsShort-after, ConsumesUpTo-after}
 use Rattle.kmip_ttlv_types.proofs.stream.take_bytes.Goals as goal

@@ -1,4 +1,4 @@
-use Rattle.std.proofs.Common.{◌≡◌, ◌+◌, ◌∙◌, sym, length, arith}
+use Rattle.std.proofs.Common.{arith}
 use Rattle.kmip_ttlv_types.proofs.Padding.{length-sign_extended}
 use Rattle.kmip_ttlv_types.proofs.strings.extended_length.Goals as goal
 

@@ -1,4 +1,4 @@
-use Rattle.std.proofs.Common.{◌≡◌, ℕ, List, ◌++◌, ◌∙◌, length, ap, subst, sym, Err, Global}
+use Rattle.std.proofs.Common.{ℕ, List, ◌++◌, ◌∙◌, length, ap, subst, sym, Err, Global}
 use Rattle.std.specs.Int.{w32, to_be_bytes}
 use Rattle.std.proofs.lemmas.Result.{err_from_is_err_and}
 use Rattle.kmip_ttlv_types.specs.Headers.{Writes}

@@ -1,11 +1,9 @@
-use Rattle.std.proofs.Common.{◌≡◌, ℕ, List, [], ◌∷◌, length, ◌++◌, ◌+◌, ap, sym, subst, refl, ◌∙◌, arith, None}
+use Rattle.std.proofs.Common.{◌≡◌, ℕ, List, length, ◌++◌, ◌+◌, ap, sym, subst, refl, ◌∙◌, None}
 use Rattle.std.specs.Prelude.{string_bytes, reverse}
-use Rattle.kmip_ttlv_util.specs.Outlines.{mark}
 use Rattle.kmip_ttlv_util.specs.Traces.{Place, type_read, entry_at}
 use Rattle.kmip_ttlv_util.specs.Diagnostics.{diag_style, exceeded, hostile}
 use Rattle.kmip_ttlv_util.proofs.Message.{item_mark}
 use Rattle.kmip_ttlv_util.specs.Answer.{place_of, Ready}
-use Rattle.kmip_ttlv_util.proofs.Rest.{place}
 use Rattle.kmip_ttlv_util.proofs.Loop.{Walking, smaller, walking_start, walking_reads, walking_unreadable, walking_closes, walking_over, walking_past}
 use Rattle.kmip_ttlv_util.proofs.diagnostic.diagnose.Goals as goal
 
@@ -15,16 +13,16 @@ walk-init g c =
 
 pub walk-preserved-in-Continue-1 : goal.walk-preserved-in-Continue-1
 walk-preserved-in-Continue-1 g c =
-    walking_closes (diag_style c.args.prefix.now) c.args.closed c.args.bytes.now (string_bytes c.walk.out) (string_bytes c.push.new.self) c.walk.count (place_of c.walk.walk) (place_of c.next.new.self) c.walk.invariant c.in-Closes.ensures.comes (c.in_ok-push-in-Closes.ensures.bytes ∙ ap (λ (e : List ℕ). string_bytes c.walk.out ++ e) (c.in_ok-push-in-Closes.ensures.ascii (omega arith)))
+    walking_closes (diag_style c.args.prefix.now) c.args.closed c.args.bytes.now (string_bytes c.walk.out) (string_bytes c.push_close.new.out) c.walk.count (place_of c.walk.walk) (place_of c.next.new.self) c.walk.invariant c.in-Closes.ensures.comes c.in_ok-push_close-in-Closes.ensures
 
 pub returns-in-Over-clause-text : goal.returns-in-Over-clause-text
 unfolding hostile exceeded
 returns-in-Over-clause-text g c =
-    (walking_over (diag_style c.args.prefix.now) c.args.closed c.args.bytes.now (string_bytes c.walk.out) (string_bytes c.push-in-Over.new.self) c.walk.count (place_of c.walk.walk) c.walk.invariant c.in-Over.ensures.comes (c.in_ok-push-in-Over.ensures.bytes ∙ ap (λ (e : List ℕ). string_bytes c.walk.out ++ e) (c.in_ok-push-in-Over.ensures.ascii (omega arith)))).text
+    (walking_over (diag_style c.args.prefix.now) c.args.closed c.args.bytes.now (string_bytes c.walk.out) (string_bytes c.push_close-in-Over.new.out) c.walk.count (place_of c.walk.walk) c.walk.invariant c.in-Over.ensures.comes c.in_ok-push_close-in-Over.ensures).text
 
 pub returns-in-Over-clause-count : goal.returns-in-Over-clause-count
 returns-in-Over-clause-count g c =
-    (walking_over (diag_style c.args.prefix.now) c.args.closed c.args.bytes.now (string_bytes c.walk.out) (string_bytes c.push-in-Over.new.self) c.walk.count (place_of c.walk.walk) c.walk.invariant c.in-Over.ensures.comes (c.in_ok-push-in-Over.ensures.bytes ∙ ap (λ (e : List ℕ). string_bytes c.walk.out ++ e) (c.in_ok-push-in-Over.ensures.ascii (omega arith)))).counts
+    (walking_over (diag_style c.args.prefix.now) c.args.closed c.args.bytes.now (string_bytes c.walk.out) (string_bytes c.push_close-in-Over.new.out) c.walk.count (place_of c.walk.walk) c.walk.invariant c.in-Over.ensures.comes c.in_ok-push_close-in-Over.ensures).counts
 
 pub returns-in-Past-clause-text : goal.returns-in-Past-clause-text
 unfolding hostile exceeded

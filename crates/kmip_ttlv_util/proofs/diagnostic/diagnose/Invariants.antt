@@ -1,4 +1,4 @@
-use Rattle.std.proofs.Common.{◌≡◌, ℕ, suc, ◌+◌, ◌-◌, ◌*◌, ◌≤◌, ◌++◌, List, length}
+use Rattle.std.proofs.Common.{◌+◌, ◌-◌, ◌*◌, length}
 use Rattle.std.specs.Prelude.{string_bytes}
 use Rattle.kmip_ttlv_util.specs.Diagnostics.{diag_style}
 use Rattle.kmip_ttlv_util.specs.Answer.{place_of}

@@ -1,4 +1,4 @@
-use Rattle.std.proofs.Common.{rules, ◌≡◌, ℕ, List, [], ◌++◌, ◌∷◌, ◌∙◌, ap, append_assoc, arith, refl}
+use Rattle.std.proofs.Common.{◌≡◌, ℕ, List, [], ◌++◌, ◌∷◌, ◌∙◌, append_assoc}
 use Rattle.std.specs.Prelude.{string_bytes}
 use Rattle.kmip_ttlv_util.specs.Outlines.{mark, letter, value_text, stripped, six_digits}
 use Rattle.kmip_ttlv_util.proofs.diagnostic.push_mark.Goals as goal

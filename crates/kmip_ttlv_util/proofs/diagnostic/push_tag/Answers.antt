@@ -1,6 +1,5 @@
-use Rattle.std.proofs.Common.{rules, ◌≡◌, ℕ, List, ◌∙◌, sym, subst}
+use Rattle.std.proofs.Common.{sym, subst}
 use Rattle.std.specs.Str.{IsUtf8}
-use Rattle.kmip_ttlv_util.specs.Outlines.{six_digits}
 use Rattle.kmip_ttlv_util.proofs.Unique.{six_utf8}
 use Rattle.kmip_ttlv_util.proofs.diagnostic.push_tag.Goals as goal
 

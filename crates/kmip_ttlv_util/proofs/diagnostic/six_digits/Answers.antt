@@ -1,4 +1,4 @@
-use Rattle.std.proofs.Common.{rules, ◌≡◌, ℕ, refl}
+use Rattle.std.proofs.Common.{rules}
 use Rattle.kmip_ttlv_util.specs.Outlines.{six_digits}
 use Rattle.kmip_ttlv_util.proofs.diagnostic.six_digits.Goals as goal
 

@@ -1,12 +1,6 @@
-use Rattle.std.proofs.Common.{rules, ◌≡◌, ◌≢◌, ℕ, ◌+◌, ◌<◌, ◌≤◌, length, ◌∙◌, sym, ap, arith, Bool, true, false}
-use Rattle.std.proofs.lemmas.Bool.{not-true, not-false}
-use Rattle.std.specs.Prelude.{not}
+use Rattle.std.proofs.Common.{rules, ◌≡◌, ◌≢◌, ◌∙◌, sym, ap, arith, true, false}
 use Rattle.kmip_ttlv_types.specs.declared.typ.TtlvType.TheVariants.{Structure, Enumeration}
 use Rattle.kmip_ttlv_types.specs.Leaves.{is_valid}
-use Rattle.kmip_ttlv_types.specs.Places.{tag_at, code_at, length_at, size}
-use Rattle.kmip_ttlv_types.specs.ItemTypes.{type_of}
-use Rattle.kmip_ttlv_util.specs.Traces.{entry_at, type_read}
-use Rattle.kmip_ttlv_util.specs.Answer.{IsItem}
 use Rattle.kmip_ttlv_util.proofs.Entries.{read_short, read_none, read_missing, read_invalid, item_structure, item_plain, item_enumeration}
 use Rattle.kmip_ttlv_util.proofs.item.item_at.Goals as goal
 

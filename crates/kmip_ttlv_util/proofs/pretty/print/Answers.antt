@@ -1,8 +1,8 @@
-use Rattle.std.proofs.Common.{rules, ◌≡◌, ◌≢◌, ℕ, List, [], ◌∷◌, ◌+◌, ◌<◌, ◌≤◌, ◌^◌, ◌++◌, length, ap, sym, subst, refl, ◌∙◌, arith, None, append-nil, append_assoc}
-use Rattle.std.specs.Prelude.{string_bytes, reverse, codes}
+use Rattle.std.proofs.Common.{◌≡◌, ℕ, List, [], ◌+◌, ◌++◌, length, ap, sym, subst, refl, ◌∙◌, arith, None, append-nil, append_assoc}
+use Rattle.std.specs.Prelude.{string_bytes, codes}
 use Rattle.std.specs.Fmt.{decimal}
 use Rattle.std.proofs.lemmas.List.{length-reverse}
-use Rattle.kmip_ttlv_util.specs.Traces.{Place, type_read, entry_at, told, trace}
+use Rattle.kmip_ttlv_util.specs.Traces.{Place, type_read, entry_at}
 use Rattle.kmip_ttlv_util.specs.Diagnostics.{exceeded}
 use Rattle.kmip_ttlv_util.specs.Names.{name_in}
 use Rattle.kmip_ttlv_util.specs.Pretty.{pretty_style, pretty_line, warning}

@@ -1,4 +1,4 @@
-use Rattle.std.proofs.Common.{◌≡◌, ℕ, suc, ◌+◌, ◌-◌, ◌*◌, ◌≤◌, ◌++◌, List, length}
+use Rattle.std.proofs.Common.{ℕ, ◌+◌, ◌-◌, ◌*◌, List, length}
 use Rattle.std.specs.Prelude.{string_bytes}
 use Rattle.kmip_ttlv_util.specs.Answer.{place_of}
 use Rattle.kmip_ttlv_util.specs.Names.{name_in}

@@ -1,4 +1,4 @@
-use Rattle.std.proofs.Common.{◌≡◌, ℕ, ◌+◌, ◌++◌, List, take, get_or, sym, ap, ◌∙◌, arith, append_assoc}
+use Rattle.std.proofs.Common.{ℕ, ◌++◌, List, take, get_or, sym, ap, ◌∙◌, append_assoc}
 use Rattle.std.specs.Prelude.{string_bytes}
 use Rattle.kmip_ttlv_util.specs.Pretty.{two_digits, hex_bytes}
 use Rattle.kmip_ttlv_util.proofs.PrettyTexts.{hex_more, hex_none}

@@ -1,4 +1,4 @@
-use Rattle.std.proofs.Common.{◌≡◌, ℕ, ◌++◌, take}
+use Rattle.std.proofs.Common.{◌≡◌, ◌++◌, take}
 use Rattle.std.specs.Prelude.{string_bytes}
 use Rattle.kmip_ttlv_util.specs.Pretty.{hex_bytes}
 use Rattle.kmip_ttlv_util.proofs.pretty.push_bytes.Given as goal

@@ -1,4 +1,4 @@
-use Rattle.std.proofs.Common.{◌≡◌, ℕ, ◌+◌, ◌-◌, ◌≤◌, length, drop}
+use Rattle.std.proofs.Common.{◌≡◌, ◌+◌, ◌-◌, ◌≤◌, length, drop}
 use Rattle.std.specs.List.{prefix_len}
 use Rattle.kmip_ttlv_util.specs.Undiag.{is_hex}
 use Rattle.kmip_ttlv_util.proofs.undiag.digits_len.Given as goal

@@ -1,10 +1,10 @@
-use Rattle.std.proofs.Common.{rules, ◌≡◌, ℕ, Bor, List, length, Option, Some, None, refl, sym, ap, subst, ◌∙◌, arith}
+use Rattle.std.proofs.Common.{rules, ℕ, Bor, List, Option, ap, subst, ◌∙◌}
 use Rattle.std.specs.Prelude.{string_bytes}
 use Rattle.std.specs.Str.{IsUtf8, trim_end}
-use Rattle.kmip_ttlv_util.specs.Undiag.{step, Reads, undiag, undiag_from}
+use Rattle.kmip_ttlv_util.specs.Undiag.{step, Reads}
 use Rattle.kmip_ttlv_util.specs.Names.{name_in}
 use Rattle.std.proofs.lemmas.Str.{IsUtf8-string_bytes}
-use Rattle.kmip_ttlv_util.proofs.Reading.{Reading, Gone, reading_goes, reading_stops, trimmed, whole}
+use Rattle.kmip_ttlv_util.proofs.Reading.{reading_goes, reading_stops, trimmed, whole}
 use Rattle.kmip_ttlv_util.proofs.undiag.read_back.Goals as goal
 
 pub loop-out-smaller : goal.loop-out-smaller

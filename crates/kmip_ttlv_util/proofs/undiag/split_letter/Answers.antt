@@ -1,4 +1,4 @@
-use Rattle.std.proofs.Common.{◌≡◌, ℕ, ◌<◌, length, get_or, Some, ◌∙◌, sym, ap, refl, arith, rules}
+use Rattle.std.proofs.Common.{◌≡◌, Some, ◌∙◌, sym, rules}
 use Rattle.std.specs.List.{slice_get}
 use Rattle.std.proofs.lemmas.Option.{slice_get_within, get_or_from_slice_get}
 use Rattle.kmip_ttlv_util.proofs.Fronts.{letter_boundary}

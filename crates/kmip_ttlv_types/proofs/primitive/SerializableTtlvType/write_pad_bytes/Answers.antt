@@ -1,4 +1,4 @@
-use Rattle.std.proofs.Common.{◌≡◌, ℕ, ◌<◌, ◌≤◌, List, length, take, replicate, subst, sym, ap, ◌∙◌, arith, Err}
+use Rattle.std.proofs.Common.{ℕ, List, length, replicate, subst, sym, ap, ◌∙◌, Err}
 use Rattle.std.specs.Io.KnownBytes.{Appends}
 use Rattle.kmip_ttlv_types.proofs.Padding.{take-eight}
 use Rattle.std.proofs.lemmas.Result.{err_from_is_err_and}

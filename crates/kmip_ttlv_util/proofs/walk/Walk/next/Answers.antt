@@ -1,9 +1,8 @@
-use Rattle.std.proofs.Common.{rules, arith, ◌≡◌, ◌≢◌, ◌∙◌, ℕ, ◌-◌, List, length, take, ap, vec_len, length-append, sym, refl, inl, inr, true, false, Option, Some, None, ◌⊎◌, ◌≤◌}
+use Rattle.std.proofs.Common.{rules, arith, ◌≡◌, ◌∙◌, ℕ, ◌-◌, length, take, ap, vec_len, length-append, sym, refl, inl, inr, true, Some, None, ◌⊎◌, ◌≤◌}
 use Rattle.std.specs.List.{slice_get}
 use Rattle.std.specs.Option.{option_to_list}
 use Rattle.std.proofs.lemmas.Bool.{eqb-false}
-use Rattle.kmip_ttlv_util.specs.Answer.{place_of, Ready, Comes}
-use Rattle.kmip_ttlv_util.proofs.Stack.{comes_root, comes_read, comes_past, comes_close, comes_over}
+use Rattle.kmip_ttlv_util.proofs.Stack.{comes_root, comes_read, comes_close}
 use Rattle.kmip_ttlv_util.proofs.walk.Walk.next.Goals.{else-end-self-2-via-then-end-self-2+else-not-self, else-end-self-2-via-else-end-self-2}
 use Rattle.kmip_ttlv_util.proofs.walk.Walk.next.Goals as goal
 

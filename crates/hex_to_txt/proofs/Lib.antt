@@ -1,0 +1,7 @@
+mod Pairs
+mod Taken
+mod PairItems
+mod Refusals
+mod Ends
+mod Cuts
+mod Printing

@@ -1,0 +1,18 @@
+//! KMIP's TTLV encoding (OASIS KMIP 1.0, section 9.1): values to bytes, bytes to values, and bytes
+//! to text.
+//!
+//! This is the crate that users name. It has no code: it gives one path to the parts below, the
+//! low-level `types`, the refusals of `error`, the traits of `shape` that a user's type implements,
+//! writing in `ser`, reading in `de`, and printing in `util`. proofs/Views and proofs/Shapes say
+//! which value data is and which form a shape is: the laws of a user's `to_data`, `from_data` and
+//! `shape` are proved by them.
+#![tactic(auto)]
+
+pub use kmip_ttlv_base::{error, shape, types};
+pub use kmip_ttlv_de as de;
+pub use kmip_ttlv_de::from_slice;
+pub use kmip_ttlv_ser as ser;
+pub use kmip_ttlv_ser::{to_vec, to_writer};
+pub use kmip_ttlv_laws as laws;
+pub use kmip_ttlv_util as util;
+pub use kmip_ttlv_util::PrettyPrinter;

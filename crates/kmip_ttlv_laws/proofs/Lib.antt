@@ -1,0 +1,11 @@
+pub mod Made
+pub mod RootForms
+pub mod Padding
+pub mod Roots
+pub mod TreeTexts
+pub mod Lacking
+pub mod Canonical
+pub mod DataTexts
+pub mod OneTree
+pub mod Returns
+pub mod Contents

@@ -1,0 +1,137 @@
+-- What bytes that begin with a known item begin with.
+use Rattle.std.proofs.Common.{◌≡◌, ℕ, true, ◌+◌, List, [], ◌∷◌, ◌++◌, length, take, drop, Some, refl, sym, ap, subst, ◌∙◌, append_assoc, append-nil, arith}
+use Rattle.std.specs.Prelude.{◌↔◌}
+use Rattle.std.proofs.lemmas.List.{length-append, length-take-le, take_at, take-append-drop}
+use Rattle.kmip_ttlv_types.specs.Items.{Raw, IsTextOf}
+use Rattle.kmip_ttlv_types.specs.Places.{ItemAt, length_at, size}
+use Rattle.kmip_ttlv_types.specs.Trees.{bytes, bytes_all, raw_of}
+use Rattle.kmip_ttlv_types.specs.declared.typ.TtlvType.TheVariants.{Structure}
+use Rattle.kmip_ttlv_types.specs.declared.typ.TtlvType.{TtlvType}
+use Rattle.kmip_ttlv_base.specs.Forms.{Form}
+use Rattle.kmip_ttlv_base.specs.Values.{Value}
+use Rattle.kmip_ttlv_de.proofs.Heads.{length_more}
+use Rattle.kmip_ttlv_de.proofs.PlaceLemmas.{item_at_text, item_one}
+use Rattle.kmip_ttlv_de.specs.Keeps.{Keep}
+use Rattle.kmip_ttlv_de.specs.Reads.{Begins, Reads, is_root}
+use Rattle.kmip_ttlv_ser.specs.declared.held.Held.TheVariants.{Nothing}
+use Rattle.kmip_ttlv_ser.specs.Sizes.{FitsAfter}
+use Rattle.kmip_ttlv_laws.proofs.RootForms.{root_structure}
+use Rattle.kmip_ttlv_laws.proofs.Padding.{reads_same, turned, types_same}
+use Rattle.kmip_ttlv_laws.specs.Padding.{AllSameButPadding, SameButPadding, both_end, both_go_on}
+use Rattle.kmip_ttlv_laws.proofs.Made.{AllMade, Any, any_texts, items_made, text_of_tree}
+use Rattle.kmip_ttlv_laws.specs.Laws.{LaterBytes, MessageAlone, CutMessages, ReadsAlone, ReadingWhatWasWritten, PaddingIsFree, EqualItemsReadAlike}
+
+-- a text is as long as its item is
+pub text_length : (x : Raw) (a : List ℕ) → IsTextOf x a → length a ≡ size x.typ (length x.content)
+text_length x a t = ap length t.parts ∙ omega (arith, length-append x.content t.pad, t.pad_length)
+
+-- at most one item has a text at the front of the same bytes
+pub one_item : (x y : Raw) (a b after other : List ℕ) → IsTextOf x a → IsTextOf y b → a ++ after ≡ b ++ other → x ≡ y
+one_item x y a b after other p q e =
+    item_one (a ++ after) 0 x y
+    (item_at_text (a ++ after) 0 x a after (omega arith) refl p)
+    (item_at_text (a ++ after) 0 y b other (omega arith) e q)
+
+-- a root form reads the item alone
+pub record ReadsRoot (s : Form) (x : Raw) (v : Value) : Type 0 where
+  pub root : is_root s ≡ true
+  pub is_structure : x.typ ≡ Structure
+  pub kept : List Keep
+  pub reads : Reads s [] (x ∷ []) v kept []
+
+-- what bytes that begin with an item's text begin with, a form reads from the item; and the other way
+pub root_of_begins : (s : Form) (x : Raw) (text after : List ℕ) (v : Value) → IsTextOf x text → Begins s (text ++ after) v → ReadsRoot s x v
+root_of_begins s x text after v t g =
+    let same : g.item ≡ x = one_item g.item x g.item_text text g.after after g.is_text t (sym g.parts) in
+    subst (λ (y : Raw). ReadsRoot s y v) same record { root = g.root; is_structure = g.is_structure; kept = g.kept; reads = g.reads }
+
+pub begins_of_root : (s : Form) (x : Raw) (text after : List ℕ) (v : Value) → IsTextOf x text → ReadsRoot s x v → Begins s (text ++ after) v
+begins_of_root s x text after v t r =
+    record { root = r.root; item = x; item_text = text; after = after; kept = r.kept; is_text = t; is_structure = r.is_structure; parts = refl; reads = r.reads }
+
+pub later_bytes : LaterBytes
+later_bytes s x text after other v t =
+    (λ g. begins_of_root s x text other v t (root_of_begins s x text after v t g), λ g. begins_of_root s x text after v t (root_of_begins s x text other v t g))
+
+-- what stands within an item is no item
+pub cut_messages : CutMessages
+cut_messages s x front back v t lt g = (λ w h. absurd (shorter w h), λ refused. refused back v g)
+  where
+    shorter : (w : Value) → Begins s front w → ⊥
+    shorter w h =
+        let longer : front ++ back ≡ h.item_text ++ (h.after ++ back) = ap (λ (l : List ℕ). l ++ back) h.parts ∙ append_assoc h.item_text h.after back in
+        let whole : (front ++ back) ++ [] ≡ h.item_text ++ (h.after ++ back) = append-nil (front ++ back) ∙ longer in
+        let same : x ≡ h.item = one_item x h.item (front ++ back) h.item_text [] (h.after ++ back) t h.is_text whole in
+        let long : length (front ++ back) ≡ length h.item_text = text_length x (front ++ back) t ∙ ap (λ (y : Raw). size y.typ (length y.content)) same ∙ sym (text_length h.item h.item_text h.is_text) in
+        omega (arith, lt, long, length-append front back, ap length h.parts, length-append h.item_text h.after)
+
+-- the text of a Structure that bytes begin with, by its length
+front_text : (w : List ℕ) (x : Raw) (text after : List ℕ) → w ≡ text ++ after → x.typ ≡ Structure → IsTextOf x text → take (8 + length_at w 0) w ≡ text
+front_text w x text after e s t =
+    let item : ItemAt w 0 x = item_at_text w 0 x text after (omega arith) e t in
+    let long : length text ≡ 8 + length_at w 0 = text_length x text t ∙ ap (λ (y : TtlvType). size y (length x.content)) s ∙ omega (arith, item.len) in
+    ap (take (8 + length_at w 0)) e ∙ take_at text after (8 + length_at w 0) long
+
+pub message_alone : MessageAlone
+message_alone s w after v le = (there, back)
+  where
+    there : Begins s w v → Begins s (take (8 + length_at w 0) w ++ after) v
+    there g =
+        let e : take (8 + length_at w 0) w ≡ g.item_text = front_text w g.item g.item_text g.after g.parts g.is_structure g.is_text in
+        let h : Begins s (g.item_text ++ after) v = begins_of_root s g.item g.item_text after v g.is_text record { root = g.root; is_structure = g.is_structure; kept = g.kept; reads = g.reads } in
+        subst (λ (l : List ℕ). Begins s (l ++ after) v) (sym e) h
+
+    -- the length stands within the message
+    len_same : length_at (take (8 + length_at w 0) w ++ after) 0 ≡ length_at w 0
+    len_same =
+        let front = take (8 + length_at w 0) w in
+        let long : length front ≡ 8 + length_at w 0 = length-take-le (8 + length_at w 0) w le in
+        let one : length_at (front ++ after) 0 ≡ length_at front 0 = length_more front after 0 (omega (arith, long)) in
+        let two : length_at (front ++ drop (8 + length_at w 0) w) 0 ≡ length_at front 0 = length_more front (drop (8 + length_at w 0) w) 0 (omega (arith, long)) in
+        one ∙ sym two ∙ ap (λ (l : List ℕ). length_at l 0) (take-append-drop (8 + length_at w 0) w)
+
+    back : Begins s (take (8 + length_at w 0) w ++ after) v → Begins s w v
+    back g =
+        let front = take (8 + length_at w 0) w in
+        let long : length front ≡ 8 + length_at w 0 = length-take-le (8 + length_at w 0) w le in
+        let e : take (8 + length_at (front ++ after) 0) (front ++ after) ≡ g.item_text = front_text (front ++ after) g.item g.item_text g.after g.parts g.is_structure g.is_text in
+        let same : g.item_text ≡ front = sym e ∙ ap (λ k. take (8 + k) (front ++ after)) len_same ∙ take_at front after (8 + length_at w 0) long in
+        let text : IsTextOf g.item front = subst (IsTextOf g.item) same g.is_text in
+        let h : Begins s (front ++ drop (8 + length_at w 0) w) v = begins_of_root s g.item front (drop (8 + length_at w 0) w) v text record { root = g.root; is_structure = g.is_structure; kept = g.kept; reads = g.reads } in
+        subst (λ (l : List ℕ). Begins s l v) (take-append-drop (8 + length_at w 0) w) h
+
+-- a root form begins with what it reads from the item alone
+pub begins_alone : (s : Form) (x : Raw) (text after : List ℕ) (v : Value) → is_root s ≡ true → IsTextOf x text → Begins s (text ++ after) v ↔ ReadsAlone s x v
+begins_alone s x text after v e t =
+    (λ g. let r = root_of_begins s x text after v t g in (r.kept, r.reads), λ r. begins_of_root s x text after v t record { root = e; is_structure = root_structure e r.1; kept = r.0; reads = r.1 })
+
+pub reading_what_was_written : ReadingWhatWasWritten
+reading_what_was_written v d n written r rest s w is root =
+    let same : w.trees ≡ r ∷ rest = let k : Some w.trees ≡ Some (r ∷ rest) = sym w.are ∙ is in cc in
+    let made : AllMade Any (r ∷ rest) = items_made Any v Nothing (r ∷ rest) (any_texts v) tt is in
+    let fit : FitsAfter n (r ∷ rest) = subst (FitsAfter n) same w.fit in
+    let parts : written ≡ bytes r ++ bytes_all rest = w.bytes_are ∙ ap bytes_all same in
+    rw parts (begins_alone s (raw_of r) (bytes r) (bytes_all rest) d root (text_of_tree Any r made.0 fit.each.0))
+
+-- equal items are written alike
+pub equal_items_read_alike : EqualItemsReadAlike
+equal_items_read_alike v w m n a b s d g h e =
+    let trees : g.trees ≡ h.trees = let k : Some g.trees ≡ Some h.trees = sym g.are ∙ e ∙ h.are in cc in
+    let same : a ≡ b = g.bytes_are ∙ ap bytes_all trees ∙ sym h.bytes_are in
+    (λ k. subst (λ (l : List ℕ). Begins s l d) same k, λ k. subst (λ (l : List ℕ). Begins s l d) (sym same) k)
+
+-- an item that is the same but for padding is read alike
+root_alike : (s : Form) (x y : Raw) (v : Value) → SameButPadding x y → ReadsRoot s x v → ReadsRoot s y v
+root_alike s x y v e r =
+    let b = reads_same r.reads (y ∷ []) (both_go_on e both_end) in
+    record { root = r.root; is_structure = sym (types_same e) ∙ r.is_structure; kept = r.kept; reads = subst (λ (l : List Raw). Reads s [] (y ∷ []) v r.kept l) (nothing_left b.0 b.2) b.1 }
+  where
+    nothing_left : (l : List Raw) → AllSameButPadding [] l → l ≡ []
+    nothing_left l both_end = refl
+
+-- texts of such items begin with the same values
+begins_alike : (s : Form) (x y : Raw) (a b after other : List ℕ) (v : Value) → SameButPadding x y → IsTextOf x a → IsTextOf y b → Begins s (a ++ after) v → Begins s (b ++ other) v
+begins_alike s x y a b after other v e t u g = begins_of_root s y b other v u (root_alike s x y v e (root_of_begins s x a after v t g))
+
+pub padding_is_free : PaddingIsFree
+padding_is_free s x y a b after other v e t u = (begins_alike s x y a b after other v e t u, begins_alike s y x b a other after v (turned e) u t)

@@ -1,0 +1,93 @@
+-- What the laws state.
+use Rattle.std.specs.Prelude.{◌≡◌, ◌↔◌, ℕ, ◌+◌, ◌<◌, ◌≤◌, true, List, [], ◌∷◌, ◌++◌, length, map, take, Some}
+use Rattle.std.specs.List.{AllByRecursion}
+use Rattle.kmip_ttlv_types.specs.Items.{Raw, IsTextOf, Splits}
+use Rattle.kmip_ttlv_types.specs.Places.{length_at}
+use Rattle.kmip_ttlv_types.specs.Trees.{Tree, bytes, bytes_all, raw_of, IsTreeText}
+use Rattle.kmip_ttlv_base.specs.Forms.{Form}
+use Rattle.kmip_ttlv_base.specs.Values.{Value}
+use Rattle.kmip_ttlv_ser.specs.declared.held.Held.TheVariants.{Nothing, Plain}
+use Rattle.kmip_ttlv_ser.specs.Answers.{IsWrittenAs}
+use Rattle.kmip_ttlv_ser.specs.Items.{items}
+use Rattle.kmip_ttlv_de.specs.Answer.{RefusesAs, other}
+use Rattle.kmip_ttlv_de.specs.Keeps.{Keep}
+use Rattle.kmip_ttlv_de.specs.Reads.{Reads, Begins, is_root, with_leaf}
+use Rattle.kmip_ttlv_laws.specs.Contents.{ContainsItems}
+use Rattle.kmip_ttlv_laws.specs.Texts.{TextsAreUtf8}
+use Rattle.kmip_ttlv_laws.specs.Returns.{ComesBack}
+use Rattle.kmip_ttlv_laws.specs.Padding.{SameButPadding, EndsInLack}
+
+-- behind the whole text of an item any bytes may follow in place of any others
+abbrev pub LaterBytes : Type 0
+LaterBytes = (s : Form) (x : Raw) (text after later : List ℕ) (v : Value) → IsTextOf x text → Begins s (text ++ after) v ↔ Begins s (text ++ later) v
+
+-- so too behind the bytes that the first item's length states, where they are all there, whatever they are
+abbrev pub MessageAlone : Type 0
+MessageAlone = (s : Form) (bytes after : List ℕ) (v : Value) → 8 + length_at bytes 0 ≤ length bytes → Begins s bytes v ↔ Begins s (take (8 + length_at bytes 0) bytes ++ after) v
+
+-- a message without its last bytes begins with no value, and is refused for no cause but an early end or want of memory
+abbrev pub CutMessages : Type 0
+CutMessages = (s : Form) (x : Raw) (front back : List ℕ) (v : Value) → IsTextOf x (front ++ back) → 0 < length back → Begins s (front ++ back) v → ((w : Value) → Begins s front w → ⊥) × (RefusesAs s front other → ⊥)
+
+-- at most one list of items, one after the other, is the same bytes
+abbrev pub OneSplit : Type 0
+OneSplit = (xs ys : List Raw) (bytes : List ℕ) → Splits xs bytes → Splits ys bytes → xs ≡ ys
+
+-- at most one tree has the same text
+abbrev pub OneTree : Type 0
+OneTree = (t u : Tree) (text : List ℕ) → IsTreeText t text → IsTreeText u text → t ≡ u
+
+-- from the item alone, with no texts kept before, the form reads the value
+abbrev pub ReadsAlone : Form → Raw → Value → Type 0
+ReadsAlone s x v = (kept : List Keep) × Reads s [] (x ∷ []) v kept []
+
+-- what is written, after however many bytes, begins with what a root form reads from the first of the items
+abbrev pub ReadingWhatWasWritten : Type 0
+ReadingWhatWasWritten = (v d : Value) (n : ℕ) (written : List ℕ) (r : Tree) (rest : List Tree) (s : Form) → IsWrittenAs v n written → items v Nothing ≡ Some (r ∷ rest) → is_root s ≡ true → Begins s written d ↔ ReadsAlone s (raw_of r) d
+
+-- texts of two items that are the same but for padding, whatever follows them, begin with the same values
+abbrev pub PaddingIsFree : Type 0
+PaddingIsFree = (s : Form) (x y : Raw) (a b after later : List ℕ) (v : Value) → SameButPadding x y → IsTextOf x a → IsTextOf y b → Begins s (a ++ after) v ↔ Begins s (b ++ later) v
+
+-- all texts of one tree are texts of items that are the same but for padding
+abbrev pub TextsDifferInPadding : Type 0
+TextsDifferInPadding = (t : Tree) (x y : Raw) (a b : List ℕ) → IsTreeText t a → IsTreeText t b → IsTextOf x a → IsTextOf y b → SameButPadding x y
+
+-- all texts of one tree, whatever follows them, begin with the same values
+abbrev pub PaddingOfTreesIsFree : Type 0
+PaddingOfTreesIsFree = (s : Form) (t : Tree) (a b after later : List ℕ) (v : Value) → IsTreeText t a → IsTreeText t b → Begins s (a ++ after) v ↔ Begins s (b ++ later) v
+
+-- no form reads from a Structure whose last item lacks padding, whatever was kept before and follows
+abbrev pub PaddingIsRequired : Type 0
+PaddingIsRequired = (s : Form) (k k' : List Keep) (x : Raw) (xs ys : List Raw) (v : Value) → EndsInLack x → Reads s k (x ∷ xs) v k' ys → ⊥
+
+-- nor does a message begin with it
+abbrev pub PaddingOfRootsIsRequired : Type 0
+PaddingOfRootsIsRequired = (s : Form) (x : Raw) (text after : List ℕ) (v : Value) → IsTextOf x text → EndsInLack x → Begins s (text ++ after) v → ⊥
+
+-- what is written of two values with equal items begins with the same values
+abbrev pub EqualItemsReadAlike : Type 0
+EqualItemsReadAlike = (v w : Value) (m n : ℕ) (a b : List ℕ) (s : Form) (d : Value) → IsWrittenAs v m a → IsWrittenAs w n b → items v Nothing ≡ items w Nothing → Begins s a d ↔ Begins s b d
+
+-- what is written of a value whose texts are UTF-8 is one text of each of its items, one after the other
+abbrev pub WrittenIsWellFormed : Type 0
+WrittenIsWellFormed = (v : Value) (n : ℕ) (written : List ℕ) (ts : List Tree) → IsWrittenAs v n written → items v Nothing ≡ Some ts → TextsAreUtf8 v → AllByRecursion (λ t. IsTreeText t (bytes t)) ts × (written ≡ bytes_all ts)
+
+-- a tree that has any text has its canonical bytes as a text, and these are as long
+abbrev pub CanonicalIsText : Type 0
+CanonicalIsText = (t : Tree) (text : List ℕ) → IsTreeText t text → IsTreeText t (bytes t) × (length (bytes t) ≡ length text)
+
+-- a text of a tree begins with what a root form reads from the tree's item
+abbrev pub ReadingTrees : Type 0
+ReadingTrees = (s : Form) (t : Tree) (text after : List ℕ) (v : Value) → is_root s ≡ true → IsTreeText t text → Begins s (text ++ after) v ↔ ReadsAlone s (raw_of t) v
+
+-- the one value is written under this tag as one leaf, from which the form reads the other, whatever was kept before and follows
+abbrev pub LeafComesBack : Form → Value → Value → ℕ → List Keep → List Raw → Type 0
+LeafComesBack s v w t k xs = (x : Tree) × (items v (Plain t) ≡ Some (x ∷ [])) × Reads s k (raw_of x ∷ xs) w (with_leaf s (raw_of x) k) xs
+
+abbrev pub LeavesComeBack : Type 0
+LeavesComeBack = (s : Form) (v w : Value) (t : ℕ) (k : List Keep) (xs : List Raw) → ComesBack s v w → LeafComesBack s v w t k xs
+
+-- what is written is the items of the trees, one after the other, and so is each content, at every depth
+abbrev pub WrittenIsItems : Type 0
+WrittenIsItems = (v : Value) (n : ℕ) (written : List ℕ) (ts : List Tree) → IsWrittenAs v n written → items v Nothing ≡ Some ts → Splits (map raw_of ts) written × AllByRecursion ContainsItems ts

@@ -1,0 +1,5 @@
+pub mod Texts
+pub mod Padding
+pub mod Contents
+pub mod Returns
+pub mod Laws

@@ -1,0 +1,21 @@
+-- What leaves come back as.
+use Rattle.std.specs.Prelude.{◌≡◌, ℕ, ℤ, Bool, true, ◌<◌, ◌^◌, List, FitsSigned}
+use Rattle.std.specs.Int.{w32, w64, cast_signed}
+use Rattle.std.specs.Str.{is_utf8}
+use Rattle.kmip_ttlv_base.specs.Forms.{Form, int32, int64, boolean, text, octets, interval, big_integer}
+use Rattle.kmip_ttlv_base.specs.Values.{Value, boolean_value, i8_value, i16_value, i32_value, i64_value, u64_value, interval_value, text_value, bytes_value, big_integer_value}
+use Rattle.kmip_ttlv_ser.specs.Items.{sign_extended}
+
+-- by this form the one value, written as a leaf, is read back as the other
+pub data ComesBack : Form → Value → Value → Type 0 where
+  as_int8 : {z : ℤ} → FitsSigned w32 z → ComesBack int32 (i8_value z) (i32_value z)
+  as_int16 : {z : ℤ} → FitsSigned w32 z → ComesBack int32 (i16_value z) (i32_value z)
+  as_int32 : {z : ℤ} → FitsSigned w32 z → ComesBack int32 (i32_value z) (i32_value z)
+  as_int64 : {z : ℤ} → FitsSigned w64 z → ComesBack int64 (i64_value z) (i64_value z)
+  as_date : {n : ℕ} → n < 2 ^ 64 → ComesBack int64 (u64_value n) (i64_value (cast_signed w64 n))
+  as_boolean : {b : Bool} → ComesBack boolean (boolean_value b) (boolean_value b)
+  as_text : {s : List ℕ} → is_utf8 s ≡ true → ComesBack text (text_value s) (text_value s)
+  as_octets : {s : List ℕ} → ComesBack octets (bytes_value s) (bytes_value s)
+  as_interval : {n : ℕ} → n < 2 ^ 32 → ComesBack interval (interval_value n) (interval_value n)
+  as_big_integer : {s : List ℕ} → ComesBack big_integer (big_integer_value s) (big_integer_value (sign_extended s))
+  as_big_octets : {s : List ℕ} → ComesBack octets (big_integer_value s) (bytes_value (sign_extended s))

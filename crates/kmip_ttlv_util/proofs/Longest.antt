@@ -1,0 +1,242 @@
+-- What is read back of any text is that of its longest list of parts.
+use Rattle.std.proofs.Common.{◌≡◌, ◌≢◌, ℕ, zero, suc, ◌+◌, ◌<◌, Bool, true, false, not, ◌&&◌, cond, eqb, ltb, List, [], ◌∷◌, ◌++◌, length, take, drop, Option, Some, None, refl, sym, ap, subst, ◌∙◌, arith, append_assoc, length-append}
+use Rattle.std.specs.Prelude.{Result, Ok, Err, IfOk, string_bytes}
+use Rattle.std.proofs.Common.{String}
+use Rattle.std.specs.List.{prefix_len}
+use Rattle.std.proofs.lemmas.Bool.{ne_eqb, eqb-true, eqb-false, lt-ltb, ltb-true}
+use Rattle.std.proofs.lemmas.List.{take-append-drop, length-take-le}
+use Rattle.kmip_ttlv_types.specs.declared.typ.TtlvType.{TtlvType}
+use Rattle.kmip_ttlv_types.specs.declared.typ.TtlvType.TheVariants.{Structure, Integer, LongInteger, BigInteger, Enumeration, Boolean, TextString, ByteString, DateTime, Interval}
+use Rattle.kmip_ttlv_types.specs.Names.{tag_of}
+use Rattle.kmip_ttlv_util.specs.Outlines.{letter}
+use Rattle.kmip_ttlv_util.specs.Lines.{tag_part, typ_part}
+use Rattle.kmip_ttlv_util.specs.Undiag.{is_hex, type_of_letter, line, hidden, Step, reads_on, stops_with, close_step, value_step, data_step, type_step, letter_step, tag_step, digits_step, step, undiag_from, undiag_lines, undiag, Part, close_part, item_part, NoColon, StandsBehind, tag_in_front, typ_in_front, Stands, depth_behind, part_line, part_lines, unfinished, Longest, ReadsLongest}
+use Rattle.kmip_ttlv_util.proofs.Reading.{Shorter, step_shorter, lines_of}
+use Rattle.kmip_ttlv_util.proofs.ReadBack.{letter_back}
+
+-- a letter is its type's
+letter_by : (c n : ℕ) (t u : TtlvType) (o : Option TtlvType) → letter u ≡ n → (o ≡ Some t → c ≡ letter t) → cond (eqb c n) (Some u) o ≡ Some t → c ≡ letter t
+letter_by c n t u o is more = by (eqb c n) refl
+  where
+    by : (b : Bool) → eqb c n ≡ b → cond b (Some u) o ≡ Some t → c ≡ letter t
+    by true e k = let same : u ≡ t = cc in eqb-true c n e ∙ sym is ∙ ap letter same
+    by false e k = more k
+
+-- a type's letter is that letter
+letter_type : (c : ℕ) (t : TtlvType) → type_of_letter c ≡ Some t → c ≡ letter t
+letter_type c t = letter_by c 91 t Structure _ refl (letter_by c 105 t Integer _ refl (letter_by c 108 t LongInteger _ refl (letter_by c 73 t BigInteger _ refl (letter_by c 101 t Enumeration _ refl (letter_by c 98 t Boolean _ refl (letter_by c 116 t TextString _ refl (letter_by c 111 t ByteString _ refl (letter_by c 100 t DateTime _ refl (letter_by c 110 t Interval None refl (λ k. absurd cc))))))))))
+
+-- ---- a value before a colon
+
+abbrev other : ℕ → Bool
+other b = not (eqb b 58)
+
+-- no colon stands before the first
+no_colon : (xs : List ℕ) → NoColon (take (prefix_len other xs) xs)
+no_colon [] = tt
+no_colon (x ∷ xs) = by (eqb x 58) refl (no_colon xs)
+  where
+    by : (b : Bool) → eqb x 58 ≡ b → NoColon (take (prefix_len other xs) xs) → NoColon (take (cond (not b) (1 + prefix_len other xs) 0) (x ∷ xs))
+    by true e more = tt
+    by false e more =
+        let ne : x ≢ 58 = eqb-false x 58 e in
+        let one : 1 + prefix_len other xs ≡ suc (prefix_len other xs) = omega arith in
+        rw one (ne, more)
+
+-- a colon stands at the first
+at_colon : (xs : List ℕ) → prefix_len other xs < length xs → drop (prefix_len other xs) xs ≡ 58 ∷ drop (prefix_len other xs + 1) xs
+at_colon [] lt = absurd (omega arith)
+at_colon (x ∷ xs) lt = by (eqb x 58) refl (at_colon xs) lt
+  where
+    by : (b : Bool) → eqb x 58 ≡ b → (prefix_len other xs < length xs → drop (prefix_len other xs) xs ≡ 58 ∷ drop (prefix_len other xs + 1) xs) → cond (not b) (1 + prefix_len other xs) 0 < length (x ∷ xs) → drop (cond (not b) (1 + prefix_len other xs) 0) (x ∷ xs) ≡ 58 ∷ drop (cond (not b) (1 + prefix_len other xs) 0 + 1) (x ∷ xs)
+    by true e more h = ap (λ (c : ℕ). c ∷ xs) (eqb-true x 58 e)
+    by false e more h =
+        let one : 1 + prefix_len other xs ≡ suc (prefix_len other xs) = omega arith in
+        let two : suc (prefix_len other xs) + 1 ≡ suc (prefix_len other xs + 1) = omega arith in
+        rw (one, two) (more (omega arith))
+
+-- a value without a colon ends at the first
+span : (ds s : List ℕ) → NoColon ds → prefix_len other (ds ++ (58 ∷ s)) ≡ length ds
+span [] s all = refl
+span (d ∷ ds) s all = let k = span ds s all.1 in rw (ne_eqb d 58 all.0) (omega (arith, k))
+
+module _ (names : ℕ → Option (List ℕ)) (prefix : List ℕ) where
+  -- what a step tells of the part in front
+  abbrev Tells : ℕ → List ℕ → Step → Type 0
+  Tells depth s (reads_on w d r) = (p : Part) × Stands prefix depth s p r × (d ≡ depth_behind depth p) × (w ≡ part_line names depth p)
+  Tells depth s (stops_with w) = ((p : Part) (more : List ℕ) → Stands prefix depth s p more → ⊥) × (w ≡ unfinished names prefix depth s)
+
+  -- in front of a text that begins with no `]`
+  module _ (depth : ℕ) (s : List ℕ) (open_ : (r : List ℕ) → s ≡ 93 ∷ r → ⊥) where
+    abbrev digits_end : ℕ
+    digits_end = prefix_len is_hex s
+
+    no_tag : tag_in_front prefix s ≡ None → Tells depth s (stops_with [])
+    no_tag none = (by, rw none refl)
+      where
+        by : (p : Part) (more : List ℕ) → Stands prefix depth s p more → ⊥
+        by close_part more h = open_ more h.1
+        by (item_part tag typ shown) more h = let k = h.1 in absurd cc
+
+    no_letter : (tag : ℕ) → tag_in_front prefix s ≡ Some tag → typ_in_front (drop digits_end s) ≡ None → Tells depth s (stops_with (tag_part names depth tag))
+    no_letter tag some none = (by, rw (some, none) refl)
+      where
+        by : (p : Part) (more : List ℕ) → Stands prefix depth s p more → ⊥
+        by close_part more h = open_ more h.1
+        by (item_part t typ shown) more h =
+            let k : typ_in_front (drop digits_end s) ≡ Some typ = ap typ_in_front h.2 ∙ letter_back names typ in
+            absurd cc
+
+    no_data : (tag : ℕ) (typ : TtlvType) (c : ℕ) (r : List ℕ) → tag_in_front prefix s ≡ Some tag → drop digits_end s ≡ c ∷ r → type_of_letter c ≡ Some typ → ((shown more : List ℕ) → StandsBehind typ r shown more → ⊥) → Tells depth s (stops_with (typ_part names depth tag typ))
+    no_data tag typ c r some at is never = (by, rw (some, at, is) refl)
+      where
+        by : (p : Part) (more : List ℕ) → Stands prefix depth s p more → ⊥
+        by close_part more h = open_ more h.1
+        by (item_part t u shown) more h =
+            let both : c ∷ r ≡ letter u ∷ h.0 = sym at ∙ h.2 in
+            let first : c ≡ letter u = cc in
+            let left : h.0 ≡ r = cc in
+            let known : type_of_letter c ≡ Some u = ap type_of_letter first ∙ letter_back names u in
+            let same : u ≡ typ = cc in
+            never shown more (subst (λ (v : TtlvType). StandsBehind v r shown more) same (subst (λ (a : List ℕ). StandsBehind u a shown more) left h.3))
+
+    whole : (tag : ℕ) (typ : TtlvType) (c : ℕ) (r shown more : List ℕ) (d : ℕ) → tag_in_front prefix s ≡ Some tag → drop digits_end s ≡ c ∷ r → type_of_letter c ≡ Some typ → StandsBehind typ r shown more → d ≡ depth_behind depth (item_part tag typ shown) → Tells depth s (reads_on (line names depth tag typ shown) d more)
+    whole tag typ c r shown more d some at is behind deep = (item_part tag typ shown, (r, some, at ∙ ap (λ (x : ℕ). x ∷ r) (letter_type c typ is), behind), deep, refl)
+
+    -- nothing stands behind a letter at the end of the text
+    none_behind : (typ : TtlvType) (shown more : List ℕ) → StandsBehind typ [] shown more → ⊥
+    none_behind Structure shown more h = omega (arith, ap length h.1, h.2)
+    none_behind Enumeration shown more h = omega (arith, ap length h.2, length-append shown (58 ∷ more))
+    none_behind Integer shown more h = omega (arith, ap length h.1, h.2)
+    none_behind LongInteger shown more h = omega (arith, ap length h.1, h.2)
+    none_behind BigInteger shown more h = omega (arith, ap length h.1, h.2)
+    none_behind Boolean shown more h = omega (arith, ap length h.1, h.2)
+    none_behind TextString shown more h = omega (arith, ap length h.1, h.2)
+    none_behind ByteString shown more h = omega (arith, ap length h.1, h.2)
+    none_behind DateTime shown more h = omega (arith, ap length h.1, h.2)
+    none_behind Interval shown more h = omega (arith, ap length h.1, h.2)
+
+    -- an enumeration's value, or none
+    no_value : (r : List ℕ) → (ltb 0 (prefix_len other r) && ltb (prefix_len other r) (length r)) ≡ false → (shown more : List ℕ) → StandsBehind Enumeration r shown more → ⊥
+    no_value r off shown more h =
+        let n-is : prefix_len other r ≡ length shown = ap (prefix_len other) h.2 ∙ span shown more h.1 in
+        let a : ltb 0 (prefix_len other r) ≡ true = lt-ltb 0 (prefix_len other r) (omega (arith, h.0)) in
+        let b : ltb (prefix_len other r) (length r) ≡ true = lt-ltb (prefix_len other r) (length r) (omega (arith, ap length h.2, length-append shown (58 ∷ more))) in
+        let both : (ltb 0 (prefix_len other r) && ltb (prefix_len other r) (length r)) ≡ true = rw (a, b) refl in
+        absurd cc
+
+    some_value : (r : List ℕ) → 0 < prefix_len other r → prefix_len other r < length r → StandsBehind Enumeration r (take (prefix_len other r) r) (drop (prefix_len other r + 1) r)
+    some_value r some lt =
+        let split : r ≡ take (prefix_len other r) r ++ (58 ∷ drop (prefix_len other r + 1) r) = sym (take-append-drop (prefix_len other r) r) ∙ ap (λ (t : List ℕ). take (prefix_len other r) r ++ t) (at_colon r lt) in
+        (omega (arith, length-take-le (prefix_len other r) r (omega arith)), no_colon r, split)
+
+    value_tells : (tag c : ℕ) (r : List ℕ) → tag_in_front prefix s ≡ Some tag → drop digits_end s ≡ c ∷ r → type_of_letter c ≡ Some Enumeration → Tells depth s (value_step names depth tag r (prefix_len other r))
+    value_tells tag c r some at is = by (ltb 0 (prefix_len other r)) (ltb (prefix_len other r) (length r)) refl refl
+      where
+        stop : (ltb 0 (prefix_len other r) && ltb (prefix_len other r) (length r)) ≡ false → Tells depth s (stops_with (typ_part names depth tag Enumeration))
+        stop off = no_data tag Enumeration c r some at is (no_value r off)
+
+        by : (a b : Bool) → ltb 0 (prefix_len other r) ≡ a → ltb (prefix_len other r) (length r) ≡ b → Tells depth s (cond (a && b) (reads_on (line names depth tag Enumeration (take (prefix_len other r) r)) depth (drop (prefix_len other r + 1) r)) (stops_with (typ_part names depth tag Enumeration)))
+        by true true e f = whole tag Enumeration c r (take (prefix_len other r) r) (drop (prefix_len other r + 1) r) depth some at is (some_value r (ltb-true _ _ e) (ltb-true _ _ f)) refl
+        by true false e f = stop (rw (e, f) refl)
+        by false true e f = stop (rw e refl)
+        by false false e f = stop (rw e refl)
+
+    data_tells : (tag : ℕ) (typ : TtlvType) (c : ℕ) (r : List ℕ) → tag_in_front prefix s ≡ Some tag → drop digits_end s ≡ c ∷ r → type_of_letter c ≡ Some typ → Tells depth s (data_step names depth tag typ r)
+    data_tells tag Structure c [] some at is = no_data tag Structure c [] some at is (none_behind Structure)
+    data_tells tag Integer c [] some at is = no_data tag Integer c [] some at is (none_behind Integer)
+    data_tells tag LongInteger c [] some at is = no_data tag LongInteger c [] some at is (none_behind LongInteger)
+    data_tells tag BigInteger c [] some at is = no_data tag BigInteger c [] some at is (none_behind BigInteger)
+    data_tells tag Enumeration c [] some at is = no_data tag Enumeration c [] some at is (none_behind Enumeration)
+    data_tells tag Boolean c [] some at is = no_data tag Boolean c [] some at is (none_behind Boolean)
+    data_tells tag TextString c [] some at is = no_data tag TextString c [] some at is (none_behind TextString)
+    data_tells tag ByteString c [] some at is = no_data tag ByteString c [] some at is (none_behind ByteString)
+    data_tells tag DateTime c [] some at is = no_data tag DateTime c [] some at is (none_behind DateTime)
+    data_tells tag Interval c [] some at is = no_data tag Interval c [] some at is (none_behind Interval)
+    data_tells tag Structure c (e ∷ r) some at is = whole tag Structure c (e ∷ r) [] (e ∷ r) (suc depth) some at is (refl, refl, omega arith) refl
+    data_tells tag Integer c (e ∷ r) some at is = whole tag Integer c (e ∷ r) hidden (e ∷ r) depth some at is (refl, refl, omega arith) refl
+    data_tells tag LongInteger c (e ∷ r) some at is = whole tag LongInteger c (e ∷ r) hidden (e ∷ r) depth some at is (refl, refl, omega arith) refl
+    data_tells tag BigInteger c (e ∷ r) some at is = whole tag BigInteger c (e ∷ r) hidden (e ∷ r) depth some at is (refl, refl, omega arith) refl
+    data_tells tag Enumeration c (e ∷ r) some at is = value_tells tag c (e ∷ r) some at is
+    data_tells tag Boolean c (e ∷ r) some at is = whole tag Boolean c (e ∷ r) hidden (e ∷ r) depth some at is (refl, refl, omega arith) refl
+    data_tells tag TextString c (e ∷ r) some at is = whole tag TextString c (e ∷ r) hidden (e ∷ r) depth some at is (refl, refl, omega arith) refl
+    data_tells tag ByteString c (e ∷ r) some at is = whole tag ByteString c (e ∷ r) hidden (e ∷ r) depth some at is (refl, refl, omega arith) refl
+    data_tells tag DateTime c (e ∷ r) some at is = whole tag DateTime c (e ∷ r) hidden (e ∷ r) depth some at is (refl, refl, omega arith) refl
+    data_tells tag Interval c (e ∷ r) some at is = whole tag Interval c (e ∷ r) hidden (e ∷ r) depth some at is (refl, refl, omega arith) refl
+
+    letter_tells : (tag : ℕ) (rest : List ℕ) → tag_in_front prefix s ≡ Some tag → drop digits_end s ≡ rest → Tells depth s (letter_step names depth tag rest)
+    letter_tells tag [] some at = no_letter tag some (ap typ_in_front at)
+    letter_tells tag (c ∷ r) some at = by (type_of_letter c) refl
+      where
+        by : (o : Option TtlvType) → type_of_letter c ≡ o → Tells depth s (type_step names depth tag r o)
+        by None e = no_letter tag some (ap typ_in_front at ∙ e)
+        by (Some typ) e = data_tells tag typ c r some at e
+
+    tag_tells : (o : Option ℕ) (rest : List ℕ) → tag_in_front prefix s ≡ o → drop digits_end s ≡ rest → Tells depth s (tag_step names depth rest o)
+    tag_tells None rest is at = no_tag is
+    tag_tells (Some tag) rest is at = letter_tells tag rest is at
+
+  -- no part stands at the end of a text
+  no_end : (depth : ℕ) (p : Part) (more : List ℕ) → Stands prefix depth [] p more → ⊥
+  no_end depth close_part more h = let k = h.1 in absurd cc
+  no_end depth (item_part tag typ shown) more h = let k = h.1 in absurd cc
+
+  -- a `]` is no tag
+  shut_none : (c : ℕ) (s : List ℕ) → eqb c 93 ≡ true → tag_in_front prefix (c ∷ s) ≡ None
+  shut_none c s e = rw e refl
+
+  -- no part stands at a surplus `]`
+  no_shut : (c : ℕ) (s : List ℕ) → eqb c 93 ≡ true → (p : Part) (more : List ℕ) → Stands prefix zero (c ∷ s) p more → ⊥
+  no_shut c s e close_part more h = omega (arith, h.0)
+  no_shut c s e (item_part tag typ shown) more h = let k = h.1 in let l = shut_none c s e in absurd cc
+
+  -- what a step at `]` tells
+  close_tells : (depth c : ℕ) (s : List ℕ) → eqb c 93 ≡ true → Tells depth (c ∷ s) (close_step depth s)
+  close_tells zero c s e = (no_shut c s e, rw (shut_none c s e) refl)
+  close_tells (suc d) c s e = (close_part, (omega arith, ap (λ (x : ℕ). x ∷ s) (eqb-true c 93 e)), omega arith, refl)
+
+  -- what any step tells
+  tells : (depth : ℕ) (s : List ℕ) → Tells depth s (step names prefix depth s)
+  unfolding step
+  tells depth [] = (no_end depth, refl)
+  tells depth (c ∷ s) = by (eqb c 93) refl
+    where
+      by : (b : Bool) → eqb c 93 ≡ b → Tells depth (c ∷ s) (cond b (close_step depth s) (digits_step names prefix depth (c ∷ s) (prefix_len is_hex (c ∷ s))))
+      by true e = close_tells depth c s e
+      by false e =
+          let ne : c ≢ 93 = eqb-false c 93 e in
+          tag_tells depth (c ∷ s) (λ r h. let k : c ≡ 93 = cc in ne k) (tag_of (48 ∷ 120 ∷ (prefix ++ take (prefix_len is_hex (c ∷ s)) (c ∷ s)))) (drop (prefix_len is_hex (c ∷ s)) (c ∷ s)) (rw e refl) refl
+
+  -- ---- the whole text
+
+  -- one part more in front
+  more_parts : (depth : ℕ) (s w : List ℕ) (d : ℕ) (r text : List ℕ) → Tells depth s (reads_on w d r) → Longest names prefix d r text → Longest names prefix depth s (w ++ text)
+  more_parts depth s w d r text t k =
+      let l = subst (λ (n : ℕ). Longest names prefix n r text) t.2 k in
+      record {
+        parts = t.0 ∷ l.parts;
+        deep = l.deep;
+        rest = l.rest;
+        stand = (r, t.1, l.stand);
+        no_more = l.no_more;
+        written = ap (λ (x : List ℕ). x ++ text) t.3 ∙ ap (λ (x : List ℕ). part_line names depth t.0 ++ x) l.written ∙ sym (append_assoc (part_line names depth t.0) (part_lines names (depth_behind depth t.0) l.parts) (unfinished names prefix l.deep l.rest));
+      }
+
+  -- what is written is that of the longest list of parts
+  longest : (most depth : ℕ) (s : List ℕ) → length s < most → Longest names prefix depth s (undiag_from names most prefix depth s)
+  longest zero depth s lt = absurd (omega arith)
+  longest (suc most) depth s lt = by (step names prefix depth s) refl (tells depth s) (step_shorter names prefix depth s) (λ d r le. longest most d r le)
+    where
+      by : (t : Step) → step names prefix depth s ≡ t → Tells depth s t → Shorter names depth s t → ((d : ℕ) (r : List ℕ) → length r < most → Longest names prefix d r (undiag_from names most prefix d r)) → Longest names prefix depth s (undiag_from names (suc most) prefix depth s)
+      by (reads_on w d r) e t sh more = subst (λ (x : List ℕ). Longest names prefix depth s x) (sym (lines_of names most prefix depth s (reads_on w d r) e)) (more_parts depth s w d r (undiag_from names most prefix d r) t (more d r (omega (arith, sh.0))))
+      by (stops_with w) e t sh more = subst (λ (x : List ℕ). Longest names prefix depth s x) (sym (lines_of names most prefix depth s (stops_with w) e)) record { parts = []; deep = depth; rest = s; stand = (refl, refl); no_more = t.0; written = t.1 }
+
+  -- and so is the answer, trimmed
+  reads_longest : (s answer : List ℕ) → answer ≡ undiag names prefix s → ReadsLongest names prefix s answer
+  unfolding undiag undiag_lines
+  reads_longest s answer is = (undiag_from names (suc (length s)) prefix 0 s, longest (suc (length s)) 0 s (omega arith), is)
+
+-- so where a call answers that
+pub longest_ok : {A E : Type 0} (names : ℕ → Option (List ℕ)) (prefix given s : List ℕ) (r : Result (String A) E) → given ≡ prefix → IfOk r (λ x. string_bytes x ≡ undiag names given s) → IfOk r (λ x. ReadsLongest names prefix s (string_bytes x))
+longest_ok names prefix given s (Ok x) same is = reads_longest names prefix s (string_bytes x) (is ∙ ap (λ (p : List ℕ). undiag names p s) same)
+longest_ok names prefix given s (Err e) same is = tt

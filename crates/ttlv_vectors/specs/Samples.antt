@@ -1,0 +1,14 @@
+-- The values and forms of the sample types.
+use Rattle.std.specs.Prelude.{ℤ, false, codes}
+use Rattle.kmip_ttlv.specs.Values.{Value, i32_value, struct_value, newtype_value, no_values, value}
+use Rattle.kmip_ttlv.specs.Forms.{Form, struct, int32, no_fields, field}
+
+-- a structure of one number
+abbrev pub single_form : Form
+single_form = struct (codes "0xAAAAAA") (field (codes "0xBBBBBB") int32 no_fields) false
+
+abbrev pub read_single : ℤ → Value
+read_single n = struct_value (codes "0xAAAAAA") (value (i32_value n) no_values)
+
+abbrev pub written_single : ℤ → Value
+written_single n = struct_value (codes "0xAAAAAA") (value (newtype_value (codes "Transparent:0xBBBBBB") (i32_value n)) no_values)

@@ -1,0 +1,55 @@
+//! Small types with their laws.
+
+ghost use Rattle.std.specs.Prelude.{◌≡◌};
+ghost use Rattle.ttlv_vectors.specs.Samples.{single_form, read_single, written_single};
+
+use crate::data::{number_of, tagged_number};
+use kmip_ttlv::shape::{Data, Deserialize, FieldShape, Serialize, Shape};
+use std::alloc::{AllocError, Allocator};
+
+/// A structure of one number.
+#[derive(Clone, Copy, Debug, PartialEq, Eq)]
+pub struct Single {
+    pub number: i32,
+}
+
+impl Serialize for Single {
+    ghost stated = { λ s. written_single s.number };
+
+    fn to_data<A: Allocator + Copy>(&self, alloc: A) -> Result<Data<A>, AllocError> {
+        let mut fields = Vec::new(alloc);
+        fields.push(tagged_number(alloc, "Transparent:0xBBBBBB", self.number)?)?;
+        Ok(Data::Struct {
+            name: "0xAAAAAA",
+            fields,
+        })
+    }
+}
+
+impl<A: Allocator> Deserialize<A> for Single {
+    ghost form = { single_form };
+
+    ghost is_value = { λ v s. v ≡ read_single s.number };
+
+    fn shape(alloc: A) -> Result<Shape<A>, AllocError> {
+        let mut fields = Vec::new(alloc);
+        fields.push(FieldShape {
+            name: "0xBBBBBB",
+            shape: Shape::I32,
+        })?;
+        Ok(Shape::Struct {
+            name: "0xAAAAAA",
+            fields,
+            deny_unknown: false,
+        })
+    }
+
+    fn from_data(_alloc: A, value: &Data<A>) -> Result<Single, AllocError> {
+        let Data::Struct { name: _, fields } = value else {
+            unreachable!()
+        };
+        Ok(Single {
+            number: number_of(&fields[0]),
+        })
+    }
+}
