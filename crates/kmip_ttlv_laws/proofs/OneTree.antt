@@ -7,13 +7,8 @@ use Rattle.kmip_ttlv_types.specs.Leaves.{is_valid}
 use Rattle.kmip_ttlv_types.specs.Items.{IsTextOf, Raw}
 use Rattle.kmip_ttlv_types.specs.Places.{size}
 use Rattle.kmip_ttlv_types.specs.Trees.{AreTreeTexts, IsTreeText, Tree, Trees, leaf, no_trees, node, tree}
-use Rattle.kmip_ttlv_de.proofs.PlaceLemmas.{splits_one}
-use Rattle.kmip_ttlv_laws.specs.Laws.{OneSplit, OneTree}
 use Rattle.kmip_ttlv_laws.proofs.Roots.{one_item, text_length}
 use Rattle.kmip_ttlv_laws.proofs.TreeTexts.{one_of_text}
-
-pub one_split : OneSplit
-one_split xs ys bytes a b = splits_one bytes xs ys a b
 
 -- a leaf is no Structure
 leaf_apart : (typ : TtlvType) (content : List ℕ) → is_valid typ content ≡ true → typ ≡ Structure → ⊥
@@ -39,7 +34,7 @@ fronts t u a b r s h k e =
 
 -- a text has one tree
 mutual
-  tree_same : (t u : Tree) (a : List ℕ) → IsTreeText t a → IsTreeText u a → t ≡ u
+  pub tree_same : (t u : Tree) (a : List ℕ) → IsTreeText t a → IsTreeText u a → t ≡ u
   tree_same (leaf tag typ content) (leaf tag' typ' content') a h k =
       let e = one_of_text record { tag = tag; typ = typ; content = content } record { tag = tag'; typ = typ'; content = content' } a h.1 k.1 in
       let p : tag ≡ tag' = ap (λ (x : Raw). x.tag) e in
@@ -63,6 +58,3 @@ mutual
       let p : t ≡ u = tree_same t u k.0 (subst (λ (l : List ℕ). IsTreeText t l) f.0 h.3) k.3 in
       let q : ts ≡ us = trees_same ts us h.1 k.1 f.1 h.4 k.4 in
       cc
-
-pub one_tree : OneTree
-one_tree = tree_same

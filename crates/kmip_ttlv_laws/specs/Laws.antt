@@ -29,10 +29,6 @@ MessageAlone = (s : Form) (bytes after : List ℕ) (v : Value) → 8 + length_at
 abbrev pub CutMessages : Type 0
 CutMessages = (s : Form) (x : Raw) (front back : List ℕ) (v : Value) → IsTextOf x (front ++ back) → 0 < length back → Begins s (front ++ back) v → ((w : Value) → Begins s front w → ⊥) × (RefusesAs s front other → ⊥)
 
--- at most one list of items, one after the other, is the same bytes
-abbrev pub OneSplit : Type 0
-OneSplit = (xs ys : List Raw) (bytes : List ℕ) → Splits xs bytes → Splits ys bytes → xs ≡ ys
-
 -- at most one tree has the same text
 abbrev pub OneTree : Type 0
 OneTree = (t u : Tree) (text : List ℕ) → IsTreeText t text → IsTreeText u text → t ≡ u

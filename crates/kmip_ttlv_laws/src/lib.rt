@@ -11,7 +11,7 @@
 ghost use Rattle.kmip_ttlv_base.specs.declared.shape.Data.{Data};
 ghost use Rattle.kmip_ttlv_base.specs.Values.{view};
 ghost use Rattle.kmip_ttlv_laws.specs.Texts.{TextsAreUtf8};
-ghost use Rattle.kmip_ttlv_laws.specs.Laws.{LaterBytes, MessageAlone, CutMessages, OneSplit, OneTree, ReadingWhatWasWritten, PaddingIsFree, TextsDifferInPadding, PaddingOfTreesIsFree, PaddingIsRequired, PaddingOfRootsIsRequired, EqualItemsReadAlike, WrittenIsWellFormed, WrittenIsItems, CanonicalIsText, ReadingTrees, LeavesComeBack};
+ghost use Rattle.kmip_ttlv_laws.specs.Laws.{LaterBytes, MessageAlone, CutMessages, OneTree, ReadingWhatWasWritten, PaddingIsFree, TextsDifferInPadding, PaddingOfTreesIsFree, PaddingIsRequired, PaddingOfRootsIsRequired, EqualItemsReadAlike, WrittenIsWellFormed, WrittenIsItems, CanonicalIsText, ReadingTrees, LeavesComeBack};
 
 use std::alloc::Allocator;
 
@@ -41,17 +41,13 @@ pub fn cut_messages_end_early()
     ensures { CutMessages }
 {}
 
-/// Bytes are one list of items or none, and one tree or none.
+/// Bytes are a text of one tree or of none.
 ///
-/// Whoever speaks of the items of a message, or of its tree, relies on it: readers, printers and
-/// what is proved of them.
-pub fn one_reading()
-    // Both lists have to end where the bytes do: of `42 00 01 01 00 00 00 00` twice, one item and two
-    // items are fronts.
-    ensures items { OneSplit }
+/// Whoever speaks of the tree of a message relies on it: readers, printers and what is proved of them.
+pub fn one_tree()
     // The leaves have to be valid, as a tree's text has them: else the same bytes could be a leaf of
     // type Structure and a Structure.
-    ensures trees { OneTree }
+    ensures { OneTree }
 {}
 
 /// What was written is read back as its first item reads: a shape that is a struct, with newtypes and
