@@ -1,5 +1,5 @@
 -- From a reader's answer to what the bytes begin with.
-use Rattle.std.proofs.Common.{◌≡◌, ℕ, ◌+◌, ◌<◌, Bool, false, List, [], ◌∷◌, ◌++◌, take, drop, Option, Some, None, refl, sym, ap, subst, ◌∙◌, arith}
+use Rattle.std.proofs.Common.{append_assoc, ◌≡◌, ℕ, ◌+◌, ◌<◌, Bool, false, List, [], ◌∷◌, ◌++◌, take, drop, Option, Some, None, refl, sym, ap, subst, ◌∙◌, arith}
 use Rattle.std.proofs.lemmas.List.{append-nil, take-append-drop}
 use Rattle.std.proofs.Common.{inl, inr, ◌⊎◌, false}
 use Rattle.kmip_ttlv_types.specs.Items.{Raw}
@@ -120,3 +120,7 @@ pub refuses_newtype : (name : List ℕ) (s : Form) (b : List ℕ) (r : Sort) →
 refuses_newtype name s b memory h = tt
 refuses_newtype name s b early_end h = λ v g. let w = begins_in_newtype name s b v g in h w.0 w.1
 refuses_newtype name s b other h = λ after v g. let w = begins_in_newtype name s (b ++ after) v g in h after w.0 w.1
+
+-- bytes behind the first item change nothing
+pub begins_longer : (s : Form) (b more : List ℕ) (v : Value) → Begins s b v → Begins s (b ++ more) v
+begins_longer s b more v g = record { root = g.root; item = g.item; item_text = g.item_text; after = g.after ++ more; kept = g.kept; is_text = g.is_text; is_structure = g.is_structure; parts = ap (λ (x : List ℕ). x ++ more) g.parts ∙ append_assoc g.item_text g.after more; reads = g.reads }
