@@ -9,6 +9,8 @@ mod growing;
 #[cfg(test)]
 mod low_level;
 #[cfg(test)]
+mod printing;
+#[cfg(test)]
 mod reading;
 pub mod request;
 pub mod samples;
