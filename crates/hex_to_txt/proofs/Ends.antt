@@ -1,12 +1,12 @@
 -- How a run ends.
-use Rattle.std.proofs.Common.{◌≡◌, ℕ, ◌≤◌, List, [], ◌++◌, Option, Some, None, Result, Ok, Err, OnOk, OnErr, length, take, sym, ap, ◌∙◌, subst, append-nil, take_all, le_refl}
-use Rattle.std.specs.Io.KnownBytes.{Appends, Consumes, IsAtEnd, Keeps}
+use Rattle.std.proofs.Common.{◌≡◌, ℕ, List, ◌++◌, Option, Some, None, Result, Ok, Err, OnOk, OnErr, length, sym, ap, ◌∙◌, subst, append-nil, take_all, le_refl}
+use Rattle.std.specs.Io.KnownBytes.{Appends, Keeps}
 use Rattle.kmip_ttlv.specs.Streams.{AppendsFront}
 use Rattle.hex_to_txt.specs.Inputs.{TakesAll}
 use Rattle.hex_to_txt.specs.Reasons.{Reason, unknown_words, unreadable_input, not_hexadecimal, not_utf8, refused_message, unwritable_output, refused_memory, line_of}
 use Rattle.hex_to_txt.specs.Tasks.{Task, pair_task, readable_task, diagnostic_task, read_back_task}
 use Rattle.hex_to_txt.specs.Texts.{TaskPrints, TaskRefuses}
-use Rattle.hex_to_txt.specs.Runs.{Streams, Fails, Failed, HasNoText, Printed, Unwritten, Responds}
+use Rattle.hex_to_txt.specs.Runs.{Streams, Fails, Failed, HasNoText, Printed, Responds}
 
 -- whether the line was written to its end or not, a beginning of it was
 told : {T E : Type 0} (a b : Option (List ℕ)) (bytes : List ℕ) (r : Result T E) → OnOk r (Appends a b bytes) → OnErr r (AppendsFront a b bytes) → AppendsFront a b bytes

@@ -1,11 +1,11 @@
 -- The item that a pair is written as, and that it fits.
-use Rattle.std.proofs.Common.{◌≡◌, ℕ, ℤ, ◌+◌, ◌<◌, ◌^◌, List, [], ◌∷◌, ◌++◌, Option, Some, None, Ok, Err, Result, Vec, refl, ap, sym, ◌∙◌, subst, length, length-append, append-nil, lit<, arith}
-use Rattle.std.specs.Int.{w32, to_be_bytes, cast_unsigned}
+use Rattle.std.proofs.Common.{◌≡◌, ℕ, ℤ, List, [], ◌∷◌, Some, None, refl, ap, sym, ◌∙◌, length, append-nil, lit<}
+use Rattle.std.specs.Int.{w32, to_be_bytes}
 use Rattle.kmip_ttlv.specs.declared.types.TtlvType.TheVariants.{Integer}
 use Rattle.kmip_ttlv.specs.Errors.{Kind, io_error, exceeds_limit, malformed, mismatch, out_of_memory, length_overflow, Location}
 use Rattle.kmip_ttlv.specs.Names.{tag_of, number, transparent_name}
-use Rattle.kmip_ttlv.specs.Trees.{Tree, leaf, node, tree, no_trees, trees_of, leaf_bytes, node_bytes, bytes, bytes_all, bytes_below, Fits}
-use Rattle.kmip_ttlv.specs.WrittenItems.{items, take_tag, some_item}
+use Rattle.kmip_ttlv.specs.Trees.{Tree, leaf_bytes, node_bytes, bytes, bytes_all}
+use Rattle.kmip_ttlv.specs.WrittenItems.{take_tag, some_item}
 use Rattle.kmip_ttlv.specs.Sizes.{FitsAfter}
 use Rattle.kmip_ttlv.specs.WriteAnswers.{IsWrittenAs, IsRefusedAs, origin}
 use Rattle.hex_to_txt.specs.Pair.{written_pair, pair_tree}

@@ -1,5 +1,5 @@
 -- The texts of a printer that has no names of tags.
-use Rattle.std.proofs.Common.{◌≡◌, ℕ, suc, ◌-◌, Bool, false, List, [], ◌∷◌, ◌++◌, Option, Some, None, Ok, if◌then◌else◌, length, refl, sym, ap, ◌∙◌, subst, arith, append_assoc, append-nil, length-append, codes}
+use Rattle.std.proofs.Common.{◌≡◌, ℕ, suc, ◌-◌, Bool, false, List, [], ◌∷◌, ◌++◌, Option, Some, Ok, if◌then◌else◌, length, refl, sym, ap, ◌∙◌, subst, arith, append_assoc, append-nil, length-append, codes}
 use Rattle.std.specs.List.{slice_get}
 use Rattle.std.proofs.lemmas.List.{get_or_push}
 use Rattle.std.proofs.lemmas.Option.{slice_get-get_or}
@@ -9,8 +9,9 @@ use Rattle.kmip_ttlv.specs.Trees.{Tree, Trees, leaf, node, no_trees, tree}
 use Rattle.kmip_ttlv.specs.Pretty.{IsPrinted, IsPretty, pretty, pretty_all, pretty_line, data_shown}
 use Rattle.kmip_ttlv.specs.Lines.{typ_part}
 use Rattle.kmip_ttlv.specs.Undiag.{undiag}
+use Rattle.kmip_ttlv.specs.TagNames.{no_names}
 use Rattle.hex_to_txt.specs.Inputs.{decoded}
-use Rattle.hex_to_txt.specs.Texts.{ended, is_line_feed, no_names, IsMessage, PrintsReadable}
+use Rattle.hex_to_txt.specs.Texts.{ended, is_line_feed, PrintsReadable}
 
 -- a text that ends with a line feed
 EndsLine : List ℕ → Type 0
@@ -46,9 +47,6 @@ ended_line text (front, is) =
     let line = front ++ 10 ∷ [] in
     subst P (sym is) (ap (λ o. if is_line_feed o then line else (line ++ 10 ∷ [])) (last_is front))
 
-pub no_names_is : (names : ℕ → Option (List ℕ)) → ((tag : ℕ) → names tag ≡ None) → names ≡ no_names
-no_names_is names none = λ i tag. none tag i
-
 module _ (input bytes readable text : List ℕ) (decodes : decoded input ≡ Ok bytes) (prints : text ≡ ended readable) where
   readable_unnamed : IsPrinted no_names false bytes readable → IsPretty no_names false bytes readable → PrintsReadable input text
   readable_unnamed is exact = record {
@@ -60,10 +58,10 @@ module _ (input bytes readable text : List ℕ) (decodes : decoded input ≡ Ok 
     message = λ t m. prints ∙ ap ended (exact t m.text m.root m.full) ∙ ended_line _ (pretty_ends no_names 0 t);
   }
 
-  pub prints_readable : (names : ℕ → Option (List ℕ)) (closed : Bool) → ((tag : ℕ) → names tag ≡ None) → closed ≡ false → IsPrinted names closed bytes readable → IsPretty names closed bytes readable → PrintsReadable input text
+  pub prints_readable : (names : ℕ → Option (List ℕ)) (closed : Bool) → names ≡ no_names → closed ≡ false → IsPrinted names closed bytes readable → IsPretty names closed bytes readable → PrintsReadable input text
   prints_readable names closed none is_open is exact =
       let Both : (ℕ → Option (List ℕ)) → Bool → Type 0 = λ ns b. IsPrinted ns b bytes readable × IsPretty ns b bytes readable in
-      let first = subst (λ (ns : ℕ → Option (List ℕ)). Both ns closed) (no_names_is names none) (is, exact) in
+      let first = subst (λ (ns : ℕ → Option (List ℕ)). Both ns closed) none (is, exact) in
       let both = subst (λ (b : Bool). Both no_names b) is_open first in
       readable_unnamed both.0 both.1
 

@@ -3,7 +3,7 @@ use Rattle.std.proofs.Common.{◌≡◌, ◌≢◌, ℕ, List, [], ◌++◌, Ok,
 use Rattle.kmip_ttlv_base.specs.declared.error.Error.{Error}
 use Rattle.kmip_ttlv_base.specs.declared.error.ErrorKind.{ErrorKind}
 use Rattle.kmip_ttlv_base.specs.declared.error.ErrorKind.TheVariants.{IoError, ResponseSizeExceedsLimit, MalformedTtlv, SerdeError, OutOfMemory, LengthOverflow}
-use Rattle.kmip_ttlv.specs.Errors.{Kind, io_error, exceeds_limit, malformed, mismatch, out_of_memory, length_overflow, view_of_kind, kind_of}
+use Rattle.kmip_ttlv.specs.Errors.{out_of_memory, view_of_kind, kind_of}
 use Rattle.kmip_ttlv.specs.Values.{Value}
 use Rattle.kmip_ttlv.specs.Forms.{Form}
 use Rattle.kmip_ttlv.specs.Reads.{Begins}

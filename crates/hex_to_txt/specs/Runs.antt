@@ -1,5 +1,5 @@
 -- What a run of the program takes, prints and says.
-use Rattle.std.specs.Prelude.{◌≡◌, ℕ, List, Option, Some, None, Result, Ok, Err}
+use Rattle.std.specs.Prelude.{ℕ, List, Option, Some, None, Result, Ok, Err}
 use Rattle.std.specs.Io.KnownBytes.{Appends, Keeps}
 use Rattle.kmip_ttlv.specs.Streams.{AppendsFront}
 use Rattle.hex_to_txt.specs.Inputs.{TakesAll}

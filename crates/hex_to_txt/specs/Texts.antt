@@ -1,5 +1,5 @@
 -- The texts that the program prints, and why it prints none.
-use Rattle.std.specs.Prelude.{◌≡◌, ◌≢◌, ℕ, ℤ, Bool, false, true, List, [], ◌∷◌, ◌++◌, ◌==◌, ◌-◌, if◌then◌else◌, length, slice_get, Option, Some, None, Result, Ok, Err, IsErr, codes, string_bytes}
+use Rattle.std.specs.Prelude.{◌≡◌, ◌≢◌, ℕ, ℤ, Bool, false, List, [], ◌∷◌, ◌++◌, ◌==◌, ◌-◌, if◌then◌else◌, length, slice_get, Option, Some, None, Result, Ok, Err, IsErr, codes}
 use Rattle.kmip_ttlv_base.specs.declared.error.Error.{Error}
 use Rattle.kmip_ttlv_base.specs.declared.error.ErrorKind.TheVariants.{OutOfMemory}
 use Rattle.kmip_ttlv.specs.Errors.{kind_of}
@@ -11,10 +11,11 @@ use Rattle.kmip_ttlv.specs.Trees.{Tree, IsTreeText, IsStructure, HasNoEmpty}
 use Rattle.kmip_ttlv.specs.Outlines.{diag, outline_of}
 use Rattle.kmip_ttlv.specs.Pretty.{IsPrinted, pretty}
 use Rattle.kmip_ttlv.specs.Undiag.{undiag}
+use Rattle.kmip_ttlv.specs.TagNames.{no_names}
 use Rattle.hex_to_txt.specs.Inputs.{decoded, CutText, CutNoText}
 use Rattle.hex_to_txt.specs.Pair.{pair_form, read_pair, pair_text}
 use Rattle.hex_to_txt.specs.Tasks.{Task, pair_task, readable_task, diagnostic_task, read_back_task}
-use Rattle.hex_to_txt.specs.Reasons.{Reason, unknown_words, unreadable_input, not_hexadecimal, not_utf8, refused_message, unwritable_output, refused_memory}
+use Rattle.hex_to_txt.specs.Reasons.{Reason, not_hexadecimal, not_utf8, refused_message, refused_memory}
 
 -- the input's bytes begin with a pair, whose text this is
 pub record PrintsPair (input text : List ℕ) : Type 0 where
@@ -32,10 +33,6 @@ is_line_feed (Some c) = c == 10
 -- a text, and a line feed where it doesn't end with one
 abbrev pub ended : List ℕ → List ℕ
 ended text = if is_line_feed (slice_get text (length text - 1)) then text else text ++ 10 ∷ []
-
--- the program's printer has names for no tags
-abbrev pub no_names : ℕ → Option (List ℕ)
-no_names tag = None
 
 -- a well-formed message, which has no empty structure unless these are closed
 pub record IsMessage (closed : Bool) (t : Tree) (bytes : List ℕ) : Type 0 where

@@ -1,4 +1,4 @@
-use Rattle.std.proofs.Common.{◌≡◌, ◌∙◌, arith, sym}
+use Rattle.std.proofs.Common.{◌∙◌, arith, sym}
 use Rattle.hex_to_txt.proofs.Cuts.{cut}
 use Rattle.hex_to_txt.proofs.input.cut_at_end.Goals as goal
 use Rattle.hex_to_txt.proofs.input.cut_at_end.Goals.{then-loop-end-test+else-is_break, else-loop-end-test}

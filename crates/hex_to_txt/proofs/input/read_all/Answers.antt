@@ -1,4 +1,4 @@
-use Rattle.std.proofs.Common.{◌≡◌, ◌≤◌, ◌∙◌, arith, vec_len}
+use Rattle.std.proofs.Common.{◌≤◌, ◌∙◌, arith, vec_len}
 use Rattle.hex_to_txt.proofs.Taken.{more_filled, same_filled}
 use Rattle.hex_to_txt.proofs.input.read_all.Goals as goal
 use Rattle.hex_to_txt.proofs.input.read_all.Goals.{in-Ok, in-Err+else-ne}

@@ -1,4 +1,4 @@
-use Rattle.std.proofs.Common.{◌≡◌, ◌∙◌, refl}
+use Rattle.std.proofs.Common.{◌∙◌, refl}
 use Rattle.hex_to_txt.specs.Reasons.{reason_of}
 use Rattle.hex_to_txt.proofs.Ends.{failed, output_kept, printed_some}
 use Rattle.hex_to_txt.proofs.run.run.Goals as goal

@@ -1,4 +1,4 @@
-use Rattle.std.proofs.Common.{◌≡◌, ◌∙◌, ap, sym, Ok}
+use Rattle.std.proofs.Common.{◌∙◌, ap, sym, Ok}
 use Rattle.hex_to_txt.proofs.Refusals.{no_pair}
 use Rattle.hex_to_txt.proofs.texts.flat_text.Goals as goal
 

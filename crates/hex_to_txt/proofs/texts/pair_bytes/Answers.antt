@@ -1,4 +1,4 @@
-use Rattle.std.proofs.Common.{◌≡◌, ◌∙◌}
+use Rattle.std.proofs.Common.{◌∙◌}
 use Rattle.hex_to_txt.proofs.PairItems.{pair_written, pair_refused}
 use Rattle.hex_to_txt.proofs.Refusals.{is_memory}
 use Rattle.hex_to_txt.proofs.texts.pair_bytes.Goals as goal

@@ -1,4 +1,4 @@
-use Rattle.std.proofs.Common.{◌≡◌, ◌∙◌, ap, sym, Ok}
+use Rattle.std.proofs.Common.{◌∙◌, ap, sym, Ok}
 use Rattle.hex_to_txt.proofs.Printing.{prints_readable}
 use Rattle.hex_to_txt.proofs.texts.readable_text.Goals as goal
 

@@ -1,4 +1,4 @@
-use Rattle.std.proofs.Common.{◌≡◌, ◌∙◌, rules}
+use Rattle.std.proofs.Common.{◌∙◌, rules}
 use Rattle.kmip_ttlv.proofs.Views.{view-Seq}
 use Rattle.ttlv_vectors.proofs.request.attributes.Goals as goal
 

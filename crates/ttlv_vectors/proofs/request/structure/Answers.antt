@@ -1,4 +1,4 @@
-use Rattle.std.proofs.Common.{◌≡◌, ◌∙◌, refl}
+use Rattle.std.proofs.Common.{◌∙◌, refl}
 use Rattle.kmip_ttlv.proofs.Views.{view-Struct}
 use Rattle.ttlv_vectors.proofs.request.structure.Goals as goal
 

@@ -1,4 +1,4 @@
-use Rattle.std.proofs.Common.{◌≡◌, ◌∙◌, ap, sym, arith, w32}
+use Rattle.std.proofs.Common.{◌∙◌, ap, sym, arith, w32}
 use mir.Val.{to_z, of_z}
 use Rattle.std.proofs.lemmas.Int.{to_z-of_z}
 use borrow.Author.Rules.{sfits_of}

@@ -1,4 +1,4 @@
-use Rattle.std.proofs.Common.{◌≡◌, ◌∙◌, rules}
+use Rattle.std.proofs.Common.{◌∙◌, rules}
 use Rattle.kmip_ttlv.proofs.Views.{view-Struct}
 use Rattle.hex_to_txt.proofs.pair.PairSerialize.to_data.Goals as goal
 

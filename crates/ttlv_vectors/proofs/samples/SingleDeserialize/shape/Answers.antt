@@ -1,4 +1,4 @@
-use Rattle.std.proofs.Common.{◌≡◌, ◌∙◌, false, codes, refl}
+use Rattle.std.proofs.Common.{◌∙◌, false, codes, refl}
 use Rattle.kmip_ttlv.proofs.Shapes.{form_of-Struct}
 use Rattle.ttlv_vectors.proofs.samples.SingleDeserialize.shape.Goals as goal
 
