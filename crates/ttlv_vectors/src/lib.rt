@@ -13,6 +13,8 @@ mod printing;
 #[cfg(test)]
 mod reading;
 pub mod request;
+#[cfg(test)]
+mod requesting;
 pub mod samples;
 #[cfg(test)]
 mod writing;
