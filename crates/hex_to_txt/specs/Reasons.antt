@@ -3,6 +3,7 @@ use Rattle.std.specs.Prelude.{ℕ, List, codes, string_bytes}
 use Rattle.hex_to_txt.specs.declared.refusal.Refusal.{Refusal}
 use Rattle.hex_to_txt.specs.declared.refusal.Refusal.TheVariants as held
 
+-- why the program ends with status 1
 pub data Reason : Type 0 where
   unknown_words : Reason
   unreadable_input : Reason

@@ -26,6 +26,7 @@ pub record PrintsPair (input text : List ℕ) : Type 0 where
   pub begins : Begins pair_form bytes (read_pair first second)
   pub prints : text ≡ pair_text first second
 
+-- whether there is a character, and it is a line feed
 abbrev pub is_line_feed : Option ℕ → Bool
 is_line_feed None = false
 is_line_feed (Some c) = c == 10

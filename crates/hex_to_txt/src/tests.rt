@@ -98,6 +98,8 @@ fn refuses(
         outcome.errors.as_slice().starts_with(beginning.as_bytes()),
         "{line} on {input}"
     );
+    let feeds = outcome.errors.iter().filter(|byte| **byte == b'\n').count();
+    assert_eq!(rt; feeds, 1, "{line} on {input}");
     assert!(rt;
         outcome.errors.as_slice().ends_with(b"\n"),
         "{line} on {input}"

@@ -42,8 +42,10 @@ pub use Rattle.kmip_ttlv_util.specs.Printers
 pub use Rattle.kmip_ttlv_util.specs.Lending
 pub use Rattle.kmip_ttlv_util.specs.Answer as PrintAnswers
 pub use Rattle.kmip_ttlv_ser.specs.Laws as WriteLaws
+pub use Rattle.kmip_ttlv_ser.specs.Rows
 pub use Rattle.kmip_ttlv_de.specs.Leaves as ReadLeaves
 pub use Rattle.kmip_ttlv_de.specs.Wholes
+pub use Rattle.kmip_ttlv_de.specs.Messages
 pub use Rattle.kmip_ttlv_laws.specs.Texts
 pub use Rattle.kmip_ttlv_laws.specs.Padding
 pub use Rattle.kmip_ttlv_laws.specs.Contents

@@ -3,9 +3,9 @@
 //!
 //! This is the crate that users name. It has no code: it gives one path to the parts below, the
 //! low-level `types`, the refusals of `error`, the traits of `shape` that a user's type implements,
-//! writing in `ser`, reading in `de`, and printing in `util`. proofs/Views and proofs/Shapes say
-//! which value data is and which form a shape is: the laws of a user's `to_data`, `from_data` and
-//! `shape` are proved by them.
+//! writing in `ser`, reading in `de`, printing in `util`, and what holds of these together in `laws`.
+//! The lemmas by which a user's `to_data`, `from_data` and `shape` are proved, which value data is and
+//! which form a shape is, stand in proofs/Views and proofs/Shapes of `kmip_ttlv_base`.
 #![tactic(auto)]
 
 pub use kmip_ttlv_base::{error, shape, types};

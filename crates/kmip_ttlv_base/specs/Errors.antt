@@ -27,6 +27,7 @@ pub data Mismatch : Type 0 where
   unexpected_type : (expected actual : TtlvType) → Mismatch
   unsupported_rust_type : (name : List ℕ) → Mismatch
 
+-- the kinds of refusals, their texts as lists
 pub data Kind : Type 0 where
   io_error : IoKind → Kind
   exceeds_limit : (size : ℕ) → Kind
@@ -35,6 +36,7 @@ pub data Kind : Type 0 where
   out_of_memory : Kind
   length_overflow : Kind
 
+-- the mismatch, its texts as lists
 abbrev pub view_of_serde : {A : Type 0} → SerdeError A → Mismatch
 view_of_serde (serdes.InvalidVariant name) = invalid_variant name.now
 view_of_serde (serdes.InvalidVariantMatcherSyntax name) = invalid_rule (string_bytes name)
@@ -61,16 +63,20 @@ pub record Location : Type 0 where
   pub tag : Option ℕ
   pub typ : Option TtlvType
 
+-- no place
 abbrev pub unknown : Location
 unknown = record { offset = None; parents = []; tag = None; typ = None }
 
+-- the tags of a vector, none where there is no vector
 abbrev pub tags_of : {A : Type 0} → Option (Vec ℕ A) → List ℕ
 tags_of None = []
 tags_of (Some tags) = tags.items
 
+-- the place that a location is
 abbrev pub view_of_location : {A : Type 0} → ErrorLocation A → Location
 view_of_location l = record { offset = option_map (λ o. o.0) l.offset; parents = tags_of l.parent_tags; tag = l.tag; typ = l.typ }
 
+-- whether a list has nothing in it
 abbrev pub is_empty : List ℕ → Bool
 is_empty [] = true
 is_empty (x ∷ xs) = false
@@ -79,9 +85,11 @@ is_empty (x ∷ xs) = false
 abbrev pub is_nowhere : Location → Bool
 is_nowhere l = is_none l.offset && is_empty l.parents && is_none l.tag && is_none l.typ
 
+-- what `kind` answers
 abbrev pub kind_of : {A : Type 0} → Error A → ErrorKind A
 kind_of e = e.kind
 
+-- what `location` answers
 abbrev pub location_of : {A : Type 0} → Error A → ErrorLocation A
 location_of e = e.location
 

@@ -23,10 +23,12 @@ mutual
     interval : Form
     big_integer : Form
 
+  -- the fields of a struct, in their order
   pub data Fields : Type 0 where
     no_fields : Fields
     field : (name : List ℕ) → Form → Fields → Fields
 
+  -- the variants of an enum, in their order
   pub data Variants : Type 0 where
     no_variants : Variants
     variant : (name : List ℕ) → Content → Variants → Variants
@@ -37,6 +39,7 @@ mutual
     wrapped : Form → Content
     tuple : Forms → Content
 
+  -- forms, one after the other
   pub data Forms : Type 0 where
     no_forms : Forms
     form : Form → Forms → Forms

@@ -3,30 +3,37 @@ use Rattle.std.specs.Prelude.{◌≡◌, ℕ, List, ◌⊎◌}
 use Rattle.kmip_ttlv_base.specs.Values.{Value, boolean_value, i32_value, i64_value, interval_value, text_value, bytes_value, big_integer_value, none, some, seq_value, struct_value, newtype_value, unit_variant_value, newtype_variant_value, tuple_variant_value, Values, no_values, value}
 use Rattle.kmip_ttlv_base.specs.Forms.{Form, struct, option, seq, newtype, enum, int32, int64, boolean, text, octets, interval, big_integer, Fields, no_fields, field, Variants, no_variants, variant, Content, unit, wrapped, tuple, Forms, no_forms, form}
 
+-- a number that an Integer is
 abbrev pub IsI32 : Value → Type 0
 IsI32 (i32_value z) = Unit {0}
 IsI32 _ = ⊥
 
+-- a number that a Long Integer or a Date-Time is
 abbrev pub IsI64 : Value → Type 0
 IsI64 (i64_value z) = Unit {0}
 IsI64 _ = ⊥
 
+-- true or false
 abbrev pub IsBool : Value → Type 0
 IsBool (boolean_value b) = Unit {0}
 IsBool _ = ⊥
 
+-- a text
 abbrev pub IsText : Value → Type 0
 IsText (text_value s) = Unit {0}
 IsText _ = ⊥
 
+-- any bytes
 abbrev pub IsBytes : Value → Type 0
 IsBytes (bytes_value s) = Unit {0}
 IsBytes _ = ⊥
 
+-- a span of time
 abbrev pub IsInterval : Value → Type 0
 IsInterval (interval_value n) = Unit {0}
 IsInterval _ = ⊥
 
+-- the bytes of a big integer
 abbrev pub IsBigInteger : Value → Type 0
 IsBigInteger (big_integer_value s) = Unit {0}
 IsBigInteger _ = ⊥
@@ -42,26 +49,32 @@ abbrev pub EachGives : (Value → Type 0) → Values → Type 0
 EachGives gives no_values = Unit {0}
 EachGives gives (value v vs) = gives v × EachGives gives vs
 
+-- a sequence of values that the form inside gives
 abbrev pub SeqGives : (Value → Type 0) → Value → Type 0
 SeqGives gives (seq_value vs) = EachGives gives vs
 SeqGives gives _ = ⊥
 
+-- a newtype of this name, with what the form inside gives
 abbrev pub NewtypeGives : List ℕ → (Value → Type 0) → Value → Type 0
 NewtypeGives name gives (newtype_value n v) = (n ≡ name) × gives v
 NewtypeGives name gives _ = ⊥
 
+-- a struct of this name, with what its fields give
 abbrev pub StructGives : List ℕ → (Values → Type 0) → Value → Type 0
 StructGives name gives (struct_value n vs) = (n ≡ name) × gives vs
 StructGives name gives _ = ⊥
 
+-- the unit variant of these names
 abbrev pub UnitGives : List ℕ → List ℕ → Value → Type 0
 UnitGives name vname (unit_variant_value n vn) = (n ≡ name) × (vn ≡ vname)
 UnitGives name vname _ = ⊥
 
+-- the variant of these names, with what the form inside gives
 abbrev pub WrappedGives : List ℕ → List ℕ → (Value → Type 0) → Value → Type 0
 WrappedGives name vname gives (newtype_variant_value n vn v) = (n ≡ name) × (vn ≡ vname) × gives v
 WrappedGives name vname gives _ = ⊥
 
+-- the variant of these names, with what its forms give
 abbrev pub TupleGives : List ℕ → List ℕ → (Values → Type 0) → Value → Type 0
 TupleGives name vname gives (tuple_variant_value n vn vs) = (n ≡ name) × (vn ≡ vname) × gives vs
 TupleGives name vname gives _ = ⊥
@@ -71,6 +84,7 @@ abbrev pub FirstGives : (Value → Type 0) → (Values → Type 0) → Values �
 FirstGives gives others no_values = ⊥
 FirstGives gives others (value v vs) = gives v × others vs
 
+-- no values
 abbrev pub IsEmpty : Values → Type 0
 IsEmpty no_values = Unit {0}
 IsEmpty (value v vs) = ⊥

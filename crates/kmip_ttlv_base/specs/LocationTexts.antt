@@ -7,6 +7,7 @@ use Rattle.kmip_ttlv_types.specs.Digits.{tag_text}
 use Rattle.kmip_ttlv_types.specs.TypeTexts.{type_text}
 use Rattle.kmip_ttlv_base.specs.Errors.{Location, is_nowhere}
 
+-- how an offset is printed
 abbrev pub position_text : ℕ → List ℕ
 position_text n = codes "pos: " ++ decimal n ++ codes " bytes"
 

@@ -27,10 +27,12 @@ mutual
     tuple_variant_value : (name vname : List ℕ) → Values → Value
     unsupported_value : (name : List ℕ) → Value
 
+  -- values, one after the other
   pub data Values : Type 0 where
     no_values : Values
     value : Value → Values → Values
 
+-- the values of a list
 abbrev pub values_of : List Value → Values
 values_of [] = no_values
 values_of (v ∷ vs) = value v (values_of vs)
@@ -62,5 +64,6 @@ view_step (layer.Unsupported name) = unsupported_value name.now
 abbrev pub view : {A : Type 0} → Data A → Value
 view {A} d = fold-Data A Value view_step d
 
+-- the values that a list of data is
 abbrev pub views : {A : Type 0} → List (Data A) → Values
 views {A} ds = values_of (map view ds)

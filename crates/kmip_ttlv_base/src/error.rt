@@ -117,6 +117,7 @@ pub struct ErrorLocation<A: Allocator = Global> {
 }
 
 impl<A: Allocator> Error<A> {
+    /// The refusal of this kind, at this place.
     pub fn new(kind: ErrorKind<A>, location: ErrorLocation<A>) -> Error<A>
         ensures kind { kind_of result ≡ kind }
         ensures location { location_of result ≡ location }
@@ -159,6 +160,7 @@ impl<A: Allocator> Error<A> {
     }
 }
 
+/// OutOfMemory, at no place.
 impl<A: Allocator> From<AllocError> for Error<A> {
     ghost use Rattle.kmip_ttlv_base.specs.Errors.{IsMemory};
 
@@ -169,6 +171,7 @@ impl<A: Allocator> From<AllocError> for Error<A> {
     }
 }
 
+/// OutOfMemory, at no place; what could not be kept is dropped.
 impl<T: Drop, A: Allocator> From<AllocFailed<T>> for Error<A> {
     ghost use Rattle.kmip_ttlv_base.specs.Errors.{IsMemory};
 
@@ -179,6 +182,7 @@ impl<T: Drop, A: Allocator> From<AllocFailed<T>> for Error<A> {
     }
 }
 
+/// IoError.
 impl<A: Allocator> From<io::Error> for ErrorKind<A> {
     ghost from_gives = { λ e k. k ≡ IoErrorKind e };
 
@@ -187,6 +191,7 @@ impl<A: Allocator> From<io::Error> for ErrorKind<A> {
     }
 }
 
+/// MalformedTtlv.
 impl<A: Allocator> From<MalformedTtlvError> for ErrorKind<A> {
     ghost from_gives = { λ e k. k ≡ MalformedKind e };
 
@@ -195,6 +200,7 @@ impl<A: Allocator> From<MalformedTtlvError> for ErrorKind<A> {
     }
 }
 
+/// SerdeError.
 impl<A: Allocator> From<SerdeError<A>> for ErrorKind<A> {
     ghost from_gives = { λ e k. k ≡ SerdeKind e };
 
@@ -471,6 +477,7 @@ impl<A: Allocator> fmt::Display for ErrorLocation<A> {
     }
 }
 
+/// The refusal in words, with its types, lengths, codes and fields.
 impl fmt::Display for MalformedTtlvError {
     fn fmt<W: fmt::Write>(&self, f: &mut fmt::Formatter<W>) -> fmt::Result {
         match self {
@@ -502,6 +509,7 @@ impl fmt::Display for MalformedTtlvError {
     }
 }
 
+/// The refusal in words, with its names, tags and types.
 impl<A: Allocator> fmt::Display for SerdeError<A> {
     fn fmt<W: fmt::Write>(&self, f: &mut fmt::Formatter<W>) -> fmt::Result {
         match self {

@@ -8,41 +8,64 @@ ghost use Rattle.kmip_ttlv_base.specs.Gives.{Gives};
 
 use std::alloc::{AllocError, Allocator, Global};
 
-/// A value that is to be written, or that was read.
+/// A value that is to be written, or that was read. A name is a tag where it is a number below 2^24,
+/// as `0x420020`. A leaf stands under the tag that a wrapper named `Transparent` gives it.
 #[derive(Drop)]
 #[derive_where(Debug, PartialEq)]
 pub enum Data<A: Allocator = Global> {
+    /// A Boolean.
     Bool(bool),
+    /// An Integer.
     I8(i8),
+    /// An Integer.
     I16(i16),
+    /// An Integer.
     I32(i32),
+    /// An Enumeration.
     U32(u32),
+    /// A Long Integer. It is read from a Date-Time too.
     I64(i64),
+    /// A Date-Time.
     U64(u64),
+    /// An Interval.
     Interval(u32),
+    /// A Text String.
     Text(String<A>),
+    /// A Byte String. It is read from a Big Integer too.
     Bytes(Vec<u8, A>),
+    /// A Big Integer, written with its sign gone on with up to a multiple of eight bytes.
     BigInteger(Vec<u8, A>),
+    /// What is read where an optional field is absent. It gives no item: writing refuses it.
     None,
+    /// The value in it.
     Some(Box<Data<A>, A>),
+    /// The values, one after the other. The first item uses a waiting tag up.
     Seq(Vec<Data<A>, A>),
+    /// A Structure of the fields, under the tag that the name is.
     Struct {
         name: &'static str,
         fields: Vec<Data<A>, A>,
     },
+    /// A Structure of one field, under the tag that the name is. Where the name begins with
+    /// `Transparent:`, it is the value in it, for whose item the tag that the rest of the name is waits.
     Newtype {
         name: &'static str,
         inner: Box<Data<A>, A>,
     },
+    /// An Enumeration of the number that the variant's name is, under the tag that the name is.
     UnitVariant {
         name: &'static str,
         variant: &'static str,
     },
+    /// A Structure of one field, under the tag that the name is. Where the variant is named
+    /// `Transparent`, it is the value in it, for whose item that tag waits; and where the name begins
+    /// with `Override:`, which is no part of the tag, the tag takes the place of the item's own.
     NewtypeVariant {
         name: &'static str,
         variant: &'static str,
         inner: Box<Data<A>, A>,
     },
+    /// A Structure of the fields, under the tag that the name is, without a leading `Override:`.
     TupleVariant {
         name: &'static str,
         variant: &'static str,
@@ -63,8 +86,12 @@ pub enum Shape<A: Allocator = Global> {
         fields: Vec<FieldShape<A>, A>,
         deny_unknown: bool,
     },
+    /// As a field: none, where the next item has another tag than the field or there is no item; else
+    /// what the shape in it reads.
     Option(Box<Shape<A>, A>),
+    /// One item or more that the shape in it reads, as long as the next has the first one's tag and type.
     Seq(Box<Shape<A>, A>),
+    /// What the shape in it reads.
     Newtype {
         name: &'static str,
         inner: Box<Shape<A>, A>,
@@ -74,12 +101,19 @@ pub enum Shape<A: Allocator = Global> {
         name: &'static str,
         variants: Vec<VariantShape<A>, A>,
     },
+    /// An Integer.
     I32,
+    /// A Long Integer or a Date-Time.
     I64,
+    /// A Boolean.
     Bool,
+    /// A Text String. Rules of later enums may test it.
     Text,
+    /// A Byte String or a Big Integer.
     Bytes,
+    /// An Interval.
     Interval,
+    /// A Big Integer.
     BigInteger,
 }
 
@@ -88,7 +122,9 @@ pub enum Shape<A: Allocator = Global> {
 #[derive_where(Debug, PartialEq)]
 #[cycle(shapes)]
 pub struct FieldShape<A: Allocator = Global> {
+    /// The field's tag, as a number.
     pub name: &'static str,
+    /// What the field is read by.
     pub shape: Shape<A>,
 }
 
@@ -97,7 +133,9 @@ pub struct FieldShape<A: Allocator = Global> {
 #[derive_where(Debug, PartialEq)]
 #[cycle(shapes)]
 pub struct VariantShape<A: Allocator = Global> {
+    /// A rule or a number.
     pub name: &'static str,
+    /// What is read where this variant is chosen.
     pub content: VariantContent<A>,
 }
 
@@ -106,8 +144,11 @@ pub struct VariantShape<A: Allocator = Global> {
 #[derive_where(Debug, PartialEq)]
 #[cycle(shapes)]
 pub enum VariantContent<A: Allocator = Global> {
+    /// Nothing: a number names it.
     Unit,
+    /// What one shape reads from the item.
     Newtype(Box<Shape<A>, A>),
+    /// What these shapes read from the items of a Structure, and use up.
     Tuple(Vec<Shape<A>, A>),
 }
 

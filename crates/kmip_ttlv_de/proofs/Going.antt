@@ -19,7 +19,7 @@ use Rattle.kmip_ttlv_base.specs.declared.shape.Shape.{Shape}
 use Rattle.kmip_ttlv_base.specs.declared.shape.VariantShape.{VariantShape}
 use Rattle.kmip_ttlv_de.proofs.Front.{join_more, join_nil, seq_front, with_front}
 use Rattle.kmip_ttlv_de.proofs.Heads.{accepted_leaf, code_more, first_of_items, goes_item, item_more, length_more, refused_any, refused_first, tag_more}
-use Rattle.kmip_ttlv_de.proofs.PlaceLemmas.{code_one, item_one, items_at_splits, items_in_order, raw_with, splits_items_at}
+use Rattle.kmip_ttlv_types.proofs.PlaceLemmas.{code_one, item_one, items_at_splits, items_in_order, raw_with, splits_items_at}
 use Rattle.kmip_ttlv_de.proofs.ReadLemmas.{option_no_struct, reads_read_of, reads_shorter, split_of_splits, splits_split_of}
 use Rattle.kmip_ttlv_de.specs.Answer.{Accepted, Answers, Goes, Refused, Sort, early_end, memory, other, sort_of}
 use Rattle.kmip_ttlv_de.specs.Keeps.{Keep}

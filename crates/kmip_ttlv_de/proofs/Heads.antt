@@ -10,7 +10,7 @@ use Rattle.kmip_ttlv_types.specs.Places.{ItemAt, ItemsAt, code_at, is_plain, len
 use Rattle.kmip_ttlv_types.specs.declared.typ.TtlvType.{TtlvType}
 use Rattle.kmip_ttlv_base.specs.Forms.{Form}
 use Rattle.kmip_ttlv_base.specs.Values.{Value}
-use Rattle.kmip_ttlv_de.proofs.PlaceLemmas.{code_one, item_one, plain_bytes, raw_with, type_of-code}
+use Rattle.kmip_ttlv_types.proofs.PlaceLemmas.{code_one, item_one, plain_bytes, raw_with, type_of-code}
 use Rattle.kmip_ttlv_de.specs.Answer.{Accepted, Goes, Refused, Sort, early_end, memory, other}
 use Rattle.kmip_ttlv_de.specs.Keeps.{Keep, keep_of, keeps}
 use Rattle.kmip_ttlv_de.specs.Places.{LeafAt}

@@ -10,7 +10,7 @@ use Rattle.kmip_ttlv_types.specs.Places.{code_at, length_at}
 use Rattle.kmip_ttlv_types.specs.declared.typ.TtlvType.{TtlvType}
 use Rattle.kmip_ttlv_types.specs.declared.typ.TtlvType.TheVariants.{BigInteger, Boolean, ByteString, DateTime, Enumeration, Integer, Interval, LongInteger, Structure, TextString}
 use Rattle.kmip_ttlv_de.proofs.Heads.{code_more, length_more, part_more, refused_first}
-use Rattle.kmip_ttlv_de.proofs.PlaceLemmas.{code_one, eight}
+use Rattle.kmip_ttlv_types.proofs.PlaceLemmas.{code_one, eight}
 use Rattle.kmip_ttlv_de.specs.Answer.{Refused, Sort}
 use Rattle.kmip_ttlv_de.specs.Keeps.{Keep}
 use Rattle.kmip_ttlv_de.specs.Reading.{any_leaf}

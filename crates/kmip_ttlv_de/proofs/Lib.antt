@@ -1,10 +1,8 @@
-pub mod PlaceLemmas
 pub mod ReadLemmas
 pub mod Heads
 pub mod Leaves
 pub mod FactLemmas
 pub mod Front
-pub mod Views
 pub mod Going
 pub mod Ignoring
 pub mod Whole

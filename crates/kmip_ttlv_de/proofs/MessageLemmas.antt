@@ -9,7 +9,7 @@ use Rattle.kmip_ttlv_types.specs.Places.{ItemAt, length_at, size}
 use Rattle.kmip_ttlv_types.specs.declared.typ.TtlvType.TheVariants.{Structure}
 use Rattle.kmip_ttlv_base.specs.Forms.{Form}
 use Rattle.kmip_ttlv_base.specs.Values.{Value}
-use Rattle.kmip_ttlv_de.proofs.PlaceLemmas.{item_at_text, item_one, text_at_item}
+use Rattle.kmip_ttlv_types.proofs.PlaceLemmas.{item_at_text, item_one, text_at_item}
 use Rattle.kmip_ttlv_de.proofs.ReadLemmas.{item_at_of, read_of_reads, reads_read_of}
 use Rattle.kmip_ttlv_de.specs.Keeps.{Keep}
 use Rattle.kmip_ttlv_de.specs.Messages.{chosen_by_first, chosen_by_first_value, four_bytes, integers, lacks_first_value, long_four, may_lack_first, one_integer, one_integer_value, outer}

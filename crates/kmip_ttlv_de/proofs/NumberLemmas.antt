@@ -1,5 +1,5 @@
 -- The text of a number, and the variant that it names.
-use Rattle.std.proofs.Common.{◌≡◌, ℕ, ◌+◌, ◌<◌, ◌≤◌, ◌/◌, ◌%◌, Bool, true, false, cond, List, [], ◌∷◌, ◌++◌, length, get_or, drop, Option, Some, None, refl, sym, ap, ◌∙◌, append_assoc, ◌&&◌}
+use Rattle.std.proofs.Common.{◌≡◌, ◌≢◌, ℕ, ◌+◌, ◌<◌, ◌≤◌, ◌/◌, ◌%◌, Bool, true, false, cond, List, [], ◌∷◌, ◌++◌, length, get_or, drop, Option, Some, None, refl, sym, ap, ◌∙◌, append_assoc, ◌&&◌}
 use Rattle.std.specs.List.{flat_map}
 use Rattle.std.specs.Str.{bytes_eq}
 use Rattle.std.specs.Fmt.{digit_glyph}
@@ -10,13 +10,13 @@ use Rattle.kmip_ttlv_types.specs.Leaves.{is_valid}
 use Rattle.kmip_ttlv_types.specs.Places.{code_at, length_at, tag_at}
 use Rattle.kmip_ttlv_types.specs.declared.typ.TtlvType.{TtlvType}
 use Rattle.kmip_ttlv_types.specs.declared.typ.TtlvType.TheVariants.{BigInteger, Boolean, ByteString, DateTime, Enumeration, Integer, Interval, LongInteger, Structure, TextString}
-use Rattle.kmip_ttlv_base.specs.Forms.{Variants, content_of, unit, variants_of}
+use Rattle.kmip_ttlv_base.specs.Forms.{Content, Variants, content_of, tuple, unit, variants_of, wrapped}
 use Rattle.kmip_ttlv_base.specs.Values.{Value, unit_variant_value}
 use Rattle.kmip_ttlv_base.specs.declared.shape.VariantShape.{VariantShape}
 use Rattle.kmip_ttlv_de.proofs.Going.{refused_by}
 use Rattle.kmip_ttlv_de.proofs.Heads.{accepted_leaf, code_more, refused_any, refused_first, refused_leaf}
 use Rattle.kmip_ttlv_de.proofs.Leaves.{leaf_not_length}
-use Rattle.kmip_ttlv_de.proofs.PlaceLemmas.{code_one}
+use Rattle.kmip_ttlv_types.proofs.PlaceLemmas.{code_one}
 use Rattle.kmip_ttlv_de.specs.Answer.{Accepted, Refused, Sort}
 use Rattle.kmip_ttlv_de.specs.Keeps.{Keep}
 use Rattle.kmip_ttlv_de.specs.Places.{LeafAt}
@@ -73,14 +73,21 @@ pub number_not_length : (name : List ℕ) (vs : Variants) (b : List ℕ) (p e : 
 number_not_length name vs b p e k t n r lt le typ-is len-is wide ne =
     refused_by any_leaf (read_number name vs) b p e k k r (number_no_value name vs k k) (leaf_not_length b p e k t n 4 r lt le typ-is len-is wide ne)
 
+-- what a number names, if it is no unit
+pub no_unit : (name vname : List ℕ) (o : Option Content) → o ≢ Some unit → unit_of name vname o ≡ None
+no_unit name vname None differs = refl
+no_unit name vname (Some unit) differs = absurd (differs refl)
+no_unit name vname (Some (wrapped s)) differs = refl
+no_unit name vname (Some (tuple ss)) differs = refl
+
 -- no unit of that name
 pub number_not_unit : (name : List ℕ) (vs : Variants) (b : List ℕ) (p e : ℕ) (k : List Keep) (t : TtlvType) (n : ℕ) (content : List ℕ) (q : ℕ) (r : Sort) → p < e → ((i : ℕ) → get_or b i 0 < 256) → LeafAt b p t n content q → unit_of name (number_text content) (first_named (number_text content) vs) ≡ None → Refused (read_number name vs) b p e k r
 number_not_unit name vs b p e k t n content q r lt fits l none =
-    refused_any (read_number name vs) b p e k r (refused_leaf (read_number name vs) b p e k t n content q lt fits l (λ xs. no_unit (is_number_type t && is_valid t content) xs))
+    refused_any (read_number name vs) b p e k r (refused_leaf (read_number name vs) b p e k t n content q lt fits l (λ xs. not_read (is_number_type t && is_valid t content) xs))
   where
-    no_unit : (g : Bool) (xs : List Raw) → cond g (unit_of name (number_text content) (first_named (number_text content) vs) >>= λ v. got v (k ++ record { tag = tag_at b p; text = number_text content } ∷ []) xs) None ≡ None
-    no_unit true xs = ap (λ o. o >>= λ v. got v (k ++ record { tag = tag_at b p; text = number_text content } ∷ []) xs) none
-    no_unit false xs = refl
+    not_read : (g : Bool) (xs : List Raw) → cond g (unit_of name (number_text content) (first_named (number_text content) vs) >>= λ v. got v (k ++ record { tag = tag_at b p; text = number_text content } ∷ []) xs) None ≡ None
+    not_read true xs = ap (λ o. o >>= λ v. got v (k ++ record { tag = tag_at b p; text = number_text content } ∷ []) xs) none
+    not_read false xs = refl
 
 -- a unit of that name
 pub number_accepted : (name : List ℕ) (vs : Variants) (b : List ℕ) (p e : ℕ) (k : List Keep) (t : TtlvType) (n : ℕ) (content : List ℕ) (q : ℕ) → p < e → p ≤ length b → ((i : ℕ) → get_or b i 0 < 256) → LeafAt b p t n content q → is_number_type t ≡ true → is_valid t content ≡ true → first_named (number_text content) vs ≡ Some unit → Accepted (read_number name vs) b p e k (k ++ record { tag = tag_at b p; text = number_text content } ∷ []) (unit_variant_value name (number_text content)) q

@@ -10,7 +10,7 @@ use Rattle.kmip_ttlv_types.specs.declared.typ.TtlvType.{TtlvType}
 use Rattle.kmip_ttlv_types.specs.declared.typ.TtlvType.TheVariants.{BigInteger, Boolean, ByteString, DateTime, Enumeration, Integer, Interval, LongInteger, Structure, TextString}
 use Rattle.kmip_ttlv_base.specs.Forms.{Content, Fields, Form, Forms, Variants, big_integer, boolean, enum, field, form, int32, int64, interval, newtype, no_fields, no_forms, no_variants, octets, option, seq, struct, text, tuple, unit, variant, wrapped}
 use Rattle.kmip_ttlv_base.specs.Values.{Value, Values, newtype_value, newtype_variant_value, no_values, none, seq_value, some, struct_value, tuple_variant_value, unit_variant_value, value}
-use Rattle.kmip_ttlv_de.proofs.PlaceLemmas.{items_at_splits, items_in_order, raw_with, same_raw, splits_items_at, type_of-code}
+use Rattle.kmip_ttlv_types.proofs.PlaceLemmas.{items_at_splits, items_in_order, raw_with, same_raw, splits_items_at, type_of-code}
 use Rattle.kmip_ttlv_de.specs.Keeps.{Keep}
 use Rattle.kmip_ttlv_de.specs.Reading.{FieldsReader, Got, Reader, got, item_of, raw_at, read_choice, read_content, read_enum, read_field, read_fields, read_forms, read_leaf, read_number, read_of, read_seq, read_struct, read_tuple, read_variant, run_of, split_from, split_of, unit_of, used_up, ◌>>=◌}
 use Rattle.kmip_ttlv_de.specs.Reads.{Reads, ReadsContent, ReadsField, ReadsFields, ReadsForms, ReadsRun, ReadsVariant, absent, by_number, by_rule, done, ends, first_named, here, inner, is_like, is_number_type, is_option, is_struct, leaf, leaf_value, may_follow, more, named, names, next, no_part, number_text, part, parts, run, structure, takes, there, whole, with_leaf, wrap, wrap_some}

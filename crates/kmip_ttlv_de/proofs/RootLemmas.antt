@@ -7,7 +7,7 @@ use Rattle.kmip_ttlv_base.specs.Forms.{Fields, struct}
 use Rattle.kmip_ttlv_base.specs.Values.{Values, struct_value}
 use Rattle.kmip_ttlv_base.specs.declared.error.Error.{Error}
 use Rattle.kmip_ttlv_de.proofs.Going.{struct_accepted}
-use Rattle.kmip_ttlv_de.proofs.PlaceLemmas.{item_at_text}
+use Rattle.kmip_ttlv_types.proofs.PlaceLemmas.{item_at_text}
 use Rattle.kmip_ttlv_de.proofs.Whole.{begins_found, begins_refused}
 use Rattle.kmip_ttlv_de.specs.Answer.{Accepted, Refused, RefusesAs, Sort, early_end, memory, sort_of, sort_of_kind}
 use Rattle.kmip_ttlv_de.specs.Facts.{Cause, Facts, FactsBut, Fault, NotBefore, RootFacts, Says, cause_of, named_fault, place_of}

@@ -2,6 +2,7 @@
 use Rattle.std.proofs.lemmas.Slice.Eq.{bytes_eq-Decides}
 use Rattle.std.proofs.Common.{◌≡◌, ◌≢◌, ℕ, ◌+◌, ◌<◌, ◌≤◌, ◌⊎◌, inl, inr, Bool, true, false, ◌||◌, List, [], ◌∷◌, length, get_or, zero, suc, Option, None, refl, sym, ap, subst, ◌∙◌, arith, Result, Ok, Err, IfErr, IsErrAnd}
 use Rattle.kmip_ttlv_base.specs.declared.error.MalformedTtlvError.TheVariants as malformeds
+use Rattle.kmip_ttlv_types.specs.declared.field.FieldType.{FieldType}
 use Rattle.kmip_ttlv_types.specs.ItemTypes.{is_structure}
 use Rattle.kmip_ttlv_types.specs.Items.{Raw}
 use Rattle.kmip_ttlv_types.specs.Names.{tag_of}
@@ -16,10 +17,11 @@ use Rattle.kmip_ttlv_base.specs.declared.shape.FieldShape.{FieldShape}
 use Rattle.kmip_ttlv_de.proofs.FactLemmas.{memory_says, not_before_later, told_memory, told_says}
 use Rattle.kmip_ttlv_de.proofs.WholeLemmas.{whole_inside, whole_rest}
 use Rattle.kmip_ttlv_de.specs.Answer.{Goes, memory, sort_of, sort_of_kind}
-use Rattle.kmip_ttlv_de.specs.Facts.{At, BadLength, Cause, KindFacts, MalformedFacts, MismatchFacts, NotBefore, Says, Widened, Within, any_enum, bad_name, cause_of, closed_to, content_has, empty_struct, enum_has, has, has_in, name_has, place_of, rest_has}
+use Rattle.kmip_ttlv_de.specs.Facts.{At, BadLength, Cause, EnumWords, KindFacts, MalformedFacts, MismatchFacts, NotBefore, Says, UnexpectedField, Widened, Within, any_enum, bad_name, cause_of, closed_to, content_has, empty_struct, enum_has, has, has_in, name_has, numbered_form, numbered_tuple, place_of, rest_has, ruled_unit}
 use Rattle.kmip_ttlv_de.specs.Keeps.{Keep}
 use Rattle.kmip_ttlv_de.specs.Places.{IsEnd, Reached, StructAt, behind, within}
 use Rattle.kmip_ttlv_de.specs.Reading.{Got}
+use Rattle.kmip_ttlv_de.specs.Reads.{is_number_type}
 use Rattle.kmip_ttlv_de.specs.Wholes.{AreWhole}
 
 -- ---- places that reading comes to
@@ -84,9 +86,9 @@ covers_same h c e = e
 bad_length_up : (h h' : Cause → Bool) → Covers h' h → (b : List ℕ) (e a : ℕ) (t : TtlvType) (s : ℕ) (l : Location) → BadLength h b e a t s l → BadLength h' b e a t s l
 bad_length_up h h' up b e a t s l x = record { place = by_place x.place; there = x.there; wanted = x.wanted; is = x.is; differs = x.differs }
   where
-    by_place : At b s t 8 l ⊎ ((h any_enum ≡ true) × At b s t 4 l) → At b s t 8 l ⊎ ((h' any_enum ≡ true) × At b s t 4 l)
+    by_place : At b s t 8 l ⊎ ((h any_enum ≡ true) × (is_number_type t ≡ true) × At b s t 4 l) → At b s t 8 l ⊎ ((h' any_enum ≡ true) × (is_number_type t ≡ true) × At b s t 4 l)
     by_place (inl y) = inl y
-    by_place (inr y) = inr (up any_enum y.0, y.1)
+    by_place (inr y) = inr (up any_enum y.0, y.1, y.2)
 
 malformed_up : (h h' : Cause → Bool) → Covers h' h → (b : List ℕ) (l : Location) (m : MalformedTtlvError) → MalformedFacts h b l m → MalformedFacts h' b l m
 malformed_up h h' up b l (malformeds.InvalidType c) f = f
@@ -142,20 +144,25 @@ module _ (h : Cause → Bool) (b : List ℕ) (l m : Location) (o : m.offset ≡ 
   widened_length : (e a : ℕ) (t : TtlvType) (s : ℕ) → BadLength h b e a t s l → BadLength h b e a t s m
   widened_length e a t s x = record { place = by_place x.place; there = x.there; wanted = x.wanted; is = x.is; differs = x.differs }
     where
-      by_place : At b s t 8 l ⊎ ((h any_enum ≡ true) × At b s t 4 l) → At b s t 8 m ⊎ ((h any_enum ≡ true) × At b s t 4 m)
+      by_place : At b s t 8 l ⊎ ((h any_enum ≡ true) × (is_number_type t ≡ true) × At b s t 4 l) → At b s t 8 m ⊎ ((h any_enum ≡ true) × (is_number_type t ≡ true) × At b s t 4 m)
       by_place (inl z) = inl (widened_at b s t 8 l m o g y z)
-      by_place (inr z) = inr (z.0, widened_at b s t 4 l m o g y z.1)
+      by_place (inr z) = inr (z.0, z.1, widened_at b s t 4 l m o g y z.2)
+
+  widened_field : (s : ℕ) (t : TtlvType) (e a : FieldType) → UnexpectedField b s t l e a → UnexpectedField b s t m e a
+  widened_field s t e a (ruled_unit x) = ruled_unit (widened_at b s t 4 l m o g y x)
+  widened_field s t e a (numbered_form n x) = numbered_form n (widened_at b s t 16 l m o g y x)
+  widened_field s t e a (numbered_tuple n x) = numbered_tuple n (widened_at b s t 16 l m o g y x)
+
+  widened_words : (s : ℕ) (n : List ℕ) → EnumWords b s l n → EnumWords b s m n
+  widened_words s n (inl z) = inl (z.0, widened_within b s 0 l m o y z.1)
+  widened_words s n (inr z) = inr (z.0, widened_within b s 16 l m o y z.1)
 
   widened_malformed : (x : MalformedTtlvError) → MalformedFacts h b l x → MalformedFacts h b m x
   widened_malformed (malformeds.InvalidType c) f = (f.0, (f.1.0, f.1.1, record { reached = f.1.2.reached; there = f.1.2.there; offset = o ∙ f.1.2.offset; tag = g ∙ f.1.2.tag; typ = y ∙ f.1.2.typ }))
   widened_malformed (malformeds.InvalidLength e a t) f = (f.0, widened_length e a t f.0 f.1)
-  widened_malformed (malformeds.InvalidValue t) f = (f.0, record { place = widened_at b f.0 t (8 + length_at b f.0) l m o g y f.1.place; there = f.1.there; invalid = f.1.invalid })
+  widened_malformed (malformeds.InvalidValue t) f = (f.0, record { place = widened_at b f.0 t (8 + length_at b f.0) l m o g y f.1.place; there = f.1.there; leaf = f.1.leaf; long = f.1.long; invalid = f.1.invalid })
   widened_malformed (malformeds.Overflow e) f = record { is_end = f.is_end; place = f.place; offset = o ∙ f.offset; past = f.past }
-  widened_malformed (malformeds.UnexpectedTtlvField e a) f = (f.0, (f.1.0, f.1.1, by_place f.1.2))
-    where
-      by_place : At b f.1.0 f.1.1 4 l ⊎ At b f.1.0 f.1.1 16 l → At b f.1.0 f.1.1 4 m ⊎ At b f.1.0 f.1.1 16 m
-      by_place (inl z) = inl (widened_at b f.1.0 f.1.1 4 l m o g y z)
-      by_place (inr z) = inr (widened_at b f.1.0 f.1.1 16 l m o g y z)
+  widened_malformed (malformeds.UnexpectedTtlvField e a) f = (f.0, (f.1.0, f.1.1, widened_field f.1.0 f.1.1 e a f.1.2))
   widened_malformed (malformeds.UnexpectedType e a) f = (f.0, f.1, (f.2.0, widened_at b f.2.0 a 4 l m o g y f.2.1))
   widened_malformed (malformeds.UnsupportedType c) f = absurd f
   widened_malformed malformeds.UnknownStructureLength f = absurd f
@@ -167,17 +174,13 @@ module _ (h : Cause → Bool) (b : List ℕ) (l m : Location) (o : m.offset ≡ 
   widened_mismatch missing_identifier f = (f.0, (f.1.0, f.1.1, widened_at b f.1.0 f.1.1 4 l m o g y f.1.2))
   widened_mismatch (other_cause n) (inl f) = inl (record { end = f.end; is_end = f.is_end; offset = o ∙ f.offset; typ = y ∙ f.typ })
   widened_mismatch (other_cause n) (inr (inl f)) = inr (inl (f.0, f.1, f.2, widened_within b f.0 4 l m o y f.3))
-  widened_mismatch (other_cause n) (inr (inr f)) = inr (inr (f.0, (f.1.0, by_place f.1.1)))
-    where
-      by_place : Within b f.1.0 0 l ⊎ Within b f.1.0 16 l → Within b f.1.0 0 m ⊎ Within b f.1.0 16 m
-      by_place (inl z) = inl (widened_within b f.1.0 0 l m o y z)
-      by_place (inr z) = inr (widened_within b f.1.0 16 l m o y z)
+  widened_mismatch (other_cause n) (inr (inr f)) = inr (inr (f.0, (f.1.0, widened_words f.1.0 n f.1.1)))
   widened_mismatch (unexpected_tag e a) f = (f.0, (f.1.0, f.1.1, (f.1.2.0, widened_at b f.1.0 f.1.2.0 4 l m o g y f.1.2.1)))
   widened_mismatch (unexpected_type e a) f = (f.0, (f.1.0, widened_at b f.1.0 a 4 l m o g y f.1.1))
   widened_mismatch (unsupported_rust_type n) f = absurd f
 
   pub widened_facts : (l.offset ≡ None → m ≡ l) → (k : Kind) → KindFacts h b l k → KindFacts h b m k
-  widened_facts z (io_error k) f = f
+  widened_facts z (io_error k) f = (f.0, z (ap (λ (x : Location). x.offset) f.1) ∙ f.1)
   widened_facts z (exceeds_limit n) f = absurd f
   widened_facts z (malformed x) f = widened_malformed x f
   widened_facts z (mismatch x) f = widened_mismatch x f

@@ -10,7 +10,7 @@ use Rattle.kmip_ttlv_base.specs.Forms.{Fields, Form, newtype, option, struct}
 use Rattle.kmip_ttlv_base.specs.Values.{Value, newtype_value, some}
 use Rattle.kmip_ttlv_de.proofs.Going.{items_none}
 use Rattle.kmip_ttlv_de.proofs.Heads.{first_of_items, refused_any}
-use Rattle.kmip_ttlv_de.proofs.PlaceLemmas.{item_at_text, item_one, text_at_item}
+use Rattle.kmip_ttlv_types.proofs.PlaceLemmas.{item_at_text, item_one, text_at_item}
 use Rattle.kmip_ttlv_de.proofs.ReadLemmas.{read_of_reads, reads_read_of}
 use Rattle.kmip_ttlv_de.specs.Answer.{Accepted, Refused, RefusesAs, Sort, early_end, memory, other}
 use Rattle.kmip_ttlv_de.specs.Keeps.{Keep}

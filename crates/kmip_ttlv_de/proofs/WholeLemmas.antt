@@ -8,7 +8,7 @@ use Rattle.kmip_ttlv_types.specs.declared.typ.TtlvType.{TtlvType}
 use Rattle.kmip_ttlv_types.specs.declared.typ.TtlvType.TheVariants.{Structure}
 use Rattle.kmip_ttlv_base.specs.declared.error.Error.{Error}
 use Rattle.kmip_ttlv_de.proofs.Going.{content_items, items_then}
-use Rattle.kmip_ttlv_de.proofs.PlaceLemmas.{code_one, items_one}
+use Rattle.kmip_ttlv_types.proofs.PlaceLemmas.{code_one, items_one}
 use Rattle.kmip_ttlv_de.specs.Answer.{Goes}
 use Rattle.kmip_ttlv_de.specs.Facts.{Cause, Facts, NotBefore, Says, place_of}
 use Rattle.kmip_ttlv_de.specs.Keeps.{Keep}

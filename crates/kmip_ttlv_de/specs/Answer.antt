@@ -17,11 +17,13 @@ pub data Sort : Type 0 where
   early_end : Sort
   other : Sort
 
+-- what a refusal of this kind says
 abbrev pub sort_of_kind : Kind → Sort
 sort_of_kind (io_error e) = early_end
 sort_of_kind out_of_memory = memory
 sort_of_kind _ = other
 
+-- what a refusal says
 abbrev pub sort_of : {A : Type 0} → Error A → Sort
 sort_of e = sort_of_kind (view_of_kind (kind_of e))
 
@@ -45,6 +47,7 @@ pub record Goes {V : Type 0} (read then : List Keep → List Raw → Option (Got
 abbrev pub Accepted : {V : Type 0} → (List Keep → List Raw → Option (Got V)) → List ℕ → ℕ → ℕ → List Keep → List Keep → V → ℕ → Type 0
 Accepted read bytes p e k k' v q = Goes read (got v) bytes p e k k' q
 
+-- the answer is a value and the place behind it, as the reader gives them; or a refusal, and the reader gives none
 abbrev pub Answers : {V X A : Type 0} → (X → V) → (List Keep → List Raw → Option (Got V)) → List ℕ → ℕ → ℕ → List Keep → List Keep → Result (X × ℕ) (Error A) → Type 0
 Answers view read bytes p e k k' (Ok r) = Accepted read bytes p e k k' (view r.0) r.1
 Answers view read bytes p e k k' (Err r) = Refused read bytes p e k (sort_of r)
@@ -75,6 +78,7 @@ RefusesAs s bytes memory = Unit {0}
 RefusesAs s bytes early_end = (v : Value) → Begins s bytes v → ⊥
 RefusesAs s bytes other = (after : List ℕ) (v : Value) → Begins s (bytes ++ after) v → ⊥
 
+-- no value is read from bytes that are refused so
 abbrev pub Refuses : {A : Type 0} → Form → List ℕ → Error A → Type 0
 Refuses s bytes r = RefusesAs s bytes (sort_of r)
 

@@ -4,17 +4,19 @@ use Rattle.std.specs.Str.{bytes_eq}
 use Rattle.std.specs.declared.io.ErrorKind.TheVariants as io_kinds
 use Rattle.kmip_ttlv_types.specs.declared.typ.TtlvType.{TtlvType}
 use Rattle.kmip_ttlv_types.specs.declared.typ.TtlvType.TheVariants.{Structure}
+use Rattle.kmip_ttlv_types.specs.declared.field.FieldType.{FieldType}
 use Rattle.kmip_ttlv_types.specs.declared.field.FieldType.TheVariants as fields
 use Rattle.kmip_ttlv_types.specs.ItemTypes.{code, type_of, fixed_length, is_structure}
 use Rattle.kmip_ttlv_types.specs.Leaves.{is_valid}
 use Rattle.kmip_ttlv_types.specs.Names.{tag_of}
+use Rattle.kmip_ttlv_types.specs.Primitives.{CanHaveLength}
 use Rattle.kmip_ttlv_types.specs.Places.{tag_at, code_at, length_at}
 use Rattle.kmip_ttlv_base.specs.declared.error.Error.{Error}
 use Rattle.kmip_ttlv_base.specs.declared.error.MalformedTtlvError.{MalformedTtlvError}
 use Rattle.kmip_ttlv_base.specs.declared.error.MalformedTtlvError.TheVariants as malformeds
 use Rattle.kmip_ttlv_base.specs.Errors.{Mismatch, invalid_variant, invalid_rule, invalid_tag, missing_identifier, other_cause, unexpected_tag, unexpected_type, unsupported_rust_type, Kind, io_error, exceeds_limit, malformed, mismatch, out_of_memory, length_overflow, Location, unknown, kind_of, view_of_kind, location_of, view_of_location, IsMemory}
 use Rattle.kmip_ttlv_base.specs.Forms.{Form, struct, option, seq, newtype, enum, Fields, no_fields, field}
-use Rattle.kmip_ttlv_de.specs.Reads.{has_fields, names_tag}
+use Rattle.kmip_ttlv_de.specs.Reads.{has_fields, is_number_type, names_tag}
 use Rattle.kmip_ttlv_de.specs.Places.{Reached, IsEnd}
 use Rattle.kmip_ttlv_de.specs.Answer.{early_end, sort_of}
 use Rattle.kmip_ttlv_de.specs.Wholes.{AreWhole}
@@ -54,6 +56,7 @@ abbrev mutual
   has (enum name vs) c = true
   has _ c = false
 
+  -- whether a field of these, or its form, has such a cause
   pub has_in : Fields → Cause → Bool
   has_in no_fields c = false
   has_in (field name s fs) c = name_has name c || (has s c || has_in fs c)
@@ -91,18 +94,20 @@ pub record AtCode (b : List ℕ) (s : ℕ) (l : Location) : Type 0 where
   pub tag : l.tag ≡ Some (tag_at b s)
   pub typ : l.typ ≡ None
 
--- an item's length is another than its type's
+-- an item's length is another than its type's: behind the length, or behind the type of a number that an enum reads
 pub record BadLength (has_cause : Cause → Bool) (b : List ℕ) (e a : ℕ) (t : TtlvType) (s : ℕ) (l : Location) : Type 0 where
-  pub place : At b s t 8 l ⊎ ((has_cause any_enum ≡ true) × At b s t 4 l)
+  pub place : At b s t 8 l ⊎ ((has_cause any_enum ≡ true) × (is_number_type t ≡ true) × At b s t 4 l)
   pub there : s + 8 ≤ length b
   pub wanted : fixed_length t ≡ Some e
   pub is : a ≡ length_at b s
   pub differs : e ≢ a
 
--- an item's content is no value of its type
+-- a leaf's content is no value of its type, though its length is one that the type has: behind the content
 pub record BadValue (b : List ℕ) (t : TtlvType) (s : ℕ) (l : Location) : Type 0 where
   pub place : At b s t (8 + length_at b s) l
   pub there : s + 8 + length_at b s ≤ length b
+  pub leaf : is_structure t ≡ false
+  pub long : CanHaveLength t (length_at b s)
   pub invalid : is_valid t (take (length_at b s) (drop (s + 8) b)) ≡ false
 
 -- at an item, so far behind its first byte, within the nearest struct
@@ -126,41 +131,64 @@ pub record Past (b : List ℕ) (e : ℕ) (l : Location) : Type 0 where
   pub offset : l.offset ≡ Some place
   pub past : e < place
 
+-- a variant doesn't take an item: a unit that a rule chose, behind the type; content that a number chose, behind the padded number
+pub data UnexpectedField (b : List ℕ) (s : ℕ) (t : TtlvType) (l : Location) : FieldType → FieldType → Type 0 where
+  ruled_unit : At b s t 4 l → UnexpectedField b s t l fields.Length fields.Tag
+  numbered_form : is_number_type t ≡ true → At b s t 16 l → UnexpectedField b s t l fields.Tag fields.LengthAndValue
+  numbered_tuple : is_number_type t ≡ true → At b s t 16 l → UnexpectedField b s t l fields.Tag fields.Length
+
+-- what stands in the bytes that are refused as malformed, and its place
 abbrev pub MalformedFacts : (Cause → Bool) → List ℕ → Location → MalformedTtlvError → Type 0
 MalformedFacts h b l (malformeds.InvalidType c) = (type_of c ≡ None) × ((s : ℕ) × (c ≡ code_at b s) × AtCode b s l)
 MalformedFacts h b l (malformeds.InvalidLength e a t) = (s : ℕ) × BadLength h b e a t s l
 MalformedFacts h b l (malformeds.InvalidValue t) = (s : ℕ) × BadValue b t s l
 MalformedFacts h b l (malformeds.Overflow e) = Past b e.0 l
-MalformedFacts h b l (malformeds.UnexpectedTtlvField e a) = (h any_enum ≡ true) × ((s : ℕ) × (t : TtlvType) × (At b s t 4 l ⊎ At b s t 16 l))
+MalformedFacts h b l (malformeds.UnexpectedTtlvField e a) = (h any_enum ≡ true) × ((s : ℕ) × (t : TtlvType) × UnexpectedField b s t l e a)
 MalformedFacts h b l (malformeds.UnexpectedType e a) = (e ≡ Structure) × (e ≢ a) × ((s : ℕ) × At b s a 4 l)
 MalformedFacts h b l (malformeds.UnsupportedType c) = ⊥
 MalformedFacts h b l malformeds.UnknownStructureLength = ⊥
 
+-- the words for an item that a tuple leaves
+abbrev pub surplus_words : List ℕ
+surplus_words = codes "too many items"
+
+-- the words for a number that names no variant
+abbrev pub unknown_variant_words : List ℕ
+unknown_variant_words = codes "unknown variant"
+
+-- what an enum refuses in words: at an item that a tuple leaves, or behind a padded number that names no variant
+abbrev pub EnumWords : List ℕ → ℕ → Location → List ℕ → Type 0
+EnumWords b s l n = ((n ≡ surplus_words) × Within b s 0 l) ⊎ ((n ≡ unknown_variant_words) × Within b s 16 l)
+
+-- what doesn't agree with the form, and its place
 abbrev pub MismatchFacts : (Cause → Bool) → List ℕ → Location → Mismatch → Type 0
 MismatchFacts h b l (invalid_variant n) = ⊥
 MismatchFacts h b l (invalid_rule n) = (h any_enum ≡ true) × ((s : ℕ) × (t : TtlvType) × At b s t 4 l)
 MismatchFacts h b l (invalid_tag n) = (h (bad_name n) ≡ true) × ((s : ℕ) × (t : TtlvType) × At b s t 4 l)
 MismatchFacts h b l missing_identifier = (h empty_struct ≡ true) × ((s : ℕ) × (t : TtlvType) × At b s t 4 l)
-MismatchFacts h b l (other_cause n) = AtEnd b l ⊎ (((s : ℕ) × (s + 4 ≤ length b) × (h (closed_to (tag_at b s)) ≡ true) × Within b s 4 l) ⊎ ((h any_enum ≡ true) × ((s : ℕ) × (Within b s 0 l ⊎ Within b s 16 l))))
+MismatchFacts h b l (other_cause n) = AtEnd b l ⊎ (((s : ℕ) × (s + 4 ≤ length b) × (h (closed_to (tag_at b s)) ≡ true) × Within b s 4 l) ⊎ ((h any_enum ≡ true) × ((s : ℕ) × EnumWords b s l n)))
 MismatchFacts h b l (unexpected_tag e a) = (e ≢ a) × ((s : ℕ) × (a ≡ tag_at b s) × ((t : TtlvType) × At b s t 4 l))
 MismatchFacts h b l (unexpected_type e a) = (e ≢ a) × ((s : ℕ) × At b s a 4 l)
 MismatchFacts h b l (unsupported_rust_type n) = ⊥
 
 -- what a refusal of this kind, at this place, says of the bytes and of the form
 abbrev pub KindFacts : (Cause → Bool) → List ℕ → Location → Kind → Type 0
-KindFacts h b l (io_error k) = (k ≡ io_kinds.UnexpectedEof)
+KindFacts h b l (io_error k) = (k ≡ io_kinds.UnexpectedEof) × (l ≡ unknown)
 KindFacts h b l (exceeds_limit n) = ⊥
 KindFacts h b l (malformed m) = MalformedFacts h b l m
 KindFacts h b l (mismatch m) = MismatchFacts h b l m
 KindFacts h b l out_of_memory = (l ≡ unknown)
 KindFacts h b l length_overflow = ⊥
 
+-- the place of a refusal
 abbrev pub place_of : {A : Type 0} → Error A → Location
 place_of e = view_of_location (location_of e)
 
+-- the kind of a refusal
 abbrev pub cause_of : {A : Type 0} → Error A → Kind
 cause_of e = view_of_kind (kind_of e)
 
+-- what a refusal says of the bytes and of the form
 abbrev pub Facts : {A : Type 0} → (Cause → Bool) → List ℕ → Error A → Type 0
 Facts h b e = KindFacts h b (place_of e) (cause_of e)
 
@@ -207,9 +235,11 @@ abbrev pub named_fault : List ℕ → List ℕ → Option ℕ → Option Fault
 named_fault name b None = Some record { kind = mismatch (invalid_tag name); place = at_first }
 named_fault name b (Some tag) = if nat_le 8 (length b) then header_fault tag b (type_of (code_at b 0)) else None
 
+-- the root is a sequence or an enum
 abbrev pub no_struct_fault : Option Fault
 no_struct_fault = Some record { kind = mismatch (other_cause (codes "no struct")); place = at_first }
 
+-- the root is a leaf
 abbrev pub leaf_fault : Option Fault
 leaf_fault = Some record { kind = malformed (malformeds.UnexpectedTtlvField fields.Tag fields.LengthAndValue); place = at_first }
 

@@ -5,6 +5,7 @@ use Rattle.kmip_ttlv_base.specs.Forms.{Form, int32, int64, boolean, text, octets
 use Rattle.kmip_ttlv_de.specs.declared.leaf.Leaf.{Leaf}
 use Rattle.kmip_ttlv_de.specs.declared.leaf.Leaf.TheVariants as leaves
 
+-- the form that a leaf's shape is
 abbrev pub form_of_leaf : Leaf → Form
 form_of_leaf leaves.I32 = int32
 form_of_leaf leaves.I64 = int64

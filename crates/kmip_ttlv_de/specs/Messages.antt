@@ -24,6 +24,7 @@ number_value n = i32_value (cast_signed w32 n)
 abbrev pub one_integer : Form
 one_integer = struct (codes "0xAAAAAA") (field (codes "0xBBBBBB") int32 no_fields) false
 
+-- its value, by the number
 abbrev pub one_integer_value : ℕ → Value
 one_integer_value n = struct_value (codes "0xAAAAAA") (value (number_value n) no_values)
 
@@ -31,6 +32,7 @@ one_integer_value n = struct_value (codes "0xAAAAAA") (value (number_value n) no
 abbrev pub may_lack_first : Form
 may_lack_first = struct (codes "0xAAAAAA") (field (codes "0xBBBBBB") (option int32) (field (codes "0xCCCCCC") int32 no_fields)) false
 
+-- its value where the first integer is left out, by the number of the second
 abbrev pub lacks_first_value : ℕ → Value
 lacks_first_value n = struct_value (codes "0xAAAAAA") (value none (value (number_value n) no_values))
 
@@ -41,6 +43,7 @@ chosen_by_first =
     field (codes "0xBBBBBB") (enum (codes "first") (variant (codes "0x00000001") unit no_variants)) (
     field (codes "0xCCCCCC") (enum (codes "second") (variant (codes "if 0xBBBBBB==0x1") (wrapped int32) (variant (codes "if 0xBBBBBB==0x00000001") (wrapped int32) no_variants))) no_fields)) false
 
+-- its value where the first enumeration is 1, by the number that follows
 abbrev pub chosen_by_first_value : ℕ → Value
 chosen_by_first_value n =
     struct_value (codes "0xAAAAAA") (

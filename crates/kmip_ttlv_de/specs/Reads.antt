@@ -49,6 +49,7 @@ abbrev pub names_tag : Fields → ℕ → Bool
 names_tag no_fields t = false
 names_tag (field name s fs) t = elim (has_tag name t) [ true ↦ true | false ↦ names_tag fs t ]
 
+-- there is a field
 abbrev pub has_fields : Fields → Bool
 has_fields no_fields = false
 has_fields (field name s fs) = true

@@ -11,6 +11,7 @@ mutual
     leaf_item : {x : Raw} → is_structure x.typ ≡ false → Deep x
     split_item : {x : Raw} {zs : List Raw} → x.typ ≡ Structure → Splits zs x.content → AllDeep zs → Deep x
 
+  -- each of them is such an item
   pub data AllDeep : List Raw → Type 0 where
     none_deep : AllDeep []
     more_deep : {x : Raw} {xs : List Raw} → Deep x → AllDeep xs → AllDeep (x ∷ xs)

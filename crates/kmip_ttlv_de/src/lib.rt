@@ -34,9 +34,34 @@ use std::alloc::Allocator;
 /// The value with which the bytes begin: one Structure, padding included, by the shape of `T`.
 /// Bytes behind that item are not read.
 ///
-/// Each refusal says where it stands, in bytes from the first byte. `IoError` of kind
-/// UnexpectedEof: the bytes end too early. Every other refusal but `OutOfMemory` stands whatever
-/// bytes follow.
+/// Refusals of an unknown place:
+///
+/// - `IoError` of kind UnexpectedEof: the bytes end too early.
+/// - `OutOfMemory`: memory was refused.
+///
+/// Every other refusal says where it stands, in bytes from the first byte, and stands whatever
+/// bytes follow. `MalformedTtlv`:
+///
+/// - `InvalidType`: an item's code is that of no type.
+/// - `InvalidLength`: an item has another length than its type's.
+/// - `InvalidValue`: a Boolean of another number than 0 and 1, or a text that is not UTF-8.
+/// - `Overflow`: an item goes past the end of the Structure around it.
+/// - `UnexpectedType`: a leaf where a struct or a tuple wants a Structure.
+/// - `UnexpectedTtlvField`: the root's shape is a leaf; a rule chose a variant without content, or
+///   a number chose one with content.
+///
+/// `SerdeError`:
+///
+/// - `UnexpectedTag`: an item's tag is not the one of the field or of the struct.
+/// - `UnexpectedType`: an item is not of the type that a leaf's shape wants, or no number where one
+///   would choose a variant.
+/// - `InvalidTag`: the name of a struct or of a field is no tag, or a rule's text is no tag or no
+///   number.
+/// - `InvalidVariantMatcherSyntax`: a rule has no operator.
+/// - `MissingIdentifier`: an item in a struct without fields.
+/// - `Other`: the root's shape is a sequence or an enum; a Structure ends before its fields, or the
+///   parts of a tuple, are read; an item is too many for a tuple; an item behind the fields has the
+///   tag of one of them, or the struct allows no other; a number names no variant.
 pub fn from_slice<T: Deserialize<A>, A: Allocator + Copy>(alloc: A, bytes: &[u8]) -> Result<T, A>
     // What is answered is the value for data with which the bytes begin.
     ensures found { IfOk result (λ x. (v : Value) × Begins T.form bytes.now v × T.is_value v x) }

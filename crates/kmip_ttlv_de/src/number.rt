@@ -5,13 +5,13 @@ ghost use Rattle.std.specs.Fmt.{digit_glyph};
 ghost use Rattle.kmip_ttlv_types.specs.ItemTypes.{code};
 ghost use Rattle.kmip_ttlv_types.specs.Places.{code_at};
 ghost use Rattle.kmip_ttlv_base.specs.Values.{view};
-ghost use Rattle.kmip_ttlv_base.specs.Forms.{variants_of, content_of};
+ghost use Rattle.kmip_ttlv_base.specs.Forms.{unit, variants_of, content_of};
 ghost use Rattle.kmip_ttlv_de.specs.Places.{Reached};
 ghost use Rattle.kmip_ttlv_de.specs.Keeps.{keeps};
 ghost use Rattle.kmip_ttlv_de.specs.Reads.{is_number_type, byte_digits, number_text, first_named};
 ghost use Rattle.kmip_ttlv_de.specs.Reading.{read_number};
 ghost use Rattle.kmip_ttlv_de.specs.Answer.{Answers};
-ghost use Rattle.kmip_ttlv_de.specs.Facts.{Says, enum_has};
+ghost use Rattle.kmip_ttlv_de.specs.Facts.{Says, Told, enum_has};
 
 use crate::head::{length_at, tag_at};
 use crate::keep::Kept;
@@ -69,6 +69,36 @@ fn is_number_type(typ: TtlvType) -> bool
     typ == TtlvType::Integer || typ == TtlvType::Enumeration
 }
 
+// The name of the unit variant that a number's text names.
+fn named_unit<A: Allocator + Copy>(
+    alloc: A,
+    owner: TtlvTag,
+    variants: &[VariantShape<A>],
+    typ: TtlvType,
+    bytes: &[u8],
+    pos: usize,
+    text: &str,
+) -> Result<&'static str, A>
+    requires there { pos + 16 ≤ length bytes.now }
+    requires typ_is { code_at bytes.now pos ≡ code typ }
+    requires number { is_number_type typ ≡ true }
+    ensures name { IfOk result (λ name. name.now ≡ text.now) }
+    ensures ok { IfOk result (λ _. first_named text.now (variants_of variants.now) ≡ Some unit) }
+    ensures err { IfErr result (λ _. first_named text.now (variants_of variants.now) ≢ Some unit) }
+    ensures told { IfErr result (λ r. Reached bytes.now pos → Told enum_has bytes.now pos r) }
+{
+    let Some(variant) = first_named(text, variants) else {
+        return Err(unknown_variant(alloc, bytes, pos, owner));
+    };
+    match variant.content {
+        VariantContent::Unit => Ok(variant.name),
+        VariantContent::Newtype(_) => {
+            Err(named_content(bytes, pos, typ, FieldType::LengthAndValue))
+        }
+        VariantContent::Tuple(_) => Err(named_content(bytes, pos, typ, FieldType::Length)),
+    }
+}
+
 /// The variant that a number names, within a structure that ends at `end`.
 #[tactic(auto, using(crate::proofs::FactLemmas::memory_says))]
 pub fn read_number<A: Allocator + Copy>(
@@ -99,20 +129,7 @@ pub fn read_number<A: Allocator + Copy>(
     }
     let (content, next) = leaf_at(bytes, pos, typ)?;
     let text = number_text(alloc, content)?;
-    let Some(variant) = first_named(&text, variants) else {
-        return Err(unknown_variant(alloc, bytes, pos, owner, "unknown variant"));
-    };
-    match variant.content {
-        VariantContent::Unit => {}
-        VariantContent::Newtype(_) => return Err(named_content(
-            bytes,
-            pos,
-            typ,
-            FieldType::LengthAndValue,
-        )),
-        VariantContent::Tuple(_) => return Err(named_content(bytes, pos, typ, FieldType::Length)),
-    }
-    let variant = variant.name;
+    let variant = named_unit(alloc, owner, variants, typ, bytes, pos, &text)?;
     kept.push(Kept {
         tag: tag_at(bytes, pos),
         text,

@@ -504,25 +504,21 @@ fn read_variant<A: Allocator + Copy>(
         VariantContent::Newtype(inner) => {
             let (data, next) = read_shape(alloc, owner, inner, bytes, pos, end, kept)?;
             let inner = Box::new(alloc, data)?;
-            Ok((
-                Data::NewtypeVariant {
-                    name,
-                    variant,
-                    inner,
-                },
-                next,
-            ))
+            let data = Data::NewtypeVariant {
+                name,
+                variant,
+                inner,
+            };
+            Ok((data, next))
         }
         VariantContent::Tuple(shapes) => {
             let (fields, next) = read_tuple(alloc, owner, shapes, typ, bytes, pos, kept)?;
-            Ok((
-                Data::TupleVariant {
-                    name,
-                    variant,
-                    fields,
-                },
-                next,
-            ))
+            let data = Data::TupleVariant {
+                name,
+                variant,
+                fields,
+            };
+            Ok((data, next))
         }
     }
 }
@@ -592,7 +588,7 @@ fn read_parts<A: Allocator + Copy>(
         return Err(overflow(bytes, last, next, end));
     }
     if next < end {
-        return Err(surplus(alloc, bytes, next, owner, "too many items"));
+        return Err(surplus(alloc, bytes, next, owner));
     }
     Ok(values)
 }

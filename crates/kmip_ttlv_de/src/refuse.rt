@@ -1,14 +1,17 @@
 //! Refusals: each is made by one function, with what it names and its place.
 
 ghost use Rattle.std.specs.Prelude.{◌≡◌, ◌≢◌, ℕ, Bool, ◌+◌, ◌^◌, ◌<◌, ◌≤◌, ◌⊎◌, List, [], ◌∷◌, length, take, drop, Some, None, true, false};
-ghost use Rattle.kmip_ttlv_types.specs.ItemTypes.{code, type_of, fixed_length};
+ghost use Rattle.kmip_ttlv_types.specs.ItemTypes.{code, type_of, fixed_length, is_structure};
 ghost use Rattle.kmip_ttlv_types.specs.Leaves.{is_valid};
+ghost use Rattle.kmip_ttlv_types.specs.declared.field.FieldType.TheVariants.{Length, LengthAndValue};
+ghost use Rattle.kmip_ttlv_types.specs.Primitives.{CanHaveLength};
 ghost use Rattle.kmip_ttlv_types.specs.Names.{tag_of};
 ghost use Rattle.kmip_ttlv_types.specs.Places.{tag_at, code_at, length_at};
 ghost use Rattle.kmip_ttlv_base.specs.Errors.{malformed, mismatch, invalid_tag, unexpected_tag, IsMemory, view_of_location};
-ghost use Rattle.kmip_ttlv_base.specs.declared.error.MalformedTtlvError.TheVariants.{InvalidType as InvalidTypeFault, UnexpectedType as UnexpectedTypeFault};
+ghost use Rattle.kmip_ttlv_base.specs.declared.error.MalformedTtlvError.TheVariants.{InvalidType as InvalidTypeFault, InvalidLength as InvalidLengthFault, UnexpectedTtlvField as UnexpectedFieldFault, UnexpectedType as UnexpectedTypeFault};
 ghost use Rattle.kmip_ttlv_de.specs.Places.{Reached, IsEnd};
 ghost use Rattle.kmip_ttlv_de.specs.Answer.{sort_of, early_end};
+ghost use Rattle.kmip_ttlv_de.specs.Reads.{is_number_type};
 ghost use Rattle.kmip_ttlv_de.specs.Facts.{Cause, bad_name, empty_struct, closed_to, any_enum, item_place, code_place, at_first, Facts, Told, Widened, cause_of, place_of, Fault, IsFault, no_struct_fault, leaf_fault};
 
 use crate::head::tag_at;
@@ -31,15 +34,15 @@ pub fn early<A: Allocator>() -> Error<A>
 }
 
 // So far behind an item's first byte.
-fn at<A: Allocator>(bytes: &[u8], s: usize, typ: TtlvType, after: usize) -> ErrorLocation<A>
-    requires there { s + 4 ≤ length bytes.now }
+fn at<A: Allocator>(bytes: &[u8], pos: usize, typ: TtlvType, after: usize) -> ErrorLocation<A>
+    requires there { pos + 4 ≤ length bytes.now }
     requires fits { after < 2 ^ 33 }
-    ensures { view_of_location result ≡ item_place bytes.now s after typ }
+    ensures { view_of_location result ≡ item_place bytes.now pos after typ }
 {
     ErrorLocation::at(
-        Some(ByteOffset((s + after) as u64)),
+        Some(ByteOffset((pos + after) as u64)),
         None,
-        Some(tag_at(bytes, s)),
+        Some(tag_at(bytes, pos)),
         Some(typ),
     )
 }
@@ -57,142 +60,161 @@ fn in_struct<A: Allocator>(offset: usize, tag: TtlvTag) -> ErrorLocation<A>
 }
 
 /// The code of no type.
-pub fn bad_code<A: Allocator>(bytes: &[u8], s: usize) -> Error<A>
-    requires there { s + 4 ≤ length bytes.now }
-    requires none { type_of (code_at bytes.now s) ≡ None }
-    ensures told { (h : Cause → Bool) → Reached bytes.now s → Told h bytes.now s result }
-    ensures cause { cause_of result ≡ malformed (InvalidTypeFault (code_at bytes.now s)) }
-    ensures place { place_of result ≡ code_place bytes.now s }
+pub fn bad_code<A: Allocator>(bytes: &[u8], pos: usize) -> Error<A>
+    requires there { pos + 4 ≤ length bytes.now }
+    requires none { type_of (code_at bytes.now pos) ≡ None }
+    ensures told { (h : Cause → Bool) → Reached bytes.now pos → Told h bytes.now pos result }
+    ensures cause { cause_of result ≡ malformed (InvalidTypeFault (code_at bytes.now pos)) }
+    ensures place { place_of result ≡ code_place bytes.now pos }
 {
     Error::new(
-        ErrorKind::MalformedTtlv(MalformedTtlvError::InvalidType(bytes[s + 3])),
+        ErrorKind::MalformedTtlv(MalformedTtlvError::InvalidType(bytes[pos + 3])),
         ErrorLocation::at(
-            Some(ByteOffset((s + 3) as u64)),
+            Some(ByteOffset((pos + 3) as u64)),
             None,
-            Some(tag_at(bytes, s)),
+            Some(tag_at(bytes, pos)),
             None,
         ),
+    )
+}
+
+// Another length than the one of this type, so far behind an item's first byte.
+fn other_length<A: Allocator>(
+    bytes: &[u8],
+    pos: usize,
+    typ: TtlvType,
+    expected: u32,
+    actual: u32,
+    after: usize,
+) -> Error<A>
+    requires there { pos + 4 ≤ length bytes.now }
+    requires fits { after < 2 ^ 33 }
+    ensures cause { cause_of result ≡ malformed (InvalidLengthFault expected actual typ) }
+    ensures place { place_of result ≡ item_place bytes.now pos after typ }
+{
+    Error::new(
+        ErrorKind::MalformedTtlv(MalformedTtlvError::InvalidLength {
+            expected,
+            actual,
+            typ,
+        }),
+        at(bytes, pos, typ, after),
     )
 }
 
 /// A length that no value of this type has.
 pub fn bad_length<A: Allocator>(
     bytes: &[u8],
-    s: usize,
+    pos: usize,
     typ: TtlvType,
     expected: u32,
     actual: u32,
 ) -> Error<A>
-    requires there { s + 8 ≤ length bytes.now }
-    requires typ_is { code_at bytes.now s ≡ code typ }
+    requires there { pos + 8 ≤ length bytes.now }
+    requires typ_is { code_at bytes.now pos ≡ code typ }
     requires wanted { fixed_length typ ≡ Some expected }
-    requires is { actual ≡ length_at bytes.now s }
+    requires is { actual ≡ length_at bytes.now pos }
     requires differs { expected ≢ actual }
-    ensures told { (h : Cause → Bool) → Reached bytes.now s → Told h bytes.now s result }
+    ensures told { (h : Cause → Bool) → Reached bytes.now pos → Told h bytes.now pos result }
 {
-    Error::new(
-        ErrorKind::MalformedTtlv(MalformedTtlvError::InvalidLength {
-            expected,
-            actual,
-            typ,
-        }),
-        at(bytes, s, typ, 8),
-    )
+    other_length(bytes, pos, typ, expected, actual, 8)
 }
 
 /// The same of a number that an enum reads.
 pub fn bad_number_length<A: Allocator>(
     bytes: &[u8],
-    s: usize,
+    pos: usize,
     typ: TtlvType,
     expected: u32,
     actual: u32,
 ) -> Error<A>
-    requires there { s + 8 ≤ length bytes.now }
-    requires typ_is { code_at bytes.now s ≡ code typ }
+    requires there { pos + 8 ≤ length bytes.now }
+    requires typ_is { code_at bytes.now pos ≡ code typ }
     requires wanted { fixed_length typ ≡ Some expected }
-    requires is { actual ≡ length_at bytes.now s }
+    requires is { actual ≡ length_at bytes.now pos }
     requires differs { expected ≢ actual }
-    ensures told { (h : Cause → Bool) → h any_enum ≡ true → Reached bytes.now s → Told h bytes.now s result }
+    requires number { is_number_type typ ≡ true }
+    ensures told { (h : Cause → Bool) → h any_enum ≡ true → Reached bytes.now pos → Told h bytes.now pos result }
+    ensures place { place_of result ≡ item_place bytes.now pos 4 typ }
 {
-    Error::new(
-        ErrorKind::MalformedTtlv(MalformedTtlvError::InvalidLength {
-            expected,
-            actual,
-            typ,
-        }),
-        at(bytes, s, typ, 4),
-    )
+    other_length(bytes, pos, typ, expected, actual, 4)
 }
 
 /// Content that is no value of this type.
-pub fn bad_value<A: Allocator>(bytes: &[u8], s: usize, typ: TtlvType, n: u32) -> Error<A>
-    requires there { s + 8 + n ≤ length bytes.now }
-    requires typ_is { code_at bytes.now s ≡ code typ }
-    requires is { n ≡ length_at bytes.now s }
-    requires invalid { is_valid typ (take n (drop (s + 8) bytes.now)) ≡ false }
-    ensures told { (h : Cause → Bool) → Reached bytes.now s → Told h bytes.now s result }
+pub fn bad_value<A: Allocator>(bytes: &[u8], pos: usize, typ: TtlvType, n: u32) -> Error<A>
+    requires there { pos + 8 + n ≤ length bytes.now }
+    requires typ_is { code_at bytes.now pos ≡ code typ }
+    requires is { n ≡ length_at bytes.now pos }
+    requires leaf { is_structure typ ≡ false }
+    requires long { CanHaveLength typ n }
+    requires invalid { is_valid typ (take n (drop (pos + 8) bytes.now)) ≡ false }
+    ensures told { (h : Cause → Bool) → Reached bytes.now pos → Told h bytes.now pos result }
 {
     Error::new(
         ErrorKind::MalformedTtlv(MalformedTtlvError::InvalidValue { typ }),
-        at(bytes, s, typ, 8 + n as usize),
+        at(bytes, pos, typ, 8 + n as usize),
     )
 }
 
 /// An item that has to be a Structure.
-pub fn no_structure<A: Allocator>(bytes: &[u8], s: usize, typ: TtlvType) -> Error<A>
-    requires there { s + 4 ≤ length bytes.now }
-    requires typ_is { code_at bytes.now s ≡ code typ }
+pub fn no_structure<A: Allocator>(bytes: &[u8], pos: usize, typ: TtlvType) -> Error<A>
+    requires there { pos + 4 ≤ length bytes.now }
+    requires typ_is { code_at bytes.now pos ≡ code typ }
     requires differs { TtlvType.Structure ≢ typ }
-    ensures told { (h : Cause → Bool) → Reached bytes.now s → Told h bytes.now s result }
+    ensures told { (h : Cause → Bool) → Reached bytes.now pos → Told h bytes.now pos result }
     ensures cause { cause_of result ≡ malformed (UnexpectedTypeFault TtlvType.Structure typ) }
-    ensures place { place_of result ≡ item_place bytes.now s 4 typ }
+    ensures place { place_of result ≡ item_place bytes.now pos 4 typ }
 {
     Error::new(
         ErrorKind::MalformedTtlv(MalformedTtlvError::UnexpectedType {
             expected: TtlvType::Structure,
             actual: typ,
         }),
-        at(bytes, s, typ, 4),
+        at(bytes, pos, typ, 4),
     )
 }
 
 /// A leaf of another type.
 pub fn other_type<A: Allocator>(
     bytes: &[u8],
-    s: usize,
+    pos: usize,
     expected: TtlvType,
     typ: TtlvType,
 ) -> Error<A>
-    requires there { s + 4 ≤ length bytes.now }
-    requires typ_is { code_at bytes.now s ≡ code typ }
+    requires there { pos + 4 ≤ length bytes.now }
+    requires typ_is { code_at bytes.now pos ≡ code typ }
     requires differs { expected ≢ typ }
-    ensures told { (h : Cause → Bool) → Reached bytes.now s → Told h bytes.now s result }
+    ensures told { (h : Cause → Bool) → Reached bytes.now pos → Told h bytes.now pos result }
 {
     Error::new(
         ErrorKind::SerdeError(SerdeError::UnexpectedType {
             expected,
             actual: typ,
         }),
-        at(bytes, s, typ, 4),
+        at(bytes, pos, typ, 4),
     )
 }
 
 /// An item of another tag.
-pub fn other_tag<A: Allocator>(bytes: &[u8], s: usize, typ: TtlvType, expected: TtlvTag) -> Error<A>
-    requires there { s + 4 ≤ length bytes.now }
-    requires typ_is { code_at bytes.now s ≡ code typ }
-    requires differs { expected ≢ tag_at bytes.now s }
-    ensures told { (h : Cause → Bool) → Reached bytes.now s → Told h bytes.now s result }
-    ensures cause { cause_of result ≡ mismatch (unexpected_tag expected (tag_at bytes.now s)) }
-    ensures place { place_of result ≡ item_place bytes.now s 4 typ }
+pub fn other_tag<A: Allocator>(
+    bytes: &[u8],
+    pos: usize,
+    typ: TtlvType,
+    expected: TtlvTag,
+) -> Error<A>
+    requires there { pos + 4 ≤ length bytes.now }
+    requires typ_is { code_at bytes.now pos ≡ code typ }
+    requires differs { expected ≢ tag_at bytes.now pos }
+    ensures told { (h : Cause → Bool) → Reached bytes.now pos → Told h bytes.now pos result }
+    ensures cause { cause_of result ≡ mismatch (unexpected_tag expected (tag_at bytes.now pos)) }
+    ensures place { place_of result ≡ item_place bytes.now pos 4 typ }
 {
     Error::new(
         ErrorKind::SerdeError(SerdeError::UnexpectedTag {
             expected,
-            actual: tag_at(bytes, s),
+            actual: tag_at(bytes, pos),
         }),
-        at(bytes, s, typ, 4),
+        at(bytes, pos, typ, 4),
     )
 }
 
@@ -200,18 +222,18 @@ pub fn other_tag<A: Allocator>(bytes: &[u8], s: usize, typ: TtlvType, expected: 
 pub fn no_tag<A: Allocator + Copy>(
     alloc: A,
     bytes: &[u8],
-    s: usize,
+    pos: usize,
     typ: TtlvType,
     name: &str,
 ) -> Error<A>
-    requires there { s + 4 ≤ length bytes.now }
-    requires typ_is { code_at bytes.now s ≡ code typ }
-    ensures told { (h : Cause → Bool) → h (bad_name name.now) ≡ true → Reached bytes.now s → Told h bytes.now s result }
+    requires there { pos + 4 ≤ length bytes.now }
+    requires typ_is { code_at bytes.now pos ≡ code typ }
+    ensures told { (h : Cause → Bool) → h (bad_name name.now) ≡ true → Reached bytes.now pos → Told h bytes.now pos result }
 {
     match String::from_str(alloc, name) {
         Ok(name) => Error::new(
             ErrorKind::SerdeError(SerdeError::InvalidTag(name)),
-            at(bytes, s, typ, 4),
+            at(bytes, pos, typ, 4),
         ),
         Err(e) => Error::from(e),
     }
@@ -243,28 +265,36 @@ pub fn no_struct<A: Allocator + Copy>(alloc: A) -> Error<A>
     }
 }
 
+// A field where another one is due.
+fn other_field<A: Allocator>(
+    expected: FieldType,
+    actual: FieldType,
+    place: ErrorLocation<A>,
+) -> Error<A>
+    ensures cause { cause_of result ≡ malformed (UnexpectedFieldFault expected actual) }
+    ensures place { place_of result ≡ view_of_location place }
+{
+    let fault = MalformedTtlvError::UnexpectedTtlvField { expected, actual };
+    Error::new(ErrorKind::MalformedTtlv(fault), place)
+}
+
 /// A root that is a leaf.
 pub fn root_leaf<A: Allocator>() -> Error<A>
     ensures fault { (f : Fault) → leaf_fault ≡ Some f → IsMemory result ⊎ ((cause_of result ≡ f.kind) × (place_of result ≡ f.place)) }
 {
-    Error::new(
-        ErrorKind::MalformedTtlv(MalformedTtlvError::UnexpectedTtlvField {
-            expected: FieldType::Tag,
-            actual: FieldType::LengthAndValue,
-        }),
-        ErrorLocation::at(Some(ByteOffset(0)), None, None, None),
-    )
+    let first = ErrorLocation::at(Some(ByteOffset(0)), None, None, None);
+    other_field(FieldType::Tag, FieldType::LengthAndValue, first)
 }
 
 /// An item in a struct without fields.
-pub fn no_fields<A: Allocator>(bytes: &[u8], s: usize, typ: TtlvType) -> Error<A>
-    requires there { s + 4 ≤ length bytes.now }
-    requires typ_is { code_at bytes.now s ≡ code typ }
-    ensures told { (h : Cause → Bool) → h empty_struct ≡ true → Reached bytes.now s → Told h bytes.now s result }
+pub fn no_fields<A: Allocator>(bytes: &[u8], pos: usize, typ: TtlvType) -> Error<A>
+    requires there { pos + 4 ≤ length bytes.now }
+    requires typ_is { code_at bytes.now pos ≡ code typ }
+    ensures told { (h : Cause → Bool) → h empty_struct ≡ true → Reached bytes.now pos → Told h bytes.now pos result }
 {
     Error::new(
         ErrorKind::SerdeError(SerdeError::MissingIdentifier),
-        at(bytes, s, typ, 4),
+        at(bytes, pos, typ, 4),
     )
 }
 
@@ -315,37 +345,31 @@ pub fn at_end<A: Allocator + Copy>(
 pub fn closed<A: Allocator + Copy>(
     alloc: A,
     bytes: &[u8],
-    s: usize,
+    pos: usize,
     tag: TtlvTag,
     text: &str,
 ) -> Error<A>
-    requires there { s + 4 ≤ length bytes.now }
-    ensures told { (h : Cause → Bool) → h (closed_to (tag_at bytes.now s)) ≡ true → Reached bytes.now s → Told h bytes.now s result }
+    requires there { pos + 4 ≤ length bytes.now }
+    ensures told { (h : Cause → Bool) → h (closed_to (tag_at bytes.now pos)) ≡ true → Reached bytes.now pos → Told h bytes.now pos result }
 {
     match String::from_str(alloc, text) {
         Ok(text) => Error::new(
             ErrorKind::SerdeError(SerdeError::Other(text)),
-            in_struct(s + 4, tag),
+            in_struct(pos + 4, tag),
         ),
         Err(e) => Error::from(e),
     }
 }
 
 /// An item too many for a tuple, in the struct of this tag.
-pub fn surplus<A: Allocator + Copy>(
-    alloc: A,
-    bytes: &[u8],
-    s: usize,
-    tag: TtlvTag,
-    text: &str,
-) -> Error<A>
-    requires there { s ≤ length bytes.now }
-    ensures told { (h : Cause → Bool) → h any_enum ≡ true → Reached bytes.now s → Told h bytes.now s result }
+pub fn surplus<A: Allocator + Copy>(alloc: A, bytes: &[u8], pos: usize, tag: TtlvTag) -> Error<A>
+    requires there { pos ≤ length bytes.now }
+    ensures told { (h : Cause → Bool) → h any_enum ≡ true → Reached bytes.now pos → Told h bytes.now pos result }
 {
-    match String::from_str(alloc, text) {
+    match String::from_str(alloc, "too many items") {
         Ok(text) => Error::new(
             ErrorKind::SerdeError(SerdeError::Other(text)),
-            in_struct(s, tag),
+            in_struct(pos, tag),
         ),
         Err(e) => Error::from(e),
     }
@@ -355,68 +379,57 @@ pub fn surplus<A: Allocator + Copy>(
 pub fn unknown_variant<A: Allocator + Copy>(
     alloc: A,
     bytes: &[u8],
-    s: usize,
+    pos: usize,
     tag: TtlvTag,
-    text: &str,
 ) -> Error<A>
-    requires there { s + 16 ≤ length bytes.now }
-    ensures told { (h : Cause → Bool) → h any_enum ≡ true → Reached bytes.now s → Told h bytes.now s result }
+    requires there { pos + 16 ≤ length bytes.now }
+    ensures told { (h : Cause → Bool) → h any_enum ≡ true → Reached bytes.now pos → Told h bytes.now pos result }
 {
-    match String::from_str(alloc, text) {
+    match String::from_str(alloc, "unknown variant") {
         Ok(text) => Error::new(
             ErrorKind::SerdeError(SerdeError::Other(text)),
-            in_struct(s + 16, tag),
+            in_struct(pos + 16, tag),
         ),
         Err(e) => Error::from(e),
     }
 }
 
 /// A unit variant that a rule chose.
-pub fn chosen_unit<A: Allocator>(bytes: &[u8], s: usize, typ: TtlvType) -> Error<A>
-    requires there { s + 4 ≤ length bytes.now }
-    requires typ_is { code_at bytes.now s ≡ code typ }
-    ensures told { (h : Cause → Bool) → h any_enum ≡ true → Reached bytes.now s → Told h bytes.now s result }
+pub fn chosen_unit<A: Allocator>(bytes: &[u8], pos: usize, typ: TtlvType) -> Error<A>
+    requires there { pos + 4 ≤ length bytes.now }
+    requires typ_is { code_at bytes.now pos ≡ code typ }
+    ensures told { (h : Cause → Bool) → h any_enum ≡ true → Reached bytes.now pos → Told h bytes.now pos result }
 {
-    Error::new(
-        ErrorKind::MalformedTtlv(MalformedTtlvError::UnexpectedTtlvField {
-            expected: FieldType::Length,
-            actual: FieldType::Tag,
-        }),
-        at(bytes, s, typ, 4),
-    )
+    other_field(FieldType::Length, FieldType::Tag, at(bytes, pos, typ, 4))
 }
 
 /// A variant with content that a number chose.
 pub fn named_content<A: Allocator>(
     bytes: &[u8],
-    s: usize,
+    pos: usize,
     typ: TtlvType,
     actual: FieldType,
 ) -> Error<A>
-    requires there { s + 16 ≤ length bytes.now }
-    requires typ_is { code_at bytes.now s ≡ code typ }
-    ensures told { (h : Cause → Bool) → h any_enum ≡ true → Reached bytes.now s → Told h bytes.now s result }
+    requires there { pos + 16 ≤ length bytes.now }
+    requires typ_is { code_at bytes.now pos ≡ code typ }
+    requires number { is_number_type typ ≡ true }
+    requires field { (actual ≡ LengthAndValue) ⊎ (actual ≡ Length) }
+    ensures told { (h : Cause → Bool) → h any_enum ≡ true → Reached bytes.now pos → Told h bytes.now pos result }
 {
-    Error::new(
-        ErrorKind::MalformedTtlv(MalformedTtlvError::UnexpectedTtlvField {
-            expected: FieldType::Tag,
-            actual,
-        }),
-        at(bytes, s, typ, 16),
-    )
+    other_field(FieldType::Tag, actual, at(bytes, pos, typ, 16))
 }
 
 /// A rule that is refused.
 pub fn refused_rule<'n, A: Allocator + Copy>(
     alloc: A,
     bytes: &[u8],
-    s: usize,
+    pos: usize,
     typ: TtlvType,
     rule: RuleError<'n>,
 ) -> Error<A>
-    requires there { s + 4 ≤ length bytes.now }
-    requires typ_is { code_at bytes.now s ≡ code typ }
-    ensures told { (h : Cause → Bool) → h any_enum ≡ true → ((n : List ℕ) → h (bad_name n) ≡ true) → Reached bytes.now s → Told h bytes.now s result }
+    requires there { pos + 4 ≤ length bytes.now }
+    requires typ_is { code_at bytes.now pos ≡ code typ }
+    ensures told { (h : Cause → Bool) → h any_enum ≡ true → ((n : List ℕ) → h (bad_name n) ≡ true) → Reached bytes.now pos → Told h bytes.now pos result }
 {
     let (text, is_tag) = match rule {
         RuleError::InvalidVariantMatcherSyntax(name) => (name, false),
@@ -429,7 +442,7 @@ pub fn refused_rule<'n, A: Allocator + Copy>(
             } else {
                 SerdeError::InvalidVariantMatcherSyntax(text)
             };
-            Error::new(ErrorKind::SerdeError(kind), at(bytes, s, typ, 4))
+            Error::new(ErrorKind::SerdeError(kind), at(bytes, pos, typ, 4))
         }
         Err(e) => Error::from(e),
     }

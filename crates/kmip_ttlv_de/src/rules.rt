@@ -254,6 +254,13 @@ mod tests {
         for (name, want) in rows {
             assert_eq!(rt; rule(name, &kept, TtlvType::Integer), want, "{name}");
         }
+        Ok(())
+    }
+
+    #[test]
+    fn rules_refused_after_a_number(rt: HostRuntime) -> Result<(), Fail> {
+        let mut kept = Vec::new(rt.alloc());
+        keep(rt.alloc(), &mut kept, "0x00000001")?;
         let rows = [
             ("if 0xBBBBBB>=zz", "zz"),
             ("if zz>=0x1", "zz"),

@@ -11,7 +11,7 @@ use Rattle.kmip_ttlv_types.specs.Items.{Raw, IsTextOf, Splits, header}
 use Rattle.kmip_ttlv_types.specs.Places.{size}
 use Rattle.kmip_ttlv_base.specs.Forms.{Content, Form, Variants}
 use Rattle.kmip_ttlv_base.specs.Values.{Value}
-use Rattle.kmip_ttlv_de.proofs.PlaceLemmas.{code_one}
+use Rattle.kmip_ttlv_types.proofs.PlaceLemmas.{code_one}
 use Rattle.kmip_ttlv_de.specs.Keeps.{Keep}
 use Rattle.kmip_ttlv_de.specs.Reads.{Reads, ReadsContent, ReadsVariant, by_number, by_rule, here, leaf, parts, run, structure, there, whole, wrap, wrap_some}
 use Rattle.kmip_ttlv_laws.specs.Laws.{PaddingIsRequired, PaddingOfRootsIsRequired}

@@ -12,7 +12,8 @@ use Rattle.kmip_ttlv_types.specs.Trees.{leaf as leaf_tree}
 use Rattle.kmip_ttlv_base.specs.Forms.{Form, int32, int64, boolean, text, octets, interval, big_integer}
 use Rattle.kmip_ttlv_base.specs.Values.{Value, boolean_value, i8_value, i16_value, i32_value, i64_value, u64_value, interval_value, text_value, bytes_value, big_integer_value}
 use Rattle.kmip_ttlv_ser.specs.declared.held.Held.TheVariants.{Plain}
-use Rattle.kmip_ttlv_ser.specs.Items.{items, sign_extended}
+use Rattle.kmip_ttlv_types.specs.Primitives.{sign_extended}
+use Rattle.kmip_ttlv_ser.specs.Items.{items}
 use Rattle.kmip_ttlv_de.specs.Keeps.{Keep}
 use Rattle.kmip_ttlv_de.specs.Reads.{Reads, leaf, leaf_value, takes, with_leaf}
 use Rattle.kmip_ttlv_laws.specs.Laws.{LeavesComeBack, LeafComesBack}

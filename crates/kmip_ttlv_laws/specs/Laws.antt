@@ -81,6 +81,7 @@ ReadingTrees = (s : Form) (t : Tree) (text after : List ℕ) (v : Value) → is_
 abbrev pub LeafComesBack : Form → Value → Value → ℕ → List Keep → List Raw → Type 0
 LeafComesBack s v w t k xs = (x : Tree) × (items v (Plain t) ≡ Some (x ∷ [])) × Reads s k (raw_of x ∷ xs) w (with_leaf s (raw_of x) k) xs
 
+-- each pair of values that comes back does so as one leaf
 abbrev pub LeavesComeBack : Type 0
 LeavesComeBack = (s : Form) (v w : Value) (t : ℕ) (k : List Keep) (xs : List Raw) → ComesBack s v w → LeafComesBack s v w t k xs
 

@@ -4,7 +4,7 @@ use Rattle.std.specs.Int.{w32, w64, cast_signed}
 use Rattle.std.specs.Str.{is_utf8}
 use Rattle.kmip_ttlv_base.specs.Forms.{Form, int32, int64, boolean, text, octets, interval, big_integer}
 use Rattle.kmip_ttlv_base.specs.Values.{Value, boolean_value, i8_value, i16_value, i32_value, i64_value, u64_value, interval_value, text_value, bytes_value, big_integer_value}
-use Rattle.kmip_ttlv_ser.specs.Items.{sign_extended}
+use Rattle.kmip_ttlv_types.specs.Primitives.{sign_extended}
 
 -- by this form the one value, written as a leaf, is read back as the other
 pub data ComesBack : Form → Value → Value → Type 0 where

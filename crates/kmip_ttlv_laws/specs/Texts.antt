@@ -31,6 +31,7 @@ abbrev mutual
   EachTextIn P no_values = Unit {0}
   EachTextIn P (value v vs) = EachText P v × EachTextIn P vs
 
+-- the bytes are UTF-8
 abbrev pub Utf8 : List ℕ → Type 0
 Utf8 s = is_utf8 s ≡ true
 

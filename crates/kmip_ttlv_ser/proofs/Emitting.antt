@@ -7,15 +7,17 @@ use Rattle.kmip_ttlv_types.specs.declared.typ.TtlvType.TheVariants.{Structure, E
 use Rattle.kmip_ttlv_types.specs.ItemTypes.{pad_len}
 use Rattle.kmip_ttlv_types.specs.Items.{header}
 use Rattle.kmip_ttlv_types.specs.Names.{number, transparent_name}
+use Rattle.kmip_ttlv_types.specs.Primitives.{sign_byte, sign_extended}
 use Rattle.std.specs.Int.{w32, to_be_bytes}
 use Rattle.kmip_ttlv_types.specs.Trees.{Tree, leaf, node, trees_of, leaf_bytes, node_bytes, bytes_below, bytes_all, Fits}
 use Rattle.kmip_ttlv_base.specs.Values.{Value, Values, value, unit_variant_value, newtype_value, newtype_variant_value}
 use Rattle.kmip_ttlv_ser.specs.declared.held.Held.{Held}
 use Rattle.kmip_ttlv_ser.specs.declared.held.Held.TheVariants.{Plain}
-use Rattle.kmip_ttlv_ser.specs.Items.{◌>>=◌, is_wrapper, without_override, held_over, take_tag, one_leaf, one_node, one_structure, held_tag, some_item, held_after, left_over, sign_byte, sign_extended, enumeration, newtype_row, variant_row, items, items_in}
+use Rattle.kmip_ttlv_ser.specs.Items.{◌>>=◌, is_wrapper, without_override, held_over, take_tag, one_leaf, one_node, one_structure, held_tag, some_item, held_after, left_over, enumeration, newtype_row, variant_row, items, items_in}
 use Rattle.kmip_ttlv_ser.specs.Sizes.{sizes, sizes_below, sizes_all}
 use Rattle.kmip_ttlv_ser.specs.Passes.{Planned, Emitted}
-use Rattle.kmip_ttlv_ser.proofs.Leaves.{below_is, one_leaf_len, one_node_len, extended_len, bytes_append, len_append, fits_each, each_front, each_back, sizes_below_is}
+use Rattle.kmip_ttlv_types.proofs.Padding.{length-sign_extended}
+use Rattle.kmip_ttlv_ser.proofs.Leaves.{below_is, one_leaf_len, one_node_len, bytes_append, len_append, fits_each, each_front, each_back, sizes_below_is}
 use Rattle.kmip_ttlv_ser.proofs.Walking.{left_over_is, followed}
 
 pub some_same : {A : Type 0} (x y : A) → Some x ≡ Some y → x ≡ y
@@ -66,8 +68,8 @@ unfolding sign_extended
 emitted_big_integer w t bs plan old a b new n is len first second third =
     let s = replicate (pad_len (length bs)) (sign_byte bs) in
     let c = sign_extended bs in
-    let full : length c ≡ n + length bs = omega (arith, extended_len bs, len) in
-    let more : pad_len (length c) ≡ 0 = ap pad_len (extended_len bs) ∙ no_more (length bs) in
+    let full : length c ≡ n + length bs = omega (arith, length-sign_extended bs, len) in
+    let more : pad_len (length c) ≡ 0 = ap pad_len (length-sign_extended bs) ∙ no_more (length bs) in
     let head : a ≡ old ++ header t BigInteger (length c) = first ∙ ap (λ k. old ++ header t BigInteger k) (sym full) in
     let body : new ≡ a ++ c = third ∙ ap (λ xs. xs ++ bs) (second ∙ ap (λ k. a ++ replicate k (sign_byte bs)) len) ∙ append_assoc a s bs in
     emitted_leaf w t BigInteger c plan old a new new is head body (sym (ap (λ k. new ++ replicate k 0) more ∙ append-nil new))
@@ -137,11 +139,12 @@ unwrap None ts e = let k : None ≡ Some ts = e in absurd cc
 unwrap (Some []) ts e = let k : None ≡ Some ts = e in absurd cc
 unwrap (Some (u ∷ us)) ts e = e
 
-pub unwrapped_plan : (o : Option (List Tree)) (plan : List ℕ) (room : ℕ) → Planned (o >>= some_item) plan room → Planned o plan room
-unwrapped_plan o plan room h = record { trees = h.trees; back = h.back; are = unwrap o h.trees h.are; each = h.each; starts = h.starts; fit = h.fit }
+-- what is written as p, which has to give an item, is planned as p
+pub unwrapped_plan : (o p : Option (List Tree)) (plan : List ℕ) (room : ℕ) → o ≡ (p >>= some_item) → Planned o plan room → Planned p plan room
+unwrapped_plan o p plan room e h = record { trees = h.trees; back = h.back; are = unwrap p h.trees (sym e ∙ h.are); each = h.each; starts = h.starts; fit = h.fit }
 
-pub wrapped_emitted : (o : Option (List Tree)) (plan rest old new : List ℕ) (room : ℕ) → Planned (o >>= some_item) plan room → Emitted o plan rest old new → Emitted (o >>= some_item) plan rest old new
-wrapped_emitted o plan rest old new room h m = at_emitted (o >>= some_item) o plan rest old new (h.are ∙ sym (unwrap o h.trees h.are)) m
+pub wrapped_emitted : (o p : Option (List Tree)) (plan rest old new : List ℕ) (room : ℕ) → o ≡ (p >>= some_item) → Planned o plan room → Emitted p plan rest old new → Emitted o plan rest old new
+wrapped_emitted o p plan rest old new room e h m = at_emitted o p plan rest old new (h.are ∙ sym (unwrap p h.trees (sym e ∙ h.are))) m
 
 -- ---- rows of items
 

@@ -7,7 +7,6 @@ use Rattle.kmip_ttlv_types.specs.declared.typ.TtlvType.{TtlvType}
 use Rattle.kmip_ttlv_types.specs.ItemTypes.{pad_len}
 use Rattle.kmip_ttlv_types.specs.Trees.{Tree, leaf, node, trees_of, leaf_bytes, node_bytes, bytes, bytes_below, bytes_all, Fits, FitsBelow}
 use Rattle.kmip_ttlv_ser.specs.declared.held.Place.{Place}
-use Rattle.kmip_ttlv_ser.specs.Items.{sign_extended}
 use Rattle.kmip_ttlv_ser.specs.Sizes.{sizes, sizes_below, sizes_all}
 use Rattle.kmip_ttlv_ser.specs.Faults.{opened_by, opened_below, opened_after, place_after}
 
@@ -73,10 +72,6 @@ opened_below_is b (t ∷ ts) = opened_below_is (opened_by t) ts
 pub opened_append : (b : Bool) (ts us : List Tree) → opened_after b (ts ++ us) ≡ opened_after (opened_after b ts) us
 opened_append b [] us = refl
 opened_append b (t ∷ ts) us = opened_append (opened_by t) ts us
-
-pub extended_len : (bs : List ℕ) → length (sign_extended bs) ≡ pad_len (length bs) + length bs
-unfolding sign_extended
-extended_len bs = simp (length-append, length-replicate) (omega arith)
 
 -- how far a place after items is
 pub place_len : (p q : Place) (ts : List Tree) → q ≡ place_after p ts → q.offset ≡ p.offset + length (bytes_all ts)

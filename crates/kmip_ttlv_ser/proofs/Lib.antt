@@ -1,11 +1,9 @@
 mod Prefixes
-mod Views
 mod Leaves
 mod Reaching
 mod Measuring
 mod Walking
 mod Emitting
-mod Sent
 mod Refusing
 mod Telling
 mod Sound

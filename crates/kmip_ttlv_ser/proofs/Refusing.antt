@@ -4,6 +4,7 @@ use Rattle.std.specs.List.{AllByRecursion}
 use Rattle.kmip_ttlv_types.specs.declared.typ.TtlvType.{TtlvType}
 use Rattle.kmip_ttlv_types.specs.declared.typ.TtlvType.TheVariants.{BigInteger, TextString, ByteString}
 use Rattle.kmip_ttlv_types.specs.Names.{transparent_name}
+use Rattle.kmip_ttlv_types.specs.Primitives.{sign_extended}
 use Rattle.kmip_ttlv_types.specs.Trees.{Tree, leaf, node, trees_of, bytes_all, Fits}
 use Rattle.kmip_ttlv_base.specs.declared.error.Error.{Error}
 use Rattle.kmip_ttlv_base.specs.Errors.{Location, view_of_kind, location_of, view_of_location, IsMemory}
@@ -15,7 +16,7 @@ use Rattle.kmip_ttlv_ser.specs.declared.refusal.Cause.{Cause}
 use Rattle.kmip_ttlv_ser.specs.declared.refusal.Cause.TheVariants.{NoTag, TagUnused, InvalidTag, InvalidVariant, UnsupportedType}
 use Rattle.kmip_ttlv_ser.specs.declared.refusal.Refusal.{Refusal}
 use Rattle.kmip_ttlv_ser.specs.declared.refusal.Refusal.TheVariants.{OutOfMemory, LengthOverflow, Refused}
-use Rattle.kmip_ttlv_ser.specs.Items.{◌>>=◌, take_tag, held_tag, one_node, some_item, held_over, without_override, is_wrapper, left_over, sign_extended, newtype_row, variant_row, items, items_in}
+use Rattle.kmip_ttlv_ser.specs.Items.{◌>>=◌, take_tag, held_tag, one_node, some_item, held_over, without_override, is_wrapper, left_over, newtype_row, variant_row, items, items_in}
 use Rattle.kmip_ttlv_ser.specs.Sizes.{sizes_all}
 use Rattle.kmip_ttlv_ser.specs.Faults.{Fault, place_after, opened_after, fault, fault_in}
 use Rattle.kmip_ttlv_ser.specs.Lengths.{HasLongLeaf, HaveLongLeaf, HasLongStructure, HaveLongStructure, IsLongContent, Under, After, content_start, newtype_long, variant_long}

@@ -1,7 +1,8 @@
 -- What the writer's calls answer.
-use Rattle.std.specs.Prelude.{◌≡◌, ℕ, ◌≤◌, Bool, true, false, List, [], ◌++◌, length, take, Option, Some, None, Result, Ok, Err, IsErrAnd}
+use Rattle.std.specs.Prelude.{◌≡◌, ℕ, Bool, true, false, List, [], ◌++◌, length, Option, Some, None, Result, Ok, Err, IsErrAnd}
 use Rattle.std.specs.declared.vec.Vec.{Vec}
 use Rattle.std.specs.Io.KnownBytes.{Appends, Keeps}
+use Rattle.kmip_ttlv_types.specs.Streams.{AppendsFront}
 use Rattle.kmip_ttlv_types.specs.Trees.{Tree, bytes_all}
 use Rattle.kmip_ttlv_base.specs.declared.error.Error.{Error}
 use Rattle.kmip_ttlv_base.specs.declared.error.MalformedTtlvError.TheVariants.{UnknownStructureLength}
@@ -62,12 +63,6 @@ Refuses v p e = IsRefusedAs v p (view_of_kind (kind_of e)) (view_of_location (lo
 abbrev pub Writes : {A : Type 0} → Value → Result (Vec ℕ A) (Error A) → Type 0
 Writes v (Ok out) = IsWrittenAs v 0 out.items
 Writes v (Err e) = Refuses v origin e
-
--- some beginning of the bytes was appended
-pub record AppendsFront (old new : Option (List ℕ)) (bytes : List ℕ) : Type 0 where
-  pub count : ℕ
-  pub within : count ≤ length bytes
-  pub appends : Appends old new (take count bytes)
 
 -- the value's bytes were appended to what a writer has
 pub record WrittenTo (v : Value) (old new : Option (List ℕ)) : Type 0 where

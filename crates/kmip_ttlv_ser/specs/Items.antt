@@ -1,10 +1,10 @@
 -- The items that a value is written as.
-use Rattle.std.specs.Prelude.{ℕ, Bool, true, false, List, [], ◌∷◌, ◌++◌, length, replicate, Option, Some, None, if◌then◌else◌, nat_lt, bytes_eq, codes, ◌==◌}
+use Rattle.std.specs.Prelude.{ℕ, Bool, true, false, List, [], ◌∷◌, ◌++◌, Option, Some, None, if◌then◌else◌, bytes_eq, codes, ◌==◌}
 use Rattle.std.specs.Int.{w32, w64, to_be_bytes, cast_unsigned, from_bool}
 use Rattle.kmip_ttlv_types.specs.declared.typ.TtlvType.{TtlvType}
 use Rattle.kmip_ttlv_types.specs.declared.typ.TtlvType.TheVariants.{Integer, LongInteger, BigInteger, Enumeration, Boolean, TextString, ByteString, DateTime, Interval}
-use Rattle.kmip_ttlv_types.specs.ItemTypes.{pad_len}
 use Rattle.kmip_ttlv_types.specs.Names.{tag_of, number, transparent_name, override_name}
+use Rattle.kmip_ttlv_types.specs.Primitives.{sign_extended}
 use Rattle.kmip_ttlv_types.specs.Trees.{Tree, leaf, node, trees_of}
 use Rattle.kmip_ttlv_base.specs.Values.{Value, boolean_value, i8_value, i16_value, i32_value, u32_value, i64_value, u64_value, interval_value, text_value, bytes_value, big_integer_value, none, some, seq_value, struct_value, newtype_value, unit_variant_value, newtype_variant_value, tuple_variant_value, unsupported_value, Values, no_values, value}
 use Rattle.kmip_ttlv_ser.specs.declared.held.Held.{Held}
@@ -63,15 +63,6 @@ unfoldable pub held_over : Held → List ℕ → ℕ → Held
 held_over Nothing name t = elim (override_name name) [ None ↦ Plain t | Some rest ↦ Overriding t ]
 held_over (Plain s) name t = Plain t
 held_over (Overriding s) name t = Plain t
-
--- the byte that extends a big integer: its sign
-abbrev pub sign_byte : List ℕ → ℕ
-sign_byte [] = 0
-sign_byte (b ∷ bs) = if nat_lt b 128 then 0 else 255
-
--- a big integer's content: sign bytes in front, up to a multiple of eight
-unfoldable pub sign_extended : List ℕ → List ℕ
-sign_extended bs = replicate (pad_len (length bs)) (sign_byte bs) ++ bs
 
 -- a unit variant's number, under the taken tag
 unfoldable pub enumeration : ℕ → List ℕ → Option (List Tree)

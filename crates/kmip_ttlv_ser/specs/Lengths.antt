@@ -1,12 +1,13 @@
 -- Lengths that four bytes, or an offset that eight bytes, can't hold.
 use Rattle.std.specs.Prelude.{ℕ, ◌+◌, ◌≤◌, ◌^◌, Bool, true, false, List, Option, Some, None, length, ◌⊎◌}
 use Rattle.kmip_ttlv_types.specs.Names.{transparent_name}
+use Rattle.kmip_ttlv_types.specs.Primitives.{sign_extended}
 use Rattle.kmip_ttlv_types.specs.Trees.{Tree, bytes_all}
 use Rattle.kmip_ttlv_base.specs.Values.{Value, text_value, bytes_value, big_integer_value, some, seq_value, struct_value, newtype_value, newtype_variant_value, tuple_variant_value, Values, no_values, value}
 use Rattle.kmip_ttlv_ser.specs.declared.held.Held.{Held}
 use Rattle.kmip_ttlv_ser.specs.declared.held.Held.TheVariants.{Nothing, Plain}
 use Rattle.kmip_ttlv_ser.specs.declared.held.Place.{Place}
-use Rattle.kmip_ttlv_ser.specs.Items.{take_tag, held_over, without_override, is_wrapper, left_over, sign_extended, items, items_in}
+use Rattle.kmip_ttlv_ser.specs.Items.{take_tag, held_over, without_override, is_wrapper, left_over, items, items_in}
 use Rattle.kmip_ttlv_ser.specs.Faults.{Fault, fault, fault_in}
 
 -- a text, a byte string or a sign-extended big integer anywhere in a value is too long

@@ -24,6 +24,7 @@ three = i32_value (pos 3)
 abbrev pub two_modes : Values
 two_modes = value (unit_variant_value (codes "420028") (codes "0x1")) (value (unit_variant_value (codes "420028") (codes "0x2")) no_values)
 
+-- the rest of the name is the tag of the number
 abbrev pub a_transparent_newtype : Type 0
 a_transparent_newtype = HasBytes (newtype_value (codes "Transparent:0xAABBCC") three) (0xAA ∷ 0xBB ∷ 0xCC ∷ 2 ∷ 0 ∷ 0 ∷ 0 ∷ 4 ∷ 0 ∷ 0 ∷ 0 ∷ 3 ∷ 0 ∷ 0 ∷ 0 ∷ 0 ∷ [])
 
@@ -41,33 +42,43 @@ abbrev pub a_doubled_prefix : Type 0
 a_doubled_prefix = HasBytes (newtype_variant_value (codes "Override:Override:0xAABBCC") (codes "X") (newtype_value (codes "Transparent:0xBBBBBB") three))
     (0xAA ∷ 0xBB ∷ 0xCC ∷ 1 ∷ 0 ∷ 0 ∷ 0 ∷ 0x10 ∷ 0xBB ∷ 0xBB ∷ 0xBB ∷ 2 ∷ 0 ∷ 0 ∷ 0 ∷ 4 ∷ 0 ∷ 0 ∷ 0 ∷ 3 ∷ 0 ∷ 0 ∷ 0 ∷ 0 ∷ [])
 
+-- it is a Date-Time
 abbrev pub an_unsigned_number_of_64_bits : Type 0
 an_unsigned_number_of_64_bits = HasBytes (newtype_value (codes "Transparent:0xAABBCC") (u64_value 9223372036854775808)) (0xAA ∷ 0xBB ∷ 0xCC ∷ 9 ∷ 0 ∷ 0 ∷ 0 ∷ 8 ∷ 0x80 ∷ 0 ∷ 0 ∷ 0 ∷ 0 ∷ 0 ∷ 0 ∷ 0 ∷ [])
 
+-- its sign goes on with up to eight bytes
 abbrev pub a_negative_big_integer : Type 0
 a_negative_big_integer = HasBytes (newtype_value (codes "Transparent:0x420020") (big_integer_value (0x80 ∷ []))) (0x42 ∷ 0 ∷ 0x20 ∷ 4 ∷ 0 ∷ 0 ∷ 0 ∷ 8 ∷ 0xFF ∷ 0xFF ∷ 0xFF ∷ 0xFF ∷ 0xFF ∷ 0xFF ∷ 0xFF ∷ 0x80 ∷ [])
 
+-- it has the code 0A
 abbrev pub an_interval : Type 0
 an_interval = HasBytes (newtype_value (codes "Transparent:0x420020") (interval_value 5)) (0x42 ∷ 0 ∷ 0x20 ∷ 0x0A ∷ 0 ∷ 0 ∷ 0 ∷ 4 ∷ 0 ∷ 0 ∷ 0 ∷ 5 ∷ 0 ∷ 0 ∷ 0 ∷ 0 ∷ [])
 
+-- a header alone
 abbrev pub an_empty_structure : Type 0
 an_empty_structure = HasBytes (struct_value (codes "0x123456") no_values) (0x12 ∷ 0x34 ∷ 0x56 ∷ 1 ∷ 0 ∷ 0 ∷ 0 ∷ 0 ∷ [])
 
+-- no items, and no bytes
 abbrev pub an_empty_sequence : Type 0
 an_empty_sequence = HasBytes (seq_value no_values) []
 
+-- a field without a tag is refused behind the header of its structure
 abbrev pub a_bare_field : Type 0
 a_bare_field = IsRefusedBy (struct_value (codes "0xAABBCC") (value three no_values)) (no_tag true) 8
 
+-- a value without a tag is refused at once
 abbrev pub a_bare_value : Type 0
 a_bare_value = IsRefusedBy three (no_tag false) 0
 
+-- a tag that no item takes is refused behind it
 abbrev pub a_wrapper_over_nothing : Type 0
 a_wrapper_over_nothing = IsRefusedBy (newtype_value (codes "Transparent:0xAABBCC") (seq_value no_values)) tag_unused 3
 
+-- the name of a unit variant is a number, or is refused behind the tag
 abbrev pub a_variant_that_is_no_number : Type 0
 a_variant_that_is_no_number = IsRefusedBy (unit_variant_value (codes "0x42005C") (codes "Create")) (mismatch (invalid_variant (codes "Create"))) 3
 
+-- the outer tag finds no item, as the inner wrapper takes one of its own
 abbrev pub a_wrapper_in_a_wrapper : Type 0
 a_wrapper_in_a_wrapper = IsRefusedBy (struct_value (codes "0xAAAAAA") (value (newtype_variant_value (codes "Override:0xBBBBBB") (codes "Transparent") three) (value (newtype_value (codes "Transparent:0xCCCCCC") (newtype_value (codes "Transparent:0xDDDDDD") (i32_value (pos 4)))) no_values))) tag_unused 27
 
@@ -75,8 +86,10 @@ a_wrapper_in_a_wrapper = IsRefusedBy (struct_value (codes "0xAAAAAA") (value (ne
 abbrev pub a_doubled_prefix_of_a_wrapper : Type 0
 a_doubled_prefix_of_a_wrapper = IsRefusedBy (newtype_variant_value (codes "Override:Override:0xAABBCC") (codes "Transparent") three) (mismatch (invalid_tag (codes "Override:0xAABBCC"))) 0
 
+-- none gives no item, and is refused behind the tag
 abbrev pub a_wrapper_over_none : Type 0
 a_wrapper_over_none = IsRefusedBy (newtype_value (codes "Transparent:0xAABBCC") none) (mismatch (unsupported_rust_type (codes "None"))) 3
 
+-- the prefix is no part of a structure's tag
 abbrev pub a_structure_named_transparent : Type 0
 a_structure_named_transparent = IsRefusedBy (struct_value (codes "Transparent:0xAABBCC") (value (i32_value (pos 1)) no_values)) (mismatch (invalid_tag (codes "Transparent:0xAABBCC"))) 0

@@ -4,8 +4,9 @@
 ghost use Rattle.std.specs.Prelude.{◌≡◌, ◌+◌, ◌-◌, ◌<◌, ◌≤◌, ◌++◌, length, replicate, vec_len, vec_capacity};
 ghost use Rattle.kmip_ttlv_types.specs.declared.typ.TtlvType.TheVariants.{BigInteger as SpecBigInteger};
 ghost use Rattle.kmip_ttlv_types.specs.Items.{header};
-ghost use Rattle.kmip_ttlv_base.specs.Values.{view, views};
-ghost use Rattle.kmip_ttlv_ser.specs.Items.{one_leaf, one_structure, sign_byte, sign_extended, items, items_in};
+ghost use Rattle.kmip_ttlv_types.specs.Primitives.{sign_byte, sign_extended};
+ghost use Rattle.kmip_ttlv_base.specs.Values.{view, views, i32_value, newtype_value, unit_variant_value, newtype_variant_value};
+ghost use Rattle.kmip_ttlv_ser.specs.Items.{one_leaf, one_structure, items, items_in};
 ghost use Rattle.kmip_ttlv_ser.specs.Passes.{Planned, Emitted};
 ghost use Rattle.kmip_ttlv_ser.specs.declared.held.Held.TheVariants.{Nothing as SpecNothing};
 
@@ -108,6 +109,43 @@ fn emit_big_integer<'p, A: Allocator>(
     plan
 }
 
+/// An integer of 32 bits under the tag that waits.
+fn emit_integer<'p, A: Allocator>(
+    held: &Held,
+    integer: i32,
+    out: &mut Vec<u8, A>,
+    plan: &'p [u32],
+) -> &'p [u32]
+    requires { Planned (items (i32_value integer) held.now) plan.now (vec_capacity out.old - vec_len out.old) }
+    ensures wrote { Emitted (items (i32_value integer) held.now) plan.entry.now result.now out.old.items out.new.items }
+    ensures room { vec_capacity out.old ≤ vec_capacity out.new }
+{
+    emit_leaf(held, TtlvType::Integer, &integer.to_be_bytes(), out, plan)
+}
+
+/// A unit variant: the leaf of its number, under its enum's tag.
+fn emit_unit_variant<'p, A: Allocator>(
+    held: &Held,
+    name: &'static str,
+    variant: &'static str,
+    out: &mut Vec<u8, A>,
+    plan: &'p [u32],
+) -> &'p [u32]
+    requires { Planned (items (unit_variant_value name.now variant.now) held.now) plan.now (vec_capacity out.old - vec_len out.old) }
+    ensures wrote { Emitted (items (unit_variant_value name.now variant.now) held.now) plan.entry.now result.now out.old.items out.new.items }
+    ensures room { vec_capacity out.old ≤ vec_capacity out.new }
+{
+    let Some(tag) = held.take(name) else {
+        unreachable!();
+    };
+    let Some(value) = number(variant) else {
+        unreachable!();
+    };
+    let content = value.to_be_bytes();
+    let waits = Held::Plain(tag);
+    emit_leaf(&waits, TtlvType::Enumeration, &content, out, plan)
+}
+
 /// Writes a value's items, and gives what is left of the lengths.
 #[cycle(emit)]
 pub(crate) fn emit<'p, A: Allocator, B: Allocator>(
@@ -125,15 +163,9 @@ pub(crate) fn emit<'p, A: Allocator, B: Allocator>(
             let content = u64::from(*b).to_be_bytes();
             emit_leaf(held, TtlvType::Boolean, &content, out, plan)
         }
-        Data::I8(n) => {
-            let content = i32::from(*n).to_be_bytes();
-            emit_leaf(held, TtlvType::Integer, &content, out, plan)
-        }
-        Data::I16(n) => {
-            let content = i32::from(*n).to_be_bytes();
-            emit_leaf(held, TtlvType::Integer, &content, out, plan)
-        }
-        Data::I32(n) => emit_leaf(held, TtlvType::Integer, &n.to_be_bytes(), out, plan),
+        Data::I8(n) => emit_integer(held, i32::from(*n), out, plan),
+        Data::I16(n) => emit_integer(held, i32::from(*n), out, plan),
+        Data::I32(n) => emit_integer(held, *n, out, plan),
         Data::U32(n) => emit_leaf(held, TtlvType::Enumeration, &n.to_be_bytes(), out, plan),
         Data::I64(n) => emit_leaf(held, TtlvType::LongInteger, &n.to_be_bytes(), out, plan),
         Data::U64(n) => emit_leaf(held, TtlvType::DateTime, &n.to_be_bytes(), out, plan),
@@ -146,52 +178,65 @@ pub(crate) fn emit<'p, A: Allocator, B: Allocator>(
         Data::Some(inner) => emit(inner, held, out, plan),
         Data::Seq(values) => emit_all(values, held, out, plan),
         Data::Struct { name, fields } => emit_fields(held, name, fields, out, plan),
-        Data::Newtype { name, inner } => match transparent_name(name) {
-            Some(rest) => {
-                let Some(tag) = held.take(rest) else {
-                    unreachable!();
-                };
-                emit(inner, &Held::Plain(tag), out, plan)
-            }
-            None => emit_field(held, name, inner, out, plan),
-        },
-        Data::UnitVariant { name, variant } => {
-            let Some(tag) = held.take(name) else {
-                unreachable!();
-            };
-            let Some(n) = number(variant) else {
-                unreachable!();
-            };
-            let content = n.to_be_bytes();
-            emit_leaf(
-                &Held::Plain(tag),
-                TtlvType::Enumeration,
-                &content,
-                out,
-                plan,
-            )
-        }
+        Data::Newtype { name, inner } => emit_newtype(held, name, inner, out, plan),
+        Data::UnitVariant { name, variant } => emit_unit_variant(held, name, variant, out, plan),
         Data::NewtypeVariant {
             name,
             variant,
             inner,
-        } => {
-            let rest = without_override(name);
-            if is_wrapper(variant) {
-                let Some(tag) = held.take(rest) else {
-                    unreachable!();
-                };
-                emit(inner, &held.over(name, tag), out, plan)
-            } else {
-                emit_field(held, without_override(rest), inner, out, plan)
-            }
-        }
+        } => emit_newtype_variant(held, name, variant, inner, out, plan),
         Data::TupleVariant {
             name,
             variant: _,
             fields,
         } => { emit_fields(held, without_override(name), fields, out, plan) }
     }
+}
+
+/// A newtype: a wrapper where its name begins with `Transparent:`, else a structure of one field.
+#[cycle(emit)]
+fn emit_newtype<'p, A: Allocator, B: Allocator>(
+    held: &Held,
+    name: &'static str,
+    inner: &Data<B>,
+    out: &mut Vec<u8, A>,
+    plan: &'p [u32],
+) -> &'p [u32]
+    requires { Planned (items (newtype_value name.now (view inner.now)) held.now) plan.now (vec_capacity out.old - vec_len out.old) }
+    ensures wrote { Emitted (items (newtype_value name.now (view inner.now)) held.now) plan.entry.now result.now out.old.items out.new.items }
+    ensures room { vec_capacity out.old ≤ vec_capacity out.new }
+{
+    let Some(rest) = transparent_name(name) else {
+        return emit_field(held, name, inner, out, plan);
+    };
+    let Some(tag) = held.take(rest) else {
+        unreachable!();
+    };
+    emit(inner, &Held::Plain(tag), out, plan)
+}
+
+/// A newtype variant: a wrapper where it is named `Transparent`, else a structure of one field.
+#[cycle(emit)]
+fn emit_newtype_variant<'p, A: Allocator, B: Allocator>(
+    held: &Held,
+    name: &'static str,
+    variant: &'static str,
+    inner: &Data<B>,
+    out: &mut Vec<u8, A>,
+    plan: &'p [u32],
+) -> &'p [u32]
+    requires { Planned (items (newtype_variant_value name.now variant.now (view inner.now)) held.now) plan.now (vec_capacity out.old - vec_len out.old) }
+    ensures wrote { Emitted (items (newtype_variant_value name.now variant.now (view inner.now)) held.now) plan.entry.now result.now out.old.items out.new.items }
+    ensures room { vec_capacity out.old ≤ vec_capacity out.new }
+{
+    let rest = without_override(name);
+    if !is_wrapper(variant) {
+        return emit_field(held, without_override(rest), inner, out, plan);
+    }
+    let Some(tag) = held.take(rest) else {
+        unreachable!();
+    };
+    emit(inner, &held.over(name, tag), out, plan)
 }
 
 /// A structure of fields, under a name's tag.

@@ -13,6 +13,5 @@ mod measure;
 mod names;
 mod refusal;
 mod serializer;
-mod stream;
 
 pub use serializer::{TtlvSerializer, to_vec, to_writer};

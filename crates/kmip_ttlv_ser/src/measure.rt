@@ -3,7 +3,7 @@
 ghost use Rattle.std.specs.Prelude.{◌≡◌, ℕ, ◌+◌, ◌-◌, ◌%◌, ◌<◌, ◌≤◌, ◌^◌, List, length, slice_set, vec_len, MatchResult};
 ghost use Rattle.kmip_ttlv_types.specs.declared.typ.TtlvType.{TtlvType as SpecType};
 ghost use Rattle.kmip_ttlv_types.specs.ItemTypes.{pad_len};
-ghost use Rattle.kmip_ttlv_base.specs.Values.{view, views};
+ghost use Rattle.kmip_ttlv_base.specs.Values.{view, views, newtype_value, unit_variant_value, newtype_variant_value};
 ghost use Rattle.kmip_ttlv_ser.specs.declared.refusal.Refusal.TheVariants.{LengthOverflow as SpecLengthOverflow};
 ghost use Rattle.kmip_ttlv_ser.specs.Items.{one_leaf};
 ghost use Rattle.kmip_ttlv_ser.specs.Faults.{no_tag, fault_at};
@@ -37,6 +37,24 @@ fn measure_leaf(held: &Held, len: usize, place: Place) -> Result<Place, Refusal>
         Some(_) if len as u64 > LONGEST => Err(Refusal::LengthOverflow),
         Some(_) => place.after(8 + len as u64 + padding(len as u64), false),
     }
+}
+
+/// The place after a unit variant: the leaf of its number, under its enum's tag.
+fn measure_unit_variant(
+    held: &Held,
+    name: &'static str,
+    variant: &'static str,
+    place: Place,
+) -> Result<Place, Refusal>
+    ensures { (old : List ℕ) → MeasuresValue (unit_variant_value name.now variant.now) held.now place old old result }
+{
+    let Some(tag) = held.take(name) else {
+        return refuse_name(name, held, place);
+    };
+    if number(variant).is_none() {
+        return refuse_variant(variant, &Held::Plain(tag), place);
+    }
+    measure_leaf(&Held::Plain(tag), 4, place)
 }
 
 /// Notes the length of a structure in its place among the lengths.
@@ -85,45 +103,61 @@ pub(crate) fn measure<A: Allocator, B: Allocator>(
         Data::Some(inner) => measure(inner, held, place, sizes),
         Data::Seq(values) => measure_all(values, held, place, sizes),
         Data::Struct { name, fields } => measure_fields(held, name, fields, place, sizes),
-        Data::Newtype { name, inner } => match transparent_name(name) {
-            Some(rest) => {
-                let Some(tag) = held.take(rest) else {
-                    return refuse_name(rest, held, place);
-                };
-                measure_wrapped(inner, &Held::Plain(tag), place, sizes)
-            }
-            None => measure_field(held, name, inner, place, sizes),
-        },
-        Data::UnitVariant { name, variant } => {
-            let Some(tag) = held.take(name) else {
-                return refuse_name(name, held, place);
-            };
-            if number(variant).is_none() {
-                return refuse_variant(variant, &Held::Plain(tag), place);
-            }
-            measure_leaf(&Held::Plain(tag), 4, place)
-        }
+        Data::Newtype { name, inner } => measure_newtype(held, name, inner, place, sizes),
+        Data::UnitVariant { name, variant } => measure_unit_variant(held, name, variant, place),
         Data::NewtypeVariant {
             name,
             variant,
             inner,
-        } => {
-            let rest = without_override(name);
-            if is_wrapper(variant) {
-                let Some(tag) = held.take(rest) else {
-                    return refuse_name(rest, held, place);
-                };
-                measure_wrapped(inner, &held.over(name, tag), place, sizes)
-            } else {
-                measure_field(held, without_override(rest), inner, place, sizes)
-            }
-        }
+        } => measure_newtype_variant(held, name, variant, inner, place, sizes),
         Data::TupleVariant {
             name,
             variant: _,
             fields,
         } => { measure_fields(held, without_override(name), fields, place, sizes) }
     }
+}
+
+/// A newtype: a wrapper where its name begins with `Transparent:`, else a structure of one field.
+#[cycle(measure)]
+fn measure_newtype<A: Allocator, B: Allocator>(
+    held: &Held,
+    name: &'static str,
+    inner: &Data<B>,
+    place: Place,
+    sizes: &mut Vec<u32, A>,
+) -> Result<Place, Refusal>
+    ensures { MeasuresValue (newtype_value name.now (view inner.now)) held.now place sizes.old.items sizes.new.items result }
+{
+    let Some(rest) = transparent_name(name) else {
+        return measure_field(held, name, inner, place, sizes);
+    };
+    let Some(tag) = held.take(rest) else {
+        return refuse_name(rest, held, place);
+    };
+    measure_wrapped(inner, &Held::Plain(tag), place, sizes)
+}
+
+/// A newtype variant: a wrapper where it is named `Transparent`, else a structure of one field.
+#[cycle(measure)]
+fn measure_newtype_variant<A: Allocator, B: Allocator>(
+    held: &Held,
+    name: &'static str,
+    variant: &'static str,
+    inner: &Data<B>,
+    place: Place,
+    sizes: &mut Vec<u32, A>,
+) -> Result<Place, Refusal>
+    ensures { MeasuresValue (newtype_variant_value name.now variant.now (view inner.now)) held.now place sizes.old.items sizes.new.items result }
+{
+    let rest = without_override(name);
+    if !is_wrapper(variant) {
+        return measure_field(held, without_override(rest), inner, place, sizes);
+    }
+    let Some(tag) = held.take(rest) else {
+        return refuse_name(rest, held, place);
+    };
+    measure_wrapped(inner, &held.over(name, tag), place, sizes)
 }
 
 /// A wrapper's content, which has to give an item.

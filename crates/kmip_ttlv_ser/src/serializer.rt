@@ -7,10 +7,10 @@ ghost use Rattle.kmip_ttlv_ser.specs.Answers.{Writes, WritesTo, progress, Serial
 use crate::emit::emit;
 use crate::held::{Held, Place};
 use crate::measure::measure;
-use crate::stream::write_whole;
 use kmip_ttlv_base::error::{Error, ErrorKind, ErrorLocation, MalformedTtlvError, Result};
 use kmip_ttlv_base::shape::{Data, Serialize};
 use kmip_ttlv_types::ByteOffset;
+use kmip_ttlv_types::stream::Sink;
 use std::alloc::{Allocator, Global};
 use std::io::Write;
 
@@ -47,7 +47,7 @@ pub fn to_writer<A: Allocator + Copy, T: Serialize, W: Write>(
     ensures { WritesTo (T.stated value.now) (W.contents writer.old) (W.contents writer.new) result }
 {
     let bytes = to_vec(alloc, value)?;
-    match write_whole(writer, &bytes) {
+    match writer.send(&bytes) {
         Ok(()) => Ok(()),
         Err(error) => Err(Error::new(ErrorKind::IoError(error), ErrorLocation::unknown())),
     }

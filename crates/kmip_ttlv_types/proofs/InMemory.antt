@@ -27,7 +27,7 @@ number_read f n there new (Err errors.InvalidStateMachineOperation) low h = absu
 number_read f n there new (Err errors.OutOfMemory) low h = absurd h
 number_read f n there new (Err errors.LengthOverflow) low h = absurd h
 
-type_read : (c : ℕ) (rest : List ℕ) (new : Option (List ℕ)) (result : Result TtlvType (Error Global)) → ReadsType false (Some (c ∷ rest)) new result
+pub type_read : (c : ℕ) (rest : List ℕ) (new : Option (List ℕ)) (result : Result TtlvType (Error Global)) → ReadsType false (Some (c ∷ rest)) new result
     → MatchResult result (λ t. code t ≡ c) (λ e. (e ≡ errors.InvalidTtlvType c) × (type_of c ≡ None))
 type_read c rest None (Ok t) h = absurd h
 type_read c rest (Some ys) (Ok t) h = ap (λ (l : List ℕ). get_or l 0 0) (sym h)

@@ -18,7 +18,7 @@ use Rattle.kmip_ttlv_types.specs.ItemTypes.{pad_len, fixed_length}
 use Rattle.kmip_ttlv_types.specs.Leaves.{is_valid}
 use Rattle.kmip_ttlv_types.specs.Streams.{ConsumesUpTo, IsShort, Lacks}
 use Rattle.kmip_ttlv_types.specs.Headers.{ReadsNumber}
-use Rattle.kmip_ttlv_types.specs.Primitives.{CanHaveLength, Skips, ReadsValue, ReadsLeaf, StaysWithin, stated_length, stated_content, IsCut, HasWrongLength, HasWrongContent, length_and_content}
+use Rattle.kmip_ttlv_types.specs.Primitives.{CanHaveLength, Skips, ReadsValue, ReadsLeaf, HasContent, StaysWithin, stated_length, stated_content, IsCut, HasWrongLength, HasWrongContent, length_and_content}
 use Rattle.kmip_ttlv_types.proofs.Taken.{ConsumesUpTo-after}
 
 -- a fact of known bytes, from the part that was consumed and the part that is left
@@ -64,6 +64,10 @@ pub within : (a b c : Option (List ℕ)) (n m : ℕ) → n < 2 ^ 32 → Consumes
 within a b c n m low taken most more =
     front_of a b (to_be_bytes w32 n) (λ xs. ConsumesUpTo a c (4 + stated_length xs + pad_len (stated_length xs))) taken (λ ys is.
     subst (λ k. ConsumesUpTo a c (4 + k + pad_len k)) (sym (stated n ys low)) (ConsumesUpTo-after a b c (to_be_bytes w32 n) m _ taken more (omega (arith, most))))
+
+-- the length that was taken is there, and is not zero
+has_content : (a b : Option (List ℕ)) (n : ℕ) → n < 2 ^ 32 → Consumes a b (to_be_bytes w32 n) → 0 < n → IfSome a HasContent
+has_content a b n low taken some = front_of a b (to_be_bytes w32 n) HasContent taken (λ ys is. (omega arith, omega (arith, some, stated n ys low)))
 
 -- the length itself didn't come
 pub within_length : (a b : Option (List ℕ)) → ConsumesUpTo a b 4 → StaysWithin a b
@@ -147,7 +151,7 @@ module _ (T A : Type 0) (typ : TtlvType) (bytes_of : T → List ℕ) (tm cf : Bo
         (same, subst (λ k. IfSome a (HasWrongLength typ expected k)) (sym is) (wrong_length typ a b n low taken expected fixed differs), within a b c n 0 low taken (omega arith) (nothing_taken b c keeps))
     content_refused (errors.InvalidTtlvValue t) (same, can, (content, read, long, invalid)) =
         (same, wrong_content typ a b c n low taken content read long can invalid, within a b c n n low taken (omega arith) record { bytes = content; within = omega (arith, long); consumes = read })
-    content_refused errors.OutOfMemory (takes, can, upto) = (takes, within a b c n n low taken (omega arith) upto)
+    content_refused errors.OutOfMemory (takes, some, can, upto) = (takes, has_content a b n low taken some, within a b c n n low taken (omega arith) upto)
     content_refused (errors.InvalidTtlvTag text) h = absurd h
     content_refused (errors.UnexpectedTtlvField x y) h = absurd h
     content_refused (errors.UnsupportedTtlvType x) h = absurd h

@@ -6,3 +6,4 @@ pub mod LeafWriting
 pub mod Padding
 pub mod ReadBack
 pub mod InMemory
+pub mod PlaceLemmas

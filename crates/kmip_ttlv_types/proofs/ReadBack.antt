@@ -1,7 +1,7 @@
 -- What was written is read back.
 use Rattle.std.proofs.Common.{◌≡◌, ◌≢◌, ℕ, ◌+◌, ◌^◌, ◌<◌, List, [], ◌∷◌, ◌++◌, Bool, true, false, Option, Some, None, Result, Ok, Err, IfSome, length, take, drop, replicate, sym, ap, ◌∙◌, subst, arith, refl, le_refl, length-append, take_all, append_assoc, inl, inr, Global}
 use Rattle.std.proofs.lemmas.List.{take-append-le, length-replicate}
-use Rattle.std.specs.Prelude.{MatchResult, IsTrue}
+use Rattle.std.specs.Prelude.{MatchResult}
 use Rattle.std.specs.Int.{w32, to_be_bytes}
 use Rattle.kmip_ttlv_types.specs.declared.error.Error.{Error}
 use Rattle.kmip_ttlv_types.specs.declared.error.Error.TheVariants as errors
@@ -9,7 +9,7 @@ use Rattle.kmip_ttlv_types.specs.declared.typ.TtlvType.{TtlvType}
 use Rattle.kmip_ttlv_types.specs.declared.typ.TtlvType.TheVariants.{Structure, Integer, LongInteger, BigInteger, Enumeration, Boolean, TextString, ByteString, DateTime, Interval}
 use Rattle.kmip_ttlv_types.specs.ItemTypes.{pad_len, fixed_length}
 use Rattle.kmip_ttlv_types.specs.Leaves.{is_valid}
-use Rattle.kmip_ttlv_types.specs.Laws.{IsReadBack, ReadsWholeLeaves}
+use Rattle.kmip_ttlv_types.specs.Laws.{FailsToRead, IsReadBack, ReadsWholeLeaves}
 use Rattle.kmip_ttlv_types.specs.Primitives.{content_of, length_and_content, CanHaveLength, ReadsLeaf, ConsumesLeaf, IsCut, stated_length, stated_content}
 use Rattle.kmip_ttlv_types.proofs.LeafReading.{stated, length-valid}
 
@@ -80,34 +80,34 @@ module _ {T : Type 0} (typ : TtlvType) (bytes_of : T → List ℕ) (tm : Bool) (
       let low_by : length there < 4 + length content + pad_len (length content) = subst (λ n. length there < 4 + n + pad_len n) (n_is content zeros rest low) short in
       omega (arith, low_by, all_there)
 
-  pub outcome : (new : Option (List ℕ)) (result : Result T (Error Global)) → ReadsLeaf typ bytes_of tm false (Some there) new result
-      → MatchResult result (λ w. (bytes_of w ≡ content) × (new ≡ Some rest)) (λ e. (e ≡ errors.OutOfMemory) × IsTrue tm)
+  pub outcome : (cf : Bool) (new : Option (List ℕ)) (result : Result T (Error Global)) → ReadsLeaf typ bytes_of tm cf (Some there) new result
+      → MatchResult result (λ w. (bytes_of w ≡ content) × (new ≡ Some rest)) (FailsToRead tm cf content)
   unfolding length_and_content
-  outcome None (Ok w) (leaf, good) = absurd leaf.consumes
-  outcome (Some ys) (Ok w) (leaf, good) = let h = value_there w ys leaf in (h.0, ap Some h.1)
-  outcome new (Err (errors.InvalidTtlvValueLength expected actual t)) (same, (long, is, fixed, differs), within) =
+  outcome cf None (Ok w) (leaf, good) = absurd leaf.consumes
+  outcome cf (Some ys) (Ok w) (leaf, good) = let h = value_there w ys leaf in (h.0, ap Some h.1)
+  outcome cf new (Err (errors.InvalidTtlvValueLength expected actual t)) (same, (long, is, fixed, differs), within) =
       absurd (wrong_length typ (length content) expected actual (length-valid typ content valid) (sym (n_is content zeros rest low) ∙ is) fixed differs)
-  outcome new (Err (errors.InvalidTtlvValue t)) (same, (can, enough, invalid), within) =
+  outcome cf new (Err (errors.InvalidTtlvValue t)) (same, (can, enough, invalid), within) =
       let bad : is_valid typ content ≡ false = ap (is_valid typ) (sym (content_is content zeros rest low)) ∙ invalid in absurd (true_not_false (sym valid ∙ bad))
-  outcome new (Err (errors.IoError e)) (inl fails, within) = absurd (true_not_false (sym fails))
-  outcome new (Err (errors.IoError e)) (inr (eof, cut), within) = absurd (not_cut cut)
-  outcome new (Err errors.OutOfMemory) (takes, within) = (refl, takes)
-  outcome new (Err (errors.InvalidTtlvTag text)) h = absurd h
-  outcome new (Err (errors.UnexpectedTtlvField x y)) h = absurd h
-  outcome new (Err (errors.UnsupportedTtlvType x)) h = absurd h
-  outcome new (Err (errors.InvalidTtlvType x)) h = absurd h
-  outcome new (Err errors.InvalidStateMachineOperation) h = absurd h
-  outcome new (Err errors.LengthOverflow) h = absurd h
+  outcome cf new (Err (errors.IoError e)) (inl fails, within) = fails
+  outcome cf new (Err (errors.IoError e)) (inr (eof, cut), within) = absurd (not_cut cut)
+  outcome cf new (Err errors.OutOfMemory) (takes, some, within) = (takes, omega (arith, some.1, n_is content zeros rest low))
+  outcome cf new (Err (errors.InvalidTtlvTag text)) h = absurd h
+  outcome cf new (Err (errors.UnexpectedTtlvField x y)) h = absurd h
+  outcome cf new (Err (errors.UnsupportedTtlvType x)) h = absurd h
+  outcome cf new (Err (errors.InvalidTtlvType x)) h = absurd h
+  outcome cf new (Err errors.InvalidStateMachineOperation) h = absurd h
+  outcome cf new (Err errors.LengthOverflow) h = absurd h
 
 -- each value is read back
 pub read_back : {T : Type 0} (typ : TtlvType) (bytes_of : T → List ℕ) (tm : Bool) (v : T) → is_valid typ (bytes_of v) ≡ true → IsReadBack typ bytes_of tm v
 unfolding length_and_content
-read_back typ bytes_of tm v valid low rest new result =
+read_back typ bytes_of tm v valid low cf rest new result =
     let content : List ℕ = content_of typ (bytes_of v) in
     let zero : ℕ = 0 in
-    outcome typ bytes_of tm content (replicate (pad_len (length content)) zero) rest low (length-replicate (pad_len (length content)) zero) (content-valid typ (bytes_of v) valid) new result
+    outcome typ bytes_of tm content (replicate (pad_len (length content)) zero) rest low (length-replicate (pad_len (length content)) zero) (content-valid typ (bytes_of v) valid) cf new result
 
 -- each whole leaf is read
 pub whole_leaves : {T : Type 0} (typ : TtlvType) (bytes_of : T → List ℕ) (tm : Bool) → ReadsWholeLeaves typ bytes_of tm
 unfolding length_and_content
-whole_leaves typ bytes_of tm content pad rest low padded valid new result = outcome typ bytes_of tm content pad rest low padded valid new result
+whole_leaves typ bytes_of tm content pad rest low padded valid cf new result = outcome typ bytes_of tm content pad rest low padded valid cf new result

@@ -1,6 +1,6 @@
 -- Numbers in hexadecimal digits of a fixed count.
 use Rattle.std.specs.Prelude.{ℕ, ◌/◌, ◌%◌, List, [], ◌∷◌, ◌++◌, true, codes}
-use Rattle.std.specs.Fmt.{digit_glyph}
+use Rattle.std.specs.Fmt.{digit_glyph, digits}
 
 -- one digit, in upper case
 abbrev pub digit : ℕ → ℕ
@@ -26,3 +26,7 @@ tag_text t = codes "0x" ++ six_digits t
 -- how a length is printed
 abbrev pub length_text : ℕ → List ℕ
 length_text n = codes "0x" ++ eight_digits n
+
+-- a number as `0x` and uppercase digits without leading zeros
+abbrev pub number_text : ℕ → List ℕ
+number_text n = codes "0x" ++ digits 16 true n

@@ -30,6 +30,7 @@ type_of n =
     if n == 9 then Some DateTime else
     if n == 10 then Some Interval else None
 
+-- not the type of a leaf
 abbrev pub is_structure : TtlvType → Bool
 is_structure Structure = true
 is_structure _ = false

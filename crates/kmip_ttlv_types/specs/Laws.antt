@@ -1,8 +1,8 @@
 -- Laws of the definitions, which the functions of the module `laws` promise.
-use Rattle.std.specs.Prelude.{◌≡◌, ◌↔◌, ℕ, ◌+◌, ◌%◌, ◌^◌, ◌<◌, ◌≤◌, ◌⊎◌, IsOk, None, List, ◌∷◌, ◌++◌, length, replicate, Bool, true, false, IsTrue, Option, Some, Result, MatchResult}
+use Rattle.std.specs.Prelude.{◌≡◌, ◌↔◌, ℕ, ◌+◌, ◌%◌, ◌^◌, ◌<◌, ◌≤◌, ◌⊎◌, IsOk, None, List, ◌∷◌, ◌++◌, length, replicate, Bool, true, false, IsTrue, Option, Some, Result, Ok, Err, MatchResult}
 use Rattle.std.specs.declared.alloc.Global.{Global}
 use Rattle.kmip_ttlv_types.specs.declared.error.Error.{Error}
-use Rattle.kmip_ttlv_types.specs.declared.error.Error.TheVariants.{OutOfMemory, InvalidTtlvType}
+use Rattle.kmip_ttlv_types.specs.declared.error.Error.TheVariants.{OutOfMemory, InvalidTtlvType, IoError, LengthOverflow}
 use Rattle.kmip_ttlv_types.specs.declared.field.FieldType.{FieldType}
 use Rattle.kmip_ttlv_types.specs.declared.field.FieldType.TheVariants.{Tag, Typ}
 use Rattle.kmip_ttlv_types.specs.declared.machine.TtlvStateMachineMode.TheVariants.{Deserializing, Serializing}
@@ -19,21 +19,36 @@ use Rattle.std.specs.Int.{bytes_high_first}
 abbrev pub written_rest : TtlvType → List ℕ → List ℕ
 written_rest typ bytes = let content = content_of typ bytes in length_and_content content ++ replicate (pad_len (length content)) 0
 
+-- why a whole leaf that is there is not read: reading failed, which it can; or memory was refused, where
+-- it is taken for a content that is not empty
+abbrev pub FailsToRead : {A : Type 0} → (takes_memory can_fail : Bool) → List ℕ → Error A → Type 0
+FailsToRead takes_memory can_fail content (IoError e) = IsTrue can_fail
+FailsToRead takes_memory can_fail content OutOfMemory = IsTrue takes_memory × (0 < length content)
+FailsToRead takes_memory can_fail content e = ⊥
+
 -- whatever is read where a value was written, is that value: its bytes are those that were written, and
--- what follows is left; the only refusal is want of memory, and only where reading takes memory
+-- what follows is left
 abbrev pub IsReadBack : {T : Type 0} → TtlvType → (T → List ℕ) → Bool → T → Type 0
 IsReadBack {T} typ bytes_of takes_memory v =
-    length (content_of typ (bytes_of v)) < 2 ^ 32 → (rest : List ℕ) (new : Option (List ℕ)) (result : Result T (Error Global))
-    → ReadsLeaf typ bytes_of takes_memory false (Some (written_rest typ (bytes_of v) ++ rest)) new result
-    → MatchResult result (λ w. (bytes_of w ≡ content_of typ (bytes_of v)) × (new ≡ Some rest)) (λ e. (e ≡ OutOfMemory) × IsTrue takes_memory)
+    length (content_of typ (bytes_of v)) < 2 ^ 32 → (can_fail : Bool) (rest : List ℕ) (new : Option (List ℕ)) (result : Result T (Error Global))
+    → ReadsLeaf typ bytes_of takes_memory can_fail (Some (written_rest typ (bytes_of v) ++ rest)) new result
+    → MatchResult result (λ w. (bytes_of w ≡ content_of typ (bytes_of v)) × (new ≡ Some rest)) (FailsToRead takes_memory can_fail (content_of typ (bytes_of v)))
 
--- a whole leaf in memory, its padding of any value, is read: the only refusal is want of memory, and
--- only where reading takes memory
+-- a whole leaf that is there, its padding of any value, is read, and what follows is left
 abbrev pub ReadsWholeLeaves : {T : Type 0} → TtlvType → (T → List ℕ) → Bool → Type 0
 ReadsWholeLeaves {T} typ bytes_of takes_memory =
     (content pad rest : List ℕ) → length content < 2 ^ 32 → length pad ≡ pad_len (length content) → is_valid typ content ≡ true
-    → (new : Option (List ℕ)) (result : Result T (Error Global)) → ReadsLeaf typ bytes_of takes_memory false (Some ((length_and_content content ++ pad) ++ rest)) new result
-    → MatchResult result (λ w. (bytes_of w ≡ content) × (new ≡ Some rest)) (λ e. (e ≡ OutOfMemory) × IsTrue takes_memory)
+    → (can_fail : Bool) (new : Option (List ℕ)) (result : Result T (Error Global)) → ReadsLeaf typ bytes_of takes_memory can_fail (Some ((length_and_content content ++ pad) ++ rest)) new result
+    → MatchResult result (λ w. (bytes_of w ≡ content) × (new ≡ Some rest)) (FailsToRead takes_memory can_fail content)
+
+-- a value was written into memory and read from there; or it is too long to be written; or there was no
+-- memory for its bytes; or none for the value that was read, where it is taken
+abbrev pub Rereads : {T A : Type 0} → TtlvType → (T → List ℕ) → (takes_memory : Bool) → T → Result T (Error A) → Type 0
+Rereads typ bytes_of takes_memory v (Ok w) = bytes_of w ≡ content_of typ (bytes_of v)
+Rereads typ bytes_of takes_memory v (Err LengthOverflow) = 2 ^ 32 ≤ length (content_of typ (bytes_of v))
+Rereads typ bytes_of takes_memory v (Err (IoError e)) = Unit {0}
+Rereads typ bytes_of takes_memory v (Err OutOfMemory) = IsTrue takes_memory × (0 < length (content_of typ (bytes_of v)))
+Rereads typ bytes_of takes_memory v (Err _) = ⊥
 
 -- a tag, a type or a length is read from memory that has its bytes; of a type the byte may be no code
 abbrev pub ReadsHeaders : Type 0

@@ -14,6 +14,7 @@ pub record State : Type 0 where
   pub due : FieldType
   pub ignores : Bool
 
+-- the state that a machine is in
 abbrev pub state_of : TtlvStateMachine → State
 state_of m = record { mode = m.mode; due = m.due; ignores = m.ignores_tag }
 

@@ -17,13 +17,16 @@ without_0x [] = []
 without_0x (a ∷ []) = a ∷ []
 without_0x (a ∷ b ∷ rest) = if (a == 48) && (b == 120) then without_0x rest else a ∷ b ∷ rest
 
+-- each is a digit of the radix, of either case
 abbrev pub all_digits : ℕ → List ℕ → Bool
 all_digits radix [] = true
 all_digits radix (c ∷ cs) = is_digit c radix && all_digits radix cs
 
+-- the number of one hexadecimal digit or more, where it is below 2^32
 abbrev pub numeral : List ℕ → Option ℕ
 numeral ds = if nat_lt 0 (length ds) && all_digits 16 ds && nat_lt (digits_value 16 ds) (2 ^ 32) then Some (digits_value 16 ds) else None
 
+-- the number that a text is: any count of leading "0x", a "+" or none, and hexadecimal digits
 unfoldable pub number : List ℕ → Option ℕ
 number s = numeral (without_leading_plus (without_0x s))
 
@@ -31,18 +34,21 @@ number s = numeral (without_leading_plus (without_0x s))
 abbrev pub below_tag_limit : ℕ → Option ℕ
 below_tag_limit n = if nat_lt n (2 ^ 24) then Some n else None
 
+-- the tag that a name is: its number, below 2^24
 unfoldable pub tag_of : List ℕ → Option ℕ
 tag_of name = option_and_then below_tag_limit (number name)
 
+-- what follows "Transparent:", where a name begins with it
 unfoldable pub transparent_name : List ℕ → Option (List ℕ)
 transparent_name name = after_prefix (codes "Transparent:") name
 
+-- what follows "Override:", where a name begins with it
 unfoldable pub override_name : List ℕ → Option (List ℕ)
 override_name name = after_prefix (codes "Override:") name
 
--- the tag that a text is, or a refusal with the whole text, where it is none; memory may be refused
+-- the tag that a text is; or a refusal with the whole text, where it is none, or want of memory for it
 abbrev pub IsNamed : {A : Type 0} → List ℕ → Result ℕ (Error A) → Type 0
 IsNamed s (Ok t) = tag_of s ≡ Some t
 IsNamed s (Err (InvalidTtlvTag text)) = (tag_of s ≡ None) × (string_bytes text ≡ s)
-IsNamed s (Err OutOfMemory) = Unit {0}
+IsNamed s (Err OutOfMemory) = tag_of s ≡ None
 IsNamed s (Err _) = ⊥

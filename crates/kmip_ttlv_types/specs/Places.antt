@@ -5,13 +5,15 @@ use Rattle.kmip_ttlv_types.specs.declared.typ.TtlvType.{TtlvType}
 use Rattle.kmip_ttlv_types.specs.ItemTypes.{code, padding}
 use Rattle.kmip_ttlv_types.specs.Items.{Raw}
 
--- the tag, the type's code and the length that are written at a place
+-- the tag that is written at a place, in its first three bytes
 abbrev pub tag_at : List ℕ → ℕ → ℕ
 tag_at bytes p = from_be_bytes w32 (0 ∷ slice_index bytes p ∷ slice_index bytes (p + 1) ∷ slice_index bytes (p + 2) ∷ [])
 
+-- the type's code, in the fourth
 abbrev pub code_at : List ℕ → ℕ → ℕ
 code_at bytes p = slice_index bytes (p + 3)
 
+-- the length, in the next four
 abbrev pub length_at : List ℕ → ℕ → ℕ
 length_at bytes p = from_be_bytes w32 (slice_index bytes (p + 4) ∷ slice_index bytes (p + 5) ∷ slice_index bytes (p + 6) ∷ slice_index bytes (p + 7) ∷ [])
 
@@ -19,6 +21,7 @@ length_at bytes p = from_be_bytes w32 (slice_index bytes (p + 4) ∷ slice_index
 abbrev pub size : TtlvType → ℕ → ℕ
 size typ n = 8 + n + padding typ n
 
+-- each number is a byte
 abbrev pub all_below : List ℕ → Bool
 all_below [] = true
 all_below (b ∷ bs) = nat_lt b 256 && all_below bs

@@ -67,7 +67,7 @@ ReadsValue typ bytes_of takes_memory can_fail old new n (Err (errors.InvalidTtlv
 ReadsValue typ bytes_of takes_memory can_fail old new n (Err (errors.InvalidTtlvValue t)) =
     (t ≡ typ) × CanHaveLength typ n × ((content : List ℕ) × Consumes old new content × (length content ≡ n) × (is_valid typ content ≡ false))
 ReadsValue typ bytes_of takes_memory can_fail old new n (Err (errors.IoError e)) = CanHaveLength typ n × Lacks can_fail old n e × ConsumesUpTo old new n
-ReadsValue typ bytes_of takes_memory can_fail old new n (Err errors.OutOfMemory) = IsTrue takes_memory × CanHaveLength typ n × ConsumesUpTo old new n
+ReadsValue typ bytes_of takes_memory can_fail old new n (Err errors.OutOfMemory) = IsTrue takes_memory × (0 < n) × CanHaveLength typ n × ConsumesUpTo old new n
 ReadsValue typ bytes_of takes_memory can_fail old new n (Err _) = ⊥
 
 -- the length that these bytes begin with
@@ -96,6 +96,10 @@ HasWrongContent typ bytes =
     let n = stated_length bytes in
     CanHaveLength typ n × (4 + n ≤ length bytes) × (is_valid typ (stated_content bytes) ≡ false)
 
+-- the length is there, and is not zero
+abbrev pub HasContent : List ℕ → Type 0
+HasContent bytes = (4 ≤ length bytes) × (0 < stated_length bytes)
+
 -- no more was taken than the length, the content and the padding
 abbrev pub StaysWithin : (old new : Option (List ℕ)) → Type 0
 StaysWithin old new = IfSome old (λ bytes. let n = stated_length bytes in ConsumesUpTo old new (4 + n + pad_len n))
@@ -117,13 +121,14 @@ ReadsLeaf typ bytes_of takes_memory can_fail old new (Err (errors.InvalidTtlvVal
     (t ≡ typ) × IfSome old (HasWrongContent typ) × StaysWithin old new
 ReadsLeaf typ bytes_of takes_memory can_fail old new (Err (errors.IoError e)) =
     (IsTrue can_fail ⊎ ((error_kind e ≡ UnexpectedEof) × IfSome old (IsCut typ))) × StaysWithin old new
-ReadsLeaf typ bytes_of takes_memory can_fail old new (Err errors.OutOfMemory) = IsTrue takes_memory × StaysWithin old new
+ReadsLeaf typ bytes_of takes_memory can_fail old new (Err errors.OutOfMemory) = IsTrue takes_memory × IfSome old HasContent × StaysWithin old new
 ReadsLeaf typ bytes_of takes_memory can_fail old new (Err _) = ⊥
 
 -- the content of a Boolean
 abbrev pub boolean_bytes : Bool → List ℕ
 boolean_bytes b = to_be_bytes w64 (if b then 1 else 0)
 
+-- these are the content of a Boolean
 pub boolean_bytes-valid : (b : Bool) → is_valid Boolean (boolean_bytes b) ≡ true
 boolean_bytes-valid true = refl
 boolean_bytes-valid false = refl

@@ -42,11 +42,11 @@ FillsAll can_fail old new buf (Ok v) = Consumes old new buf
 FillsAll can_fail old new buf (Err (errors.IoError e)) = Lacks can_fail old (length buf) e × ConsumesUpTo old new (length buf)
 FillsAll can_fail old new buf (Err _) = ⊥
 
--- n bytes were taken into memory; or they did not come; or memory was refused
+-- n bytes were taken into memory; or they did not come; or memory was refused, where any is needed
 abbrev pub Takes : {T A : Type 0} → (T → List ℕ) → Bool → Option (List ℕ) → Option (List ℕ) → ℕ → Result T (Error A) → Type 0
 Takes items can_fail old new n (Ok v) = Consumes old new (items v) × (length (items v) ≡ n)
 Takes items can_fail old new n (Err (errors.IoError e)) = Lacks can_fail old n e × ConsumesUpTo old new n
-Takes items can_fail old new n (Err errors.OutOfMemory) = ConsumesUpTo old new n
+Takes items can_fail old new n (Err errors.OutOfMemory) = (0 < n) × ConsumesUpTo old new n
 Takes items can_fail old new n (Err _) = ⊥
 
 -- the room, where it is known, is less by at most n bytes

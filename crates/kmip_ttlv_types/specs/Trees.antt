@@ -13,10 +13,12 @@ mutual
     leaf : (tag : ℕ) → (typ : TtlvType) → (content : List ℕ) → Tree
     node : (tag : ℕ) → (below : Trees) → Tree
 
+  -- trees, one after the other
   pub data Trees : Type 0 where
     no_trees : Trees
     tree : Tree → Trees → Trees
 
+-- the trees of a list
 abbrev pub trees_of : List Tree → Trees
 trees_of [] = no_trees
 trees_of (t ∷ ts) = tree t (trees_of ts)
@@ -25,6 +27,7 @@ trees_of (t ∷ ts) = tree t (trees_of ts)
 unfoldable pub leaf_bytes : ℕ → TtlvType → List ℕ → List ℕ
 leaf_bytes tag typ content = header tag typ (length content) ++ (content ++ replicate (pad_len (length content)) 0)
 
+-- a structure's canonical bytes have no padding: its content is a multiple of eight bytes
 unfoldable pub node_bytes : ℕ → List ℕ → List ℕ
 node_bytes tag content = header tag Structure (length content) ++ content
 
@@ -67,6 +70,7 @@ abbrev mutual
   AreTreeTexts no_trees bytes = bytes ≡ []
   AreTreeTexts (tree t ts) bytes = (text : List ℕ) × (rest : List ℕ) × (bytes ≡ text ++ rest) × IsTreeText t text × AreTreeTexts ts rest
 
+-- not a leaf
 abbrev pub IsStructure : Tree → Type 0
 IsStructure (leaf tag typ content) = ⊥
 IsStructure (node tag below) = Unit {0}

@@ -41,6 +41,7 @@ pub enum Error<A: Allocator = Global> {
     LengthOverflow,
 }
 
+/// IoError.
 impl<A: Allocator> From<io::Error> for Error<A> {
     ghost from_gives = { λ x e. e ≡ IoError x };
 
@@ -49,6 +50,7 @@ impl<A: Allocator> From<io::Error> for Error<A> {
     }
 }
 
+/// OutOfMemory.
 impl<A: Allocator> From<AllocError> for Error<A> {
     ghost from_gives = { λ _ e. e ≡ OutOfMemory };
 
@@ -57,6 +59,7 @@ impl<A: Allocator> From<AllocError> for Error<A> {
     }
 }
 
+/// OutOfMemory; what could not be kept is dropped.
 impl<T: Drop, A: Allocator> From<AllocFailed<T>> for Error<A> {
     ghost from_gives = { λ _ e. e ≡ OutOfMemory };
 

@@ -12,11 +12,17 @@ use std::ops::Deref;
 /// A field of an item, or several that are written or read at once.
 #[derive(Clone, Copy, Debug, PartialEq, Eq)]
 pub enum FieldType {
+    /// The three bytes of the tag.
     Tag,
+    /// The byte of the type.
     Typ,
+    /// The four bytes of the length.
     Length,
+    /// The content with its padding: of a Structure, the items in it.
     Value,
+    /// A leaf's length and value at once.
     LengthAndValue,
+    /// A leaf's type, length and value at once.
     TypeAndLengthAndValue,
 }
 
@@ -49,6 +55,7 @@ impl fmt::Display for FieldType {
 #[derive(Clone, Copy, Debug, PartialEq, Eq)]
 pub struct ByteOffset(pub u64);
 
+/// The number of bytes before this place.
 impl Deref for ByteOffset {
     type Target = u64;
 
@@ -59,6 +66,7 @@ impl Deref for ByteOffset {
     }
 }
 
+/// The place after so many bytes.
 impl From<u64> for ByteOffset {
     ghost from_gives = { λ n o. o.0 ≡ n };
 
@@ -67,6 +75,7 @@ impl From<u64> for ByteOffset {
     }
 }
 
+/// The place after so many bytes.
 impl From<&u64> for ByteOffset {
     ghost from_gives = { λ n o. o.0 ≡ n.now };
 

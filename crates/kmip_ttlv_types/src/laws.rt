@@ -1,9 +1,8 @@
 //! Laws of reading and writing, each a function that does nothing and whose contract is the law, and
-//! a function that uses them over any primitive.
+//! a function over any primitive that calls one and rests on it.
 
-ghost use Rattle.std.specs.Prelude.{◌≡◌, IfOk, IsTrue};
-ghost use Rattle.kmip_ttlv_types.specs.Laws.{IsReadBack, ReadsWholeLeaves, ReadsHeaders, WritesWhereRoom, ReadsEachField, SkipsIgnoredTags, PadsToEight, LeavesAreTagAndRest};
-ghost use Rattle.kmip_ttlv_types.specs.Primitives.{content_of};
+ghost use Rattle.std.specs.Prelude.{◌≡◌, IsTrue};
+ghost use Rattle.kmip_ttlv_types.specs.Laws.{IsReadBack, ReadsWholeLeaves, ReadsHeaders, WritesWhereRoom, ReadsEachField, SkipsIgnoredTags, PadsToEight, LeavesAreTagAndRest, Rereads};
 
 use crate::Result;
 use crate::fixed::{
@@ -17,13 +16,14 @@ use std::alloc::Allocator;
 use std::hash::Hash;
 
 /// What was written is read back: the value of the bytes that were written, with nothing of what
-/// follows.
+/// follows. The only refusals are a failure of the source, where it can fail, and want of memory, where
+/// reading takes memory for its content.
 pub fn what_was_written_is_read_back<T: SerializableTtlvType>(value: &T)
     ensures { IsReadBack T.HasTtlvType.TTLV_TYPE T.SerializableTtlvType.value_bytes T.SerializableTtlvType.takes_memory value.now }
 {}
 
-/// A whole leaf in memory is read, whatever its padding: want of memory is the only refusal, and comes
-/// only where reading takes memory.
+/// A whole leaf that is there is read, whatever its padding. The only refusals are a failure of the
+/// source, where it can fail, and want of memory, where reading takes memory for its content.
 pub fn a_whole_leaf_in_memory_is_read<T: SerializableTtlvType>()
     ensures { ReadsWholeLeaves T.HasTtlvType.TTLV_TYPE T.SerializableTtlvType.value_bytes T.SerializableTtlvType.takes_memory }
 {}
@@ -106,16 +106,16 @@ pub fn an_interval_is_told_by_its_bytes(a: TtlvInterval, b: TtlvInterval)
 
 /// Writes a value into memory, and reads it from there: the value of the bytes that were written.
 ///
-/// LengthOverflow where the value is too long to be written, and IoError and OutOfMemory where memory
-/// is refused.
+/// LengthOverflow where the value is too long to be written; IoError where memory for its bytes is
+/// refused; OutOfMemory where memory for the value that is read is refused.
 pub fn reread<T: SerializableTtlvType, A: Allocator>(
     room: A,
     alloc: T::Alloc,
     value: &T,
 ) -> Result<T>
-    ensures { let bytes = T.SerializableTtlvType.value_bytes in
-        IfOk result (λ w. bytes w ≡ content_of T.HasTtlvType.TTLV_TYPE (bytes value.now)) }
+    ensures { Rereads T.HasTtlvType.TTLV_TYPE T.SerializableTtlvType.value_bytes T.SerializableTtlvType.takes_memory value.now result }
 {
+    what_was_written_is_read_back(value);
     let mut written = MemorySink(Vec::new(room));
     value.write(&mut written)?;
     let mut source = MemorySource(written.0.as_slice());

@@ -1,8 +1,9 @@
 //! The length of an item's value.
 
-ghost use Rattle.std.specs.Prelude.{◌≡◌, ℕ, Some};
+ghost use Rattle.std.specs.Prelude.{◌≡◌, true, ℕ, Some};
+ghost use Rattle.std.specs.Fmt.{WritesOnOk, digits};
 ghost use Rattle.std.specs.Int.{w32, to_be_bytes};
-ghost use Rattle.kmip_ttlv_types.specs.Digits.{length_text};
+ghost use Rattle.kmip_ttlv_types.specs.Digits.{length_text, number_text};
 ghost use Rattle.kmip_ttlv_types.specs.Headers.{ReadsNumber, Writes};
 
 use crate::digits::{eight_of, write_digits};
@@ -59,6 +60,7 @@ impl TtlvLength {
     }
 }
 
+/// The number of bytes.
 impl Deref for TtlvLength {
     type Target = u32;
 
@@ -80,6 +82,8 @@ impl fmt::Display for TtlvLength {
 
 /// `0x` and uppercase digits without leading zeros.
 impl fmt::Debug for TtlvLength {
+    ghost debug_output = { λ l. Some (number_text l) };
+
     fn fmt<W: fmt::Write>(&self, f: &mut fmt::Formatter<W>) -> fmt::Result {
         let number = self.0;
         write!(f, "0x{number:X}")
@@ -88,7 +92,9 @@ impl fmt::Debug for TtlvLength {
 
 /// Uppercase digits without leading zeros; a width and a fill by zeros are kept.
 impl fmt::UpperHex for TtlvLength {
-    fn fmt<W: fmt::Write>(&self, f: &mut fmt::Formatter<W>) -> fmt::Result {
+    fn fmt<W: fmt::Write>(&self, f: &mut fmt::Formatter<W>) -> fmt::Result
+        ensures { WritesOnOk W.write_str_gives f.old result (digits 16 true self.now) f.new }
+    {
         fmt::UpperHex::fmt(&self.0, f)
     }
 }

@@ -10,7 +10,9 @@ use crate::field::FieldType;
 /// Whether fields are read or written.
 #[derive(Clone, Copy, Debug, PartialEq, Eq)]
 pub enum TtlvStateMachineMode {
+    /// Fields are read.
     Deserializing,
+    /// Fields are written.
     Serializing,
 }
 

@@ -11,7 +11,6 @@ use crate::Result;
 use crate::length::TtlvLength;
 use crate::stream::{Sink, Source, fill_all};
 use crate::typ::TtlvType;
-use std::alloc::Allocator;
 
 /// What has one type of items. It stands apart from `SerializableTtlvType` since two members of one
 /// trait, as this and `ttlv_type`, may not differ in case alone.
@@ -25,8 +24,8 @@ pub trait HasTtlvType {
 /// A type of leaves: its values are read and written with their length and padding (KMIP 1.0,
 /// section 9.1.1). The tag is read and written apart, and so is the type on reading.
 pub trait SerializableTtlvType: HasTtlvType + Sized + Drop {
-    /// What a value that was read keeps its memory from.
-    type Alloc: Allocator;
+    /// What a value that was read keeps its memory from: an allocator, or `()` where it keeps none.
+    type Alloc: Drop;
 
     // The bytes of a value.
     ghost value_bytes: { Self → List ℕ };

@@ -2,17 +2,20 @@
 //!
 //! A call over a reader or a writer that is interrupted is tried again, as often as a 64-bit count
 //! allows. A reader or a writer can fail at any time; memory that has the bytes, or the room,
-//! cannot, and the contracts of `Source` and `Sink` tell the two apart.
+//! cannot, and the contracts of `Source` and `Sink` tell the two apart. A slice, a cursor or a vector
+//! that is handed over as a reader or a writer counts as one; `MemorySource`, `MemoryCursor` and
+//! `MemorySink` are the memory that cannot fail.
 
 ghost use Rattle.std.specs.Prelude.{◌≡◌, ℕ, List, Bool, true, false, Option, None, Some, ◌<◌, ◌≤◌, ◌-◌, ◌+◌, ◌^◌, length, take, drop, IfOk, IfErr, OnOk, OnErr, vec_len, vec_items, vec_capacity};
 ghost use Rattle.std.specs.Io.{ReadsAtMost, WritesAtMost};
+ghost use Rattle.std.specs.Io.Cursor.{cursor_position, cursor_inner, cursor_remaining};
 ghost use Rattle.std.specs.Io.KnownBytes.{Appends, Consumes, IsAtEnd, Keeps};
 ghost use Rattle.kmip_ttlv_types.specs.Streams.{AppendsFront, Fills, FillsAll, Takes, UsesRoom, IsTight};
 
 use crate::error::Error;
 use std::alloc::{AllocError, Allocator, Global};
 use std::io;
-use std::io::{ErrorKind, Read, Write};
+use std::io::{AsBytes, Cursor, ErrorKind, Read, Write};
 
 /// How filling a buffer ended.
 #[derive(Drop)]
@@ -111,6 +114,59 @@ impl<A: Allocator> Sink for MemorySink<A> {
         self.0.extend_from_slice(bytes)?;
         Ok(())
     }
+}
+
+/// A cursor over bytes in memory. It is a source, which gives bytes as long as they are there; over a
+/// lent slice it is a sink too, which takes bytes, from its position on, as long as there is room.
+#[derive(Drop)]
+pub struct MemoryCursor<T>(pub Cursor<T>);
+
+impl<T: AsBytes> Source for MemoryCursor<T> {
+    ghost left = { λ c. cursor_remaining T.bytes c.0 };
+
+    ghost can_fail = { false };
+
+    fn fill(&mut self, buf: &mut [u8]) -> Filled {
+        let at = self.0.position();
+        let all = self.0.get_ref().as_byte_slice();
+        let rest = rest_from(all, at);
+        if rest.len() < buf.len() {
+            return Filled::Ended;
+        }
+        buf.copy_from_slice(&rest[..buf.len()]);
+        self.0.set_position(at.saturating_add(buf.len() as u64));
+        Filled::Full
+    }
+}
+
+impl Sink for MemoryCursor<&mut [u8]> {
+    ghost held = { λ c. Some (take (cursor_position c.0) (cursor_inner c.0).now) };
+
+    ghost room = { λ c. Some (length (cursor_inner c.0).now - cursor_position c.0) };
+
+    /// An error of the kind WriteZero where there is no room for all of the bytes.
+    fn send(&mut self, bytes: &[u8]) -> io::Result<()> {
+        if bytes.is_empty() {
+            return Ok(());
+        }
+        if self.0.get_ref().len() as u64 <= self.0.position() {
+            return Err(io::Error::from(ErrorKind::WriteZero));
+        }
+        let sent = self.0.write(bytes)?;
+        if sent < bytes.len() {
+            return Err(io::Error::from(ErrorKind::WriteZero));
+        }
+        Ok(())
+    }
+}
+
+// The bytes from a position on: none where it is past the end.
+fn rest_from(all: &[u8], at: u64) -> &[u8]
+    ensures rest { result.now ≡ drop at all.now }
+    ensures len { length result.now ≡ length all.now - at }
+{
+    let start = (at as usize).min(all.len());
+    &all[start..]
 }
 
 /// One read. Interrupted, it tries again, as often as a 64-bit count allows.

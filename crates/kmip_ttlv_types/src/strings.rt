@@ -38,6 +38,7 @@ impl<A: Allocator + Clone> Clone for TtlvTextString<A> {
     }
 }
 
+/// The text.
 impl<A: Allocator> Deref for TtlvTextString<A> {
     type Target = String<A>;
 
@@ -96,6 +97,7 @@ impl<A: Allocator + Clone> Clone for TtlvByteString<A> {
     }
 }
 
+/// The bytes.
 impl<A: Allocator> Deref for TtlvByteString<A> {
     type Target = Vec<u8, A>;
 
@@ -152,6 +154,7 @@ impl<A: Allocator + Clone> Clone for TtlvBigInteger<A> {
     }
 }
 
+/// The bytes of the two's complement.
 impl<A: Allocator> Deref for TtlvBigInteger<A> {
     type Target = Vec<u8, A>;
 

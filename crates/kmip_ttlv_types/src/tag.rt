@@ -1,9 +1,11 @@
 //! The tag of an item.
 
-ghost use Rattle.std.specs.Prelude.{◌≡◌, ℕ, ◌≤◌, ◌^◌, ◌++◌, IfNone, IfSome, IfOk, IfErr, Some, None, string_bytes};
+ghost use Rattle.std.specs.Prelude.{◌≡◌, true, ℕ, ◌≤◌, ◌^◌, ◌++◌, IfNone, IfSome, IfOk, IfErr, Some, None, string_bytes};
 ghost use Rattle.std.specs.Int.{bytes_high_first};
+ghost use Rattle.std.specs.Str.{IsAscii};
+ghost use Rattle.std.specs.Fmt.{WritesOnOk, digits};
 ghost use Rattle.kmip_ttlv_types.specs.Names.{tag_of, IsNamed};
-ghost use Rattle.kmip_ttlv_types.specs.Digits.{tag_text};
+ghost use Rattle.kmip_ttlv_types.specs.Digits.{tag_text, six_digits, number_text};
 ghost use Rattle.kmip_ttlv_types.specs.Headers.{ReadsNumber, Writes};
 
 use crate::digits::{six_of, write_digits};
@@ -33,7 +35,7 @@ impl Model for TtlvTag {
 }
 
 impl TtlvTag {
-    /// The tag of a number below 2^24.
+    /// The tag of a number below 2^24, and none from there on.
     pub fn from_number(n: u32) -> Option<TtlvTag>
         ensures some { IfSome result (λ t. t ≡ n) }
         ensures none { IfNone result (2 ^ 24 ≤ n) }
@@ -55,7 +57,8 @@ impl TtlvTag {
 
     /// The tag that a text is: a number, as `number` reads it, below 2^24.
     ///
-    /// InvalidTtlvTag with the whole text where it is none.
+    /// InvalidTtlvTag with the whole text where it is none, or OutOfMemory where memory for that text is
+    /// refused.
     pub fn from_str<A: Allocator>(alloc: A, text: &str) -> Result<TtlvTag, Error<A>>
         ensures { IsNamed text.now result }
     {
@@ -63,6 +66,14 @@ impl TtlvTag {
             Some(tag) => Ok(tag),
             None => Err(Error::InvalidTtlvTag(String::from_str(alloc, text)?)),
         }
+    }
+
+    /// The six uppercase hexadecimal digits of the tag, in ASCII.
+    pub fn digits(self) -> [u8; 6]
+        ensures digits { result ≡ six_digits self }
+        ensures ascii { IsAscii result }
+    {
+        six_of(self.0)
     }
 
     /// Takes the three bytes of a tag.
@@ -88,6 +99,7 @@ impl TtlvTag {
     }
 }
 
+/// The tag's number, below 2^24.
 impl Deref for TtlvTag {
     type Target = u32;
 
@@ -98,6 +110,7 @@ impl Deref for TtlvTag {
     }
 }
 
+/// The tag of three bytes, the highest first.
 impl From<[u8; 3]> for TtlvTag {
     ghost use Rattle.std.specs.Prelude.{[], ◌∷◌};
     ghost use Rattle.std.specs.Int.{w32, from_be_bytes};
@@ -110,6 +123,7 @@ impl From<[u8; 3]> for TtlvTag {
     }
 }
 
+/// The tag of three bytes, the highest first.
 impl From<&[u8; 3]> for TtlvTag {
     ghost use Rattle.std.specs.Prelude.{[], ◌∷◌};
     ghost use Rattle.std.specs.Int.{w32, from_be_bytes};
@@ -122,6 +136,7 @@ impl From<&[u8; 3]> for TtlvTag {
     }
 }
 
+/// The three bytes of the tag, the highest first.
 impl From<TtlvTag> for [u8; 3] {
     ghost from_gives = { λ t bytes. bytes ≡ bytes_high_first 3 t };
 
@@ -131,6 +146,7 @@ impl From<TtlvTag> for [u8; 3] {
     }
 }
 
+/// The three bytes of the tag, the highest first.
 impl From<&TtlvTag> for [u8; 3] {
     ghost from_gives = { λ t bytes. bytes ≡ bytes_high_first 3 t.now };
 
@@ -145,12 +161,14 @@ impl fmt::Display for TtlvTag {
     ghost output = { λ t. Some (tag_text t) };
 
     fn fmt<W: fmt::Write>(&self, f: &mut fmt::Formatter<W>) -> fmt::Result {
-        write_digits(f, &six_of(self.0))
+        write_digits(f, &self.digits())
     }
 }
 
 /// `0x` and uppercase digits without leading zeros.
 impl fmt::Debug for TtlvTag {
+    ghost debug_output = { λ t. Some (number_text t) };
+
     fn fmt<W: fmt::Write>(&self, f: &mut fmt::Formatter<W>) -> fmt::Result {
         let number = self.0;
         write!(f, "0x{number:X}")
@@ -159,7 +177,9 @@ impl fmt::Debug for TtlvTag {
 
 /// Uppercase digits without leading zeros; a width and a fill by zeros are kept.
 impl fmt::UpperHex for TtlvTag {
-    fn fmt<W: fmt::Write>(&self, f: &mut fmt::Formatter<W>) -> fmt::Result {
+    fn fmt<W: fmt::Write>(&self, f: &mut fmt::Formatter<W>) -> fmt::Result
+        ensures { WritesOnOk W.write_str_gives f.old result (digits 16 true self.now) f.new }
+    {
         fmt::UpperHex::fmt(&self.0, f)
     }
 }

@@ -12,15 +12,25 @@ use std::fmt;
 /// The type of an item (KMIP 1.0, section 9.1.1.2). Its code is one byte on the wire.
 #[derive(Clone, Copy, Debug, PartialEq, Eq)]
 pub enum TtlvType {
+    /// Code 01: items, one after the other.
     Structure,
+    /// Code 02: a signed number of four bytes.
     Integer,
+    /// Code 03: a signed number of eight bytes.
     LongInteger,
+    /// Code 04: a signed number of any length.
     BigInteger,
+    /// Code 05: an unsigned number of four bytes that names a choice.
     Enumeration,
+    /// Code 06: true or false, in eight bytes.
     Boolean,
+    /// Code 07: a text in UTF-8.
     TextString,
+    /// Code 08: any bytes.
     ByteString,
+    /// Code 09: seconds since the start of 1970, a signed number of eight bytes.
     DateTime,
+    /// Code 0A: a span of seconds, an unsigned number of four bytes.
     Interval,
 }
 
@@ -98,6 +108,7 @@ impl TryFrom<u8> for TtlvType {
     }
 }
 
+/// The byte of the type's code.
 impl From<TtlvType> for [u8; 1] {
     ghost use Rattle.std.specs.Prelude.{[], ◌∷◌};
 

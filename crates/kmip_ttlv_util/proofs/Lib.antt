@@ -6,7 +6,6 @@ pub mod MapClones
 pub mod Message
 pub mod Padding
 pub mod Parts
-pub mod PlaceLemmas
 pub mod PrettyTexts
 pub mod ReadBack
 pub mod Reading

@@ -17,7 +17,7 @@ use Rattle.kmip_ttlv_util.specs.Diagnostics.{diag_style, hostile}
 use Rattle.kmip_ttlv_util.specs.declared.item.Item.{Item}
 use Rattle.kmip_ttlv_util.specs.Answer.{IsExact, IsItem}
 use Rattle.kmip_ttlv_util.proofs.Unique.{diag_one}
-use Rattle.kmip_ttlv_util.proofs.PlaceLemmas.{raw_of, header_of}
+use Rattle.kmip_ttlv_types.proofs.PlaceLemmas.{raw_with, header_of}
 use Rattle.kmip_ttlv_util.proofs.Entries.{kept_enumeration}
 use Rattle.kmip_ttlv_util.proofs.Walked.{Drawing, Draws, drawn, drawn_all, message_told, leaf_not}
 
@@ -115,8 +115,8 @@ kept_fits Interval content valid all = tt
 mutual
   -- a message's outline is one
   is_outline : (t : Tree) (text : List ℕ) → IsTreeText t text → AreBytes text → IsOutline (outline_of t)
-  is_outline (leaf tag typ content) text h all = (h.1.tag_fits, kept_fits typ content h.0 (content_bytes (raw_of tag typ content) text h.1 all))
-  is_outline (node tag ts) text h all = (h.1.tag_fits, are_outlines ts h.0 h.2 (content_bytes (raw_of tag Structure h.0) text h.1 all))
+  is_outline (leaf tag typ content) text h all = (h.1.tag_fits, kept_fits typ content h.0 (content_bytes (raw_with tag typ content) text h.1 all))
+  is_outline (node tag ts) text h all = (h.1.tag_fits, are_outlines ts h.0 h.2 (content_bytes (raw_with tag Structure h.0) text h.1 all))
 
   -- and those in it
   are_outlines : (ts : Trees) (text : List ℕ) → AreTreeTexts ts text → AreBytes text → AreOutlines (outlines_of ts)

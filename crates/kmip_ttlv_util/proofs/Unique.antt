@@ -3,8 +3,6 @@ use Rattle.std.proofs.Common.{◌≡◌, ◌≢◌, ℕ, zero, suc, ◌+◌, ◌
 use Rattle.std.proofs.Common.{◌⊎◌, inl, inr}
 use Rattle.std.proofs.lemmas.Bool.{ltb-true, ltb-false}
 use Rattle.std.proofs.lemmas.List.{length-drop}
-use Rattle.std.specs.Str.{IsUtf8}
-use Rattle.std.proofs.lemmas.Str.{IsUtf8-from_ascii}
 use Rattle.std.specs.Prelude.{nat_eq}
 use Rattle.std.specs.List.{starts_with, AllByRecursion}
 use Rattle.std.specs.Fmt.{digit_glyph, digits_onto, digits}
@@ -14,7 +12,8 @@ use Rattle.std.proofs.lemmas.Slice.Eq.{starts_is}
 use Rattle.std.proofs.lemmas.Bool.Decides.{Decides-eqb}
 use Rattle.kmip_ttlv_types.specs.declared.typ.TtlvType.{TtlvType}
 use Rattle.kmip_ttlv_types.specs.declared.typ.TtlvType.TheVariants.{Structure, Integer, LongInteger, BigInteger, Enumeration, Boolean, TextString, ByteString, DateTime, Interval}
-use Rattle.kmip_ttlv_util.specs.Outlines.{Outline, Outlines, leaf_outline, node_outline, no_outlines, outline, IsKept, IsOutline, AreOutlines, hex_upper, six_digits, stripped, letter, value_text, mark, diag, diag_all}
+use Rattle.kmip_ttlv_types.specs.Digits.{six_digits}
+use Rattle.kmip_ttlv_util.specs.Outlines.{Outline, Outlines, leaf_outline, node_outline, no_outlines, outline, IsKept, IsOutline, AreOutlines, hex_upper, stripped, letter, value_text, mark, diag, diag_all}
 
 -- a digit of upper case hexadecimal: no letter, no bracket and no colon
 abbrev pub IsDigit : ℕ → Type 0
@@ -85,16 +84,6 @@ glyph_one a b ha hb = by (ltb a 10) (ltb b 10) refl refl
     by true false p q e = omega (arith, ltb-true _ _ p, ltb-false _ _ q, e)
     by false true p q e = omega (arith, ltb-false _ _ p, ltb-true _ _ q, e)
     by false false p q e = omega arith
-
--- digits are ASCII
-all_ascii : (cs : List ℕ) → AllDigits cs → (i : ℕ) → get_or cs i 0 < 128
-all_ascii [] all i = omega arith
-all_ascii (c ∷ cs) all zero = omega (arith, all.0.0)
-all_ascii (c ∷ cs) all (suc i) = all_ascii cs all.1 i
-
--- six digits are a text
-pub six_utf8 : (n : ℕ) → IsUtf8 (six_digits n)
-six_utf8 n = IsUtf8-from_ascii (six_digits n) (all_ascii (six_digits n) (six_all n))
 
 -- there are six
 six_length : (n : ℕ) → length (six_digits n) ≡ 6

@@ -11,7 +11,7 @@ use Rattle.kmip_ttlv_types.specs.Places.{tag_at, length_at, size}
 use Rattle.kmip_ttlv_types.specs.Trees.{Tree, Trees, leaf, node, no_trees, tree, IsTreeText, AreTreeTexts, HasNoEmpty, HaveNoEmpty, IsStructure}
 use Rattle.kmip_ttlv_util.specs.Traces.{Entry, start, entry_at, has_end, after, detail_of, extent, trace, Style, told}
 use Rattle.kmip_ttlv_util.specs.Answer.{Ready}
-use Rattle.kmip_ttlv_util.proofs.PlaceLemmas.{raw_of, header_of, item_at_text, text_length, type_of-code}
+use Rattle.kmip_ttlv_types.proofs.PlaceLemmas.{raw_with, header_of, item_at_text, text_length, type_of-code}
 use Rattle.kmip_ttlv_util.proofs.Entries.{entry_tag, entry_length, detail_here, read_leaf, read_structure, extent_leaf}
 use Rattle.kmip_ttlv_util.proofs.Rest.{place, ready_root, ready_before, text_from, text_start, text_reads, text_closes, text_over}
 use Rattle.kmip_ttlv_util.proofs.Stack.{step_leaf, step_opens}
@@ -37,8 +37,8 @@ size_least typ n = omega arith
 
 -- lengths
 tree_length : (t : Tree) (text : List ℕ) → IsTreeText t text → 8 ≤ length text
-tree_length (leaf tag typ content) text h = omega (arith, text_length (raw_of tag typ content) text h.1, size_least typ (length content))
-tree_length (node tag ts) text h = omega (arith, text_length (raw_of tag Structure h.0) text h.1, size_least Structure (length h.0))
+tree_length (leaf tag typ content) text h = omega (arith, text_length (raw_with tag typ content) text h.1, size_least typ (length content))
+tree_length (node tag ts) text h = omega (arith, text_length (raw_with tag Structure h.0) text h.1, size_least Structure (length h.0))
 
 -- the bytes are enough turns
 record Turns (g n : ℕ) (m : ℕ → ℕ) : Type 0 where
@@ -48,7 +48,7 @@ record Turns (g n : ℕ) (m : ℕ → ℕ) : Type 0 where
 
 -- how long a structure's text is
 node_length : (tag : ℕ) (ts : Trees) (text : List ℕ) (h : IsTreeText (node tag ts) text) → length text ≡ 8 + length h.0
-node_length tag ts text h = text_length (raw_of tag Structure h.0) text h.1 ∙ omega arith
+node_length tag ts text h = text_length (raw_with tag Structure h.0) text h.1 ∙ omega arith
 
 mutual
   -- a tree takes no more turns than it has bytes
@@ -141,7 +141,7 @@ module _ (style : Style) (d : Drawing) (closed : Bool) (w : List ℕ) (draws : D
   leaf_step : (tag : ℕ) (typ : TtlvType) (content : List ℕ) (p f : ℕ) (es : List ℕ) (k : ℕ) (z : Bool) (text rest : List ℕ) → IsTreeText (leaf tag typ content) text → drop p w ≡ text ++ rest → p ≤ length w → Ready (place p es k z)
       → text_from style closed w (suc f) (place p es k z) ≡ d.of_leaf (k + length es) tag typ content ++ text_from style closed w f (place (p + length text) es k z)
   leaf_step tag typ content p f es k z text rest h at le ready =
-      let item = item_at_text w p (raw_of tag typ content) text rest le at h.1 in
+      let item = item_at_text w p (raw_with tag typ content) text rest le at h.1 in
       let n = length_at w p in
       let m = length_at (entry_at w p).header 0 in
       let ne = leaf_not typ content h.0 in
@@ -154,7 +154,7 @@ module _ (style : Style) (d : Drawing) (closed : Bool) (w : List ℕ) (draws : D
         content_is = ap (λ (q : ℕ). take q (drop (p + 8) w)) (entry_length w p) ∙ sym item.content;
         detail_is = detail_here w p typ n (ap type_of (sym item.typ) ∙ type_of-code typ) refl item.there ∙ ap (detail_of typ) (sym item.content);
       } in
-      let size-is : p + length text ≡ p + extent typ m = ap (λ (q : ℕ). p + q) (text_length (raw_of tag typ content) text h.1 ∙ ap (size typ) (item.len ∙ sym (entry_length w p)) ∙ sym (extent_leaf typ m ne)) in
+      let size-is : p + length text ≡ p + extent typ m = ap (λ (q : ℕ). p + q) (text_length (raw_with tag typ content) text h.1 ∙ ap (size typ) (item.len ∙ sym (entry_length w p)) ∙ sym (extent_leaf typ m ne)) in
       let goes : after closed (place p es k z) typ m ≡ place (p + length text) es k z = sym (step_leaf closed (place p es k z) typ m (p + length text) ready ne size-is) in
       text_reads style closed w f (place p es k z) typ ready reads ∙ rw (draws.leafs (k + length es) p tag typ content here, goes) refl
 
@@ -162,7 +162,7 @@ module _ (style : Style) (d : Drawing) (closed : Bool) (w : List ℕ) (draws : D
   node_step : (tag : ℕ) (ts : Trees) (p f : ℕ) (es : List ℕ) (k : ℕ) (z : Bool) (text rest : List ℕ) (h : IsTreeText (node tag ts) text) → (closed ≡ false → HasNoEmpty (node tag ts)) → drop p w ≡ text ++ rest → p ≤ length w → Ready (place p es k z)
       → text_from style closed w (suc f) (place p es k z) ≡ d.of_node (k + length es) tag ++ text_from style closed w f (place (p + 8) ((p + 8 + length h.0) ∷ es) k z)
   node_step tag ts p f es k z text rest h none at le ready =
-      let item = item_at_text w p (raw_of tag Structure h.0) text rest le at h.1 in
+      let item = item_at_text w p (raw_with tag Structure h.0) text rest le at h.1 in
       let n = length_at (entry_at w p).header 0 in
       let n-is : n ≡ length h.0 = entry_length w p ∙ sym item.len in
       let reads = read_structure w p (ap type_of (sym item.typ)) (omega (arith, item.there)) in
@@ -183,7 +183,7 @@ module _ (style : Style) (d : Drawing) (closed : Bool) (w : List ℕ) (draws : D
         let long : p + 8 ≤ length w = omega (arith, within_at w p text rest le at, tree_length (node tag ts) text h) in
         let deep : k + length (q ∷ e ∷ es) ≡ suc (k + length (e ∷ es)) = omega arith in
         let first = node_step tag ts p (more_all ts f) (e ∷ es) k z text rest h none at le ready in
-        let second = trees_text ts (p + 8) q f (e ∷ es) k z h.0 (h.1.pad ++ rest) h.2 (λ c. inner tag ts (none c)) (content_at_text w p (raw_of tag Structure h.0) text rest h.1 at) long (omega arith) in
+        let second = trees_text ts (p + 8) q f (e ∷ es) k z h.0 (h.1.pad ++ rest) h.2 (λ c. inner tag ts (none c)) (content_at_text w p (raw_with tag Structure h.0) text rest h.1 at) long (omega arith) in
         let third = text_closes style closed w f q e es k z in
         let front = d.of_node (k + length (e ∷ es)) tag in
         let below = drawn_all d style.close (suc (k + length (e ∷ es))) ts in
@@ -219,6 +219,6 @@ module _ (style : Style) (d : Drawing) (closed : Bool) (w : List ℕ) (draws : D
       let t = turns (node tag ts) w (suc (length w)) h (omega arith) in
       let at : drop 0 w ≡ w ++ [] = sym (append-nil w) in
       let first = node_step tag ts 0 (more_all ts t.left) [] 0 false w [] h none at (omega arith) (ready_root 0 0 false) in
-      let second = trees_text ts (0 + 8) (0 + 8 + length h.0) t.left [] 0 false h.0 (h.1.pad ++ []) h.2 (λ c. inner tag ts (none c)) (content_at_text w 0 (raw_of tag Structure h.0) w [] h.1 at) (omega (arith, node_length tag ts w h)) (omega arith) in
+      let second = trees_text ts (0 + 8) (0 + 8 + length h.0) t.left [] 0 false h.0 (h.1.pad ++ []) h.2 (λ c. inner tag ts (none c)) (content_at_text w 0 (raw_with tag Structure h.0) w [] h.1 at) (omega (arith, node_length tag ts w h)) (omega arith) in
       sym (text_start style closed w) ∙ ap (λ (n : ℕ). text_from style closed w n start) t.is
       ∙ first ∙ ap (λ (r : List ℕ). d.of_node 0 tag ++ r) (second ∙ ap (λ (r : List ℕ). drawn_all d style.close 1 ts ++ r) (text_over style closed w t.left (0 + 8 + length h.0) 0 false))

@@ -1,8 +1,9 @@
 -- Outlines of messages: what a diagnostic tells, and its text.
-use Rattle.std.specs.Prelude.{ℕ, ◌^◌, ◌<◌, ◌/◌, ◌%◌, List, [], ◌∷◌, ◌++◌, length, drop, true, if◌then◌else◌, Option, Some, None, nat_eq}
+use Rattle.std.specs.Prelude.{ℕ, ◌^◌, ◌<◌, List, [], ◌∷◌, ◌++◌, length, drop, true, if◌then◌else◌, Option, Some, None, nat_eq}
 use Rattle.std.specs.List.{starts_with}
 use Rattle.std.specs.Int.{w32, from_be_bytes}
-use Rattle.std.specs.Fmt.{digits, digit_glyph}
+use Rattle.std.specs.Fmt.{digits}
+use Rattle.kmip_ttlv_types.specs.Digits.{six_digits}
 use Rattle.kmip_ttlv_types.specs.declared.typ.TtlvType.{TtlvType}
 use Rattle.kmip_ttlv_types.specs.declared.typ.TtlvType.TheVariants.{Structure, Integer, LongInteger, BigInteger, Enumeration, Boolean, TextString, ByteString, DateTime, Interval}
 use Rattle.kmip_ttlv_types.specs.Trees.{Tree, Trees, leaf, node, no_trees, tree}
@@ -13,6 +14,7 @@ mutual
     leaf_outline : (tag : ℕ) → (typ : TtlvType) → (value : Option ℕ) → Outline
     node_outline : (tag : ℕ) → (below : Outlines) → Outline
 
+  -- outlines, one after the other
   pub data Outlines : Type 0 where
     no_outlines : Outlines
     outline : Outline → Outlines → Outlines
@@ -53,12 +55,6 @@ abbrev mutual
 -- n in uppercase hexadecimal, without leading zeros
 abbrev pub hex_upper : ℕ → List ℕ
 hex_upper n = digits 16 true n
-
--- the six digits of a tag
-unfoldable pub six_digits : ℕ → List ℕ
-six_digits n =
-    digit_glyph true (n / 1048576 % 16) ∷ digit_glyph true (n / 65536 % 16) ∷ digit_glyph true (n / 4096 % 16)
-    ∷ digit_glyph true (n / 256 % 16) ∷ digit_glyph true (n / 16 % 16) ∷ digit_glyph true (n % 16) ∷ []
 
 -- the digits without the prefix, where they begin with it
 abbrev pub stripped : List ℕ → List ℕ → List ℕ

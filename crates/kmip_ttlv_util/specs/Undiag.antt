@@ -6,7 +6,8 @@ use Rattle.std.specs.Str.{trim_end}
 use Rattle.kmip_ttlv_types.specs.declared.typ.TtlvType.{TtlvType}
 use Rattle.kmip_ttlv_types.specs.declared.typ.TtlvType.TheVariants.{Structure, Integer, LongInteger, BigInteger, Enumeration, Boolean, TextString, ByteString, DateTime, Interval}
 use Rattle.kmip_ttlv_types.specs.Names.{tag_of}
-use Rattle.kmip_ttlv_util.specs.Outlines.{Outline, Outlines, leaf_outline, node_outline, no_outlines, outline, IsOutline, hex_upper, six_digits, letter, diag}
+use Rattle.kmip_ttlv_types.specs.Digits.{six_digits}
+use Rattle.kmip_ttlv_util.specs.Outlines.{Outline, Outlines, leaf_outline, node_outline, no_outlines, outline, IsOutline, hex_upper, letter, diag}
 use Rattle.kmip_ttlv_util.specs.Lines.{tag_part, typ_part}
 
 -- 0 to 9 and A to F

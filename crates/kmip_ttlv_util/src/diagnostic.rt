@@ -2,8 +2,8 @@
 
 ghost use Rattle.std.specs.Prelude.{◌≡◌, ℕ, ◌+◌, ◌/◌, ◌<◌, ◌≤◌, ◌^◌, ◌++◌, ◌∷◌, List, [], length, IfOk, OnOk, IfSome, string_bytes};
 ghost use Rattle.std.specs.Prelude.{true};
-ghost use Rattle.std.specs.Fmt.{digit_glyph};
-ghost use Rattle.kmip_ttlv_util.specs.Outlines.{six_digits, stripped, letter, value_text, mark};
+ghost use Rattle.kmip_ttlv_types.specs.Digits.{six_digits};
+ghost use Rattle.kmip_ttlv_util.specs.Outlines.{stripped, letter, value_text, mark};
 ghost use Rattle.kmip_ttlv_util.specs.Traces.{trace};
 ghost use Rattle.kmip_ttlv_util.specs.Diagnostics.{hostile};
 
@@ -15,26 +15,6 @@ use std::str;
 
 /// What stands where a structure's content exceeds its length.
 pub const EXCEEDED: &str = "\nERROR: TTLV structure content exceeds the structure length.";
-
-fn digit(n: u32) -> u8
-    requires { n < 16 }
-    ensures { result ≡ digit_glyph true n }
-{
-    if n < 10 { 48 + n as u8 } else { 55 + n as u8 }
-}
-
-fn six_digits(n: u32) -> [u8; 6]
-    ensures { result ≡ six_digits n }
-{
-    [
-        digit(n / 1_048_576 % 16),
-        digit(n / 65_536 % 16),
-        digit(n / 4_096 % 16),
-        digit(n / 256 % 16),
-        digit(n / 16 % 16),
-        digit(n % 16),
-    ]
-}
 
 /// The text without the prefix, where it begins with it.
 fn strip<'t>(prefix: &str, text: &'t str) -> &'t str
@@ -49,8 +29,8 @@ fn strip<'t>(prefix: &str, text: &'t str) -> &'t str
 fn push_tag<A: Allocator>(out: &mut String<A>, prefix: &str, tag: TtlvTag) -> Result<(), AllocError>
     ensures { OnOk result (string_bytes out.new ≡ string_bytes out.old ++ stripped prefix.now (six_digits tag)) }
 {
-    let six = six_digits(*tag);
-    let Ok(text) = str::from_utf8(&six) else {
+    let digits = tag.digits();
+    let Ok(text) = str::from_utf8(&digits) else {
         unreachable!();
     };
     out.push_str(strip(prefix, text))

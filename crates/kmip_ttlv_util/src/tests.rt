@@ -69,94 +69,67 @@ fn shows(
     Ok(shown.as_str() == text && counted.as_str() == text && items == count)
 }
 
+// Prefix, message, its diagnostic, and how many items that tells.
+const DIAGNOSTICS: [(&str, &str, &str, usize); 14] = [
+    ("4200", EMPTY_FIRST, "69[6A[6Bi]]", 3),
+    ("4200", NESTED, "69[6A[6Bi]]", 3),
+    ("4200", "4200690100000000", "69[ERR", 2),
+    (
+        "4200",
+        "420069010000000842006A02000000040000000100000000",
+        PAST,
+        2,
+    ),
+    (
+        "",
+        "AAAAAA0100000010BBBBBB07000000016100000000000000",
+        "AAAAAA[BBBBBBt]",
+        2,
+    ),
+    (
+        "",
+        "AAAAAA0100000010BBBBBB07000000036162630000000000",
+        "AAAAAA[BBBBBBt]",
+        2,
+    ),
+    (
+        "",
+        "AAAAAA0100000018BBBBBB070000000961626364656667686900000000000000",
+        "AAAAAA[BBBBBBt]",
+        2,
+    ),
+    (
+        "",
+        "AAAAAA0100000010BBBBBB0700000001FF00000000000000",
+        "AAAAAA[ERR",
+        2,
+    ),
+    ("4200", VERSION, "69[6Ai6Bi]", 3),
+    ("4200", "42006A02000000040000000100000000", "6AiERR", 2),
+    ("4200", SHORT, "69[6A[6BiERR", 4),
+    ("4200", "", "ERR", 1),
+    (
+        "",
+        "AAAAAA01FFFFFFFFBBBBBB02000000040000000300000000",
+        "AAAAAA[BBBBBBiERR",
+        3,
+    ),
+    (
+        "",
+        "AAAAAA0100000010BBBBBB07FFFFFFFF6100000000000000",
+        "AAAAAA[ERR",
+        2,
+    ),
+];
+
 #[test]
 fn diagnostics(rt: HostRuntime) -> Result<(), Fail> {
-    assert!(rt; shows(rt.alloc(), false, "4200", EMPTY_FIRST, "69[6A[6Bi]]", 3)?);
-    assert!(rt; shows(rt.alloc(), false, "4200", NESTED, "69[6A[6Bi]]", 3)?);
-    assert!(rt; shows(rt.alloc(), false, "4200", "4200690100000000", "69[ERR", 2)?);
-    assert!(rt;
-        shows(
-            rt.alloc(),
-            false,
-            "4200",
-            "420069010000000842006A02000000040000000100000000",
-            PAST,
-            2
-        )?
-    );
-    assert!(rt;
-        shows(
-            rt.alloc(),
-            false,
-            "",
-            "AAAAAA0100000010BBBBBB07000000016100000000000000",
-            "AAAAAA[BBBBBBt]",
-            2
-        )?
-    );
-    assert!(rt;
-        shows(
-            rt.alloc(),
-            false,
-            "",
-            "AAAAAA0100000010BBBBBB07000000036162630000000000",
-            "AAAAAA[BBBBBBt]",
-            2
-        )?
-    );
-    assert!(rt;
-        shows(
-            rt.alloc(),
-            false,
-            "",
-            "AAAAAA0100000018BBBBBB070000000961626364656667686900000000000000",
-            "AAAAAA[BBBBBBt]",
-            2
-        )?
-    );
-    assert!(rt;
-        shows(
-            rt.alloc(),
-            false,
-            "",
-            "AAAAAA0100000010BBBBBB0700000001FF00000000000000",
-            "AAAAAA[ERR",
-            2
-        )?
-    );
-    assert!(rt; shows(rt.alloc(), false, "4200", VERSION, "69[6Ai6Bi]", 3)?);
-    assert!(rt;
-        shows(
-            rt.alloc(),
-            false,
-            "4200",
-            "42006A02000000040000000100000000",
-            "6AiERR",
-            2
-        )?
-    );
-    assert!(rt; shows(rt.alloc(), false, "4200", SHORT, "69[6A[6BiERR", 4)?);
-    assert!(rt; shows(rt.alloc(), false, "4200", "", "ERR", 1)?);
-    assert!(rt;
-        shows(
-            rt.alloc(),
-            false,
-            "",
-            "AAAAAA01FFFFFFFFBBBBBB02000000040000000300000000",
-            "AAAAAA[BBBBBBiERR",
-            3
-        )?
-    );
-    assert!(rt;
-        shows(
-            rt.alloc(),
-            false,
-            "",
-            "AAAAAA0100000010BBBBBB07FFFFFFFF6100000000000000",
-            "AAAAAA[ERR",
-            2
-        )?
-    );
+    for (prefix, hex, text, count) in DIAGNOSTICS {
+        assert!(rt;
+            shows(rt.alloc(), false, prefix, hex, text, count)?,
+            "{hex}"
+        );
+    }
     Ok(())
 }
 
@@ -222,85 +195,53 @@ fn reads(alloc: Global, prefix: &str, text: &str, lines: &str) -> Result<bool, F
     Ok(read.as_str() == lines)
 }
 
+// Prefix, diagnostic, and the lines that it is read back as.
+const READ_BACK: [(&str, &str, &str); 14] = [
+    ("4200", "]", ""),
+    ("4200", "24e:", "Tag: 0x420024, Type: Enumeration (0x05)"),
+    (
+        "4200",
+        "69[ERR",
+        "Tag: 0x420069, Type: Structure (0x01), Data: \n  Tag: 0x4200E",
+    ),
+    ("4200", "69[", "Tag: 0x420069, Type: Structure (0x01)"),
+    (
+        "4200",
+        "24eFF:",
+        "Tag: 0x420024, Type: Enumeration (0x05), Data: FF",
+    ),
+    (
+        "4200",
+        "69[]]]6Ai",
+        "Tag: 0x420069, Type: Structure (0x01), Data:",
+    ),
+    ("4200", "69\u{e9}", "Tag: 0x420069"),
+    ("4200", "\u{e9}", "Tag: 0x4200"),
+    ("", "\u{e9}", ""),
+    ("", "12i", "Tag: 0x0012, Type: Integer (0x02)"),
+    (
+        "4200",
+        "6t]",
+        "Tag: 0x42006, Type: TextString (0x07), Data: <redacted>",
+    ),
+    ("4200", "6t", "Tag: 0x42006, Type: TextString (0x07)"),
+    (
+        "",
+        "AAAAAA[BBBBBBn]",
+        "Tag: 0xAAAAAA, Type: Structure (0x01), Data: \n  Tag: 0xBBBBBB, Type: Interval (0x0A), Data: <redacted>",
+    ),
+    (
+        "4200",
+        "69[6A[]6Bi]",
+        "Tag: 0x420069, Type: Structure (0x01), Data: \n  Tag: 0x42006A, Type: Structure (0x01), Data: \n  Tag: 0x42006B, Type: Integer (0x02), Data: <redacted>",
+    ),
+];
+
 #[test]
 fn read_back(rt: HostRuntime) -> Result<(), Fail> {
-    assert!(rt; reads(rt.alloc(), "4200", "]", "")?);
-    assert!(rt;
-        reads(
-            rt.alloc(),
-            "4200",
-            "24e:",
-            "Tag: 0x420024, Type: Enumeration (0x05)"
-        )?
-    );
-    assert!(rt;
-        reads(
-            rt.alloc(),
-            "4200",
-            "69[ERR",
-            "Tag: 0x420069, Type: Structure (0x01), Data: \n  Tag: 0x4200E"
-        )?
-    );
-    assert!(rt;
-        reads(
-            rt.alloc(),
-            "4200",
-            "69[",
-            "Tag: 0x420069, Type: Structure (0x01)"
-        )?
-    );
-    assert!(rt;
-        reads(
-            rt.alloc(),
-            "4200",
-            "24eFF:",
-            "Tag: 0x420024, Type: Enumeration (0x05), Data: FF"
-        )?
-    );
-    assert!(rt;
-        reads(
-            rt.alloc(),
-            "4200",
-            "69[]]]6Ai",
-            "Tag: 0x420069, Type: Structure (0x01), Data:"
-        )?
-    );
-    assert!(rt; reads(rt.alloc(), "4200", "69\u{e9}", "Tag: 0x420069")?);
-    assert!(rt; reads(rt.alloc(), "4200", "\u{e9}", "Tag: 0x4200")?);
-    assert!(rt; reads(rt.alloc(), "", "\u{e9}", "")?);
-    assert!(rt; reads(rt.alloc(), "", "12i", "Tag: 0x0012, Type: Integer (0x02)")?);
-    assert!(rt;
-        reads(
-            rt.alloc(),
-            "4200",
-            "6t]",
-            "Tag: 0x42006, Type: TextString (0x07), Data: <redacted>"
-        )?
-    );
-    assert!(rt;
-        reads(
-            rt.alloc(),
-            "4200",
-            "6t",
-            "Tag: 0x42006, Type: TextString (0x07)"
-        )?
-    );
-    assert!(rt;
-        reads(
-            rt.alloc(),
-            "",
-            "AAAAAA[BBBBBBn]",
-            "Tag: 0xAAAAAA, Type: Structure (0x01), Data: \n  Tag: 0xBBBBBB, Type: Interval (0x0A), Data: <redacted>"
-        )?
-    );
-    assert!(rt;
-        reads(
-            rt.alloc(),
-            "4200",
-            "69[6A[]6Bi]",
-            "Tag: 0x420069, Type: Structure (0x01), Data: \n  Tag: 0x42006A, Type: Structure (0x01), Data: \n  Tag: 0x42006B, Type: Integer (0x02), Data: <redacted>"
-        )?
-    );
+    for (prefix, text, lines) in READ_BACK {
+        assert!(rt; reads(rt.alloc(), prefix, text, lines)?, "{text}");
+    }
     Ok(())
 }
 
@@ -403,100 +344,73 @@ fn values(alloc: Global, item: &str, line: &str) -> Result<bool, Fail> {
     prints(alloc, false, hex.as_str(), text.as_str())
 }
 
+// An item of sixteen bytes, and the line that is printed of it.
+const VALUES: [(&str, &str); 13] = [
+    (
+        "42002002000000040000000800000000",
+        "Integer (0x02), Data: 0x000008 (8)",
+    ),
+    (
+        "4200200200000004FFFFFFFF00000000",
+        "Integer (0x02), Data: 0xFFFFFFFF (-1)",
+    ),
+    (
+        "420020030000000801B69B4BA5749200",
+        "LongInteger (0x03), Data: 0x1B69B4BA5749200 (123456789000000000)",
+    ),
+    (
+        "4200200300000008FFFFFFFFFFFFFFFE",
+        "LongInteger (0x03), Data: 0xFFFFFFFFFFFFFFFE (-2)",
+    ),
+    (
+        "4200200400000008FFFFFFFFFFFFFF80",
+        "BigInteger (0x04), Data: FFFFFFFFFFFFFF80",
+    ),
+    (
+        "4200200500000004000000FF00000000",
+        "Enumeration (0x05), Data: 0x0000FF (255)",
+    ),
+    (
+        "42002006000000080000000000000001",
+        "Boolean (0x06), Data: true",
+    ),
+    (
+        "42002006000000080000000000000000",
+        "Boolean (0x06), Data: false",
+    ),
+    (
+        "42002007000000016100000000000000",
+        "TextString (0x07), Data: a",
+    ),
+    (
+        "42002008000000030102030000000000",
+        "ByteString (0x08), Data: 010203",
+    ),
+    (
+        "42002009000000080000000047DA67F8",
+        "DateTime (0x09), Data: 0x47DA67F8",
+    ),
+    (
+        "4200200A00000004FFFFFFFF00000000",
+        "Interval (0x0A), Data: 0xFFFFFFFF (4294967295)",
+    ),
+    (
+        "4200200A000000040000000100000000",
+        "Interval (0x0A), Data: 0x000001 (1)",
+    ),
+];
+
 #[test]
 fn readable_values(rt: HostRuntime) -> Result<(), Fail> {
+    for (item, line) in VALUES {
+        assert!(rt; values(rt.alloc(), item, line)?, "{item}");
+    }
+    Ok(())
+}
+
+#[test]
+fn readable_values_of_any_length(rt: HostRuntime) -> Result<(), Fail> {
     let alloc = rt.alloc();
-    assert!(rt;
-        values(
-            alloc,
-            "42002002000000040000000800000000",
-            "Integer (0x02), Data: 0x000008 (8)"
-        )?
-    );
-    assert!(rt;
-        values(
-            alloc,
-            "4200200200000004FFFFFFFF00000000",
-            "Integer (0x02), Data: 0xFFFFFFFF (-1)"
-        )?
-    );
-    assert!(rt;
-        values(
-            alloc,
-            "420020030000000801B69B4BA5749200",
-            "LongInteger (0x03), Data: 0x1B69B4BA5749200 (123456789000000000)"
-        )?
-    );
-    assert!(rt;
-        values(
-            alloc,
-            "4200200300000008FFFFFFFFFFFFFFFE",
-            "LongInteger (0x03), Data: 0xFFFFFFFFFFFFFFFE (-2)"
-        )?
-    );
-    assert!(rt;
-        values(
-            alloc,
-            "4200200400000008FFFFFFFFFFFFFF80",
-            "BigInteger (0x04), Data: FFFFFFFFFFFFFF80"
-        )?
-    );
-    assert!(rt;
-        values(
-            alloc,
-            "4200200500000004000000FF00000000",
-            "Enumeration (0x05), Data: 0x0000FF (255)"
-        )?
-    );
-    assert!(rt;
-        values(
-            alloc,
-            "42002006000000080000000000000001",
-            "Boolean (0x06), Data: true"
-        )?
-    );
-    assert!(rt;
-        values(
-            alloc,
-            "42002006000000080000000000000000",
-            "Boolean (0x06), Data: false"
-        )?
-    );
-    assert!(rt;
-        values(
-            alloc,
-            "42002007000000016100000000000000",
-            "TextString (0x07), Data: a"
-        )?
-    );
-    assert!(rt;
-        values(
-            alloc,
-            "42002008000000030102030000000000",
-            "ByteString (0x08), Data: 010203"
-        )?
-    );
-    assert!(rt;
-        values(
-            alloc,
-            "42002009000000080000000047DA67F8",
-            "DateTime (0x09), Data: 0x47DA67F8"
-        )?
-    );
-    assert!(rt;
-        values(
-            alloc,
-            "4200200A00000004FFFFFFFF00000000",
-            "Interval (0x0A), Data: 0xFFFFFFFF (4294967295)"
-        )?
-    );
-    assert!(rt;
-        values(
-            alloc,
-            "4200200A000000040000000100000000",
-            "Interval (0x0A), Data: 0x000001 (1)"
-        )?
-    );
     let short =
         "Tag: 0x420020, Type: Structure (0x01), Data:\n  Tag: 0x0012, Type: ByteString (0x08), Data: \n";
     assert!(rt; prints(alloc, false, "42002001000000080000120800000000", short)?);
@@ -606,7 +520,7 @@ const DESTROY_RESPONSE: &str =
     "42007B01000000B042007A0100000048420069010000002042006A0200000004000000010000000042006B020000000400000000000000004200920900000008000000004AFBE7C542000D0200000004000000010000000042000F010000005842005C0500000004000000140000000042007F0500000004000000000000000042007C0100000030420094070000002466633838333364652D373064322D346563652D623036332D66656465336133633539666500000000";
 
 #[test]
-fn further_messages(rt: HostRuntime) -> Result<(), Fail> {
+fn destroy_messages(rt: HostRuntime) -> Result<(), Fail> {
     assert!(rt;
         shows(
             rt.alloc(),
@@ -627,6 +541,11 @@ fn further_messages(rt: HostRuntime) -> Result<(), Fail> {
             12
         )?
     );
+    Ok(())
+}
+
+#[test]
+fn pieces_of_structures(rt: HostRuntime) -> Result<(), Fail> {
     let zero = "42006B02000000040000000000000000";
     let first = format!(in rt.alloc(); "420069010000002842006A0100000010{zero}{zero}")?;
     assert!(rt;

@@ -1,11 +1,12 @@
-//! An allocator for tests: it refuses one growth, so that a test sees what a call answers there.
+//! Two allocators for tests: one refuses one growth, so that a test sees what a call answers there;
+//! the other refuses each growth to more than a bound, so that a test sees how much a call asks for.
 //!
 //! A test counts N upwards from 0, hands the call an allocator that refuses the growth after the
 //! first N, and ends at the first N where `has_refused` says that no growth was refused: then the
 //! call has been seen at the refusal of each of its growths in turn.
 //!
-//! That it is an allocator is proved. Which growth it refuses is shown by tests alone, since the
-//! count lies in a cell, and no contract says what a cell holds.
+//! That they are allocators is proved. Which growths they refuse is shown by tests alone: the count
+//! lies in a cell, and no contract says what a cell holds, nor when memory is refused.
 #![tactic(auto)]
 
 use std::alloc::{AllocError, Allocator};
@@ -58,6 +59,46 @@ unsafe impl<B: Allocator> Allocator for RefusingAllocator<B> {
 
     fn allocate(&self, size: usize, align: usize) -> Result<*mut u8, AllocError> {
         if is_turn(&self.granted) {
+            return Err(AllocError);
+        }
+        self.inner.allocate(size, align)
+    }
+
+    unsafe fn deallocate(&self, ptr: *mut u8, size: usize, align: usize) {
+        self.inner.deallocate(ptr, size, align);
+    }
+}
+
+/// Hands each call on to another allocator, but refuses each growth to more than so many bytes. Lend
+/// it as `&allocator`, which is an allocator itself.
+pub struct BoundedAllocator<B: Allocator> {
+    inner: B,
+    most: usize,
+}
+
+impl<B: Allocator> BoundedAllocator<B> {
+    /// Takes memory from `inner`, in blocks of at most `most` bytes each.
+    pub fn new(inner: B, most: usize) -> BoundedAllocator<B> {
+        BoundedAllocator { inner, most }
+    }
+}
+
+impl<B: Allocator> Drop for BoundedAllocator<B> {
+    fn drop(self) {
+        let Self { inner: _, most: _ } = self;
+    }
+}
+
+// Whether a block of this size is refused.
+fn is_too_large(most: &usize, size: usize) -> bool {
+    size > *most
+}
+
+unsafe impl<B: Allocator> Allocator for BoundedAllocator<B> {
+    ghost dealloc_token = { λ heap ty ptr. B.dealloc_token heap.inner ty ptr };
+
+    fn allocate(&self, size: usize, align: usize) -> Result<*mut u8, AllocError> {
+        if is_too_large(&self.most, size) {
             return Err(AllocError);
         }
         self.inner.allocate(size, align)
@@ -132,6 +173,22 @@ mod tests {
         assert!(rt; notes.add("first").is_err());
         assert!(rt; notes.add("second").is_ok());
         assert_eq!(rt; notes.lines.len(), 1);
+        Ok(())
+    }
+
+    #[test]
+    fn refuses_what_is_too_large(rt: HostRuntime) -> Result<(), Fail> {
+        let heap = BoundedAllocator::new(rt.alloc(), 10);
+        let mut bytes = Vec::with_capacity(&heap, 10)?;
+        for byte in 0..10u8 {
+            bytes.push(byte)?;
+        }
+        assert!(rt; bytes.push(10).is_err());
+        assert_eq!(rt; bytes.len(), 10);
+        let more: Result<Vec<u8, _>, AllocError> = Vec::with_capacity(&heap, 11);
+        assert!(rt; more.is_err());
+        let words: Result<Vec<u64, _>, AllocError> = Vec::with_capacity(&heap, 2);
+        assert!(rt; words.is_err());
         Ok(())
     }
 }

@@ -4,7 +4,7 @@ use Rattle.kmip_ttlv_base.specs.declared.shape.Data.{Data}
 use Rattle.kmip_ttlv_base.specs.declared.shape.Data.TheVariants.{Struct}
 use Rattle.kmip_ttlv.specs.Values.{Value, view, views, i32_value, struct_value, value, no_values}
 use Rattle.kmip_ttlv.specs.Gives.{Gives, FirstGives, IsI32, IsEmpty}
-use Rattle.kmip_ttlv.proofs.Views.{view-Struct}
+use Rattle.kmip_ttlv_base.proofs.Views.{view-Struct}
 use Rattle.ttlv_vectors.specs.Samples.{single_form, read_single}
 
 -- one item of data, a number

@@ -7,8 +7,10 @@ use Rattle.kmip_ttlv.specs.Forms.{Form, struct, int32, no_fields, field}
 abbrev pub single_form : Form
 single_form = struct (codes "0xAAAAAA") (field (codes "0xBBBBBB") int32 no_fields) false
 
+-- what is read of a structure of one number
 abbrev pub read_single : ℤ → Value
 read_single n = struct_value (codes "0xAAAAAA") (value (i32_value n) no_values)
 
+-- what is written of it: the number under a tag of its own
 abbrev pub written_single : ℤ → Value
 written_single n = struct_value (codes "0xAAAAAA") (value (newtype_value (codes "Transparent:0xBBBBBB") (i32_value n)) no_values)

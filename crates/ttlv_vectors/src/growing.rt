@@ -4,7 +4,6 @@ use crate::samples::Single;
 use kmip_ttlv::error::{Error, ErrorKind};
 use kmip_ttlv::ser::TtlvSerializer;
 use kmip_ttlv::shape::Data;
-use kmip_ttlv::types::{SerializableTtlvType, TtlvByteString, TtlvTextString};
 use kmip_ttlv::{PrettyPrinter, from_slice, to_vec, to_writer};
 use refusing_allocator::RefusingAllocator;
 use std::alloc::Allocator;
@@ -131,29 +130,6 @@ fn a_serializer_that_met_want_of_memory_is_closed(rt: HostRuntime) -> Result<(),
         Err(error) => assert!(rt; !is_memory(&error) && error.location().is_unknown()),
     }
     assert!(rt; serializer.into_vec().is_err());
-    Ok(())
-}
-
-#[test]
-fn strings_that_are_read_grow(rt: HostRuntime) -> Result<(), Fail> {
-    for before in 0..10u64 {
-        let heap = RefusingAllocator::new(rt.alloc(), before);
-        let mut reader: &[u8] = b"\x00\x00\x00\x01a\x00\x00\x00\x00\x00\x00\x00";
-        match TtlvTextString::read(&heap, &mut reader) {
-            Ok(text) => assert_eq!(rt; text.0.as_str(), "a"),
-            Err(_) => assert!(rt; heap.has_refused(), "at {before}"),
-        }
-        let other = RefusingAllocator::new(rt.alloc(), before);
-        let mut reader: &[u8] = b"\x00\x00\x00\x01a\x00\x00\x00\x00\x00\x00\x00";
-        match TtlvByteString::read(&other, &mut reader) {
-            Ok(bytes) => assert_eq!(rt; bytes.0.as_slice(), b"a".as_slice()),
-            Err(_) => assert!(rt; other.has_refused(), "at {before}"),
-        }
-        if !heap.has_refused() && !other.has_refused() {
-            return Ok(());
-        }
-    }
-    assert!(rt; false, "it grows without end");
     Ok(())
 }
 

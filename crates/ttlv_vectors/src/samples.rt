@@ -53,3 +53,13 @@ impl<A: Allocator> Deserialize<A> for Single {
         })
     }
 }
+
+/// Writes a message, and reads it back from its bytes.
+pub fn there_and_back<A: Allocator + Copy>(
+    alloc: A,
+    message: &Single,
+) -> kmip_ttlv::error::Result<Single, A> {
+    let bytes = kmip_ttlv::to_vec(alloc, message)?;
+    let message: Single = kmip_ttlv::from_slice(alloc, bytes.as_slice())?;
+    Ok(message)
+}

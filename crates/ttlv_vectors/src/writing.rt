@@ -2,11 +2,13 @@
 
 use crate::data::{newtype, variant};
 use crate::request::CreateRequest;
-use crate::samples::Single;
+use crate::samples::{Single, there_and_back};
+use kmip_ttlv::error::ErrorKind;
 use kmip_ttlv::ser::TtlvSerializer;
 use kmip_ttlv::shape::Data;
-use kmip_ttlv::to_vec;
+use kmip_ttlv::{to_vec, to_writer};
 use std::alloc::Global;
+use std::io;
 use std::process::Abort;
 use std::test::Fail;
 
@@ -89,6 +91,69 @@ fn leaves_under_a_tag(rt: HostRuntime) -> Result<(), Fail> {
     let bytes = [0x80u8].to_vec(alloc)?;
     let big = newtype(alloc, "Transparent:0xAABBCC", Data::BigInteger(bytes))?;
     writes(&rt, &big, "AABBCC0400000008FFFFFFFFFFFFFF80")?;
+    Ok(())
+}
+
+// The data is written under the tag 420020 as these bytes behind the tag, in hexadecimal.
+fn leaf_writes(rt: &(impl Abort + Alloc<A = Global>), data: Data, rest: &str) -> Result<(), Fail> {
+    let leaf = newtype(rt.alloc(), "Transparent:0x420020", data)?;
+    let text = format!(in rt.alloc(); "420020{rest}")?;
+    writes(rt, &leaf, text.as_str())
+}
+
+#[test]
+fn numbers_of_the_standard(rt: HostRuntime) -> Result<(), Fail> {
+    leaf_writes(&rt, Data::I32(8), "02000000040000000800000000")?;
+    leaf_writes(&rt, Data::I8(-1), "0200000004FFFFFFFF00000000")?;
+    leaf_writes(&rt, Data::I16(-2), "0200000004FFFFFFFE00000000")?;
+    leaf_writes(
+        &rt,
+        Data::I64(123456789000000000),
+        "030000000801B69B4BA5749200",
+    )?;
+    leaf_writes(&rt, Data::U32(255), "0500000004000000FF00000000")?;
+    leaf_writes(&rt, Data::Bool(true), "06000000080000000000000001")?;
+    leaf_writes(&rt, Data::Bool(false), "06000000080000000000000000")?;
+    leaf_writes(&rt, Data::U64(0x47DA_67F8), "09000000080000000047DA67F8")?;
+    leaf_writes(&rt, Data::Interval(864000), "0A00000004000D2F0000000000")?;
+    Ok(())
+}
+
+#[test]
+fn strings_of_the_standard(rt: HostRuntime) -> Result<(), Fail> {
+    let alloc = rt.alloc();
+    let text = String::from_str(alloc, "Hello World")?;
+    leaf_writes(
+        &rt,
+        Data::Text(text),
+        "070000000B48656C6C6F20576F726C640000000000",
+    )?;
+    let bytes = [1u8, 2, 3].to_vec(alloc)?;
+    leaf_writes(&rt, Data::Bytes(bytes), "08000000030102030000000000")?;
+    let number = hex::decode(alloc, "03FD35EB6BC2DF4618080000")?;
+    leaf_writes(
+        &rt,
+        Data::BigInteger(number),
+        "04000000100000000003FD35EB6BC2DF4618080000",
+    )?;
+    Ok(())
+}
+
+#[test]
+fn tuple_variants(rt: HostRuntime) -> Result<(), Fail> {
+    let alloc = rt.alloc();
+    let mut fields = Vec::new(alloc);
+    fields.push(newtype(alloc, "Transparent:0xBBBBBB", Data::I32(3))?)?;
+    let tuple = Data::TupleVariant {
+        name: "Override:0xAABBCC",
+        variant: "Items",
+        fields,
+    };
+    writes(
+        &rt,
+        &tuple,
+        "AABBCC0100000010BBBBBB02000000040000000300000000",
+    )?;
     Ok(())
 }
 
@@ -190,6 +255,8 @@ fn names_and_types_that_are_refused(rt: HostRuntime) -> Result<(), Fail> {
     )?;
     let none = newtype(alloc, "Transparent:0xAABBCC", Data::None)?;
     refuses(&rt, &none, 3, "SerdeError(UnsupportedRustType(\"None\"))")?;
+    let other = newtype(alloc, "Transparent:0xAABBCC", Data::Unsupported("f32"))?;
+    refuses(&rt, &other, 3, "SerdeError(UnsupportedRustType(\"f32\"))")?;
     let mut one = Vec::new(alloc);
     one.push(Data::I32(1))?;
     let text = "SerdeError(InvalidTag(\"Transparent:0xAABBCC\"))";
@@ -218,6 +285,44 @@ fn a_serializer_that_refused_refuses_on(rt: HostRuntime) -> Result<(), Fail> {
         }
     }
     assert!(rt; serializer.into_vec().is_err());
+    Ok(())
+}
+
+#[test]
+fn a_writer_that_has_too_little_room(rt: HostRuntime) -> Result<(), Fail> {
+    let whole = hex::decode(
+        rt.alloc(),
+        "AAAAAA0100000010BBBBBB02000000040000000300000000",
+    )?;
+    for room in 0..=whole.len() {
+        let mut buffer = [0xEEu8; 24];
+        let mut writer = &mut buffer[..room];
+        match to_writer(rt.alloc(), &Single { number: 3 }, &mut writer) {
+            Ok(()) => assert_eq!(rt; room, whole.len()),
+            Err(error) => {
+                assert!(rt; room < whole.len());
+                assert!(rt; error.location().is_unknown(), "{room}");
+                match error.kind() {
+                    ErrorKind::IoError(cause) => {
+                        assert_eq!(rt; cause.kind(), io::ErrorKind::WriteZero, "{room}")
+                    }
+                    _ => assert!(rt; false, "{room}"),
+                }
+            }
+        }
+        assert_eq!(rt; &buffer[..room], &whole[..room], "{room}");
+    }
+    Ok(())
+}
+
+#[test]
+fn a_value_that_is_written_and_read_back(rt: HostRuntime) -> Result<(), Fail> {
+    for number in [0, 3, -5, i32::MIN, i32::MAX] {
+        match there_and_back(rt.alloc(), &Single { number }) {
+            Ok(back) => assert_eq!(rt; back, Single { number }),
+            Err(_) => assert!(rt; false, "{number}"),
+        }
+    }
     Ok(())
 }
 

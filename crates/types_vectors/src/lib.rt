@@ -1,14 +1,22 @@
 //! Tests of the low-level types and of refusals: the standard's vectors, tables of answers, printed
-//! texts, and readers and writers that give or take one byte a call, are interrupted or fail.
+//! texts, memory, growths that are refused, and readers and writers that give or take one byte a call,
+//! are interrupted or fail.
 #![tactic(auto)]
 
+pub mod by_cursor;
 pub mod faulty;
 #[cfg(test)]
+mod growing;
+#[cfg(test)]
 mod machine;
+#[cfg(test)]
+mod memory;
 #[cfg(test)]
 mod names;
 #[cfg(test)]
 mod refusals;
+#[cfg(test)]
+mod samples;
 #[cfg(test)]
 mod streams;
 #[cfg(test)]

@@ -47,6 +47,14 @@ fn tags_and_bytes(rt: HostRuntime) -> Result<(), Fail> {
 }
 
 #[test]
+fn digits_of_tags(rt: HostRuntime) -> Result<(), Fail> {
+    assert_eq!(rt; TtlvTag::from([0x42, 0x00, 0x20]).digits(), *b"420020");
+    assert_eq!(rt; TtlvTag::from([0, 0, 0x1F]).digits(), *b"00001F");
+    assert_eq!(rt; TtlvTag::from([0xAB, 0xCD, 0xEF]).digits(), *b"ABCDEF");
+    Ok(())
+}
+
+#[test]
 fn codes_of_types(rt: HostRuntime) -> Result<(), Fail> {
     for code in 0..=255u8 {
         match TtlvType::try_from(code) {
@@ -91,6 +99,7 @@ fn texts_of_tags_and_lengths(rt: HostRuntime) -> Result<(), Fail> {
     assert_eq!(rt; format!(in rt.alloc(); "{tag:?}")?.as_str(), "0x12");
     assert_eq!(rt; format!(in rt.alloc(); "{tag:X}")?.as_str(), "12");
     assert_eq!(rt; format!(in rt.alloc(); "{tag:06X}")?.as_str(), "000012");
+    assert_eq!(rt; format!(in rt.alloc(); "{tag:8X}")?.as_str(), "      12");
     let length = TtlvLength::new(0x1_00AB);
     assert_eq!(rt; format!(in rt.alloc(); "{length}")?.as_str(), "0x000100AB");
     assert_eq!(rt; format!(in rt.alloc(); "{length:?}")?.as_str(), "0x100AB");

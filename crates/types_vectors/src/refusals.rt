@@ -3,7 +3,7 @@
 use kmip_ttlv_base::error::{Error, ErrorKind, ErrorLocation, MalformedTtlvError, SerdeError};
 use kmip_ttlv_base::types;
 use kmip_ttlv_base::types::{ByteOffset, FieldType, TtlvTag, TtlvType};
-use std::alloc::Global;
+use std::alloc::{AllocError, Global};
 use std::io;
 use std::io::Cursor;
 use std::test::Fail;
@@ -131,48 +131,58 @@ fn overflows(rt: HostRuntime) -> Result<(), Fail> {
     let mut cursor = Cursor::new(b"abc".as_slice());
     cursor.set_position(12);
     assert_eq!(rt; MalformedTtlvError::overflow(&cursor), wanted);
+    assert_eq!(rt; MalformedTtlvError::overflow(cursor), wanted);
     Ok(())
 }
 
-// How a refusal of this kind begins, printed.
-fn begins(alloc: Global, kind: ErrorKind, text: &str) -> Result<bool, Fail> {
+// How a refusal of this kind after three bytes is printed.
+fn text_of(heap: Global, kind: ErrorKind) -> Result<String, AllocError> {
     let error = Error::new(kind, ErrorLocation::from(3u8));
-    Ok(format!(in alloc; "{error}")?.starts_with(text))
+    format!(in heap; "{error}")
 }
 
 #[test]
 fn texts_of_refusals(rt: HostRuntime) -> Result<(), Fail> {
-    let error: Error = Error::new(
-        ErrorKind::ResponseSizeExceedsLimit(24),
-        ErrorLocation::unknown(),
-    );
-    assert_eq!(rt;
-        format!(in rt.alloc(); "{error}")?.as_str(),
-        "Response size 24 exceeds the configured limit"
-    );
-    let failed = io::Error::from(io::ErrorKind::BrokenPipe);
-    assert!(rt; begins(rt.alloc(), ErrorKind::from(failed), "IO error ")?);
     let malformed = MalformedTtlvError::UnexpectedTtlvField {
         expected: FieldType::Typ,
         actual: FieldType::Tag,
     };
-    assert!(rt;
-        begins(
-            rt.alloc(),
-            ErrorKind::from(malformed),
-            "Malformed TTLV: field Tag where Type is expected (at pos: 3 bytes)"
-        )?
-    );
     let serde: SerdeError = SerdeError::InvalidVariant("Create");
-    assert!(rt;
-        begins(
-            rt.alloc(),
+    for (kind, text) in [
+        (
+            ErrorKind::from(io::Error::from(io::ErrorKind::BrokenPipe)),
+            "IO error broken pipe (at pos: 3 bytes)",
+        ),
+        (
+            ErrorKind::ResponseSizeExceedsLimit(24),
+            "Response size 24 exceeds the configured limit",
+        ),
+        (
+            ErrorKind::from(malformed),
+            "Malformed TTLV: field Tag where Type is expected (at pos: 3 bytes)",
+        ),
+        (
             ErrorKind::from(serde),
-            "Serde error : the variant Create is no number (at "
-        )?
+            "Serde error : the variant Create is no number (at pos: 3 bytes)",
+        ),
+        (ErrorKind::OutOfMemory, "Out of memory"),
+        (
+            ErrorKind::LengthOverflow,
+            "Length overflow (at pos: 3 bytes)",
+        ),
+    ] {
+        assert_eq!(rt; text_of(rt.alloc(), kind)?.as_str(), text);
+    }
+    Ok(())
+}
+
+#[test]
+fn a_refusal_at_no_place(rt: HostRuntime) -> Result<(), Fail> {
+    let error: Error = Error::new(ErrorKind::LengthOverflow, ErrorLocation::unknown());
+    assert_eq!(rt;
+        format!(in rt.alloc(); "{error}")?.as_str(),
+        "Length overflow (at Unknown)"
     );
-    assert!(rt; begins(rt.alloc(), ErrorKind::OutOfMemory, "Out of memory")?);
-    assert!(rt; begins(rt.alloc(), ErrorKind::LengthOverflow, "Length overflow")?);
     Ok(())
 }
 
@@ -199,6 +209,20 @@ fn texts_of_kinds(rt: HostRuntime) -> Result<(), Fail> {
             "an item passes the end at 12 of the structure around it",
         ),
         (
+            MalformedTtlvError::UnexpectedTtlvField {
+                expected: FieldType::Typ,
+                actual: FieldType::Tag,
+            },
+            "field Tag where Type is expected",
+        ),
+        (
+            MalformedTtlvError::UnexpectedType {
+                expected: TtlvType::Structure,
+                actual: TtlvType::Integer,
+            },
+            "type Integer (0x02) where Structure (0x01) is expected",
+        ),
+        (
             MalformedTtlvError::UnsupportedType(10),
             "unsupported type 0x0A",
         ),
@@ -208,6 +232,52 @@ fn texts_of_kinds(rt: HostRuntime) -> Result<(), Fail> {
         ),
     ] {
         assert_eq!(rt; format!(in rt.alloc(); "{kind}")?.as_str(), text);
+    }
+    Ok(())
+}
+
+#[test]
+fn texts_of_disagreements(rt: HostRuntime) -> Result<(), Fail> {
+    let text = |words: &str| String::from_str(rt.alloc(), words);
+    let disagreements: [(SerdeError, &str); 8] = [
+        (
+            SerdeError::InvalidVariant("Create"),
+            "the variant Create is no number",
+        ),
+        (
+            SerdeError::InvalidVariantMatcherSyntax(text("if x")?),
+            "the variant if x is no rule",
+        ),
+        (
+            SerdeError::InvalidTag(text("XYZ")?),
+            "the name XYZ is no tag",
+        ),
+        (
+            SerdeError::MissingIdentifier,
+            "an item in a struct without fields",
+        ),
+        (SerdeError::Other(text("in words")?), "in words"),
+        (
+            SerdeError::UnexpectedTag {
+                expected: TtlvTag::from([0xAA, 0xAA, 0xAA]),
+                actual: TtlvTag::from([0, 0, 1]),
+            },
+            "tag 0x000001 where 0xAAAAAA is expected",
+        ),
+        (
+            SerdeError::UnexpectedType {
+                expected: TtlvType::TextString,
+                actual: TtlvType::Interval,
+            },
+            "type Interval (0x0A) where TextString (0x07) is expected",
+        ),
+        (
+            SerdeError::UnsupportedRustType("f64"),
+            "values of f64 aren't written",
+        ),
+    ];
+    for (kind, words) in &disagreements {
+        assert_eq!(rt; format!(in rt.alloc(); "{kind}")?.as_str(), *words);
     }
     Ok(())
 }

@@ -1,44 +1,25 @@
-//! Reading and writing over readers and writers that are slow, are interrupted or fail.
+//! Reading and writing over readers and writers that are slow, are interrupted or fail: no answer
+//! changes but that of the call that met the failure.
 
-use crate::faulty::{SlowReader, SlowWriter};
-use kmip_ttlv_types::laws::reread;
-use kmip_ttlv_types::stream::{MemorySink, MemorySource};
-use kmip_ttlv_types::{
-    Error, SerializableTtlvType, TtlvBigInteger, TtlvBoolean, TtlvByteString, TtlvDateTime,
-    TtlvEnumeration, TtlvInteger, TtlvInterval, TtlvLength, TtlvLongInteger, TtlvTag,
-    TtlvTextString, TtlvType,
-};
+use crate::faulty::{InterruptedReader, InterruptedWriter, SlowReader, SlowWriter};
+use crate::samples::{Sample, for_each_sample, is_failure, is_value};
+use kmip_ttlv_types::{SerializableTtlvType, TtlvByteString, TtlvLength, TtlvTag, TtlvType};
 use std::alloc::Global;
 use std::io::ErrorKind;
 use std::test::Fail;
 
-const FOUR: &[u8] = b"\x00\x00\x00\x04\x00\x00\x00\x08\x00\x00\x00\x00";
-
-const EIGHT: &[u8] = b"\x00\x00\x00\x08\x00\x00\x00\x00\x00\x00\x00\x01";
-
-const TEXT: &[u8] = b"\x00\x00\x00\x03abc\x00\x00\x00\x00\x00";
-
-// Whether `T` is read from the bytes, one a call, with an interruption at any one call, and a failure
-// at any one call is answered as what it is.
-fn is_read_slowly<T: SerializableTtlvType<Alloc = Global>>(alloc: Global, bytes: &[u8]) -> bool {
-    for calls_before_fault in 0..=bytes.len() as u64 {
+// Whether the value is read from a reader of one byte a call that is interrupted at any one call.
+fn is_read_slowly<T: Sample>(heap: Global) -> bool {
+    let bytes = T::bytes();
+    for count in 0..=bytes.len() {
         let mut reader = SlowReader {
             bytes,
-            calls_before_fault,
+            calls_before_fault: count as u64,
             kind: ErrorKind::Interrupted,
         };
-        if T::read(alloc, &mut reader).is_err() || !reader.bytes.is_empty() {
+        let read = T::read_from(heap, &mut reader);
+        if !is_value(&read) || !reader.bytes.is_empty() {
             return false;
-        }
-        let mut reader = SlowReader {
-            bytes,
-            calls_before_fault,
-            kind: ErrorKind::BrokenPipe,
-        };
-        match T::read(alloc, &mut reader) {
-            Ok(_) if calls_before_fault < bytes.len() as u64 => return false,
-            Err(Error::IoError(e)) if e.kind() != ErrorKind::BrokenPipe => return false,
-            _ => {}
         }
     }
     true
@@ -46,57 +27,66 @@ fn is_read_slowly<T: SerializableTtlvType<Alloc = Global>>(alloc: Global, bytes:
 
 #[test]
 fn slow_readers(rt: HostRuntime) -> Result<(), Fail> {
-    assert!(rt; is_read_slowly::<TtlvInteger>(rt.alloc(), FOUR));
-    assert!(rt; is_read_slowly::<TtlvEnumeration>(rt.alloc(), FOUR));
-    assert!(rt; is_read_slowly::<TtlvInterval>(rt.alloc(), FOUR));
-    assert!(rt; is_read_slowly::<TtlvLongInteger>(rt.alloc(), EIGHT));
-    assert!(rt; is_read_slowly::<TtlvBoolean>(rt.alloc(), EIGHT));
-    assert!(rt; is_read_slowly::<TtlvDateTime>(rt.alloc(), EIGHT));
-    assert!(rt; is_read_slowly::<TtlvTextString>(rt.alloc(), TEXT));
-    assert!(rt; is_read_slowly::<TtlvByteString>(rt.alloc(), TEXT));
-    assert!(rt; is_read_slowly::<TtlvBigInteger>(rt.alloc(), TEXT));
+    assert!(rt; for_each_sample!(is_read_slowly(rt.alloc())));
     Ok(())
 }
 
-#[test]
-fn slow_headers(rt: HostRuntime) -> Result<(), Fail> {
-    for calls_before_fault in 0..9u64 {
+// Whether a reader that fails once, at any one call, with this kind, makes an IoError of that kind and
+// has given the bytes before that call; and one that does not fail before the end gives the value.
+fn is_failed_reading<T: Sample>(heap: Global, kind: ErrorKind) -> bool {
+    let bytes = T::bytes();
+    for count in 0..=bytes.len() {
         let mut reader = SlowReader {
-            bytes: b"\x42\x00\x20\x02\x00\x00\x00\x04",
-            calls_before_fault,
-            kind: ErrorKind::Interrupted,
+            bytes,
+            calls_before_fault: count as u64,
+            kind,
         };
-        assert!(rt; matches!(TtlvTag::read(&mut reader), Ok(tag) if *tag == 0x42_0020));
-        assert!(rt; matches!(TtlvType::read(&mut reader), Ok(TtlvType::Integer)));
-        assert!(rt; matches!(TtlvLength::read(&mut reader), Ok(length) if *length == 4));
+        let read = T::read_from(heap, &mut reader);
+        let is_right = if count < bytes.len() {
+            is_failure(&read, kind)
+        } else {
+            is_value(&read)
+        };
+        if !is_right || reader.bytes != &bytes[count..] {
+            return false;
+        }
+    }
+    true
+}
+
+#[test]
+fn readers_that_fail_once(rt: HostRuntime) -> Result<(), Fail> {
+    for kind in [
+        ErrorKind::BrokenPipe,
+        ErrorKind::TimedOut,
+        ErrorKind::UnexpectedEof,
+    ] {
+        assert!(rt; for_each_sample!(is_failed_reading(rt.alloc(), kind)));
     }
     Ok(())
 }
 
 #[test]
-fn a_reader_that_fails_once(rt: HostRuntime) -> Result<(), Fail> {
+fn a_reader_that_failed_once_goes_on(rt: HostRuntime) -> Result<(), Fail> {
     let mut reader = SlowReader {
         bytes: b"\x42\x00\x20\x02\x00\x00\x00\x04",
         calls_before_fault: 3,
         kind: ErrorKind::TimedOut,
     };
     assert!(rt; matches!(TtlvTag::read(&mut reader), Ok(tag) if *tag == 0x42_0020));
-    match TtlvType::read(&mut reader) {
-        Err(Error::IoError(e)) => assert_eq!(rt; e.kind(), ErrorKind::TimedOut),
-        _ => assert!(rt; false),
-    }
+    assert!(rt; is_failure(&TtlvType::read(&mut reader), ErrorKind::TimedOut));
     assert!(rt; matches!(TtlvType::read(&mut reader), Ok(TtlvType::Integer)));
     assert!(rt; matches!(TtlvLength::read(&mut reader), Ok(length) if *length == 4));
     Ok(())
 }
 
-// Whether the first bytes are there, and the others are asked for in vain.
-fn is_cut_short<T: SerializableTtlvType<Alloc = Global>>(alloc: Global, bytes: &[u8]) -> bool {
+// Whether the bytes, cut after any of them but the last, make an IoError of the kind UnexpectedEof.
+fn is_cut_short<T: Sample>(heap: Global) -> bool {
+    let bytes = T::bytes();
     for count in 0..bytes.len() {
         let mut front = &bytes[..count];
-        match T::read(alloc, &mut front) {
-            Err(Error::IoError(e)) if e.kind() == ErrorKind::UnexpectedEof => {}
-            _ => return false,
+        if !is_failure(&T::read_from(heap, &mut front), ErrorKind::UnexpectedEof) {
+            return false;
         }
     }
     true
@@ -104,68 +94,45 @@ fn is_cut_short<T: SerializableTtlvType<Alloc = Global>>(alloc: Global, bytes: &
 
 #[test]
 fn cut_inputs(rt: HostRuntime) -> Result<(), Fail> {
-    assert!(rt; is_cut_short::<TtlvInteger>(rt.alloc(), FOUR));
-    assert!(rt; is_cut_short::<TtlvLongInteger>(rt.alloc(), EIGHT));
-    assert!(rt; is_cut_short::<TtlvTextString>(rt.alloc(), TEXT));
-    assert!(rt; is_cut_short::<TtlvBigInteger>(rt.alloc(), TEXT));
+    assert!(rt; for_each_sample!(is_cut_short(rt.alloc())));
     Ok(())
 }
 
+// Whether the value is read from a reader that is interrupted so many times before each byte.
+fn is_read_at_length<T: Sample>(heap: Global, interruptions: u64) -> bool {
+    let mut reader = InterruptedReader {
+        bytes: T::bytes(),
+        interruptions,
+        met: 0,
+    };
+    is_value(&T::read_from(heap, &mut reader)) && reader.bytes.is_empty()
+}
+
 #[test]
-fn a_length_of_four_billion_over_three_bytes(rt: HostRuntime) -> Result<(), Fail> {
-    let bytes = b"\xFF\xFF\xFF\xFFabc";
-    let mut text: &[u8] = bytes;
-    match TtlvTextString::read(rt.alloc(), &mut text) {
-        Err(Error::IoError(e)) => assert_eq!(rt; e.kind(), ErrorKind::UnexpectedEof),
-        _ => assert!(rt; false),
-    }
-    let mut octets: &[u8] = bytes;
-    match TtlvByteString::read(rt.alloc(), &mut octets) {
-        Err(Error::IoError(e)) => assert_eq!(rt; e.kind(), ErrorKind::UnexpectedEof),
-        _ => assert!(rt; false),
-    }
-    let mut number: &[u8] = bytes;
-    match TtlvBigInteger::read(rt.alloc(), &mut number) {
-        Err(Error::IoError(e)) => assert_eq!(rt; e.kind(), ErrorKind::UnexpectedEof),
-        _ => assert!(rt; false),
-    }
+fn readers_that_are_interrupted_often(rt: HostRuntime) -> Result<(), Fail> {
+    assert!(rt; for_each_sample!(is_read_at_length(rt.alloc(), 1_000)));
     Ok(())
 }
 
 // A writer with room for so many bytes, which fails with a kind at a call.
-fn slow_writer(alloc: Global, room: usize, calls_before_fault: u64, kind: ErrorKind) -> SlowWriter {
+fn slow_writer(heap: Global, room: usize, calls_before_fault: u64, kind: ErrorKind) -> SlowWriter {
     SlowWriter {
-        taken: Vec::new(alloc),
+        taken: Vec::new(heap),
         room,
         calls_before_fault,
         kind,
     }
 }
 
-// Whether the value is written as the bytes over a writer that takes one a call, is interrupted at any
-// one call, fails at any one call or takes no more bytes from there on.
-fn is_written_slowly<T: SerializableTtlvType>(alloc: Global, value: &T, bytes: &[u8]) -> bool {
+// Whether the value is written over a writer of one byte a call that is interrupted at any one call.
+fn is_written_slowly<T: Sample>(heap: Global) -> bool {
+    let Ok(value) = T::sample(heap) else {
+        return false;
+    };
+    let bytes = T::bytes();
     for count in 0..=bytes.len() {
-        let mut writer = slow_writer(alloc, 100, count as u64, ErrorKind::Interrupted);
-        if value.write(&mut writer).is_err() || writer.taken.as_slice() != bytes {
-            return false;
-        }
-        let mut writer = slow_writer(alloc, 100, count as u64, ErrorKind::BrokenPipe);
-        match value.write(&mut writer) {
-            Ok(()) if count < bytes.len() => return false,
-            Err(Error::IoError(e)) if e.kind() != ErrorKind::BrokenPipe => return false,
-            _ => {}
-        }
-        if writer.taken.as_slice() != &bytes[..count] {
-            return false;
-        }
-        let mut writer = slow_writer(alloc, count, u64::MAX, ErrorKind::BrokenPipe);
-        match value.write(&mut writer) {
-            Ok(()) if count < bytes.len() => return false,
-            Err(Error::IoError(e)) if e.kind() != ErrorKind::WriteZero => return false,
-            _ => {}
-        }
-        if writer.taken.as_slice() != &bytes[..count] {
+        let mut writer = slow_writer(heap, 100, count as u64, ErrorKind::Interrupted);
+        if value.write_to(&mut writer).is_err() || writer.taken.as_slice() != bytes {
             return false;
         }
     }
@@ -174,49 +141,88 @@ fn is_written_slowly<T: SerializableTtlvType>(alloc: Global, value: &T, bytes: &
 
 #[test]
 fn slow_writers(rt: HostRuntime) -> Result<(), Fail> {
-    let integer = b"\x02\x00\x00\x00\x04\x00\x00\x00\x08\x00\x00\x00\x00";
-    assert!(rt; is_written_slowly(rt.alloc(), &TtlvInteger(8), integer));
-    let boolean = b"\x06\x00\x00\x00\x08\x00\x00\x00\x00\x00\x00\x00\x01";
-    assert!(rt; is_written_slowly(rt.alloc(), &TtlvBoolean(true), boolean));
-    let text = TtlvTextString(String::from_str(rt.alloc(), "abc")?);
-    let bytes = b"\x07\x00\x00\x00\x03abc\x00\x00\x00\x00\x00";
-    assert!(rt; is_written_slowly(rt.alloc(), &text, bytes));
-    let number = TtlvBigInteger(Vec::from_slice(rt.alloc(), b"\x80")?);
-    let bytes = b"\x04\x00\x00\x00\x08\xFF\xFF\xFF\xFF\xFF\xFF\xFF\x80";
-    assert!(rt; is_written_slowly(rt.alloc(), &number, bytes));
+    assert!(rt; for_each_sample!(is_written_slowly(rt.alloc())));
     Ok(())
 }
 
+// Whether a writer that fails, at any one call, with this kind, makes an IoError of that kind and has
+// taken the bytes before that call; and one that does not fail before the end takes them all.
+fn is_failed_writing<T: Sample>(heap: Global, kind: ErrorKind) -> bool {
+    let Ok(value) = T::sample(heap) else {
+        return false;
+    };
+    let bytes = T::bytes();
+    for count in 0..=bytes.len() {
+        let mut writer = slow_writer(heap, 100, count as u64, kind);
+        let written = value.write_to(&mut writer);
+        let is_right = if count < bytes.len() {
+            is_failure(&written, kind)
+        } else {
+            written.is_ok()
+        };
+        if !is_right || writer.taken.as_slice() != &bytes[..count] {
+            return false;
+        }
+    }
+    true
+}
+
 #[test]
-fn memory_with_room(rt: HostRuntime) -> Result<(), Fail> {
-    let mut sink = MemorySink(Vec::with_capacity(rt.alloc(), 16)?);
-    assert!(rt; TtlvTag::from([0x42, 0, 0x20]).write(&mut sink).is_ok());
-    assert!(rt; TtlvInteger(8).write(&mut sink).is_ok());
-    let mut source = MemorySource(sink.0.as_slice());
-    assert!(rt; matches!(TtlvTag::read(&mut source), Ok(tag) if *tag == 0x42_0020));
-    assert!(rt; matches!(TtlvType::read(&mut source), Ok(TtlvType::Integer)));
-    assert!(rt;
-        matches!(
-            TtlvInteger::read(rt.alloc(), &mut source),
-            Ok(TtlvInteger(8))
-        )
-    );
-    match TtlvTag::read(&mut source) {
-        Err(Error::IoError(e)) => assert_eq!(rt; e.kind(), ErrorKind::UnexpectedEof),
-        _ => assert!(rt; false),
+fn writers_that_fail_once(rt: HostRuntime) -> Result<(), Fail> {
+    for kind in [
+        ErrorKind::BrokenPipe,
+        ErrorKind::TimedOut,
+        ErrorKind::WriteZero,
+    ] {
+        assert!(rt; for_each_sample!(is_failed_writing(rt.alloc(), kind)));
     }
     Ok(())
 }
 
-#[test]
-fn values_are_reread(rt: HostRuntime) -> Result<(), Fail> {
-    let read = reread(rt.alloc(), rt.alloc(), &TtlvLongInteger(-3));
-    assert!(rt; matches!(read, Ok(TtlvLongInteger(-3))));
-    let text = TtlvTextString(String::from_str(rt.alloc(), "Hello World")?);
-    match reread(rt.alloc(), rt.alloc(), &text) {
-        Ok(read) => assert_eq!(rt; read.as_str(), "Hello World"),
-        Err(_) => assert!(rt; false),
+// Whether a writer that takes no byte after any number of them makes an IoError of the kind WriteZero
+// and has taken those; and one that takes them all answers so.
+fn is_too_much<T: Sample>(heap: Global) -> bool {
+    let Ok(value) = T::sample(heap) else {
+        return false;
+    };
+    let bytes = T::bytes();
+    for room in 0..=bytes.len() {
+        let mut writer = slow_writer(heap, room, u64::MAX, ErrorKind::BrokenPipe);
+        let written = value.write_to(&mut writer);
+        let is_right = if room < bytes.len() {
+            is_failure(&written, ErrorKind::WriteZero)
+        } else {
+            written.is_ok()
+        };
+        if !is_right || writer.taken.as_slice() != &bytes[..room] {
+            return false;
+        }
     }
+    true
+}
+
+#[test]
+fn writers_without_room(rt: HostRuntime) -> Result<(), Fail> {
+    assert!(rt; for_each_sample!(is_too_much(rt.alloc())));
+    Ok(())
+}
+
+// Whether the value is written over a writer that is interrupted so many times before each byte.
+fn is_written_at_length<T: Sample>(heap: Global, interruptions: u64) -> bool {
+    let Ok(value) = T::sample(heap) else {
+        return false;
+    };
+    let mut writer = InterruptedWriter {
+        taken: Vec::new(heap),
+        interruptions,
+        met: 0,
+    };
+    value.write_to(&mut writer).is_ok() && writer.taken.as_slice() == T::bytes()
+}
+
+#[test]
+fn writers_that_are_interrupted_often(rt: HostRuntime) -> Result<(), Fail> {
+    assert!(rt; for_each_sample!(is_written_at_length(rt.alloc(), 1_000)));
     Ok(())
 }
 
@@ -228,11 +234,12 @@ fn a_text_of_several_pieces(rt: HostRuntime) -> Result<(), Fail> {
     bytes.resize(150_004, b'a')?;
     let mut whole = bytes.as_slice();
     match TtlvByteString::read(rt.alloc(), &mut whole) {
-        Ok(read) => assert!(rt; read.len() == 150_000 && read[149_999] == b'a'),
+        Ok(read) => assert_eq!(rt; read.as_slice(), &bytes[4..]),
         Err(_) => assert!(rt; false),
     }
     assert!(rt; bytes.pop().is_some());
     let mut cut = bytes.as_slice();
-    assert!(rt; TtlvByteString::read(rt.alloc(), &mut cut).is_err());
+    let read = TtlvByteString::read(rt.alloc(), &mut cut);
+    assert!(rt; is_failure(&read, ErrorKind::UnexpectedEof));
     Ok(())
 }

@@ -46,7 +46,7 @@ fn big_integers_are_read_as_they_stand(rt: HostRuntime) -> Result<(), Fail> {
 #[test]
 fn booleans_are_refused(rt: HostRuntime) -> Result<(), Fail> {
     let mut short: &[u8] = b"\x00\x00\x00\x04\x00\x00\x00\x01\x00\x00\x00\x00";
-    match TtlvBoolean::read(rt.alloc(), &mut short) {
+    match TtlvBoolean::read((), &mut short) {
         Err(
             Error::InvalidTtlvValueLength {
                 expected,
@@ -57,7 +57,7 @@ fn booleans_are_refused(rt: HostRuntime) -> Result<(), Fail> {
         _ => assert!(rt; false),
     }
     let mut two: &[u8] = b"\x00\x00\x00\x08\x00\x00\x00\x00\x00\x00\x00\x02";
-    let read = TtlvBoolean::read(rt.alloc(), &mut two);
+    let read = TtlvBoolean::read((), &mut two);
     assert!(rt; matches!(read, Err(Error::InvalidTtlvValue(TtlvType::Boolean))));
     Ok(())
 }
@@ -65,7 +65,7 @@ fn booleans_are_refused(rt: HostRuntime) -> Result<(), Fail> {
 #[test]
 fn lengths_are_refused(rt: HostRuntime) -> Result<(), Fail> {
     let mut five: &[u8] = b"\x00\x00\x00\x05\x00\x00\x00\x01\x00\x00\x00\x00";
-    match TtlvInterval::read(rt.alloc(), &mut five) {
+    match TtlvInterval::read((), &mut five) {
         Err(
             Error::InvalidTtlvValueLength {
                 expected,

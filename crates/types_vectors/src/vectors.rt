@@ -34,7 +34,7 @@ fn an_integer(rt: HostRuntime) -> Result<(), Fail> {
     let bytes = b"\x42\x00\x20\x02\x00\x00\x00\x04\x00\x00\x00\x08\x00\x00\x00\x00";
     assert!(rt; is_written_as(rt.alloc(), &TtlvInteger(8), bytes));
     let mut rest = after_head(bytes, TtlvType::Integer).unwrap_or(&[]);
-    assert!(rt; matches!(TtlvInteger::read(rt.alloc(), &mut rest), Ok(TtlvInteger(8))));
+    assert!(rt; matches!(TtlvInteger::read((), &mut rest), Ok(TtlvInteger(8))));
     assert!(rt; rest.is_empty());
     Ok(())
 }
@@ -45,7 +45,7 @@ fn a_long_integer(rt: HostRuntime) -> Result<(), Fail> {
     let value = TtlvLongInteger(123_456_789_000_000_000);
     assert!(rt; is_written_as(rt.alloc(), &value, bytes));
     let mut rest = after_head(bytes, TtlvType::LongInteger).unwrap_or(&[]);
-    let read = TtlvLongInteger::read(rt.alloc(), &mut rest);
+    let read = TtlvLongInteger::read((), &mut rest);
     assert!(rt; matches!(read, Ok(TtlvLongInteger(123_456_789_000_000_000))));
     Ok(())
 }
@@ -72,7 +72,7 @@ fn an_enumeration(rt: HostRuntime) -> Result<(), Fail> {
     let mut rest = after_head(bytes, TtlvType::Enumeration).unwrap_or(&[]);
     assert!(rt;
         matches!(
-            TtlvEnumeration::read(rt.alloc(), &mut rest),
+            TtlvEnumeration::read((), &mut rest),
             Ok(TtlvEnumeration(255))
         )
     );
@@ -84,12 +84,7 @@ fn a_boolean(rt: HostRuntime) -> Result<(), Fail> {
     let bytes = b"\x42\x00\x20\x06\x00\x00\x00\x08\x00\x00\x00\x00\x00\x00\x00\x01";
     assert!(rt; is_written_as(rt.alloc(), &TtlvBoolean(true), bytes));
     let mut rest = after_head(bytes, TtlvType::Boolean).unwrap_or(&[]);
-    assert!(rt;
-        matches!(
-            TtlvBoolean::read(rt.alloc(), &mut rest),
-            Ok(TtlvBoolean(true))
-        )
-    );
+    assert!(rt; matches!(TtlvBoolean::read((), &mut rest), Ok(TtlvBoolean(true))));
     Ok(())
 }
 
@@ -125,7 +120,7 @@ fn a_date_time(rt: HostRuntime) -> Result<(), Fail> {
     let bytes = b"\x42\x00\x20\x09\x00\x00\x00\x08\x00\x00\x00\x00\x47\xDA\x67\xF8";
     assert!(rt; is_written_as(rt.alloc(), &TtlvDateTime(1_205_495_800), bytes));
     let mut rest = after_head(bytes, TtlvType::DateTime).unwrap_or(&[]);
-    let read = TtlvDateTime::read(rt.alloc(), &mut rest);
+    let read = TtlvDateTime::read((), &mut rest);
     assert!(rt; matches!(read, Ok(TtlvDateTime(1_205_495_800))));
     Ok(())
 }
@@ -135,12 +130,7 @@ fn an_interval(rt: HostRuntime) -> Result<(), Fail> {
     let bytes = b"\x42\x00\x20\x0A\x00\x00\x00\x04\x00\x0D\x2F\x00\x00\x00\x00\x00";
     assert!(rt; is_written_as(rt.alloc(), &TtlvInterval(864_000), bytes));
     let mut rest = after_head(bytes, TtlvType::Interval).unwrap_or(&[]);
-    assert!(rt;
-        matches!(
-            TtlvInterval::read(rt.alloc(), &mut rest),
-            Ok(TtlvInterval(864_000))
-        )
-    );
+    assert!(rt; matches!(TtlvInterval::read((), &mut rest), Ok(TtlvInterval(864_000))));
     Ok(())
 }
 
@@ -176,18 +166,13 @@ fn a_structure(rt: HostRuntime) -> Result<(), Fail> {
     assert!(rt; matches!(TtlvType::read(&mut rest), Ok(TtlvType::Enumeration)));
     assert!(rt;
         matches!(
-            TtlvEnumeration::read(rt.alloc(), &mut rest),
+            TtlvEnumeration::read((), &mut rest),
             Ok(TtlvEnumeration(254))
         )
     );
     assert!(rt; matches!(TtlvTag::read(&mut rest), Ok(tag) if *tag == 0x42_0005));
     assert!(rt; matches!(TtlvType::read(&mut rest), Ok(TtlvType::Integer)));
-    assert!(rt;
-        matches!(
-            TtlvInteger::read(rt.alloc(), &mut rest),
-            Ok(TtlvInteger(255))
-        )
-    );
+    assert!(rt; matches!(TtlvInteger::read((), &mut rest), Ok(TtlvInteger(255))));
     assert!(rt; rest.is_empty());
     Ok(())
 }

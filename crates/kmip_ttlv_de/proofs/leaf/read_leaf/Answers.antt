@@ -6,7 +6,7 @@ use Rattle.kmip_ttlv_de.specs.Reads.{takes, leaf_value, with_leaf}
 use Rattle.kmip_ttlv_de.specs.Reading.{any_leaf, read_leaf}
 use Rattle.kmip_ttlv_de.specs.Leaves.{form_of_leaf}
 use Rattle.kmip_ttlv_de.specs.Answer.{sort_of}
-use Rattle.kmip_ttlv_de.proofs.PlaceLemmas.{raw_with}
+use Rattle.kmip_ttlv_types.proofs.PlaceLemmas.{raw_with}
 use Rattle.kmip_ttlv_de.proofs.Heads.{accepted_leaf, leaf_reads, leaf_not_type, leaf_no_value}
 use Rattle.kmip_ttlv_de.proofs.Going.{refused_by}
 use Rattle.kmip_ttlv_de.proofs.FactLemmas.{told_says}

@@ -4,7 +4,8 @@ use Rattle.kmip_ttlv_de.proofs.read.+read_root.Goals as goal
 use Rattle.kmip_ttlv_base.specs.Forms.{form_of}
 use Rattle.kmip_ttlv_base.specs.Values.{view}
 use Rattle.kmip_ttlv_de.proofs.RootLemmas.{fault_not_early}
-use Rattle.kmip_ttlv_de.proofs.Views.{form_of_struct, view-Newtype, view-Some, view-Struct}
+use Rattle.kmip_ttlv_base.proofs.Views.{view-Newtype, view-Some, view-Struct}
+use Rattle.kmip_ttlv_base.proofs.Shapes.{form_of-Struct}
 use Rattle.kmip_ttlv_de.proofs.Whole.{begins_newtype, begins_some, refuses_newtype, refuses_option}
 use Rattle.kmip_ttlv_de.specs.Answer.{sort_of}
 
@@ -21,12 +22,12 @@ returns-in_err-data-in-Newtype-clause-refused g t c =
 pub returns-in_err-fields-in-Struct-clause-refused : goal.returns-in_err-fields-in-Struct-clause-refused
 returns-in_err-fields-in-Struct-clause-refused g t c =
     let p = err_from_is_err_and c.from_residual-in_err-fields-in-Struct.result c.from_residual-in_err-fields-in-Struct.ensures.1 in
-    rw (p.1, p.2, c.in-Struct.is, form_of_struct c.in-Struct.name c.in-Struct.fields c.in-Struct.deny_unknown) (rw c.deref-in-Struct.ensures.value at c.in_err-fields-in-Struct.ensures.refused)
+    rw (p.1, p.2, c.in-Struct.is, form_of-Struct c.in-Struct.name c.in-Struct.fields c.in-Struct.deny_unknown) (rw c.deref-in-Struct.ensures.value at c.in_err-fields-in-Struct.ensures.refused)
 
 pub returns-in_err-fields-in-Struct-clause-facts : goal.returns-in_err-fields-in-Struct-clause-facts
 returns-in_err-fields-in-Struct-clause-facts g t c =
     let p = err_from_is_err_and c.from_residual-in_err-fields-in-Struct.result c.from_residual-in_err-fields-in-Struct.ensures.1 in
-    rw (p.1, p.2, c.in-Struct.is, form_of_struct c.in-Struct.name c.in-Struct.fields c.in-Struct.deny_unknown) (rw c.deref-in-Struct.ensures.value at c.in_err-fields-in-Struct.ensures.facts)
+    rw (p.1, p.2, c.in-Struct.is, form_of-Struct c.in-Struct.name c.in-Struct.fields c.in-Struct.deny_unknown) (rw c.deref-in-Struct.ensures.value at c.in_err-fields-in-Struct.ensures.facts)
 
 pub returns-in_ok-new-in-Option-clause-found : goal.returns-in_ok-new-in-Option-clause-found
 returns-in_ok-new-in-Option-clause-found g t c =
@@ -40,7 +41,7 @@ returns-in_ok-inner-in-Newtype-clause-found g t c =
 
 pub returns-in_ok-fields-in-Struct-clause-found : goal.returns-in_ok-fields-in-Struct-clause-found
 returns-in_ok-fields-in-Struct-clause-found g t c =
-    rw (c.in-Struct.is, form_of_struct c.in-Struct.name c.in-Struct.fields c.in-Struct.deny_unknown, view-Struct c.in-Struct.name c.in_ok-fields-in-Struct.fields) (rw c.deref-in-Struct.ensures.value at c.in_ok-fields-in-Struct.ensures.found)
+    rw (c.in-Struct.is, form_of-Struct c.in-Struct.name c.in-Struct.fields c.in-Struct.deny_unknown, view-Struct c.in-Struct.name c.in_ok-fields-in-Struct.fields) (rw c.deref-in-Struct.ensures.value at c.in_ok-fields-in-Struct.ensures.found)
 
 pub returns-in-I32-clause-whole : goal.returns-in-I32-clause-whole
 returns-in-I32-clause-whole g t c = λ w. fault_not_early _ c.root_leaf.result (λ x. absurd cc) (c.root_leaf.ensures.fault _ refl)

@@ -14,7 +14,8 @@ use Rattle.kmip_ttlv_de.proofs.Going.{all_accepted, all_refused, answers_via, en
 use Rattle.kmip_ttlv_de.proofs.Heads.{refused_any, refused_end, refused_type}
 use Rattle.kmip_ttlv_de.proofs.ReadLemmas.{is_structure_is}
 use Rattle.kmip_ttlv_de.proofs.SayLemmas.{all_covered, covers_content, covers_enum, covers_field, covers_field_form, covers_field_name, covers_fields, covers_name, covers_rest, covers_same, leaf_says, memory_answer, not_structure, number_says, opened_end, opened_reached, opened_says, reached_goes, says_covered, says_goes, says_up, says_widened, sort_widened}
-use Rattle.kmip_ttlv_de.proofs.Views.{content_of_tuple, form_of_enum, form_of_struct, view-Newtype, view-NewtypeVariant, view-None, view-Seq, view-Some, view-Struct, view-TupleVariant}
+use Rattle.kmip_ttlv_base.proofs.Views.{view-Newtype, view-NewtypeVariant, view-None, view-Seq, view-Some, view-Struct, view-TupleVariant}
+use Rattle.kmip_ttlv_base.proofs.Shapes.{content_of-Tuple, form_of-Enum, form_of-Struct}
 use Rattle.kmip_ttlv_de.proofs.WholeLemmas.{early_header, early_says, whole_inside}
 use Rattle.kmip_ttlv_de.specs.Answer.{sort_of}
 use Rattle.kmip_ttlv_de.specs.Facts.{content_has, enum_has, has, has_in, name_has, rest_has}
@@ -128,7 +129,7 @@ pub read_shape-returns-in_err-fields-in-Struct-clause-answers :
 unfolding read_of
 read_shape-returns-in_err-fields-in-Struct-clause-answers g t c =
     let p = err_from_is_err_and c.from_residual-in_err-fields-in-Struct.result c.from_residual-in_err-fields-in-Struct.ensures.1 in
-    rw (p.1, p.2, c.in-Struct.is, form_of_struct c.in-Struct.name c.in-Struct.fields c.in-Struct.deny_unknown) (rw c.deref-in-Struct.ensures.value at (c.in_err-fields-in-Struct.ensures.answers c.args.end c.requires.before_end))
+    rw (p.1, p.2, c.in-Struct.is, form_of-Struct c.in-Struct.name c.in-Struct.fields c.in-Struct.deny_unknown) (rw c.deref-in-Struct.ensures.value at (c.in_err-fields-in-Struct.ensures.answers c.args.end c.requires.before_end))
 
 pub read_shape-returns-in_ok-new-in-Option-clause-answers :
     goal.read_shape-returns-in_ok-new-in-Option-clause-answers
@@ -154,7 +155,7 @@ pub read_shape-returns-in_ok-fields-in-Struct-clause-answers :
     goal.read_shape-returns-in_ok-fields-in-Struct-clause-answers
 unfolding read_of
 read_shape-returns-in_ok-fields-in-Struct-clause-answers g t c =
-    rw (c.in-Struct.is, form_of_struct c.in-Struct.name c.in-Struct.fields c.in-Struct.deny_unknown, view-Struct c.in-Struct.name c.in_ok-fields-in-Struct.fields) (rw c.deref-in-Struct.ensures.value at (c.in_ok-fields-in-Struct.ensures.answers c.args.end c.requires.before_end))
+    rw (c.in-Struct.is, form_of-Struct c.in-Struct.name c.in-Struct.fields c.in-Struct.deny_unknown, view-Struct c.in-Struct.name c.in_ok-fields-in-Struct.fields) (rw c.deref-in-Struct.ensures.value at (c.in_ok-fields-in-Struct.ensures.answers c.args.end c.requires.before_end))
 
 pub read_field-returns-in_err-typ-clause-answers : goal.read_field-returns-in_err-typ-clause-answers
 read_field-returns-in_err-typ-clause-answers g t c =
@@ -184,7 +185,7 @@ read_content-returns-clause-answers g t c =
 pub read_shape-returns-in-Enum-clause-answers : goal.read_shape-returns-in-Enum-clause-answers
 unfolding read_of
 read_shape-returns-in-Enum-clause-answers g t c =
-    rw (c.in-Enum.is, form_of_enum c.in-Enum.name c.in-Enum.variants) (rw c.deref.ensures.value at c.read_enum.ensures.answers)
+    rw (c.in-Enum.is, form_of-Enum c.in-Enum.name c.in-Enum.variants) (rw c.deref.ensures.value at c.read_enum.ensures.answers)
 
 pub read_variant-returns-in_err-data-in-Newtype-clause-answers : goal.read_variant-returns-in_err-data-in-Newtype-clause-answers
 unfolding read_content
@@ -196,7 +197,7 @@ pub read_variant-returns-in_err-fields-in-Tuple-clause-answers : goal.read_varia
 unfolding read_content
 read_variant-returns-in_err-fields-in-Tuple-clause-answers g t c =
     let p = err_from_is_err_and c.from_residual-in_err-fields-in-Tuple.result c.from_residual-in_err-fields-in-Tuple.ensures.1 in
-    rw (p.1, p.2, c.in-Tuple.is, content_of_tuple c.in-Tuple.shapes) (refused_map (λ o. o >>= λ vs. got (tuple_variant_value c.args.name.now c.args.variant.now vs.value) vs.kept vs.rest) (read_tuple (read_forms (forms_of c.in-Tuple.shapes.items))) c.args.bytes.now c.args.pos c.args.end (keeps c.args.kept.now.items) (sort_of c.in_err-fields-in-Tuple.field-0.0) refl (rw c.deref-in-Tuple.ensures.value at (c.in_err-fields-in-Tuple.ensures.answers c.args.end (omega arith))))
+    rw (p.1, p.2, c.in-Tuple.is, content_of-Tuple c.in-Tuple.shapes) (refused_map (λ o. o >>= λ vs. got (tuple_variant_value c.args.name.now c.args.variant.now vs.value) vs.kept vs.rest) (read_tuple (read_forms (forms_of c.in-Tuple.shapes.items))) c.args.bytes.now c.args.pos c.args.end (keeps c.args.kept.now.items) (sort_of c.in_err-fields-in-Tuple.field-0.0) refl (rw c.deref-in-Tuple.ensures.value at (c.in_err-fields-in-Tuple.ensures.answers c.args.end (omega arith))))
 
 pub read_variant-returns-in_ok-inner-in-Newtype-clause-answers : goal.read_variant-returns-in_ok-inner-in-Newtype-clause-answers
 unfolding read_content
@@ -207,7 +208,7 @@ read_variant-returns-in_ok-inner-in-Newtype-clause-answers g t c =
 pub read_variant-returns-in_ok-fields-in-Tuple-clause-answers : goal.read_variant-returns-in_ok-fields-in-Tuple-clause-answers
 unfolding read_content
 read_variant-returns-in_ok-fields-in-Tuple-clause-answers g t c =
-    rw (c.in-Tuple.is, content_of_tuple c.in-Tuple.shapes, view-TupleVariant c.args.name c.args.variant c.in_ok-fields-in-Tuple.fields) (goes_map (λ o. o >>= λ vs. got (tuple_variant_value c.args.name.now c.args.variant.now vs.value) vs.kept vs.rest) (read_tuple (read_forms (forms_of c.in-Tuple.shapes.items))) (got (views c.in_ok-fields-in-Tuple.fields.items)) c.args.bytes.now c.args.pos c.args.end (keeps c.args.kept.now.items) (keeps c.read_tuple.new.kept.items) c.in_ok-fields-in-Tuple.next (rw c.deref-in-Tuple.ensures.value at (c.in_ok-fields-in-Tuple.ensures.answers c.args.end (omega arith))))
+    rw (c.in-Tuple.is, content_of-Tuple c.in-Tuple.shapes, view-TupleVariant c.args.name c.args.variant c.in_ok-fields-in-Tuple.fields) (goes_map (λ o. o >>= λ vs. got (tuple_variant_value c.args.name.now c.args.variant.now vs.value) vs.kept vs.rest) (read_tuple (read_forms (forms_of c.in-Tuple.shapes.items))) (got (views c.in_ok-fields-in-Tuple.fields.items)) c.args.bytes.now c.args.pos c.args.end (keeps c.args.kept.now.items) (keeps c.read_tuple.new.kept.items) c.in_ok-fields-in-Tuple.next (rw c.deref-in-Tuple.ensures.value at (c.in_ok-fields-in-Tuple.ensures.answers c.args.end (omega arith))))
 
 pub read_tuple-returns-then-not-is_structure-clause-answers : goal.read_tuple-returns-then-not-is_structure-clause-answers
 read_tuple-returns-then-not-is_structure-clause-answers g t c =
@@ -333,7 +334,7 @@ read_shape-returns-in_err-fields-in-Struct-clause-says g t c =
     let p = err_from_is_err_and c.from_residual-in_err-fields-in-Struct.result c.from_residual-in_err-fields-in-Struct.ensures.1 in
     let lt : c.args.pos < c.args.end = omega arith in
     let told = rw c.deref-in-Struct.ensures.value at (c.in_err-fields-in-Struct.ensures.says c.args.end lt) in
-    rw (p.1, p.2, c.in-Struct.is, form_of_struct c.in-Struct.name c.in-Struct.fields c.in-Struct.deny_unknown) (λ r z. told r)
+    rw (p.1, p.2, c.in-Struct.is, form_of-Struct c.in-Struct.name c.in-Struct.fields c.in-Struct.deny_unknown) (λ r z. told r)
 
 pub read_struct-returns-in_err-tag-clause-answers : goal.read_struct-returns-in_err-tag-clause-answers
 read_struct-returns-in_err-tag-clause-answers g t c =

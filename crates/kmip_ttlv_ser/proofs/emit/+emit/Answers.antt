@@ -1,113 +1,17 @@
 use Rattle.std.proofs.Common.{◌≡◌, ◌+◌, ◌-◌, ◌≤◌, [], ◌∷◌, drop, length, true, Some, vec_len, vec_capacity, refl, sym, ap, ◌∙◌, subst, arith, rules}
-use Rattle.std.specs.Int.{w32, to_be_bytes}
 use Rattle.std.proofs.lemmas.List.{drop_more, drop_all}
 use Rattle.std.proofs.lemmas.Grind.{common_steps}
 use borrow.Author.Rules.{get_or_read}
-use Rattle.kmip_ttlv_types.specs.declared.typ.TtlvType.TheVariants.{Enumeration}
 use Rattle.kmip_ttlv_types.specs.Names.{transparent_name}
 use Rattle.kmip_ttlv_types.specs.Trees.{bytes_all}
 use Rattle.kmip_ttlv_base.specs.declared.shape.Data.{the_lemmas}
-use Rattle.kmip_ttlv_base.specs.Values.{view, views, no_values, value, newtype_value, unit_variant_value, newtype_variant_value}
+use Rattle.kmip_ttlv_base.specs.Values.{view, views, no_values, value, newtype_value, newtype_variant_value}
 use Rattle.kmip_ttlv_ser.specs.declared.held.Held.TheVariants.{Nothing, Plain}
-use Rattle.kmip_ttlv_ser.specs.Items.{◌>>=◌, some_item, one_leaf, one_structure, items, items_in, held_after, held_over, without_override, is_wrapper, take_tag}
+use Rattle.kmip_ttlv_ser.specs.Items.{one_structure, items, items_in, held_after, held_over, without_override, is_wrapper, take_tag}
 use Rattle.kmip_ttlv_ser.specs.Passes.{Planned, Emitted}
-use Rattle.kmip_ttlv_ser.proofs.Views.{view-Struct, view-TupleVariant, view-Newtype, view-UnitVariant, view-NewtypeVariant}
-use Rattle.kmip_ttlv_ser.proofs.Emitting.{at_plan, at_emitted, unplanned, structure_room, structure_rest, structure_emitted, unwrapped_plan, wrapped_emitted, unit_items, unit_no_items, transparent_items, wrapper_items, Emitting, emitting_start, emitting_end, emitted_len, loop_plan, loop_emit}
+use Rattle.kmip_ttlv_base.proofs.Views.{view-Struct, view-TupleVariant}
+use Rattle.kmip_ttlv_ser.proofs.Emitting.{at_emitted, structure_room, structure_rest, structure_emitted, unwrapped_plan, wrapped_emitted, transparent_items, wrapper_items, Emitting, emitting_start, emitting_end, emitted_len, loop_plan, loop_emit}
 use Rattle.kmip_ttlv_ser.proofs.emit.+emit.Goals as goal
-
-pub emit-emit-requires-in-Some-transparent_name : goal.emit-emit-requires-in-Some-transparent_name
-emit-emit-requires-in-Some-transparent_name g t c κs within =
-    let value = c.deref-in-Some-transparent_name.result.now in
-    let same : c.in-Newtype.inner.value ≡ value = search rules in
-    let name = c.in-Newtype.name.now in
-    let rest = c.in-Some-transparent_name.rest.now in
-    let tag = c.in-Some-take.tag in
-    let begins : transparent_name name ≡ Some rest = search rules in
-    let taken : take_tag c.args.held.now rest ≡ Some tag = sym c.take.ensures ∙ c.in-Some-take.is in
-    let inner = items (view value) (Plain tag) in
-    let row : items (view c.args.value.now) c.args.held.now ≡ (inner >>= some_item) = ap (λ v. items v c.args.held.now) (ap view c.in-Newtype.is ∙ view-Newtype c.in-Newtype.name c.in-Newtype.inner) ∙ ap (λ d. items (newtype_value name (view d)) c.args.held.now) same ∙ transparent_items name rest (view value) c.args.held.now tag begins taken in
-    let planned = at_plan (items (view c.args.value.now) c.args.held.now) (inner >>= some_item) c.args.plan.now (vec_capacity c.args.out.now - vec_len c.args.out.now) row c.requires in
-    (search (rules, the_lemmas), (within.0, (within.1, unwrapped_plan inner c.args.plan.now (vec_capacity c.args.out.now - vec_len c.args.out.now) planned)))
-
-pub emit-returns-in-Some-take-clause-wrote : goal.emit-returns-in-Some-take-clause-wrote
-emit-returns-in-Some-take-clause-wrote g t c =
-    let value = c.deref-in-Some-transparent_name.result.now in
-    let same : c.in-Newtype.inner.value ≡ value = search rules in
-    let name = c.in-Newtype.name.now in
-    let rest = c.in-Some-transparent_name.rest.now in
-    let tag = c.in-Some-take.tag in
-    let begins : transparent_name name ≡ Some rest = search rules in
-    let taken : take_tag c.args.held.now rest ≡ Some tag = sym c.take.ensures ∙ c.in-Some-take.is in
-    let inner = items (view value) (Plain tag) in
-    let row : items (view c.args.value.now) c.args.held.now ≡ (inner >>= some_item) = ap (λ v. items v c.args.held.now) (ap view c.in-Newtype.is ∙ view-Newtype c.in-Newtype.name c.in-Newtype.inner) ∙ ap (λ d. items (newtype_value name (view d)) c.args.held.now) same ∙ transparent_items name rest (view value) c.args.held.now tag begins taken in
-    let planned = at_plan (items (view c.args.value.now) c.args.held.now) (inner >>= some_item) c.args.plan.now (vec_capacity c.args.out.now - vec_len c.args.out.now) row c.requires in
-    at_emitted (items (view c.args.value.now) c.args.held.now) (inner >>= some_item) c.args.plan.now c.emit-in-Some-transparent_name.result.now c.args.out.now.items c.emit-in-Some-transparent_name.new.out.items row
-    (wrapped_emitted inner c.args.plan.now c.emit-in-Some-transparent_name.result.now c.args.out.now.items c.emit-in-Some-transparent_name.new.out.items (vec_capacity c.args.out.now - vec_len c.args.out.now) planned c.emit-in-Some-transparent_name.ensures.wrote)
-
-pub emit-emit-requires-then-is_wrapper : goal.emit-emit-requires-then-is_wrapper
-emit-emit-requires-then-is_wrapper g t c κs within =
-    let value = c.deref-then-is_wrapper.result.now in
-    let same : c.in-NewtypeVariant.inner.value ≡ value = search rules in
-    let name = c.in-NewtypeVariant.name in
-    let vname = c.in-NewtypeVariant.variant in
-    let tag = c.in-Some-take-3.tag in
-    let wraps : is_wrapper vname.now ≡ true = sym c.is_wrapper.ensures ∙ c.if-is_wrapper.true in
-    let taken : take_tag c.args.held.now (without_override name.now) ≡ Some tag = ap (take_tag c.args.held.now) (sym c.without_override-rest.ensures) ∙ sym c.take-then-is_wrapper.ensures ∙ c.in-Some-take-3.is in
-    let inner = items (view value) (held_over c.args.held.now name.now tag) in
-    let row : items (view c.args.value.now) c.args.held.now ≡ (inner >>= some_item) = ap (λ v. items v c.args.held.now) (ap view c.in-NewtypeVariant.is ∙ view-NewtypeVariant name vname c.in-NewtypeVariant.inner) ∙ ap (λ d. items (newtype_variant_value name.now vname.now (view d)) c.args.held.now) same ∙ wrapper_items name.now vname.now (view value) c.args.held.now tag wraps taken in
-    let planned = at_plan (items (view c.args.value.now) c.args.held.now) (inner >>= some_item) c.args.plan.now (vec_capacity c.args.out.now - vec_len c.args.out.now) row c.requires in
-    (search (rules, the_lemmas), (within.0, (within.1, subst (λ w. Planned (items (view value) w) c.args.plan.now (vec_capacity c.args.out.now - vec_len c.args.out.now)) (sym c.over.ensures) (unwrapped_plan inner c.args.plan.now (vec_capacity c.args.out.now - vec_len c.args.out.now) planned))))
-
-pub emit-returns-in-Some-take-3-clause-wrote : goal.emit-returns-in-Some-take-3-clause-wrote
-emit-returns-in-Some-take-3-clause-wrote g t c =
-    let value = c.deref-then-is_wrapper.result.now in
-    let same : c.in-NewtypeVariant.inner.value ≡ value = search rules in
-    let name = c.in-NewtypeVariant.name in
-    let vname = c.in-NewtypeVariant.variant in
-    let tag = c.in-Some-take-3.tag in
-    let wraps : is_wrapper vname.now ≡ true = sym c.is_wrapper.ensures ∙ c.if-is_wrapper.true in
-    let taken : take_tag c.args.held.now (without_override name.now) ≡ Some tag = ap (take_tag c.args.held.now) (sym c.without_override-rest.ensures) ∙ sym c.take-then-is_wrapper.ensures ∙ c.in-Some-take-3.is in
-    let inner = items (view value) (held_over c.args.held.now name.now tag) in
-    let row : items (view c.args.value.now) c.args.held.now ≡ (inner >>= some_item) = ap (λ v. items v c.args.held.now) (ap view c.in-NewtypeVariant.is ∙ view-NewtypeVariant name vname c.in-NewtypeVariant.inner) ∙ ap (λ d. items (newtype_variant_value name.now vname.now (view d)) c.args.held.now) same ∙ wrapper_items name.now vname.now (view value) c.args.held.now tag wraps taken in
-    let planned = at_plan (items (view c.args.value.now) c.args.held.now) (inner >>= some_item) c.args.plan.now (vec_capacity c.args.out.now - vec_len c.args.out.now) row c.requires in
-    let rest = c.emit-then-is_wrapper.result.now in
-    let new = c.emit-then-is_wrapper.new.out.items in
-    at_emitted (items (view c.args.value.now) c.args.held.now) (inner >>= some_item) c.args.plan.now rest c.args.out.now.items new row
-    (wrapped_emitted inner c.args.plan.now rest c.args.out.now.items new (vec_capacity c.args.out.now - vec_len c.args.out.now) planned (subst (λ w. Emitted (items (view value) w) c.args.plan.now rest c.args.out.now.items new) c.over.ensures c.emit-then-is_wrapper.ensures.wrote))
-
-pub emit-unreachable-requires-in_default-number : goal.emit-unreachable-requires-in_default-number
-emit-unreachable-requires-in_default-number g t c =
-    let name = c.in-UnitVariant.name.now in
-    let vname = c.in-UnitVariant.variant.now in
-    let tag = c.in-Some-take-2.tag in
-    let seen : view c.args.value.now ≡ unit_variant_value name vname = ap view c.in-UnitVariant.is ∙ view-UnitVariant _ c.in-UnitVariant.name c.in-UnitVariant.variant in
-    let taken : take_tag c.args.held.now name ≡ Some tag = sym c.take-in-UnitVariant.ensures ∙ c.in-Some-take-2.is in
-    unplanned (items (view c.args.value.now) c.args.held.now) c.args.plan.now (vec_capacity c.args.out.now - vec_len c.args.out.now) c.requires (ap (λ v. items v c.args.held.now) seen ∙ unit_no_items name vname c.args.held.now tag taken (sym c.number.ensures ∙ c.in_default-number.is))
-
-pub emit-emit_leaf-requires-in-UnitVariant : goal.emit-emit_leaf-requires-in-UnitVariant
-emit-emit_leaf-requires-in-UnitVariant g t c =
-    let name = c.in-UnitVariant.name.now in
-    let vname = c.in-UnitVariant.variant.now in
-    let tag = c.in-Some-take-2.tag in
-    let seen : view c.args.value.now ≡ unit_variant_value name vname = ap view c.in-UnitVariant.is ∙ view-UnitVariant _ c.in-UnitVariant.name c.in-UnitVariant.variant in
-    let taken : take_tag c.args.held.now name ≡ Some tag = sym c.take-in-UnitVariant.ensures ∙ c.in-Some-take-2.is in
-    let n = c.in-Some-number.n in
-    let row : items (view c.args.value.now) c.args.held.now ≡ one_leaf (Plain tag) Enumeration (to_be_bytes w32 n) = ap (λ v. items v c.args.held.now) seen ∙ unit_items name vname c.args.held.now tag n taken (sym c.number.ensures ∙ c.in-Some-number.is) in
-    subst (λ bs. Planned (one_leaf (Plain tag) Enumeration bs) c.args.plan.now (vec_capacity c.args.out.now - vec_len c.args.out.now)) (sym c.to_be_bytes-content-in-UnitVariant.ensures) (at_plan (items (view c.args.value.now) c.args.held.now) (one_leaf (Plain tag) Enumeration (to_be_bytes w32 n)) c.args.plan.now (vec_capacity c.args.out.now - vec_len c.args.out.now) row c.requires)
-
-pub emit-returns-in-Some-number-clause-wrote : goal.emit-returns-in-Some-number-clause-wrote
-emit-returns-in-Some-number-clause-wrote g t c =
-    let name = c.in-UnitVariant.name.now in
-    let vname = c.in-UnitVariant.variant.now in
-    let tag = c.in-Some-take-2.tag in
-    let seen : view c.args.value.now ≡ unit_variant_value name vname = ap view c.in-UnitVariant.is ∙ view-UnitVariant _ c.in-UnitVariant.name c.in-UnitVariant.variant in
-    let taken : take_tag c.args.held.now name ≡ Some tag = sym c.take-in-UnitVariant.ensures ∙ c.in-Some-take-2.is in
-    let n = c.in-Some-number.n in
-    let row : items (view c.args.value.now) c.args.held.now ≡ one_leaf (Plain tag) Enumeration (to_be_bytes w32 n) = ap (λ v. items v c.args.held.now) seen ∙ unit_items name vname c.args.held.now tag n taken (sym c.number.ensures ∙ c.in-Some-number.is) in
-    let rest = c.emit_leaf-in-UnitVariant.result.now in
-    let new = c.emit_leaf-in-UnitVariant.new.out.items in
-    at_emitted (items (view c.args.value.now) c.args.held.now) (one_leaf (Plain tag) Enumeration (to_be_bytes w32 n)) c.args.plan.now rest c.args.out.now.items new row
-    (subst (λ bs. Emitted (one_leaf (Plain tag) Enumeration bs) c.args.plan.now rest c.args.out.now.items new) c.to_be_bytes-content-in-UnitVariant.ensures c.emit_leaf-in-UnitVariant.ensures.wrote)
 
 pub emit-returns-in-Struct-clause-wrote : goal.emit-returns-in-Struct-clause-wrote
 emit-returns-in-Struct-clause-wrote g t c =
@@ -124,7 +28,71 @@ emit-returns-in-TupleVariant-clause-wrote g t c =
     let new = c.emit_fields-in-TupleVariant.new.out.items in
     at_emitted (items (view c.args.value.now) c.args.held.now) (one_structure c.args.held.now (without_override name.now) (items_in (views fields.items) Nothing)) c.args.plan.now rest c.args.out.now.items new
     (ap (λ v. items v c.args.held.now) (ap view c.in-TupleVariant.is ∙ view-TupleVariant name c.in-TupleVariant.variant fields))
-    (subst (λ n. Emitted (one_structure c.args.held.now n (items_in (views fields.items) Nothing)) c.args.plan.now rest c.args.out.now.items new) c.without_override-in-TupleVariant.ensures c.emit_fields-in-TupleVariant.ensures.wrote)
+    (subst (λ n. Emitted (one_structure c.args.held.now n (items_in (views fields.items) Nothing)) c.args.plan.now rest c.args.out.now.items new) c.without_override.ensures c.emit_fields-in-TupleVariant.ensures.wrote)
+
+pub emit_newtype-emit-requires : goal.emit_newtype-emit-requires
+emit_newtype-emit-requires g t c κs within =
+    let name = c.args.name.now in
+    let rest = c.in-Some.rest.now in
+    let v = view c.args.inner.now in
+    let held = c.args.held.now in
+    let tag = c.in-Some-take.tag in
+    let plan = c.args.plan.now in
+    let room = vec_capacity c.args.out.now - vec_len c.args.out.now in
+    let begins : transparent_name name ≡ Some rest = search rules in
+    let taken : take_tag held rest ≡ Some tag = sym c.take.ensures ∙ c.in-Some-take.is in
+    let row = transparent_items name rest v held tag begins taken in
+    let planned : Planned (items (newtype_value name v) held) plan room = search rules in
+    (search (rules, the_lemmas), (within.0, (within.1, unwrapped_plan (items (newtype_value name v) held) (items v (Plain tag)) plan room row planned)))
+
+pub emit_newtype-returns-clause-wrote : goal.emit_newtype-returns-clause-wrote
+emit_newtype-returns-clause-wrote g t c =
+    let name = c.args.name.now in
+    let rest = c.in-Some.rest.now in
+    let v = view c.args.inner.now in
+    let held = c.args.held.now in
+    let tag = c.in-Some-take.tag in
+    let plan = c.args.plan.now in
+    let room = vec_capacity c.args.out.now - vec_len c.args.out.now in
+    let begins : transparent_name name ≡ Some rest = search rules in
+    let taken : take_tag held rest ≡ Some tag = sym c.take.ensures ∙ c.in-Some-take.is in
+    let row = transparent_items name rest v held tag begins taken in
+    let planned : Planned (items (newtype_value name v) held) plan room = search rules in
+    wrapped_emitted (items (newtype_value name v) held) (items v (Plain tag)) plan c.emit.result.now c.args.out.now.items c.emit.new.out.items room row planned c.emit.ensures.wrote
+
+pub emit_newtype_variant-emit-requires : goal.emit_newtype_variant-emit-requires
+emit_newtype_variant-emit-requires g t c κs within =
+    let name = c.args.name.now in
+    let vname = c.args.variant.now in
+    let v = view c.args.inner.now in
+    let held = c.args.held.now in
+    let tag = c.in-Some.tag in
+    let plan = c.args.plan.now in
+    let room = vec_capacity c.args.out.now - vec_len c.args.out.now in
+    let wraps : is_wrapper vname ≡ true = search rules in
+    let taken : take_tag held (without_override name) ≡ Some tag = ap (take_tag held) (sym c.without_override-rest.ensures) ∙ sym c.take.ensures ∙ c.in-Some.is in
+    let row = wrapper_items name vname v held tag wraps taken in
+    let planned : Planned (items (newtype_variant_value name vname v) held) plan room = search rules in
+    (search (rules, the_lemmas), (within.0, (within.1, subst (λ w. Planned (items v w) plan room) (sym c.over.ensures) (unwrapped_plan (items (newtype_variant_value name vname v) held) (items v (held_over held name tag)) plan room row planned))))
+
+pub emit_newtype_variant-returns-clause-wrote : goal.emit_newtype_variant-returns-clause-wrote
+emit_newtype_variant-returns-clause-wrote g t c =
+    let name = c.args.name.now in
+    let vname = c.args.variant.now in
+    let v = view c.args.inner.now in
+    let held = c.args.held.now in
+    let tag = c.in-Some.tag in
+    let plan = c.args.plan.now in
+    let left = c.emit.result.now in
+    let old = c.args.out.now.items in
+    let new = c.emit.new.out.items in
+    let room = vec_capacity c.args.out.now - vec_len c.args.out.now in
+    let wraps : is_wrapper vname ≡ true = search rules in
+    let taken : take_tag held (without_override name) ≡ Some tag = ap (take_tag held) (sym c.without_override-rest.ensures) ∙ sym c.take.ensures ∙ c.in-Some.is in
+    let row = wrapper_items name vname v held tag wraps taken in
+    let planned : Planned (items (newtype_variant_value name vname v) held) plan room = search rules in
+    wrapped_emitted (items (newtype_variant_value name vname v) held) (items v (held_over held name tag)) plan left old new room row planned
+    (subst (λ w. Emitted (items v w) plan left old new) c.over.ensures c.emit.ensures.wrote)
 
 pub emit_field-put_header-requires : goal.emit_field-put_header-requires
 emit_field-put_header-requires g t c =

@@ -1,19 +1,20 @@
-use Rattle.std.proofs.Common.{◌≡◌, ◌+◌, ◌-◌, ◌≤◌, ◌^◌, [], ◌∷◌, drop, length, Some, None, Err, string_bytes, refl, sym, ap, ◌∙◌, subst, arith, rules}
+use Rattle.std.proofs.Common.{◌≡◌, ◌+◌, ◌-◌, ◌≤◌, ◌^◌, [], ◌∷◌, drop, length, Err, string_bytes, refl, sym, ap, ◌∙◌, subst, arith, rules}
 use Rattle.std.proofs.lemmas.List.{drop_more, drop_all}
 use Rattle.std.specs.Int.{w32, w64, to_be_bytes, cast_unsigned, from_bool}
 use Rattle.kmip_ttlv_types.specs.declared.typ.TtlvType.TheVariants.{Integer, LongInteger, BigInteger, Enumeration, Boolean, TextString, ByteString, DateTime, Interval}
 use Rattle.kmip_ttlv_types.specs.ItemTypes.{pad_len}
-use Rattle.kmip_ttlv_types.specs.Names.{number}
+use Rattle.kmip_ttlv_types.specs.Primitives.{sign_extended}
 use Rattle.kmip_ttlv_base.specs.Values.{view, views, no_values, value, boolean_value, i8_value, i16_value, i32_value, u32_value, i64_value, u64_value, interval_value, text_value, bytes_value, big_integer_value, unit_variant_value}
-use Rattle.kmip_ttlv_ser.specs.declared.held.Held.TheVariants.{Nothing, Plain}
-use Rattle.kmip_ttlv_ser.specs.Items.{◌>>=◌, take_tag, some_item, one_leaf, one_structure, items, items_in, sign_extended}
+use Rattle.kmip_ttlv_ser.specs.declared.held.Held.TheVariants.{Nothing}
+use Rattle.kmip_ttlv_ser.specs.Items.{◌>>=◌, take_tag, some_item, one_leaf, one_structure, items, items_in}
 use Rattle.kmip_ttlv_ser.specs.Faults.{no_tag, fault_at, inside, within, structure_fault, fault, fault_in}
 use Rattle.kmip_ttlv_ser.specs.Lengths.{HasLongLeaf, HaveLongLeaf, HasLongStructure, HaveLongStructure, IsLongContent, content_start, structure_long}
 use Rattle.kmip_ttlv_ser.specs.Passes.{Measured, MeasuresValue, MeasuresValues}
-use Rattle.kmip_ttlv_ser.proofs.Views.{view-Bool, view-I8, view-I16, view-I32, view-U32, view-I64, view-U64, view-Interval, view-Text, view-Bytes, view-BigInteger, view-UnitVariant}
-use Rattle.kmip_ttlv_ser.proofs.Leaves.{extended_len, place_len}
+use Rattle.kmip_ttlv_base.proofs.Views.{view-Bool, view-I8, view-I16, view-I32, view-U32, view-I64, view-U64, view-Interval, view-Text, view-Bytes, view-BigInteger, view-UnitVariant}
+use Rattle.kmip_ttlv_types.proofs.Padding.{length-sign_extended}
+use Rattle.kmip_ttlv_ser.proofs.Leaves.{place_len}
 use Rattle.kmip_ttlv_ser.proofs.Reaching.{fault_least, fault_in_least}
-use Rattle.kmip_ttlv_ser.proofs.Measuring.{at_value, measures_up, carried, none_of, some_of, unit_refused, unit_measured, structure_ends, structure_too_long, structure_stops, header_too_far, wrapper_ends, wrapper_empty, wrapper_stops}
+use Rattle.kmip_ttlv_ser.proofs.Measuring.{at_value, measures_up, carried, some_of, structure_ends, structure_too_long, structure_stops, header_too_far, wrapper_ends, wrapper_empty, wrapper_stops}
 use Rattle.kmip_ttlv_ser.proofs.Walking.{Walked, walk_start, walk_step, walk_end, walk_stops}
 use Rattle.kmip_ttlv_ser.proofs.measure.+measure.Goals as goal
 
@@ -90,31 +91,17 @@ measure-returns-in-BigInteger g t c =
     let len : length bs ≡ c.len-in-BigInteger.result = search rules in
     let again : length bs ≡ c.len-in-BigInteger-2.result = search rules in
     let pad : c.padding-sign.result ≡ pad_len (length bs) = c.padding-sign.ensures.value ∙ ap pad_len (sym len) in
-    let all : length (sign_extended bs) ≡ c.padding-sign.result + c.len-in-BigInteger-2.result = omega (arith, extended_len bs, pad, again) in
+    let all : length (sign_extended bs) ≡ c.padding-sign.result + c.len-in-BigInteger-2.result = omega (arith, length-sign_extended bs, pad, again) in
     let r = c.measure_leaf-in-BigInteger.result in
     at_value (view c.args.value.now) (big_integer_value bs) c.args.held.now c.args.place old old r (ap view c.in-BigInteger.is ∙ view-BigInteger c.in-BigInteger.bytes)
     (measures_up (2 ^ 32 ≤ c.padding-sign.result + c.len-in-BigInteger-2.result) (2 ^ 32 ≤ length (sign_extended bs)) ⊥ ⊥ (one_leaf c.args.held.now BigInteger (sign_extended bs)) (fault_at (no_tag c.args.place.opened) c.args.held.now c.args.place) c.args.place old old r (λ l. omega (arith, l, all)) (λ s. s) (c.measure_leaf-in-BigInteger.ensures BigInteger (sign_extended bs) old all))
 
-pub measure-returns-then-is_none : goal.measure-returns-then-is_none
-measure-returns-then-is_none g t c =
+pub measure-returns-in-UnitVariant : goal.measure-returns-in-UnitVariant
+measure-returns-in-UnitVariant g t c =
     let old = c.args.sizes.now.items in
-    let name = c.in-UnitVariant.name.now in
-    let vname = c.in-UnitVariant.variant.now in
-    let taken : take_tag c.args.held.now name ≡ Some c.in-Some-take-2.tag = sym c.take-in-UnitVariant.ensures ∙ c.in-Some-take-2.is in
-    let none : number vname ≡ None = none_of c.number.result c.is_none.result (number vname) c.number.ensures c.is_none.ensures c.if-is_none.true in
-    at_value (view c.args.value.now) (unit_variant_value name vname) c.args.held.now c.args.place old old c.refuse_variant.result (ap view c.in-UnitVariant.is ∙ view-UnitVariant _ c.in-UnitVariant.name c.in-UnitVariant.variant)
-    (unit_refused name vname c.args.held.now c.in-Some-take-2.tag c.args.place old old c.refuse_variant.result taken none c.refuse_variant.ensures)
-
-pub measure-returns-else-is_none : goal.measure-returns-else-is_none
-measure-returns-else-is_none g t c =
-    let old = c.args.sizes.now.items in
-    let name = c.in-UnitVariant.name.now in
-    let vname = c.in-UnitVariant.variant.now in
-    let tag = c.in-Some-take-2.tag in
-    let taken : take_tag c.args.held.now name ≡ Some tag = sym c.take-in-UnitVariant.ensures ∙ c.in-Some-take-2.is in
-    let found = some_of c.number.result c.is_none.result (number vname) c.number.ensures c.is_none.ensures c.if-is_none.false in
-    at_value (view c.args.value.now) (unit_variant_value name vname) c.args.held.now c.args.place old old c.measure_leaf-in-UnitVariant.result (ap view c.in-UnitVariant.is ∙ view-UnitVariant _ c.in-UnitVariant.name c.in-UnitVariant.variant)
-    (unit_measured name vname c.args.held.now tag found.0 c.args.place (fault_at (no_tag c.args.place.opened) (Plain tag) c.args.place) old old c.measure_leaf-in-UnitVariant.result taken found.1 (c.measure_leaf-in-UnitVariant.ensures Enumeration (to_be_bytes w32 found.0) old refl))
+    let name = c.in-UnitVariant.name in
+    let variant = c.in-UnitVariant.variant in
+    at_value (view c.args.value.now) (unit_variant_value name.now variant.now) c.args.held.now c.args.place old old c.measure_unit_variant.result (ap view c.in-UnitVariant.is ∙ view-UnitVariant _ name variant) (c.measure_unit_variant.ensures old)
 
 pub measure_field-returns-in_err-start : goal.measure_field-returns-in_err-start
 measure_field-returns-in_err-start g t c =

@@ -1,7 +1,5 @@
-use Rattle.std.proofs.Common.{sym, subst}
-use Rattle.std.specs.Str.{IsUtf8}
-use Rattle.kmip_ttlv_util.proofs.Unique.{six_utf8}
+use Rattle.std.proofs.lemmas.Str.{IsUtf8-from_ascii}
 use Rattle.kmip_ttlv_util.proofs.diagnostic.push_tag.Goals as goal
 
 pub unreachable-requires : goal.unreachable-requires
-unreachable-requires g c = c.in_default.ensures.cases.0 (subst IsUtf8 (sym c.six_digits-six.ensures) (six_utf8 c.deref.result.now))
+unreachable-requires g c = c.in_default.ensures.cases.0 (IsUtf8-from_ascii _ c.digits-digits.ensures.ascii)

@@ -1,5 +1,5 @@
 use Rattle.std.proofs.Common.{◌∙◌, rules}
-use Rattle.kmip_ttlv.proofs.Views.{view-Seq}
+use Rattle.kmip_ttlv_base.proofs.Views.{view-Seq}
 use Rattle.ttlv_vectors.proofs.request.attributes.Goals as goal
 
 pub returns : goal.returns

@@ -1,5 +1,5 @@
 use Rattle.std.proofs.Common.{◌∙◌, false, codes, refl}
-use Rattle.kmip_ttlv.proofs.Shapes.{form_of-Struct}
+use Rattle.kmip_ttlv_base.proofs.Shapes.{form_of-Struct}
 use Rattle.hex_to_txt.proofs.pair.PairDeserialize.shape.Goals as goal
 
 pub returns : goal.returns

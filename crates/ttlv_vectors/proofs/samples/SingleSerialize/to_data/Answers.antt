@@ -1,5 +1,5 @@
 use Rattle.std.proofs.Common.{◌∙◌, rules}
-use Rattle.kmip_ttlv.proofs.Views.{view-Struct}
+use Rattle.kmip_ttlv_base.proofs.Views.{view-Struct}
 use Rattle.ttlv_vectors.proofs.samples.SingleSerialize.to_data.Goals as goal
 
 pub returns : goal.returns

@@ -1,0 +1,50 @@
+//! What reading answers, as text.
+
+use crate::names::{TagA, TagB};
+use crate::parts::{Number, OneField, Part, Structure};
+use crate::reading::Reading;
+use kmip_ttlv::error::{Error, ErrorKind, SerdeError};
+use kmip_ttlv::from_slice;
+use std::alloc::Global;
+use std::test::Fail;
+
+/// A structure of one field.
+pub type Of<P> = Structure<TagA, OneField<TagB, P>>;
+
+/// A structure of one number.
+pub type Single = Of<Number>;
+
+fn read<P: Part>(alloc: Global, text: &str) -> Result<Result<Reading<P>, Error>, Fail> {
+    let bytes = hex::decode(alloc, text)?;
+    Ok(from_slice(alloc, bytes.as_slice()))
+}
+
+/// What the bytes are read as by the shape: the data, or why they are refused, and where. Of an
+/// input that ends too early no place is said.
+pub fn answer<P: Part>(alloc: Global, text: &str) -> Result<String, Fail> {
+    let error = match read::<P>(alloc, text)? {
+        Ok(found) => return Ok(found.text),
+        Err(error) => error,
+    };
+    let place = error.location();
+    match error.kind() {
+        ErrorKind::IoError(cause) => {
+            let kind = cause.kind();
+            Ok(format!(in alloc; "{kind:?}")?)
+        }
+        kind => Ok(format!(in alloc; "{kind:?}; {place}")?),
+    }
+}
+
+/// Where the bytes are refused for another cause, which is said in words of our own.
+pub fn other_place<P: Part>(alloc: Global, text: &str) -> Result<String, Fail> {
+    let error = match read::<P>(alloc, text)? {
+        Ok(found) => return Ok(found.text),
+        Err(error) => error,
+    };
+    let place = error.location();
+    match error.kind() {
+        ErrorKind::SerdeError(SerdeError::Other(_)) => Ok(format!(in alloc; "{place}")?),
+        kind => Ok(format!(in alloc; "{kind:?}; {place}")?),
+    }
+}

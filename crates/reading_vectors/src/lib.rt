@@ -1,0 +1,22 @@
+//! What bytes are read as by shapes made by hand, and how they are refused, as tests of the crate
+//! `kmip_ttlv`.
+//!
+//! A shape is put together from the types in `parts`, whose names are those in `names`. `Reading`
+//! reads by such a shape, and keeps the data that was read as text.
+#![tactic(auto)]
+
+#[cfg(test)]
+mod answer;
+#[cfg(test)]
+mod enums;
+#[cfg(test)]
+mod growing;
+#[cfg(test)]
+mod leaves;
+pub mod names;
+#[cfg(test)]
+mod nested;
+pub mod parts;
+pub mod reading;
+#[cfg(test)]
+mod response;

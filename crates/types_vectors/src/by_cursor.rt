@@ -1,0 +1,49 @@
+//! A function over any primitive that rests on the laws and the contracts of the low-level types alone.
+
+ghost use Rattle.std.specs.Prelude.{◌≡◌, IfOk};
+ghost use Rattle.kmip_ttlv_types.specs.Primitives.{content_of};
+
+use kmip_ttlv_types::laws::what_was_written_is_read_back;
+use kmip_ttlv_types::stream::{MemoryCursor, MemorySink};
+use kmip_ttlv_types::{Result, SerializableTtlvType, TtlvType};
+use std::alloc::Allocator;
+use std::io::Cursor;
+
+/// Writes a value into memory, and reads it from there by a cursor. The value that is read has the bytes
+/// that were written.
+pub fn write_and_read<T: SerializableTtlvType, A: Allocator>(
+    room: A,
+    alloc: T::Alloc,
+    value: &T,
+) -> Result<T>
+    ensures { IfOk result (λ w. T.SerializableTtlvType.value_bytes w ≡ content_of T.HasTtlvType.TTLV_TYPE (T.SerializableTtlvType.value_bytes value.now)) }
+{
+    what_was_written_is_read_back(value);
+    let mut written = MemorySink(Vec::new(room));
+    value.write(&mut written)?;
+    let mut source = MemoryCursor(Cursor::new(written.0.as_slice()));
+    TtlvType::read(&mut source)?;
+    T::read(alloc, &mut source)
+}
+
+#[cfg(test)]
+mod tests {
+    use super::*;
+    use kmip_ttlv_types::{TtlvBigInteger, TtlvLongInteger};
+    use std::test::Fail;
+
+    #[test]
+    fn a_number_comes_back(rt: HostRuntime) -> std::result::Result<(), Fail> {
+        let read = write_and_read(rt.alloc(), (), &TtlvLongInteger(-3));
+        assert!(rt; matches!(read, Ok(TtlvLongInteger(-3))));
+        let number = TtlvBigInteger(Vec::from_slice(rt.alloc(), b"\x80")?);
+        match write_and_read(rt.alloc(), rt.alloc(), &number) {
+            Ok(read) => assert_eq!(rt;
+                read.as_slice(),
+                b"\xFF\xFF\xFF\xFF\xFF\xFF\xFF\x80".as_slice()
+            ),
+            Err(_) => assert!(rt; false),
+        }
+        Ok(())
+    }
+}
