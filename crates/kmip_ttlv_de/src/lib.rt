@@ -79,9 +79,10 @@ pub fn from_slice<T: Deserialize<A>, A: Allocator + Copy>(alloc: A, bytes: &[u8]
     Ok(T::from_data(alloc, &data)?)
 }
 
-/// What bytes begin with is of the form's kind and names.
+/// What is read, from items or from bytes, is of the form's kind and names.
 pub fn what_begins_is_given()
-    ensures { (s : Form) (bytes : List ℕ) (v : Value) → Begins s bytes v → Gives s v }
+    ensures items { (s : Form) (k k' : List Keep) (xs ys : List Raw) (v : Value) → Reads s k xs v k' ys → Gives s v }
+    ensures bytes { (s : Form) (bytes : List ℕ) (v : Value) → Begins s bytes v → Gives s v }
 {}
 
 /// At most one value is read from the same bytes.

@@ -1,1 +1,2 @@
 mod SingleData
+mod SingleBack

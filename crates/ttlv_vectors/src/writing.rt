@@ -318,7 +318,7 @@ fn a_writer_that_has_too_little_room(rt: HostRuntime) -> Result<(), Fail> {
 #[test]
 fn a_value_that_is_written_and_read_back(rt: HostRuntime) -> Result<(), Fail> {
     for number in [0, 3, -5, i32::MIN, i32::MAX] {
-        match there_and_back(rt.alloc(), &Single { number }) {
+        match there_and_back(rt.alloc(), Single { number }) {
             Ok(back) => assert_eq!(rt; back, Single { number }),
             Err(_) => assert!(rt; false, "{number}"),
         }
