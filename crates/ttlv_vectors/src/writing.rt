@@ -3,12 +3,10 @@
 use crate::data::{newtype, variant};
 use crate::request::CreateRequest;
 use crate::samples::{Single, there_and_back};
-use kmip_ttlv::error::ErrorKind;
 use kmip_ttlv::ser::TtlvSerializer;
 use kmip_ttlv::shape::Data;
-use kmip_ttlv::{to_vec, to_writer};
+use kmip_ttlv::to_vec;
 use std::alloc::Global;
-use std::io;
 use std::process::Abort;
 use std::test::Fail;
 
@@ -285,33 +283,6 @@ fn a_serializer_that_refused_refuses_on(rt: HostRuntime) -> Result<(), Fail> {
         }
     }
     assert!(rt; serializer.into_vec().is_err());
-    Ok(())
-}
-
-#[test]
-fn a_writer_that_has_too_little_room(rt: HostRuntime) -> Result<(), Fail> {
-    let whole = hex::decode(
-        rt.alloc(),
-        "AAAAAA0100000010BBBBBB02000000040000000300000000",
-    )?;
-    for room in 0..=whole.len() {
-        let mut buffer = [0xEEu8; 24];
-        let mut writer = &mut buffer[..room];
-        match to_writer(rt.alloc(), &Single { number: 3 }, &mut writer) {
-            Ok(()) => assert_eq!(rt; room, whole.len()),
-            Err(error) => {
-                assert!(rt; room < whole.len());
-                assert!(rt; error.location().is_unknown(), "{room}");
-                match error.kind() {
-                    ErrorKind::IoError(cause) => {
-                        assert_eq!(rt; cause.kind(), io::ErrorKind::WriteZero, "{room}")
-                    }
-                    _ => assert!(rt; false, "{room}"),
-                }
-            }
-        }
-        assert_eq!(rt; &buffer[..room], &whole[..room], "{room}");
-    }
     Ok(())
 }
 
