@@ -15,7 +15,7 @@ use kmip_ttlv_base::types::{TtlvTag, TtlvType, number};
 use std::alloc::Allocator;
 
 /// Why a rule is refused.
-#[derive(Clone, Copy, Debug, PartialEq, Eq)]
+#[derive(Clone, Copy)]
 pub enum RuleError<'n> {
     /// The whole name of a variant that begins as a rule and has no operator.
     InvalidVariantMatcherSyntax(&'n str),
@@ -24,7 +24,7 @@ pub enum RuleError<'n> {
 }
 
 /// What a variant's name says of the texts that were read and of an item's type.
-#[derive(Clone, Copy, Debug, PartialEq, Eq)]
+#[derive(Clone, Copy)]
 pub enum Verdict<'n> {
     /// The name is no rule.
     NoRule,
@@ -201,131 +201,4 @@ fn in_brackets(text: &str) -> Option<&str>
     ensures { option_copied result ≡ in_brackets text.now }
 {
     text.strip_prefix("[")?.strip_suffix("]")
-}
-
-#[cfg(test)]
-mod tests {
-    use super::*;
-    use kmip_ttlv_base::shape::VariantContent;
-    use std::alloc::{AllocError, Global};
-    use std::test::Fail;
-
-    const TAG: [u8; 3] = [0xBB, 0xBB, 0xBB];
-
-    fn keep(alloc: Global, kept: &mut Vec<Kept>, text: &str) -> Result<(), AllocError> {
-        let tag = TtlvTag::from(TAG);
-        let text = String::from_str(alloc, text)?;
-        kept.push(Kept { tag, text })?;
-        Ok(())
-    }
-
-    fn unit(name: &'static str) -> VariantShape {
-        VariantShape {
-            name,
-            content: VariantContent::Unit,
-        }
-    }
-
-    #[test]
-    fn rules_after_a_number(rt: HostRuntime) -> Result<(), Fail> {
-        let mut kept = Vec::new(rt.alloc());
-        keep(rt.alloc(), &mut kept, "0x00000001")?;
-        let rows = [
-            ("0xBBBBBB", Verdict::NoRule),
-            ("if", Verdict::NoRule),
-            ("if 0xBBBBBB==0x1", Verdict::Fails),
-            ("if 0xBBBBBB==0x00000001", Verdict::Holds),
-            ("if  0xBBBBBB == 0x00000001 ", Verdict::Holds),
-            ("if 0xBBBBBB>=0x2", Verdict::Fails),
-            ("if 0xBBBBBB>=1", Verdict::Holds),
-            ("if 0xBBBBBB in [a==b]", Verdict::Fails),
-            ("if 0xBBBBBB in [0x00000002, 0x00000001]", Verdict::Holds),
-            ("if 0xBBBBBB in 0x00000001", Verdict::Fails),
-            ("if 0xBBBBBB in []", Verdict::Fails),
-            ("if 0xBBBBBB in [", Verdict::Fails),
-            ("if 0xDDDDDD>=zz", Verdict::Fails),
-            ("if 0x1000000==x", Verdict::Fails),
-            ("if type==Integer", Verdict::Holds),
-            ("if type==TextString", Verdict::Fails),
-            ("if type in x", Verdict::Fails),
-            ("if ==", Verdict::Fails),
-            ("if in", Verdict::Fails),
-        ];
-        for (name, want) in rows {
-            assert_eq!(rt; rule(name, &kept, TtlvType::Integer), want, "{name}");
-        }
-        Ok(())
-    }
-
-    #[test]
-    fn rules_refused_after_a_number(rt: HostRuntime) -> Result<(), Fail> {
-        let mut kept = Vec::new(rt.alloc());
-        keep(rt.alloc(), &mut kept, "0x00000001")?;
-        let rows = [
-            ("if 0xBBBBBB>=zz", "zz"),
-            ("if zz>=0x1", "zz"),
-            ("if 0x1000000 in [x]", "0x1000000"),
-            ("if >=", ""),
-            ("if type>=1", "type"),
-            ("if type in [x]", "type"),
-        ];
-        for (name, text) in rows {
-            let want = Verdict::Refused(RuleError::InvalidTag(text));
-            assert_eq!(rt; rule(name, &kept, TtlvType::Integer), want, "{name}");
-        }
-        let want = Verdict::Refused(RuleError::InvalidVariantMatcherSyntax("if "));
-        assert_eq!(rt; rule("if ", &kept, TtlvType::Integer), want);
-        Ok(())
-    }
-
-    #[test]
-    fn rules_of_types(rt: HostRuntime) -> Result<(), Fail> {
-        let kept: Vec<Kept> = Vec::new(rt.alloc());
-        let rows = [
-            ("if type==Structure", TtlvType::Structure),
-            ("if type==Integer", TtlvType::Integer),
-            ("if type==LongInteger", TtlvType::LongInteger),
-            ("if type==BigInteger", TtlvType::BigInteger),
-            ("if type==Enumeration", TtlvType::Enumeration),
-            ("if type==Boolean", TtlvType::Boolean),
-            ("if type==TextString", TtlvType::TextString),
-            ("if type==ByteString", TtlvType::ByteString),
-            ("if type==DateTime", TtlvType::DateTime),
-            ("if type==Interval", TtlvType::Interval),
-        ];
-        for (name, typ) in rows {
-            assert_eq!(rt; rule(name, &kept, typ), Verdict::Holds, "{name}");
-        }
-        Ok(())
-    }
-
-    #[test]
-    fn rules_of_the_last_text(rt: HostRuntime) -> Result<(), Fail> {
-        let mut kept = Vec::new(rt.alloc());
-        keep(rt.alloc(), &mut kept, "a")?;
-        keep(rt.alloc(), &mut kept, "")?;
-        let empty = rule("if 0xBBBBBB in []", &kept, TtlvType::Integer);
-        assert_eq!(rt; empty, Verdict::Holds);
-        keep(rt.alloc(), &mut kept, "b")?;
-        let first = rule("if 0xBBBBBB==a", &kept, TtlvType::Integer);
-        assert_eq!(rt; first, Verdict::Fails);
-        let last = rule("if 0xBBBBBB==b", &kept, TtlvType::Integer);
-        assert_eq!(rt; last, Verdict::Holds);
-        Ok(())
-    }
-
-    #[test]
-    fn choices_in_order(rt: HostRuntime) -> Result<(), Fail> {
-        let mut kept = Vec::new(rt.alloc());
-        keep(rt.alloc(), &mut kept, "0x00000001")?;
-        let holds = "if 0xBBBBBB==0x00000001";
-        let second = [unit("if 0xBBBBBB==0x1"), unit(holds), unit(holds)];
-        assert_eq!(rt; choose(&second, &kept, TtlvType::Integer), Ok(Some(1)));
-        let refused = [unit("if zz>=0x1"), unit(holds)];
-        let want = Err(RuleError::InvalidTag("zz"));
-        assert_eq!(rt; choose(&refused, &kept, TtlvType::Integer), want);
-        let none = [unit("0x00000001"), unit("if ==")];
-        assert_eq!(rt; choose(&none, &kept, TtlvType::Integer), Ok(None));
-        Ok(())
-    }
 }

@@ -17,6 +17,3 @@ mod walk;
 
 pub use lines::TagMap;
 pub use printer::PrettyPrinter;
-
-#[cfg(test)]
-mod tests;

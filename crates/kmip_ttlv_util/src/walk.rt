@@ -23,7 +23,7 @@ pub struct Walk<A: Allocator> {
 }
 
 /// What comes at a place.
-#[derive(Clone, Copy, Debug, PartialEq, Eq)]
+#[derive(Clone, Copy)]
 pub enum Next {
     /// A structure closes, and others stay open.
     Closes,

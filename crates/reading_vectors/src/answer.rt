@@ -48,3 +48,17 @@ pub fn other_place<P: Part>(alloc: Global, text: &str) -> Result<String, Fail> {
         kind => Ok(format!(in alloc; "{kind:?}; {place}")?),
     }
 }
+
+/// The messages that are not read as the texts beside them, each with what it is read as.
+pub fn others<P: Part>(alloc: Global, rows: &[(&str, &str)]) -> Result<String, Fail> {
+    let mut others = String::new(alloc);
+    for row in rows {
+        let (message, text) = *row;
+        let found = answer::<P>(alloc, message)?;
+        if found.as_str() != text {
+            let line = format!(in alloc; "{message}: {found}\n")?;
+            others.push_str(line.as_str())?;
+        }
+    }
+    Ok(others)
+}

@@ -1,16 +1,18 @@
 //! Enums: rules, numbers that name a variant, and what is kept for the rules.
 
-use crate::answer::{Of, answer, other_place};
+use crate::answer::{Of, answer, other_place, others};
 use crate::names::{
     IfAtLeastAlone, IfAtLeastOne, IfAtLeastTwo, IfAtLeastWord, IfBigInteger, IfEqualAlone,
-    IfInAlone, IfInNothing, IfInStrange, IfInTwo, IfInteger, IfInterval, IfLargeIn, IfLargeIs,
-    IfNothing, IfOne, IfOneShort, IfOtherAtLeastWord, IfStructure, IfTextA, IfTextB,
-    IfWordAtLeastOne, One, Seven, TagA, TagB, TagC, TagD, TagE,
+    IfInAlone, IfInNothing, IfInOne, IfInStrange, IfInTwo, IfInteger, IfInterval, IfLargeIn,
+    IfLargeIs, IfNothing, IfOne, IfOneShort, IfOneSpaced, IfOtherAtLeastWord, IfStructure, IfText,
+    IfTextA, IfTextB, IfTypeAtLeast, IfTypeIn, IfWordAtLeastOne, One, Seven, TagA, TagB, TagC,
+    TagD, TagE,
 };
 use crate::parts::{
-    BigNumber, Choice, Content, NoContent, Number, OneField, OneNumber, OneVariant, Sequence, Span,
-    Structure, Text, ThreeNumbers, TwoFields, TwoNumbers, TwoVariants,
+    BigNumber, Choice, Content, NoContent, Number, OneField, OneNumber, OneVariant, Part, Sequence,
+    Span, Structure, Text, ThreeNumbers, TwoFields, TwoNumbers, TwoVariants,
 };
+use std::alloc::Global;
 use std::test::Fail;
 
 const NUMBERS: &str =
@@ -37,72 +39,126 @@ type Alone<L> = Structure<TagA, OneField<TagC, Choice<TagC, L>>>;
 // A tuple of this content.
 type Items<C> = Alone<OneVariant<IfStructure, C>>;
 
+// Whether the numbers are read by this shape so that the second is of the variant of this name.
+fn takes<P: Part>(alloc: Global, variant: &str) -> Result<bool, Fail> {
+    let wanted = format!(in alloc;
+        "Struct {{ name: \"0xAAAAAA\", fields: [UnitVariant {{ name: \"0xBBBBBB\", variant: \"0x00000001\" }}, NewtypeVariant {{ name: \"0xCCCCCC\", variant: \"{variant}\", inner: I32(7) }}] }}"
+    )?;
+    Ok(answer::<P>(alloc, NUMBERS)?.as_str() == wanted.as_str())
+}
+
+// Whether the numbers are refused by this shape for a name in the rule, at the second of them.
+fn refuses_name<P: Part>(alloc: Global, kind: &str) -> Result<bool, Fail> {
+    let wanted = format!(in alloc;
+        "SerdeError({kind}); pos: 28 bytes, parent tags: 0xAAAAAA, tag: 0xCCCCCC, type: Integer (0x02)"
+    )?;
+    Ok(answer::<P>(alloc, NUMBERS)?.as_str() == wanted.as_str())
+}
+
+// Whether no rule of this shape holds for the numbers.
+fn has_no_variant<P: Part>(alloc: Global) -> Result<bool, Fail> {
+    let wanted =
+        "SerdeError(Other(\"unknown variant\")); pos: 40 bytes, parent tags: 0xAAAAAA, tag: 0xAAAAAA, type: Structure (0x01)";
+    Ok(answer::<P>(alloc, NUMBERS)?.as_str() == wanted)
+}
+
+// A kept number is compared as its text, or as the number, or is one of some texts.
 #[test]
-fn a_kept_number_is_compared_as_text(rt: HostRuntime) -> Result<(), Fail> {
-    assert_eq!(rt;
-        answer::<Either<IfOneShort, IfOne>>(rt.alloc(), NUMBERS)?.as_str(),
-        "Struct { name: \"0xAAAAAA\", fields: [UnitVariant { name: \"0xBBBBBB\", variant: \"0x00000001\" }, NewtypeVariant { name: \"0xCCCCCC\", variant: \"if 0xBBBBBB==0x00000001\", inner: I32(7) }] }"
+fn rules_of_a_kept_number(rt: HostRuntime) -> Result<(), Fail> {
+    let heap = rt.alloc();
+    assert!(rt; takes::<Either<IfOneShort, IfOne>>(heap, "if 0xBBBBBB==0x00000001")?);
+    assert!(rt; takes::<Either<IfInOne, IfOneSpaced>>(heap, "if  0xBBBBBB == 0x00000001 ")?);
+    assert!(rt; takes::<Either<IfAtLeastTwo, IfAtLeastOne>>(heap, "if 0xBBBBBB>=1")?);
+    assert!(rt;
+        takes::<Either<IfInStrange, IfInTwo>>(heap, "if 0xBBBBBB in [0x00000002, 0x00000001]")?
     );
+    assert!(rt; takes::<Either<IfText, IfInteger>>(heap, "if type==Integer")?);
     Ok(())
 }
 
 #[test]
-fn a_kept_number_is_compared_as_number(rt: HostRuntime) -> Result<(), Fail> {
-    assert_eq!(rt;
-        answer::<Either<IfAtLeastTwo, IfAtLeastOne>>(rt.alloc(), NUMBERS)?.as_str(),
-        "Struct { name: \"0xAAAAAA\", fields: [UnitVariant { name: \"0xBBBBBB\", variant: \"0x00000001\" }, NewtypeVariant { name: \"0xCCCCCC\", variant: \"if 0xBBBBBB>=1\", inner: I32(7) }] }"
-    );
+fn rules_that_never_hold(rt: HostRuntime) -> Result<(), Fail> {
+    let heap = rt.alloc();
+    assert!(rt; has_no_variant::<Only<IfEqualAlone, Content<Number>>>(heap)?);
+    assert!(rt; has_no_variant::<Only<IfInAlone, Content<Number>>>(heap)?);
+    assert!(rt; has_no_variant::<Either<IfOtherAtLeastWord, IfInOne>>(heap)?);
     Ok(())
 }
 
+// Words in the place of numbers or tags, and rules that are none.
 #[test]
-fn a_kept_number_is_one_of_some(rt: HostRuntime) -> Result<(), Fail> {
-    assert_eq!(rt;
-        answer::<Either<IfInStrange, IfInTwo>>(rt.alloc(), NUMBERS)?.as_str(),
-        "Struct { name: \"0xAAAAAA\", fields: [UnitVariant { name: \"0xBBBBBB\", variant: \"0x00000001\" }, NewtypeVariant { name: \"0xCCCCCC\", variant: \"if 0xBBBBBB in [0x00000002, 0x00000001]\", inner: I32(7) }] }"
-    );
+fn rules_that_are_refused(rt: HostRuntime) -> Result<(), Fail> {
+    let heap = rt.alloc();
+    let word = "InvalidTag(\"zz\")";
+    assert!(rt; refuses_name::<Either<IfOtherAtLeastWord, IfAtLeastWord>>(heap, word)?);
+    assert!(rt; refuses_name::<Either<IfWordAtLeastOne, IfOne>>(heap, word)?);
+    let large = "InvalidTag(\"0x1000000\")";
+    assert!(rt; refuses_name::<Either<IfLargeIs, IfLargeIn>>(heap, large)?);
+    let typ = "InvalidTag(\"type\")";
+    assert!(rt; refuses_name::<Only<IfTypeAtLeast, Content<Number>>>(heap, typ)?);
+    assert!(rt; refuses_name::<Only<IfTypeIn, Content<Number>>>(heap, typ)?);
+    let none = "InvalidTag(\"\")";
+    assert!(rt; refuses_name::<Only<IfAtLeastAlone, Content<Number>>>(heap, none)?);
+    let nothing = "InvalidVariantMatcherSyntax(\"if \")";
+    assert!(rt; refuses_name::<Only<IfNothing, Content<Number>>>(heap, nothing)?);
     Ok(())
 }
 
+// A number that names a variant is read whole, so the enum that it is for has no content.
 #[test]
-fn words_that_are_no_numbers(rt: HostRuntime) -> Result<(), Fail> {
+fn variants_by_their_number(rt: HostRuntime) -> Result<(), Fail> {
+    let heap = rt.alloc();
     assert_eq!(rt;
-        answer::<Either<IfOtherAtLeastWord, IfAtLeastWord>>(rt.alloc(), NUMBERS)?.as_str(),
-        "SerdeError(InvalidTag(\"zz\")); pos: 28 bytes, parent tags: 0xAAAAAA, tag: 0xCCCCCC, type: Integer (0x02)"
-    );
-    assert_eq!(rt;
-        answer::<Either<IfWordAtLeastOne, IfOne>>(rt.alloc(), NUMBERS)?.as_str(),
-        "SerdeError(InvalidTag(\"zz\")); pos: 28 bytes, parent tags: 0xAAAAAA, tag: 0xCCCCCC, type: Integer (0x02)"
-    );
-    assert_eq!(rt;
-        answer::<Either<IfLargeIs, IfLargeIn>>(rt.alloc(), NUMBERS)?.as_str(),
-        "SerdeError(InvalidTag(\"0x1000000\")); pos: 28 bytes, parent tags: 0xAAAAAA, tag: 0xCCCCCC, type: Integer (0x02)"
-    );
-    Ok(())
-}
-
-#[test]
-fn a_rule_for_a_variant_without_content(rt: HostRuntime) -> Result<(), Fail> {
-    assert_eq!(rt;
-        answer::<Only<IfInteger, NoContent>>(rt.alloc(), NUMBERS)?.as_str(),
+        answer::<Only<IfInteger, NoContent>>(heap, NUMBERS)?.as_str(),
         "MalformedTtlv(UnexpectedTtlvField { expected: Length, actual: Tag }); pos: 28 bytes, parent tags: 0xAAAAAA, tag: 0xCCCCCC, type: Integer (0x02)"
     );
-    Ok(())
-}
-
-#[test]
-fn a_number_for_a_variant_with_content(rt: HostRuntime) -> Result<(), Fail> {
     assert_eq!(rt;
-        answer::<Only<Seven, Content<Number>>>(rt.alloc(), NUMBERS)?.as_str(),
+        answer::<Only<Seven, Content<Number>>>(heap, NUMBERS)?.as_str(),
         "MalformedTtlv(UnexpectedTtlvField { expected: Tag, actual: LengthAndValue }); pos: 40 bytes, parent tags: 0xAAAAAA, tag: 0xCCCCCC, type: Integer (0x02)"
+    );
+    assert_eq!(rt;
+        answer::<Only<Seven, OneNumber>>(heap, NUMBERS)?.as_str(),
+        "MalformedTtlv(UnexpectedTtlvField { expected: Tag, actual: Length }); pos: 40 bytes, parent tags: 0xAAAAAA, tag: 0xCCCCCC, type: Integer (0x02)"
+    );
+    assert_eq!(rt;
+        answer::<Of<Choice<TagB, OneVariant<One, NoContent>>>>(
+            heap,
+            "AAAAAA0100000010BBBBBB05000000040000000200000000"
+        )?.as_str(),
+        "SerdeError(Other(\"unknown variant\")); pos: 24 bytes, parent tags: 0xAAAAAA, tag: 0xAAAAAA, type: Structure (0x01)"
     );
     Ok(())
 }
 
+// A text, and a number of eight bytes under a type of four.
+const NO_SEVEN: [(&str, &str); 2] = [
+    (
+        "AAAAAA0100000010CCCCCC07000000016100000000000000",
+        "SerdeError(UnexpectedType { expected: Enumeration, actual: TextString }); pos: 12 bytes, parent tags: 0xAAAAAA, tag: 0xCCCCCC, type: TextString (0x07)",
+    ),
+    (
+        "AAAAAA0100000010CCCCCC02000000080000000000000007",
+        "MalformedTtlv(InvalidLength { expected: 4, actual: 8, typ: Integer }); pos: 12 bytes, parent tags: 0xAAAAAA, tag: 0xCCCCCC, type: Integer (0x02)",
+    ),
+];
+
 #[test]
-fn the_last_text_that_was_kept(rt: HostRuntime) -> Result<(), Fail> {
+fn items_that_name_no_variant(rt: HostRuntime) -> Result<(), Fail> {
+    type Sevens = Alone<OneVariant<Seven, NoContent>>;
+    assert_eq!(rt; others::<Sevens>(rt.alloc(), &NO_SEVEN)?.as_str(), "");
+    Ok(())
+}
+
+// The last text under a tag is kept, and none of an item that is ignored.
+#[test]
+fn rules_of_kept_texts(rt: HostRuntime) -> Result<(), Fail> {
     type Letters = TwoVariants<IfTextA, Content<Number>, IfTextB, Content<Number>>;
     type Texts = Structure<TagA, TwoFields<TagB, Sequence<Text>, TagC, Choice<TagC, Letters>>>;
+    type Inner = Structure<TagE, OneField<TagD, Number>>;
+    type Variants = TwoVariants<IfTextA, Content<Number>, Seven, NoContent>;
+    type Ignoring = Structure<TagA, TwoFields<TagE, Inner, TagC, Choice<TagC, Variants>>>;
+    type Nothing = OneVariant<IfInNothing, Content<Number>>;
+    type Empty = Structure<TagA, TwoFields<TagB, Text, TagC, Choice<TagC, Nothing>>>;
     assert_eq!(rt;
         answer::<Texts>(
             rt.alloc(),
@@ -111,14 +167,6 @@ fn the_last_text_that_was_kept(rt: HostRuntime) -> Result<(), Fail> {
         .as_str(),
         "Struct { name: \"0xAAAAAA\", fields: [Seq([Text(\"a\"), Text(\"b\")]), NewtypeVariant { name: \"0xCCCCCC\", variant: \"if 0xBBBBBB==b\", inner: I32(7) }] }"
     );
-    Ok(())
-}
-
-#[test]
-fn ignored_texts_are_not_kept(rt: HostRuntime) -> Result<(), Fail> {
-    type Inner = Structure<TagE, OneField<TagD, Number>>;
-    type Variants = TwoVariants<IfTextA, Content<Number>, Seven, NoContent>;
-    type Ignoring = Structure<TagA, TwoFields<TagE, Inner, TagC, Choice<TagC, Variants>>>;
     assert_eq!(rt;
         answer::<Ignoring>(
             rt.alloc(),
@@ -127,20 +175,23 @@ fn ignored_texts_are_not_kept(rt: HostRuntime) -> Result<(), Fail> {
         .as_str(),
         "Struct { name: \"0xAAAAAA\", fields: [Struct { name: \"0xEEEEEE\", fields: [I32(1)] }, UnitVariant { name: \"0xCCCCCC\", variant: \"0x00000007\" }] }"
     );
-    Ok(())
-}
-
-#[test]
-fn a_tuple_of_all_items(rt: HostRuntime) -> Result<(), Fail> {
     assert_eq!(rt;
-        answer::<Items<TwoNumbers>>(rt.alloc(), TWO_ITEMS)?.as_str(),
-        "Struct { name: \"0xAAAAAA\", fields: [TupleVariant { name: \"0xCCCCCC\", variant: \"if type==Structure\", fields: [I32(1), I32(2)] }] }"
+        answer::<Empty>(
+            rt.alloc(),
+            "AAAAAA0100000018BBBBBB0700000000CCCCCC02000000040000000700000000"
+        )?
+        .as_str(),
+        "Struct { name: \"0xAAAAAA\", fields: [Text(\"\"), NewtypeVariant { name: \"0xCCCCCC\", variant: \"if 0xBBBBBB in []\", inner: I32(7) }] }"
     );
     Ok(())
 }
 
 #[test]
-fn a_tuple_of_fewer_or_more_items(rt: HostRuntime) -> Result<(), Fail> {
+fn tuples(rt: HostRuntime) -> Result<(), Fail> {
+    assert_eq!(rt;
+        answer::<Items<TwoNumbers>>(rt.alloc(), TWO_ITEMS)?.as_str(),
+        "Struct { name: \"0xAAAAAA\", fields: [TupleVariant { name: \"0xCCCCCC\", variant: \"if type==Structure\", fields: [I32(1), I32(2)] }] }"
+    );
     assert_eq!(rt;
         other_place::<Items<OneNumber>>(rt.alloc(), TWO_ITEMS)?.as_str(),
         "pos: 32 bytes, parent tags: 0xAAAAAA, tag: 0xAAAAAA, type: Structure (0x01)"
@@ -153,40 +204,9 @@ fn a_tuple_of_fewer_or_more_items(rt: HostRuntime) -> Result<(), Fail> {
         other_place::<Items<OneNumber>>(rt.alloc(), "AAAAAA0100000008CCCCCC0100000000")?.as_str(),
         "pos: 16 bytes, parent tags: 0xAAAAAA, tag: 0xAAAAAA, type: Structure (0x01)"
     );
-    Ok(())
-}
-
-#[test]
-fn a_tuple_that_is_no_structure(rt: HostRuntime) -> Result<(), Fail> {
     assert_eq!(rt;
         answer::<Only<IfInteger, OneNumber>>(rt.alloc(), NUMBERS)?.as_str(),
         "MalformedTtlv(UnexpectedType { expected: Structure, actual: Integer }); pos: 28 bytes, parent tags: 0xAAAAAA, tag: 0xCCCCCC, type: Integer (0x02)"
-    );
-    Ok(())
-}
-
-#[test]
-fn a_text_names_no_variant(rt: HostRuntime) -> Result<(), Fail> {
-    assert_eq!(rt;
-        answer::<Alone<OneVariant<One, NoContent>>>(
-            rt.alloc(),
-            "AAAAAA0100000010CCCCCC07000000016100000000000000"
-        )?
-        .as_str(),
-        "SerdeError(UnexpectedType { expected: Enumeration, actual: TextString }); pos: 12 bytes, parent tags: 0xAAAAAA, tag: 0xCCCCCC, type: TextString (0x07)"
-    );
-    Ok(())
-}
-
-#[test]
-fn a_number_that_names_no_variant(rt: HostRuntime) -> Result<(), Fail> {
-    assert_eq!(rt;
-        answer::<Of<Choice<TagB, OneVariant<One, NoContent>>>>(
-            rt.alloc(),
-            "AAAAAA0100000010BBBBBB05000000040000000200000000"
-        )?
-        .as_str(),
-        "SerdeError(Other(\"unknown variant\")); pos: 24 bytes, parent tags: 0xAAAAAA, tag: 0xAAAAAA, type: Structure (0x01)"
     );
     Ok(())
 }
@@ -208,69 +228,6 @@ fn rules_by_the_newer_types(rt: HostRuntime) -> Result<(), Fail> {
         )?
         .as_str(),
         "Struct { name: \"0xAAAAAA\", fields: [NewtypeVariant { name: \"0xCCCCCC\", variant: \"if type==BigInteger\", inner: BigInteger([255, 255, 255, 255, 255, 255, 255, 128]) }] }"
-    );
-    Ok(())
-}
-
-#[test]
-fn names_that_are_no_rules(rt: HostRuntime) -> Result<(), Fail> {
-    assert_eq!(rt;
-        answer::<Only<IfNothing, Content<Number>>>(rt.alloc(), NUMBERS)?.as_str(),
-        "SerdeError(InvalidVariantMatcherSyntax(\"if \")); pos: 28 bytes, parent tags: 0xAAAAAA, tag: 0xCCCCCC, type: Integer (0x02)"
-    );
-    assert_eq!(rt;
-        answer::<Only<IfAtLeastAlone, Content<Number>>>(rt.alloc(), NUMBERS)?.as_str(),
-        "SerdeError(InvalidTag(\"\")); pos: 28 bytes, parent tags: 0xAAAAAA, tag: 0xCCCCCC, type: Integer (0x02)"
-    );
-    Ok(())
-}
-
-#[test]
-fn rules_that_never_hold(rt: HostRuntime) -> Result<(), Fail> {
-    assert_eq!(rt;
-        answer::<Only<IfEqualAlone, Content<Number>>>(rt.alloc(), NUMBERS)?.as_str(),
-        "SerdeError(Other(\"unknown variant\")); pos: 40 bytes, parent tags: 0xAAAAAA, tag: 0xAAAAAA, type: Structure (0x01)"
-    );
-    assert_eq!(rt;
-        answer::<Only<IfInAlone, Content<Number>>>(rt.alloc(), NUMBERS)?.as_str(),
-        "SerdeError(Other(\"unknown variant\")); pos: 40 bytes, parent tags: 0xAAAAAA, tag: 0xAAAAAA, type: Structure (0x01)"
-    );
-    Ok(())
-}
-
-#[test]
-fn an_empty_text_is_in_no_members(rt: HostRuntime) -> Result<(), Fail> {
-    type Variants = OneVariant<IfInNothing, Content<Number>>;
-    type Empty = Structure<TagA, TwoFields<TagB, Text, TagC, Choice<TagC, Variants>>>;
-    assert_eq!(rt;
-        answer::<Empty>(
-            rt.alloc(),
-            "AAAAAA0100000018BBBBBB0700000000CCCCCC02000000040000000700000000"
-        )?
-        .as_str(),
-        "Struct { name: \"0xAAAAAA\", fields: [Text(\"\"), NewtypeVariant { name: \"0xCCCCCC\", variant: \"if 0xBBBBBB in []\", inner: I32(7) }] }"
-    );
-    Ok(())
-}
-
-#[test]
-fn a_number_for_a_tuple(rt: HostRuntime) -> Result<(), Fail> {
-    assert_eq!(rt;
-        answer::<Only<Seven, OneNumber>>(rt.alloc(), NUMBERS)?.as_str(),
-        "MalformedTtlv(UnexpectedTtlvField { expected: Tag, actual: Length }); pos: 40 bytes, parent tags: 0xAAAAAA, tag: 0xCCCCCC, type: Integer (0x02)"
-    );
-    Ok(())
-}
-
-#[test]
-fn a_number_of_another_length_names_no_variant(rt: HostRuntime) -> Result<(), Fail> {
-    assert_eq!(rt;
-        answer::<Alone<OneVariant<Seven, NoContent>>>(
-            rt.alloc(),
-            "AAAAAA0100000010CCCCCC02000000080000000000000007"
-        )?
-        .as_str(),
-        "MalformedTtlv(InvalidLength { expected: 4, actual: 8, typ: Integer }); pos: 12 bytes, parent tags: 0xAAAAAA, tag: 0xCCCCCC, type: Integer (0x02)"
     );
     Ok(())
 }

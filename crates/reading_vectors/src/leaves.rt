@@ -1,6 +1,6 @@
 //! Structures of one leaf, and what is behind it.
 
-use crate::answer::{Of, Single, answer};
+use crate::answer::{Of, Single, answer, others};
 use crate::names::{TagA, TagB, TagC, TagD};
 use crate::parts::{
     ClosedStructure, LongNumber, Maybe, Number, Octets, OneField, Span, Structure, Text,
@@ -11,250 +11,90 @@ use std::test::Fail;
 const TWO_ITEMS: &str =
     "AAAAAA0100000020BBBBBB02000000040000000300000000CCCCCC02000000040000000500000000";
 
+const EMPTY: &str = "AAAAAA0100000000";
+
+const TEXT: &str = "AAAAAA0100000010BBBBBB07000000016100000000000000";
+
+const THREE: &str = "Struct { name: \"0xAAAAAA\", fields: [I32(3)] }";
+
+// Padding is of any value, and neither are further items looked at nor bytes behind the message.
+const NUMBERS: [(&str, &str); 5] = [
+    ("AAAAAA0100000010BBBBBB02000000040000000300000000", THREE),
+    ("AAAAAA0100000010BBBBBB020000000400000003FFFFFFFF", THREE),
+    ("AAAAAA0100000010BBBBBB02000000040000000300000000FF", THREE),
+    (TWO_ITEMS, THREE),
+    (
+        "AAAAAA0100000020BBBBBB02000000040000000300000000CCCCCC0100000008FFFFFFFFFFFFFFFF",
+        THREE,
+    ),
+];
+
+// What is no structure of a number.
+const NO_NUMBERS: [(&str, &str); 11] = [
+    (
+        "AAAAAA0C00000000",
+        "MalformedTtlv(InvalidType(12)); pos: 3 bytes, tag: 0xAAAAAA",
+    ),
+    (
+        "AAAAAA0200000004",
+        "MalformedTtlv(UnexpectedType { expected: Structure, actual: Integer }); pos: 4 bytes, tag: 0xAAAAAA, type: Integer (0x02)",
+    ),
+    (
+        "AAAAAA0100000010BBBBBB03000000080000000000000001",
+        "SerdeError(UnexpectedType { expected: Integer, actual: LongInteger }); pos: 12 bytes, parent tags: 0xAAAAAA, tag: 0xBBBBBB, type: LongInteger (0x03)",
+    ),
+    (
+        "AAAAAA0100000010BBBBBB0A000000040000000100000000",
+        "SerdeError(UnexpectedType { expected: Integer, actual: Interval }); pos: 12 bytes, parent tags: 0xAAAAAA, tag: 0xBBBBBB, type: Interval (0x0A)",
+    ),
+    (
+        TEXT,
+        "SerdeError(UnexpectedType { expected: Integer, actual: TextString }); pos: 12 bytes, parent tags: 0xAAAAAA, tag: 0xBBBBBB, type: TextString (0x07)",
+    ),
+    (
+        "AAAAAA0100000010BBBBBB02000000050000000300000000",
+        "MalformedTtlv(InvalidLength { expected: 4, actual: 5, typ: Integer }); pos: 16 bytes, parent tags: 0xAAAAAA, tag: 0xBBBBBB, type: Integer (0x02)",
+    ),
+    (
+        EMPTY,
+        "SerdeError(Other(\"missing field\")); pos: 8 bytes, parent tags: 0xAAAAAA, tag: 0xAAAAAA, type: Structure (0x01)",
+    ),
+    (
+        "AAAAAA0100000010CCCCCC02000000040000000500000000",
+        "SerdeError(UnexpectedTag { expected: 0xBBBBBB, actual: 0xCCCCCC }); pos: 12 bytes, parent tags: 0xAAAAAA, tag: 0xCCCCCC, type: Integer (0x02)",
+    ),
+    (
+        "AAAAAA01FFFFFFFFBBBBBB02000000040000000300000000",
+        "UnexpectedEof",
+    ),
+    (
+        "AAAAAA0100000020BBBBBB02000000040000000300000000CCCCCC0100000010FFFFFFFFFFFFFFFF",
+        "UnexpectedEof",
+    ),
+    (
+        "AAAAAA0100000020BBBBBB02000000040000000300000000CCCCCC0100000010FFFFFFFFFFFFFFFF0000000000000000",
+        "MalformedTtlv(Overflow { field_end: ByteOffset(40) }); pos: 48 bytes, parent tags: 0xAAAAAA, tag: 0xCCCCCC, type: Structure (0x01)",
+    ),
+];
+
 #[test]
-fn a_number(rt: HostRuntime) -> Result<(), Fail> {
-    assert_eq!(rt;
-        answer::<Single>(
-            rt.alloc(),
-            "AAAAAA0100000010BBBBBB02000000040000000300000000"
-        )?
-        .as_str(),
-        "Struct { name: \"0xAAAAAA\", fields: [I32(3)] }"
-    );
-    assert_eq!(rt;
-        answer::<Single>(
-            rt.alloc(),
-            "AAAAAA0100000010BBBBBB020000000400000003FFFFFFFF"
-        )?
-        .as_str(),
-        "Struct { name: \"0xAAAAAA\", fields: [I32(3)] }"
-    );
-    assert_eq!(rt;
-        answer::<Single>(
-            rt.alloc(),
-            "AAAAAA0100000010BBBBBB02000000040000000300000000FF"
-        )?
-        .as_str(),
-        "Struct { name: \"0xAAAAAA\", fields: [I32(3)] }"
-    );
+fn numbers(rt: HostRuntime) -> Result<(), Fail> {
+    assert_eq!(rt; others::<Single>(rt.alloc(), &NUMBERS)?.as_str(), "");
+    assert_eq!(rt; others::<Single>(rt.alloc(), &NO_NUMBERS)?.as_str(), "");
     Ok(())
 }
 
 #[test]
-fn a_long_number(rt: HostRuntime) -> Result<(), Fail> {
-    assert_eq!(rt;
-        answer::<Of<LongNumber>>(
-            rt.alloc(),
-            "AAAAAA0100000010BBBBBB03000000080000000000000001"
-        )?
-        .as_str(),
-        "Struct { name: \"0xAAAAAA\", fields: [I64(1)] }"
-    );
-    Ok(())
-}
-
-#[test]
-fn an_interval(rt: HostRuntime) -> Result<(), Fail> {
-    assert_eq!(rt;
-        answer::<Of<Span>>(
-            rt.alloc(),
-            "AAAAAA0100000010BBBBBB0A000000040000000100000000"
-        )?
-        .as_str(),
-        "Struct { name: \"0xAAAAAA\", fields: [Interval(1)] }"
-    );
-    Ok(())
-}
-
-#[test]
-fn an_unknown_type(rt: HostRuntime) -> Result<(), Fail> {
-    assert_eq!(rt;
-        answer::<Single>(rt.alloc(), "AAAAAA0C00000000")?.as_str(),
-        "MalformedTtlv(InvalidType(12)); pos: 3 bytes, tag: 0xAAAAAA"
-    );
-    Ok(())
-}
-
-#[test]
-fn a_root_that_is_no_structure(rt: HostRuntime) -> Result<(), Fail> {
-    assert_eq!(rt;
-        answer::<Single>(rt.alloc(), "AAAAAA0200000004")?.as_str(),
-        "MalformedTtlv(UnexpectedType { expected: Structure, actual: Integer }); pos: 4 bytes, tag: 0xAAAAAA, type: Integer (0x02)"
-    );
-    Ok(())
-}
-
-#[test]
-fn a_truth_value_of_two(rt: HostRuntime) -> Result<(), Fail> {
-    assert_eq!(rt;
-        answer::<Of<Truth>>(
-            rt.alloc(),
-            "AAAAAA0100000010BBBBBB06000000080000000000000002"
-        )?
-        .as_str(),
-        "MalformedTtlv(InvalidValue { typ: Boolean }); pos: 24 bytes, parent tags: 0xAAAAAA, tag: 0xBBBBBB, type: Boolean (0x06)"
-    );
-    Ok(())
-}
-
-#[test]
-fn a_text_that_is_none(rt: HostRuntime) -> Result<(), Fail> {
-    assert_eq!(rt;
-        answer::<Of<Text>>(
-            rt.alloc(),
-            "AAAAAA0100000010BBBBBB0700000001FF00000000000000"
-        )?
-        .as_str(),
-        "MalformedTtlv(InvalidValue { typ: TextString }); pos: 17 bytes, parent tags: 0xAAAAAA, tag: 0xBBBBBB, type: TextString (0x07)"
-    );
-    Ok(())
-}
-
-#[test]
-fn a_long_number_for_a_number(rt: HostRuntime) -> Result<(), Fail> {
-    assert_eq!(rt;
-        answer::<Single>(
-            rt.alloc(),
-            "AAAAAA0100000010BBBBBB03000000080000000000000001"
-        )?
-        .as_str(),
-        "SerdeError(UnexpectedType { expected: Integer, actual: LongInteger }); pos: 12 bytes, parent tags: 0xAAAAAA, tag: 0xBBBBBB, type: LongInteger (0x03)"
-    );
-    Ok(())
-}
-
-#[test]
-fn an_interval_for_a_number(rt: HostRuntime) -> Result<(), Fail> {
-    assert_eq!(rt;
-        answer::<Single>(
-            rt.alloc(),
-            "AAAAAA0100000010BBBBBB0A000000040000000100000000"
-        )?
-        .as_str(),
-        "SerdeError(UnexpectedType { expected: Integer, actual: Interval }); pos: 12 bytes, parent tags: 0xAAAAAA, tag: 0xBBBBBB, type: Interval (0x0A)"
-    );
-    Ok(())
-}
-
-#[test]
-fn a_text_for_another_leaf(rt: HostRuntime) -> Result<(), Fail> {
-    assert_eq!(rt;
-        answer::<Of<Number>>(
-            rt.alloc(),
-            "AAAAAA0100000010BBBBBB07000000016100000000000000"
-        )?
-        .as_str(),
-        "SerdeError(UnexpectedType { expected: Integer, actual: TextString }); pos: 12 bytes, parent tags: 0xAAAAAA, tag: 0xBBBBBB, type: TextString (0x07)"
-    );
-    assert_eq!(rt;
-        answer::<Of<LongNumber>>(
-            rt.alloc(),
-            "AAAAAA0100000010BBBBBB07000000016100000000000000"
-        )?
-        .as_str(),
-        "SerdeError(UnexpectedType { expected: LongInteger, actual: TextString }); pos: 12 bytes, parent tags: 0xAAAAAA, tag: 0xBBBBBB, type: TextString (0x07)"
-    );
-    assert_eq!(rt;
-        answer::<Of<Truth>>(
-            rt.alloc(),
-            "AAAAAA0100000010BBBBBB07000000016100000000000000"
-        )?
-        .as_str(),
-        "SerdeError(UnexpectedType { expected: Boolean, actual: TextString }); pos: 12 bytes, parent tags: 0xAAAAAA, tag: 0xBBBBBB, type: TextString (0x07)"
-    );
-    assert_eq!(rt;
-        answer::<Of<Octets>>(
-            rt.alloc(),
-            "AAAAAA0100000010BBBBBB07000000016100000000000000"
-        )?
-        .as_str(),
-        "SerdeError(UnexpectedType { expected: ByteString, actual: TextString }); pos: 12 bytes, parent tags: 0xAAAAAA, tag: 0xBBBBBB, type: TextString (0x07)"
-    );
-    Ok(())
-}
-
-#[test]
-fn lengths_that_no_value_has(rt: HostRuntime) -> Result<(), Fail> {
-    assert_eq!(rt;
-        answer::<Single>(
-            rt.alloc(),
-            "AAAAAA0100000010BBBBBB02000000050000000300000000"
-        )?
-        .as_str(),
-        "MalformedTtlv(InvalidLength { expected: 4, actual: 5, typ: Integer }); pos: 16 bytes, parent tags: 0xAAAAAA, tag: 0xBBBBBB, type: Integer (0x02)"
-    );
-    assert_eq!(rt;
-        answer::<Of<Span>>(
-            rt.alloc(),
-            "AAAAAA0100000010BBBBBB0A000000050000000100000000"
-        )?
-        .as_str(),
-        "MalformedTtlv(InvalidLength { expected: 4, actual: 5, typ: Interval }); pos: 16 bytes, parent tags: 0xAAAAAA, tag: 0xBBBBBB, type: Interval (0x0A)"
-    );
-    Ok(())
-}
-
-#[test]
-fn a_missing_field(rt: HostRuntime) -> Result<(), Fail> {
-    type Three = Structure<TagA, ThreeFields<TagB, Number, TagC, Number, TagD, Number>>;
-    assert_eq!(rt;
-        answer::<Single>(rt.alloc(), "AAAAAA0100000000")?.as_str(),
-        "SerdeError(Other(\"missing field\")); pos: 8 bytes, parent tags: 0xAAAAAA, tag: 0xAAAAAA, type: Structure (0x01)"
-    );
-    assert_eq!(rt;
-        answer::<Of<Maybe<Number>>>(rt.alloc(), "AAAAAA0100000000")?.as_str(),
-        "Struct { name: \"0xAAAAAA\", fields: [None] }"
-    );
-    assert_eq!(rt;
-        answer::<Three>(rt.alloc(), TWO_ITEMS)?.as_str(),
-        "SerdeError(Other(\"missing field\")); pos: 40 bytes, parent tags: 0xAAAAAA, tag: 0xAAAAAA, type: Structure (0x01)"
-    );
-    Ok(())
-}
-
-#[test]
-fn a_further_item(rt: HostRuntime) -> Result<(), Fail> {
-    type Closed = ClosedStructure<TagA, OneField<TagB, Number>>;
-    assert_eq!(rt;
-        answer::<Single>(rt.alloc(), TWO_ITEMS)?.as_str(),
-        "Struct { name: \"0xAAAAAA\", fields: [I32(3)] }"
-    );
-    assert_eq!(rt;
-        answer::<Closed>(rt.alloc(), TWO_ITEMS)?.as_str(),
-        "SerdeError(Other(\"unknown field\")); pos: 28 bytes, parent tags: 0xAAAAAA, tag: 0xAAAAAA, type: Structure (0x01)"
-    );
-    Ok(())
-}
-
-#[test]
-fn a_field_that_may_be_left_out(rt: HostRuntime) -> Result<(), Fail> {
-    type Lacking = Structure<TagA, TwoFields<TagB, Maybe<Number>, TagC, Number>>;
-    assert_eq!(rt;
-        answer::<Lacking>(
-            rt.alloc(),
-            "AAAAAA0100000010CCCCCC02000000040000000500000000"
-        )?
-        .as_str(),
-        "Struct { name: \"0xAAAAAA\", fields: [None, I32(5)] }"
-    );
-    assert_eq!(rt;
-        answer::<Single>(
-            rt.alloc(),
-            "AAAAAA0100000010CCCCCC02000000040000000500000000"
-        )?
-        .as_str(),
-        "SerdeError(UnexpectedTag { expected: 0xBBBBBB, actual: 0xCCCCCC }); pos: 12 bytes, parent tags: 0xAAAAAA, tag: 0xCCCCCC, type: Integer (0x02)"
-    );
-    Ok(())
-}
-
-#[test]
-fn bytes_of_two_types(rt: HostRuntime) -> Result<(), Fail> {
-    let read = "Struct { name: \"0xAAAAAA\", fields: [Bytes([0, 0, 0, 0, 0, 0, 0, 5])] }";
-    let octets = "AAAAAA0100000010BBBBBB08000000080000000000000005";
-    assert_eq!(rt; answer::<Of<Octets>>(rt.alloc(), octets)?.as_str(), read);
-    let number = "AAAAAA0100000010BBBBBB04000000080000000000000005";
-    assert_eq!(rt; answer::<Of<Octets>>(rt.alloc(), number)?.as_str(), read);
+fn a_message_that_is_cut(rt: HostRuntime) -> Result<(), Fail> {
+    let whole = "AAAAAA0100000010BBBBBB02000000040000000300000000";
+    for count in 0..24usize {
+        let text = whole.get(..2 * count).unwrap_or(whole);
+        assert_eq!(rt;
+            answer::<Single>(rt.alloc(), text)?.as_str(),
+            "UnexpectedEof",
+            "{text}"
+        );
+    }
     Ok(())
 }
 
@@ -272,5 +112,103 @@ fn refusals_stand_whatever_bytes_follow(rt: HostRuntime) -> Result<(), Fail> {
         let found = answer::<Single>(rt.alloc(), longer.as_str())?;
         assert_eq!(rt; found.as_str(), wanted.as_str(), "{text}");
     }
+    Ok(())
+}
+
+const LONG_NUMBERS: [(&str, &str); 2] = [
+    (
+        "AAAAAA0100000010BBBBBB03000000080000000000000001",
+        "Struct { name: \"0xAAAAAA\", fields: [I64(1)] }",
+    ),
+    (
+        TEXT,
+        "SerdeError(UnexpectedType { expected: LongInteger, actual: TextString }); pos: 12 bytes, parent tags: 0xAAAAAA, tag: 0xBBBBBB, type: TextString (0x07)",
+    ),
+];
+
+const SPANS: [(&str, &str); 2] = [
+    (
+        "AAAAAA0100000010BBBBBB0A000000040000000100000000",
+        "Struct { name: \"0xAAAAAA\", fields: [Interval(1)] }",
+    ),
+    (
+        "AAAAAA0100000010BBBBBB0A000000050000000100000000",
+        "MalformedTtlv(InvalidLength { expected: 4, actual: 5, typ: Interval }); pos: 16 bytes, parent tags: 0xAAAAAA, tag: 0xBBBBBB, type: Interval (0x0A)",
+    ),
+];
+
+const TRUTHS: [(&str, &str); 2] = [
+    (
+        "AAAAAA0100000010BBBBBB06000000080000000000000002",
+        "MalformedTtlv(InvalidValue { typ: Boolean }); pos: 24 bytes, parent tags: 0xAAAAAA, tag: 0xBBBBBB, type: Boolean (0x06)",
+    ),
+    (
+        TEXT,
+        "SerdeError(UnexpectedType { expected: Boolean, actual: TextString }); pos: 12 bytes, parent tags: 0xAAAAAA, tag: 0xBBBBBB, type: TextString (0x07)",
+    ),
+];
+
+const TEXTS: [(&str, &str); 2] = [
+    (TEXT, "Struct { name: \"0xAAAAAA\", fields: [Text(\"a\")] }"),
+    (
+        "AAAAAA0100000010BBBBBB0700000001FF00000000000000",
+        "MalformedTtlv(InvalidValue { typ: TextString }); pos: 17 bytes, parent tags: 0xAAAAAA, tag: 0xBBBBBB, type: TextString (0x07)",
+    ),
+];
+
+// Bytes are read from two types.
+const OCTETS: [(&str, &str); 3] = [
+    (
+        "AAAAAA0100000010BBBBBB08000000080000000000000005",
+        "Struct { name: \"0xAAAAAA\", fields: [Bytes([0, 0, 0, 0, 0, 0, 0, 5])] }",
+    ),
+    (
+        "AAAAAA0100000010BBBBBB04000000080000000000000005",
+        "Struct { name: \"0xAAAAAA\", fields: [Bytes([0, 0, 0, 0, 0, 0, 0, 5])] }",
+    ),
+    (
+        TEXT,
+        "SerdeError(UnexpectedType { expected: ByteString, actual: TextString }); pos: 12 bytes, parent tags: 0xAAAAAA, tag: 0xBBBBBB, type: TextString (0x07)",
+    ),
+];
+
+#[test]
+fn other_leaves(rt: HostRuntime) -> Result<(), Fail> {
+    assert_eq!(rt;
+        others::<Of<LongNumber>>(rt.alloc(), &LONG_NUMBERS)?.as_str(),
+        ""
+    );
+    assert_eq!(rt; others::<Of<Span>>(rt.alloc(), &SPANS)?.as_str(), "");
+    assert_eq!(rt; others::<Of<Truth>>(rt.alloc(), &TRUTHS)?.as_str(), "");
+    assert_eq!(rt; others::<Of<Text>>(rt.alloc(), &TEXTS)?.as_str(), "");
+    assert_eq!(rt; others::<Of<Octets>>(rt.alloc(), &OCTETS)?.as_str(), "");
+    Ok(())
+}
+
+#[test]
+fn further_and_missing_fields(rt: HostRuntime) -> Result<(), Fail> {
+    type Closed = ClosedStructure<TagA, OneField<TagB, Number>>;
+    type Three = Structure<TagA, ThreeFields<TagB, Number, TagC, Number, TagD, Number>>;
+    type Lacking = Structure<TagA, TwoFields<TagB, Maybe<Number>, TagC, Number>>;
+    assert_eq!(rt;
+        answer::<Closed>(rt.alloc(), TWO_ITEMS)?.as_str(),
+        "SerdeError(Other(\"unknown field\")); pos: 28 bytes, parent tags: 0xAAAAAA, tag: 0xAAAAAA, type: Structure (0x01)"
+    );
+    assert_eq!(rt;
+        answer::<Three>(rt.alloc(), TWO_ITEMS)?.as_str(),
+        "SerdeError(Other(\"missing field\")); pos: 40 bytes, parent tags: 0xAAAAAA, tag: 0xAAAAAA, type: Structure (0x01)"
+    );
+    assert_eq!(rt;
+        answer::<Of<Maybe<Number>>>(rt.alloc(), EMPTY)?.as_str(),
+        "Struct { name: \"0xAAAAAA\", fields: [None] }"
+    );
+    assert_eq!(rt;
+        answer::<Lacking>(
+            rt.alloc(),
+            "AAAAAA0100000010CCCCCC02000000040000000500000000"
+        )?
+        .as_str(),
+        "Struct { name: \"0xAAAAAA\", fields: [None, I32(5)] }"
+    );
     Ok(())
 }

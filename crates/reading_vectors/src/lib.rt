@@ -13,10 +13,13 @@ mod enums;
 mod growing;
 #[cfg(test)]
 mod leaves;
-pub mod names;
+#[cfg(test)]
+mod names;
 #[cfg(test)]
 mod nested;
-pub mod parts;
-pub mod reading;
+#[cfg(test)]
+mod parts;
+#[cfg(test)]
+mod reading;
 #[cfg(test)]
 mod response;

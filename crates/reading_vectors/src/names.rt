@@ -114,6 +114,17 @@ impl Name for IfOne {
     }
 }
 
+/// A rule with spaces: the text is `0x00000001`.
+pub struct IfOneSpaced;
+
+impl Name for IfOneSpaced {
+    ghost letters = { codes "if  0xBBBBBB == 0x00000001 " };
+
+    fn name() -> &'static str {
+        "if  0xBBBBBB == 0x00000001 "
+    }
+}
+
 /// A rule: the number is at least two.
 pub struct IfAtLeastTwo;
 
@@ -155,6 +166,17 @@ impl Name for IfInTwo {
 
     fn name() -> &'static str {
         "if 0xBBBBBB in [0x00000002, 0x00000001]"
+    }
+}
+
+/// A rule whose one member has no brackets.
+pub struct IfInOne;
+
+impl Name for IfInOne {
+    ghost letters = { codes "if 0xBBBBBB in 0x00000001" };
+
+    fn name() -> &'static str {
+        "if 0xBBBBBB in 0x00000001"
     }
 }
 
@@ -235,6 +257,17 @@ impl Name for IfInteger {
     }
 }
 
+/// A rule: the type is TextString.
+pub struct IfText;
+
+impl Name for IfText {
+    ghost letters = { codes "if type==TextString" };
+
+    fn name() -> &'static str {
+        "if type==TextString"
+    }
+}
+
 /// A rule: the type is Structure.
 pub struct IfStructure;
 
@@ -265,6 +298,28 @@ impl Name for IfBigInteger {
 
     fn name() -> &'static str {
         "if type==BigInteger"
+    }
+}
+
+/// A rule that compares a type with a number.
+pub struct IfTypeAtLeast;
+
+impl Name for IfTypeAtLeast {
+    ghost letters = { codes "if type>=1" };
+
+    fn name() -> &'static str {
+        "if type>=1"
+    }
+}
+
+/// A rule that seeks a type among words.
+pub struct IfTypeIn;
+
+impl Name for IfTypeIn {
+    ghost letters = { codes "if type in [x]" };
+
+    fn name() -> &'static str {
+        "if type in [x]"
     }
 }
 

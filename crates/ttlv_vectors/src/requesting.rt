@@ -1,5 +1,7 @@
-//! The request to create a key: in pieces on one serializer, and with each growth refused in turn.
+//! The request to create a key: in pieces on one serializer, over writers that fail, and with each growth
+//! refused in turn. And how many growths a serializer asks for.
 
+use crate::data::tagged_number;
 use crate::request::CreateRequest;
 use kmip_ttlv::error::{Error, ErrorKind, MalformedTtlvError};
 use kmip_ttlv::ser::TtlvSerializer;
@@ -7,6 +9,8 @@ use kmip_ttlv::shape::{Data, Serialize};
 use kmip_ttlv::{to_vec, to_writer};
 use refusing_allocator::RefusingAllocator;
 use std::alloc::{Allocator, Global};
+use std::io;
+use std::io::Write;
 use std::test::Fail;
 
 // The request to create a key of 128 bits for encryption and decryption, in hexadecimal.
@@ -101,6 +105,62 @@ fn to_writer_of_a_request_grows(rt: HostRuntime) -> Result<(), Fail> {
     Ok(())
 }
 
+// Takes one byte a call, is interrupted before each, and fails once its room is used up.
+#[derive(Drop)]
+struct Narrow {
+    taken: Vec<u8>,
+    room: usize,
+    is_ready: bool,
+}
+
+impl Write for Narrow {
+    fn write(&mut self, buf: &[u8]) -> io::Result<usize> {
+        self.is_ready = !self.is_ready;
+        if self.is_ready {
+            return Err(io::Error::from(io::ErrorKind::Interrupted));
+        }
+        if self.room == 0 {
+            return Err(io::Error::from(io::ErrorKind::BrokenPipe));
+        }
+        self.room -= 1;
+        let most = buf.len().min(1);
+        self.taken.write(&buf[..most])
+    }
+
+    fn flush(&mut self) -> io::Result<()> {
+        Ok(())
+    }
+}
+
+fn is_broken_pipe<A: Allocator>(error: &Error<A>) -> bool {
+    match error.kind() {
+        ErrorKind::IoError(cause) => cause.kind() == io::ErrorKind::BrokenPipe,
+        _ => false,
+    }
+}
+
+// A writer that fails has taken the bytes before that, and one that is only interrupted takes them all.
+#[test]
+fn writers_that_fail(rt: HostRuntime) -> Result<(), Fail> {
+    let expected = whole(rt.alloc())?;
+    for room in 0..=expected.len() {
+        let mut writer = Narrow {
+            taken: Vec::new(rt.alloc()),
+            room,
+            is_ready: false,
+        };
+        match to_writer(rt.alloc(), &REQUEST, &mut writer) {
+            Ok(()) => assert_eq!(rt; room, expected.len()),
+            Err(error) => assert!(rt; is_broken_pipe(&error) && room < expected.len(), "{room}"),
+        }
+        assert!(rt;
+            expected.as_slice().starts_with(writer.taken.as_slice()) && writer.taken.len() == room,
+            "{room}"
+        );
+    }
+    Ok(())
+}
+
 #[test]
 fn a_serializer_of_a_request_grows(rt: HostRuntime) -> Result<(), Fail> {
     let expected = whole(rt.alloc())?;
@@ -130,5 +190,37 @@ fn a_serializer_of_a_request_grows(rt: HostRuntime) -> Result<(), Fail> {
         }
     }
     assert!(rt; false, "it grows without end");
+    Ok(())
+}
+
+// How many growths a new serializer asks for.
+fn growths_of<A: Allocator + Copy, B: Allocator>(alloc: A, data: &Data<B>) -> u64 {
+    for before in 0..100u64 {
+        let heap = RefusingAllocator::new(alloc, before);
+        let mut serializer = TtlvSerializer::new(&heap);
+        if serializer.serialize(data).is_ok() && serializer.into_vec().is_ok() {
+            return before;
+        }
+    }
+    100
+}
+
+#[test]
+fn a_serializer_grows_alike_for_many_leaves(rt: HostRuntime) -> Result<(), Fail> {
+    let alloc = rt.alloc();
+    let mut counts = [0u64, 0];
+    for (turn, leaves) in [1u32, 1000].into_iter().enumerate() {
+        let mut fields = Vec::new(alloc);
+        for _ in 0..leaves {
+            fields.push(tagged_number(alloc, "Transparent:0xBBBBBB", 3)?)?;
+        }
+        let name = "0xAAAAAA";
+        let count = growths_of(alloc, &Data::Struct { name, fields });
+        if turn < counts.len() {
+            counts[turn] = count;
+        }
+    }
+    assert_eq!(rt; counts[0], counts[1]);
+    assert!(rt; counts[0] < 100);
     Ok(())
 }

@@ -4,7 +4,8 @@
 #![tactic(auto)]
 
 pub mod by_cursor;
-pub mod faulty;
+#[cfg(test)]
+mod faulty;
 #[cfg(test)]
 mod growing;
 #[cfg(test)]
@@ -16,10 +17,12 @@ mod names;
 #[cfg(test)]
 mod refusals;
 #[cfg(test)]
+mod refusing;
+#[cfg(test)]
 mod samples;
 #[cfg(test)]
 mod streams;
 #[cfg(test)]
-mod values;
+mod structure;
 #[cfg(test)]
-mod vectors;
+mod values;

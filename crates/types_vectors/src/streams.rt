@@ -8,32 +8,10 @@ use std::alloc::Global;
 use std::io::ErrorKind;
 use std::test::Fail;
 
-// Whether the value is read from a reader of one byte a call that is interrupted at any one call.
-fn is_read_slowly<T: Sample>(heap: Global) -> bool {
-    let bytes = T::bytes();
-    for count in 0..=bytes.len() {
-        let mut reader = SlowReader {
-            bytes,
-            calls_before_fault: count as u64,
-            kind: ErrorKind::Interrupted,
-        };
-        let read = T::read_from(heap, &mut reader);
-        if !is_value(&read) || !reader.bytes.is_empty() {
-            return false;
-        }
-    }
-    true
-}
-
-#[test]
-fn slow_readers(rt: HostRuntime) -> Result<(), Fail> {
-    assert!(rt; for_each_sample!(is_read_slowly(rt.alloc())));
-    Ok(())
-}
-
-// Whether a reader that fails once, at any one call, with this kind, makes an IoError of that kind and
-// has given the bytes before that call; and one that does not fail before the end gives the value.
-fn is_failed_reading<T: Sample>(heap: Global, kind: ErrorKind) -> bool {
+// Whether a reader of one byte a call that fails once, at any one call, with this kind, makes an IoError
+// of that kind and has given the bytes before that call; and one that does not fail before the end, or
+// is only interrupted, gives the value.
+fn is_read_or_failed<T: Sample>(heap: Global, kind: ErrorKind) -> bool {
     let bytes = T::bytes();
     for count in 0..=bytes.len() {
         let mut reader = SlowReader {
@@ -42,12 +20,12 @@ fn is_failed_reading<T: Sample>(heap: Global, kind: ErrorKind) -> bool {
             kind,
         };
         let read = T::read_from(heap, &mut reader);
-        let is_right = if count < bytes.len() {
-            is_failure(&read, kind)
+        let is_right = if count < bytes.len() && kind != ErrorKind::Interrupted {
+            is_failure(&read, kind) && reader.bytes == &bytes[count..]
         } else {
-            is_value(&read)
+            is_value(&read) && reader.bytes.is_empty()
         };
-        if !is_right || reader.bytes != &bytes[count..] {
+        if !is_right {
             return false;
         }
     }
@@ -57,11 +35,15 @@ fn is_failed_reading<T: Sample>(heap: Global, kind: ErrorKind) -> bool {
 #[test]
 fn readers_that_fail_once(rt: HostRuntime) -> Result<(), Fail> {
     for kind in [
+        ErrorKind::Interrupted,
         ErrorKind::BrokenPipe,
         ErrorKind::TimedOut,
         ErrorKind::UnexpectedEof,
     ] {
-        assert!(rt; for_each_sample!(is_failed_reading(rt.alloc(), kind)));
+        assert!(rt;
+            for_each_sample!(is_read_or_failed(rt.alloc(), kind)),
+            "{kind:?}"
+        );
     }
     Ok(())
 }
@@ -124,30 +106,10 @@ fn slow_writer(heap: Global, room: usize, calls_before_fault: u64, kind: ErrorKi
     }
 }
 
-// Whether the value is written over a writer of one byte a call that is interrupted at any one call.
-fn is_written_slowly<T: Sample>(heap: Global) -> bool {
-    let Ok(value) = T::sample(heap) else {
-        return false;
-    };
-    let bytes = T::bytes();
-    for count in 0..=bytes.len() {
-        let mut writer = slow_writer(heap, 100, count as u64, ErrorKind::Interrupted);
-        if value.write_to(&mut writer).is_err() || writer.taken.as_slice() != bytes {
-            return false;
-        }
-    }
-    true
-}
-
-#[test]
-fn slow_writers(rt: HostRuntime) -> Result<(), Fail> {
-    assert!(rt; for_each_sample!(is_written_slowly(rt.alloc())));
-    Ok(())
-}
-
-// Whether a writer that fails, at any one call, with this kind, makes an IoError of that kind and has
-// taken the bytes before that call; and one that does not fail before the end takes them all.
-fn is_failed_writing<T: Sample>(heap: Global, kind: ErrorKind) -> bool {
+// Whether a writer of one byte a call that fails once, at any one call, with this kind, makes an IoError
+// of that kind and has taken the bytes before that call; and one that does not fail before the end, or
+// is only interrupted, takes them all.
+fn is_written_or_failed<T: Sample>(heap: Global, kind: ErrorKind) -> bool {
     let Ok(value) = T::sample(heap) else {
         return false;
     };
@@ -155,12 +117,12 @@ fn is_failed_writing<T: Sample>(heap: Global, kind: ErrorKind) -> bool {
     for count in 0..=bytes.len() {
         let mut writer = slow_writer(heap, 100, count as u64, kind);
         let written = value.write_to(&mut writer);
-        let is_right = if count < bytes.len() {
-            is_failure(&written, kind)
+        let is_right = if count < bytes.len() && kind != ErrorKind::Interrupted {
+            is_failure(&written, kind) && writer.taken.as_slice() == &bytes[..count]
         } else {
-            written.is_ok()
+            written.is_ok() && writer.taken.as_slice() == bytes
         };
-        if !is_right || writer.taken.as_slice() != &bytes[..count] {
+        if !is_right {
             return false;
         }
     }
@@ -170,11 +132,15 @@ fn is_failed_writing<T: Sample>(heap: Global, kind: ErrorKind) -> bool {
 #[test]
 fn writers_that_fail_once(rt: HostRuntime) -> Result<(), Fail> {
     for kind in [
+        ErrorKind::Interrupted,
         ErrorKind::BrokenPipe,
         ErrorKind::TimedOut,
         ErrorKind::WriteZero,
     ] {
-        assert!(rt; for_each_sample!(is_failed_writing(rt.alloc(), kind)));
+        assert!(rt;
+            for_each_sample!(is_written_or_failed(rt.alloc(), kind)),
+            "{kind:?}"
+        );
     }
     Ok(())
 }

@@ -1,0 +1,223 @@
+//! Diagnostics, and how many items they tell.
+
+use crate::messages::{CREATE_RESPONSE, EMPTY_FIRST, SHORT, VERSION, printer, repeated};
+use std::alloc::Global;
+use std::test::Fail;
+
+const PAST: &str = "69[6Ai\nERROR: TTLV structure content exceeds the structure length.";
+
+const NESTED: &str = "420069010000001842006A010000001042006B02000000040000000000000000";
+
+const CREATE_REQUEST: &str =
+    "42007801000001204200770100000038420069010000002042006A0200000004000000010000000042006B0200000004000000000000000042000D0200000004000000010000000042000F01000000D842005C0500000004000000010000000042007901000000C04200570500000004000000020000000042009101000000A8420008010000003042000A070000001743727970746F6772617068696320416C676F726974686D0042000B05000000040000000300000000420008010000003042000A070000001443727970746F67726170686963204C656E6774680000000042000B02000000040000008000000000420008010000003042000A070000001843727970746F67726170686963205573616765204D61736B42000B02000000040000000C00000000";
+
+const DESTROY_REQUEST: &str =
+    "42007801000000904200770100000038420069010000002042006A0200000004000000010000000042006B0200000004000000000000000042000D0200000004000000010000000042000F010000004842005C050000000400000014000000004200790100000030420094070000002466633838333364652D373064322D346563652D623036332D66656465336133633539666500000000";
+
+const DESTROY_RESPONSE: &str =
+    "42007B01000000B042007A0100000048420069010000002042006A0200000004000000010000000042006B020000000400000000000000004200920900000008000000004AFBE7C542000D0200000004000000010000000042000F010000005842005C0500000004000000140000000042007F0500000004000000000000000042007C0100000030420094070000002466633838333364652D373064322D346563652D623036332D66656465336133633539666500000000";
+
+// A prefix that is taken from tags, a message, its diagnostic, and how many items that tells.
+type Row = (&'static str, &'static str, &'static str, usize);
+
+// Well-formed messages.
+const WHOLE: [Row; 16] = [
+    ("4200", VERSION, "69[6Ai6Bi]", 3),
+    ("4200", EMPTY_FIRST, "69[6A[6Bi]]", 3),
+    ("4200", NESTED, "69[6A[6Bi]]", 3),
+    (
+        "4200",
+        CREATE_REQUEST,
+        "78[77[69[6Ai6Bi]0Di]0F[5Ce1:79[57e2:91[08[0At0Be3:]08[0At0Bi]08[0At0Bi]]]]]",
+        20,
+    ),
+    (
+        "4200",
+        CREATE_RESPONSE,
+        "7B[7A[69[6Ai6Bi]92d0Di]0F[5Ce1:7Fe0:7C[57e2:94t]]]",
+        13,
+    ),
+    (
+        "4200",
+        DESTROY_REQUEST,
+        "78[77[69[6Ai6Bi]0Di]0F[5Ce14:79[94t]]]",
+        10,
+    ),
+    (
+        "4200",
+        DESTROY_RESPONSE,
+        "7B[7A[69[6Ai6Bi]92d0Di]0F[5Ce14:7Fe0:7C[94t]]]",
+        12,
+    ),
+    (
+        "4200",
+        "420069010000002842006A010000001042006B0200000004000000000000000042006B02000000040000000000000000",
+        "69[6A[6Bi]6Bi]",
+        4,
+    ),
+    (
+        "4200",
+        "420069010000002842006A010000002042006B0200000004000000000000000042006B02000000040000000000000000",
+        "69[6A[6Bi6Bi]]",
+        4,
+    ),
+    (
+        "4200",
+        "420069010000001042005C05000000040000001400000000",
+        "69[5Ce14:]",
+        2,
+    ),
+    (
+        "4200",
+        "420069010000001054000102000000040000000100000000",
+        "69[540001i]",
+        2,
+    ),
+    (
+        "AAAAAA",
+        "AAAAAA0100000010BBBBBB02000000040000000300000000",
+        "[BBBBBBi]",
+        2,
+    ),
+    (
+        "aaaaaa",
+        "AAAAAA0100000010BBBBBB02000000040000000300000000",
+        "AAAAAA[BBBBBBi]",
+        2,
+    ),
+    (
+        "",
+        "AAAAAA0100000010BBBBBB0A000000040000000100000000",
+        "AAAAAA[BBBBBBn]",
+        2,
+    ),
+    (
+        "",
+        "AAAAAA0100000010BBBBBB07000000036162630000000000",
+        "AAAAAA[BBBBBBt]",
+        2,
+    ),
+    (
+        "",
+        "AAAAAA0100000018BBBBBB070000000961626364656667686900000000000000",
+        "AAAAAA[BBBBBBt]",
+        2,
+    ),
+];
+
+// Bytes that are no well-formed message, or go on after one.
+const OTHERS: [Row; 11] = [
+    ("4200", "", "ERR", 1),
+    ("4200", "4200690100000000", "69[ERR", 2),
+    (
+        "4200",
+        "420069010000000842006A02000000040000000100000000",
+        PAST,
+        2,
+    ),
+    ("4200", "42006A02000000040000000100000000", "6AiERR", 2),
+    ("4200", SHORT, "69[6A[6BiERR", 4),
+    (
+        "4200",
+        "420069010000002042006A0200000004000000010000000042006B02000000040000000000000000FF",
+        "69[6Ai6Bi]",
+        3,
+    ),
+    (
+        "",
+        "AAAAAA0100000010BBBBBB0700000001FF00000000000000",
+        "AAAAAA[ERR",
+        2,
+    ),
+    (
+        "",
+        "AAAAAA01FFFFFFFFBBBBBB02000000040000000300000000",
+        "AAAAAA[BBBBBBiERR",
+        3,
+    ),
+    (
+        "",
+        "AAAAAA0100000010BBBBBB07FFFFFFFF6100000000000000",
+        "AAAAAA[ERR",
+        2,
+    ),
+    // Where an item is cut, its value is not told.
+    (
+        "",
+        "AAAAAA0100000010BBBBBB020000000400000003000000",
+        "AAAAAA[ERR",
+        2,
+    ),
+    (
+        "",
+        "AAAAAA0100000010BBBBBB020000000400000004000000",
+        "AAAAAA[ERR",
+        2,
+    ),
+];
+
+// What a printer makes that shows empty structures as closed.
+const CLOSED: [Row; 4] = [
+    ("4200", EMPTY_FIRST, "69[6A[]6Bi]", 3),
+    ("4200", NESTED, "69[6A[6Bi]]", 3),
+    ("4200", "4200690100000000", "69[]", 1),
+    (
+        "4200",
+        SHORT,
+        "69[6A[]6Bi\nERROR: TTLV structure content exceeds the structure length.",
+        3,
+    ),
+];
+
+// Whether a printer, and a clone of it, make this diagnostic.
+fn shows(alloc: Global, closed: bool, row: Row) -> Result<bool, Fail> {
+    let (prefix, message, text, count) = row;
+    let printer = printer(alloc, prefix, closed)?;
+    let bytes = hex::decode(alloc, message)?;
+    let (counted, items) = printer.to_diag_counted(&bytes)?;
+    let shown = printer.clone()?.to_diag_string(&bytes)?;
+    Ok(shown.as_str() == text && counted.as_str() == text && items == count)
+}
+
+#[test]
+fn diagnostics(rt: HostRuntime) -> Result<(), Fail> {
+    for row in WHOLE {
+        assert!(rt; shows(rt.alloc(), false, row)?, "{row:?}");
+    }
+    for row in OTHERS {
+        assert!(rt; shows(rt.alloc(), false, row)?, "{row:?}");
+    }
+    for row in CLOSED {
+        assert!(rt; shows(rt.alloc(), true, row)?, "{row:?}");
+    }
+    Ok(())
+}
+
+#[test]
+fn cut_messages(rt: HostRuntime) -> Result<(), Fail> {
+    let printer = printer(rt.alloc(), "4200", false)?;
+    let bytes = hex::decode(rt.alloc(), CREATE_RESPONSE)?;
+    for length in 0..200 {
+        let cut = bytes.get(..length).unwrap_or(&[]);
+        let text = printer.to_diag_string(cut)?;
+        assert!(rt; text.as_str().ends_with("ERR"), "{length}");
+    }
+    Ok(())
+}
+
+// As long a message as a log meets, and one that opens a structure at each item.
+#[test]
+fn many_empty_structures(rt: HostRuntime) -> Result<(), Fail> {
+    let open = printer(rt.alloc(), "4200", false)?;
+    let closed = printer(rt.alloc(), "4200", true)?;
+    for count in [1_000, 1_000_000] {
+        let message = repeated(rt.alloc(), "4200690100000000", count, "")?;
+        let bytes = hex::decode(rt.alloc(), message.as_str())?;
+        let text = repeated(rt.alloc(), "69[", count, "ERR")?;
+        let (shown, items) = open.to_diag_counted(&bytes)?;
+        assert!(rt; shown.as_str() == text.as_str() && items == count + 1);
+        let (shown, items) = closed.to_diag_counted(&bytes)?;
+        assert!(rt; shown.as_str() == "69[]" && items == 1);
+    }
+    Ok(())
+}

@@ -1,0 +1,14 @@
+//! What the printers of the crate `kmip_ttlv` make of messages, of malformed bytes and of diagnostics,
+//! as tests, with each growth refused in turn.
+#![tactic(auto)]
+
+#[cfg(test)]
+mod diagnostics;
+#[cfg(test)]
+mod growing;
+#[cfg(test)]
+mod messages;
+#[cfg(test)]
+mod reading_back;
+#[cfg(test)]
+mod texts;
