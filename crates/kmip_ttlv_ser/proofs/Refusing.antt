@@ -7,7 +7,7 @@ use Rattle.kmip_ttlv_types.specs.Names.{transparent_name}
 use Rattle.kmip_ttlv_types.specs.Primitives.{sign_extended}
 use Rattle.kmip_ttlv_types.specs.Trees.{Tree, leaf, node, trees_of, bytes_all, Fits}
 use Rattle.kmip_ttlv_base.specs.declared.error.Error.{Error}
-use Rattle.kmip_ttlv_base.specs.Errors.{Location, view_of_kind, location_of, view_of_location, IsMemory}
+use Rattle.kmip_ttlv_base.specs.Errors.{Location, only_offset, view_of_kind, location_of, view_of_location, IsMemory}
 use Rattle.kmip_ttlv_base.specs.Values.{Value, boolean_value, i8_value, i16_value, i32_value, u32_value, i64_value, u64_value, interval_value, text_value, bytes_value, big_integer_value, none, some, seq_value, struct_value, newtype_value, unit_variant_value, newtype_variant_value, tuple_variant_value, unsupported_value, Values, no_values, value}
 use Rattle.kmip_ttlv_ser.specs.declared.held.Held.{Held}
 use Rattle.kmip_ttlv_ser.specs.declared.held.Held.TheVariants.{Nothing, Plain}
@@ -21,7 +21,7 @@ use Rattle.kmip_ttlv_ser.specs.Sizes.{sizes_all}
 use Rattle.kmip_ttlv_ser.specs.Faults.{Fault, place_after, opened_after, fault, fault_in}
 use Rattle.kmip_ttlv_ser.specs.Lengths.{HasLongLeaf, HaveLongLeaf, HasLongStructure, HaveLongStructure, IsLongContent, Under, After, content_start, newtype_long, variant_long}
 use Rattle.kmip_ttlv_ser.specs.Passes.{Measured, Planned, Emitted, Stops, Overlong, kind_of_cause, IsErrorOf}
-use Rattle.kmip_ttlv_ser.specs.Answers.{at_offset, IsTooLongFor, IsRefusedAs, IsFirstRefusal, Refuses, AppendedTo}
+use Rattle.kmip_ttlv_ser.specs.Answers.{IsTooLongFor, IsRefusedAs, IsFirstRefusal, Refuses, AppendedTo}
 use Rattle.kmip_ttlv_ser.proofs.Leaves.{place_len, below_is, fits_each, each_front, each_back}
 use Rattle.kmip_ttlv_ser.proofs.Emitting.{some_same, split_of}
 
@@ -177,7 +177,7 @@ refused v p (Refused cause offset) e h (inr is) =
     subst (λ k. IsRefusedAs v p k (view_of_location (location_of e))) (sym is.0) (first_refusal v p cause (view_of_location (location_of e)) record {
       no_items = h.0;
       kind_is = sym (ap (λ f. f.kind) h.1);
-      location_is = is.1 ∙ ap (λ f. at_offset f.offset) (sym h.1);
+      location_is = is.1 ∙ ap (λ f. only_offset f.offset) (sym h.1);
     })
 
 -- ---- both passes

@@ -1,12 +1,12 @@
 -- What the writer's calls answer.
-use Rattle.std.specs.Prelude.{◌≡◌, ℕ, Bool, true, false, List, [], ◌++◌, length, Option, Some, None, Result, Ok, Err, IsErrAnd}
+use Rattle.std.specs.Prelude.{◌≡◌, ℕ, Bool, true, false, List, ◌++◌, length, Option, Some, None, Result, Ok, Err, IsErrAnd}
 use Rattle.std.specs.declared.vec.Vec.{Vec}
 use Rattle.std.specs.Io.KnownBytes.{Appends, Keeps}
 use Rattle.kmip_ttlv_types.specs.Streams.{AppendsFront}
 use Rattle.kmip_ttlv_types.specs.Trees.{Tree, bytes_all}
 use Rattle.kmip_ttlv_base.specs.declared.error.Error.{Error}
 use Rattle.kmip_ttlv_base.specs.declared.error.MalformedTtlvError.TheVariants.{UnknownStructureLength}
-use Rattle.kmip_ttlv_base.specs.Errors.{Kind, io_error, exceeds_limit, malformed, mismatch, out_of_memory, length_overflow, Location, unknown, kind_of, view_of_kind, location_of, view_of_location}
+use Rattle.kmip_ttlv_base.specs.Errors.{Kind, io_error, exceeds_limit, malformed, mismatch, out_of_memory, length_overflow, Location, unknown, only_offset, kind_of, view_of_kind, location_of, view_of_location}
 use Rattle.kmip_ttlv_base.specs.Values.{Value}
 use Rattle.kmip_ttlv_ser.specs.declared.held.Held.TheVariants.{Nothing}
 use Rattle.kmip_ttlv_ser.specs.declared.held.Place.{Place}
@@ -19,10 +19,6 @@ use Rattle.kmip_ttlv_ser.specs.Lengths.{IsLong}
 -- nothing is written yet
 abbrev pub origin : Place
 origin = record { offset = 0; opened = false }
-
--- an offset, and nothing else
-abbrev pub at_offset : ℕ → Location
-at_offset n = record { offset = Some n; parents = []; tag = None; typ = None }
 
 -- the value's items, which fit after the bytes before, are written as these bytes
 pub record IsWrittenAs (v : Value) (n : ℕ) (bytes : List ℕ) : Type 0 where
@@ -44,7 +40,7 @@ IsTooLong v p = IsTooLongFor v p (items v Nothing)
 pub record IsFirstRefusal (v : Value) (p : Place) (kind : Kind) (location : Location) : Type 0 where
   pub no_items : items v Nothing ≡ None
   pub kind_is : kind ≡ (fault v Nothing p).kind
-  pub location_is : location ≡ at_offset (fault v Nothing p).offset
+  pub location_is : location ≡ only_offset (fault v Nothing p).offset
 
 -- why a value is not written at a place
 abbrev pub IsRefusedAs : Value → Place → Kind → Location → Type 0

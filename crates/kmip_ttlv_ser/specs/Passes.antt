@@ -3,7 +3,7 @@ use Rattle.std.specs.Prelude.{◌≡◌, ℕ, Bool, ◌+◌, ◌<◌, ◌≤◌,
 use Rattle.std.specs.List.{AllByRecursion}
 use Rattle.kmip_ttlv_types.specs.Trees.{Tree, bytes_all, Fits}
 use Rattle.kmip_ttlv_base.specs.declared.error.Error.{Error}
-use Rattle.kmip_ttlv_base.specs.Errors.{Kind, mismatch, invalid_tag, invalid_variant, unsupported_rust_type, length_overflow, unknown, kind_of, view_of_kind, location_of, view_of_location, IsMemory}
+use Rattle.kmip_ttlv_base.specs.Errors.{Kind, mismatch, invalid_tag, invalid_variant, unsupported_rust_type, length_overflow, unknown, only_offset, kind_of, view_of_kind, location_of, view_of_location, IsMemory}
 use Rattle.kmip_ttlv_base.specs.Values.{Value, Values}
 use Rattle.kmip_ttlv_ser.specs.declared.held.Held.{Held}
 use Rattle.kmip_ttlv_ser.specs.declared.held.Held.TheVariants.{Nothing}
@@ -16,7 +16,6 @@ use Rattle.kmip_ttlv_ser.specs.Items.{◌>>=◌, some_item, one_structure, items
 use Rattle.kmip_ttlv_ser.specs.Sizes.{sizes_all}
 use Rattle.kmip_ttlv_ser.specs.Faults.{held_len, Fault, fault, fault_in, no_tag, tag_unused, place_after, inside, within, structure_fault}
 use Rattle.kmip_ttlv_ser.specs.Lengths.{HasLongLeaf, HaveLongLeaf, HasLongStructure, HaveLongStructure, IsLongContent, content_start, structure_long, reach}
-use Rattle.kmip_ttlv_ser.specs.Answers.{at_offset}
 
 -- the kind that a cause is answered as
 abbrev pub kind_of_cause : Cause → Kind
@@ -108,4 +107,4 @@ pub record Emitted (o : Option (List Tree)) (plan rest old new : List ℕ) : Typ
 abbrev pub IsErrorOf : {A : Type 0} → Refusal → Error A → Type 0
 IsErrorOf OutOfMemory e = IsMemory e
 IsErrorOf LengthOverflow e = (view_of_kind (kind_of e) ≡ length_overflow) × (view_of_location (location_of e) ≡ unknown)
-IsErrorOf (Refused cause offset) e = IsMemory e ⊎ ((view_of_kind (kind_of e) ≡ kind_of_cause cause) × (view_of_location (location_of e) ≡ at_offset offset))
+IsErrorOf (Refused cause offset) e = IsMemory e ⊎ ((view_of_kind (kind_of e) ≡ kind_of_cause cause) × (view_of_location (location_of e) ≡ only_offset offset))

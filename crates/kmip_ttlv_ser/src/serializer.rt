@@ -108,10 +108,10 @@ impl<A: Allocator + Copy> TtlvSerializer<A> {
 
 impl<A: Allocator, B: Allocator> From<&mut TtlvSerializer<B>> for ErrorLocation<A> {
     ghost use Rattle.std.specs.Prelude.{length};
-    ghost use Rattle.kmip_ttlv_base.specs.Errors.{view_of_location};
-    ghost use Rattle.kmip_ttlv_ser.specs.Answers.{progress, at_offset};
+    ghost use Rattle.kmip_ttlv_base.specs.Errors.{view_of_location, only_offset};
+    ghost use Rattle.kmip_ttlv_ser.specs.Answers.{progress};
 
-    ghost from_gives = { λ s l. view_of_location l ≡ at_offset (length (progress s.now).bytes) };
+    ghost from_gives = { λ s l. view_of_location l ≡ only_offset (length (progress s.now).bytes) };
 
     fn from(serializer: &mut TtlvSerializer<B>) -> ErrorLocation<A> {
         let bytes = serializer.out.len() as u64;
