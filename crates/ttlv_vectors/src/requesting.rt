@@ -6,9 +6,9 @@ use crate::request::CreateRequest;
 use kmip_ttlv::error::{Error, ErrorKind, MalformedTtlvError};
 use kmip_ttlv::ser::TtlvSerializer;
 use kmip_ttlv::shape::{Data, Serialize};
-use kmip_ttlv::{to_vec, to_writer};
+use kmip_ttlv::{error, to_vec, to_writer};
 use refusing_allocator::RefusingAllocator;
-use std::alloc::{Allocator, Global};
+use std::alloc::{AllocError, Allocator, Global};
 use std::io;
 use std::io::Write;
 use std::test::Fail;
@@ -35,73 +35,163 @@ fn whole(alloc: Global) -> Result<Vec<u8>, Fail> {
     Ok(hex::decode(alloc, text.as_str())?)
 }
 
+// The bytes of its header and its item alone.
+fn parts(alloc: Global) -> Result<Vec<u8>, Fail> {
+    let text = format!(in alloc; "{HEADER}{ITEM}")?;
+    Ok(hex::decode(alloc, text.as_str())?)
+}
+
 fn is_memory<A: Allocator>(error: &Error<A>) -> bool {
     matches!(error.kind(), ErrorKind::OutOfMemory) && error.location().is_unknown()
 }
 
-fn is_closed<A: Allocator>(error: &Error<A>) -> bool {
-    match error.kind() {
-        ErrorKind::MalformedTtlv(MalformedTtlvError::UnknownStructureLength) => {
-            error.location().is_unknown()
+fn is_closed<T, A: Allocator>(answer: &error::Result<T, A>) -> bool {
+    match answer {
+        Err(error) => {
+            matches!(
+                error.kind(),
+                ErrorKind::MalformedTtlv(MalformedTtlvError::UnknownStructureLength)
+            ) && error.location().is_unknown()
         }
-        _ => false,
+        Ok(_) => false,
     }
+}
+
+// Whether the serializer gives these bytes.
+fn gives<A: Allocator + Copy>(serializer: TtlvSerializer<A>, expected: &[u8]) -> bool {
+    match &serializer.into_vec() {
+        Ok(bytes) => bytes.as_slice() == expected,
+        Err(_) => false,
+    }
+}
+
+// Whether the serializer takes each of the data.
+fn takes_each(serializer: &mut TtlvSerializer<Global>, fields: &[Data]) -> bool {
+    for field in fields {
+        if serializer.serialize(field).is_err() {
+            return false;
+        }
+    }
+    true
+}
+
+// Whether the fields of a structure, one after the other on one serializer, are these bytes.
+fn is_in_pieces(alloc: Global, data: &Data, expected: &[u8]) -> bool {
+    let Data::Struct { name: _, fields } = data else {
+        return false;
+    };
+    let mut serializer = TtlvSerializer::new(alloc);
+    takes_each(&mut serializer, fields) && gives(serializer, expected)
 }
 
 #[test]
 fn a_request_in_pieces_on_one_serializer(rt: HostRuntime) -> Result<(), Fail> {
-    let alloc = rt.alloc();
-    let Data::Struct { name: _, fields } = REQUEST.to_data(alloc)? else {
-        return Err("a request is a structure".into());
-    };
-    let mut serializer = TtlvSerializer::new(alloc);
-    for field in &fields {
-        assert!(rt; serializer.serialize(field).is_ok());
-    }
-    let text = format!(in alloc; "{HEADER}{ITEM}")?;
-    let expected = hex::decode(alloc, text.as_str())?;
-    match serializer.into_vec() {
-        Ok(bytes) => assert_eq!(rt; bytes.as_slice(), expected.as_slice()),
-        Err(_) => assert!(rt; false),
-    }
+    let expected = parts(rt.alloc())?;
+    let request = REQUEST.to_data(rt.alloc())?;
+    assert!(rt; is_in_pieces(rt.alloc(), &request, &expected));
     Ok(())
 }
 
-#[test]
-fn to_vec_of_a_request_grows(rt: HostRuntime) -> Result<(), Fail> {
-    let expected = whole(rt.alloc())?;
-    for before in 0..200u64 {
-        let heap = RefusingAllocator::new(rt.alloc(), before);
-        match to_vec(&heap, &REQUEST) {
-            Ok(bytes) => assert_eq!(rt; bytes.as_slice(), expected.as_slice(), "at {before}"),
-            Err(error) => assert!(rt; is_memory(&error) && heap.has_refused(), "at {before}"),
-        }
-        if !heap.has_refused() {
-            return Ok(());
+// What a call answered.
+#[derive(Clone, Copy, Debug, PartialEq, Eq)]
+enum Answer {
+    // The whole request.
+    Whole,
+    // Want of memory.
+    OutOfMemory,
+    // Anything else.
+    Other,
+}
+
+// This answer, where it is right.
+fn answer_if(is_right: bool, answer: Answer) -> Answer {
+    if is_right { answer } else { Answer::Other }
+}
+
+// A call that takes memory.
+#[derive(Clone, Copy)]
+enum Call {
+    ToVec,
+    ToWriter,
+    Serialize,
+}
+
+// What `to_vec` answers.
+fn to_vec_answer(memory: &RefusingAllocator<Global>, expected: &[u8]) -> Answer {
+    match &to_vec(memory, &REQUEST) {
+        Ok(bytes) => answer_if(bytes.as_slice() == expected, Answer::Whole),
+        Err(error) => answer_if(is_memory(error), Answer::OutOfMemory),
+    }
+}
+
+// What `to_writer` answers. A writer is given nothing where memory is wanting.
+fn to_writer_answer(heap: Global, memory: &RefusingAllocator<Global>, expected: &[u8]) -> Answer {
+    let mut writer = Vec::new(heap);
+    match &to_writer(memory, &REQUEST, &mut writer) {
+        Ok(()) => answer_if(writer.as_slice() == expected, Answer::Whole),
+        Err(error) => answer_if(is_memory(error) && writer.is_empty(), Answer::OutOfMemory),
+    }
+}
+
+// Whether the serializer refuses all that follows.
+fn stays_closed<A: Allocator + Copy>(mut serializer: TtlvSerializer<A>, request: &Data) -> bool {
+    is_closed(&serializer.serialize(request)) && is_closed(&serializer.into_vec())
+}
+
+// What a serializer answers.
+fn serializer_answer(
+    memory: &RefusingAllocator<Global>,
+    request: &Data,
+    expected: &[u8],
+) -> Answer {
+    let mut serializer = TtlvSerializer::new(memory);
+    match &serializer.serialize(request) {
+        Ok(()) => answer_if(gives(serializer, expected), Answer::Whole),
+        Err(error) => {
+            answer_if(
+                is_memory(error) && stays_closed(serializer, request),
+                Answer::OutOfMemory,
+            )
         }
     }
-    assert!(rt; false, "it grows without end");
-    Ok(())
+}
+
+// Whether the call answers OutOfMemory only where a growth was refused, and else the whole request, for
+// each of its growths in turn.
+fn grows(heap: Global, call: Call, request: &Data, expected: &[u8]) -> bool {
+    for before in 0..200u64 {
+        let memory = RefusingAllocator::new(heap, before);
+        let answer = match call {
+            Call::ToVec => to_vec_answer(&memory, expected),
+            Call::ToWriter => to_writer_answer(heap, &memory, expected),
+            Call::Serialize => serializer_answer(&memory, request, expected),
+        };
+        if !memory.has_refused() {
+            return answer == Answer::Whole;
+        }
+        if answer == Answer::Other {
+            return false;
+        }
+    }
+    false
 }
 
 #[test]
-fn to_writer_of_a_request_grows(rt: HostRuntime) -> Result<(), Fail> {
+fn a_request_grows(rt: HostRuntime) -> Result<(), Fail> {
     let expected = whole(rt.alloc())?;
-    for before in 0..200u64 {
-        let heap = RefusingAllocator::new(rt.alloc(), before);
-        let mut writer = Vec::new(rt.alloc());
-        match to_writer(&heap, &REQUEST, &mut writer) {
-            Ok(()) => assert_eq!(rt; writer.as_slice(), expected.as_slice(), "at {before}"),
-            Err(error) => {
-                assert!(rt; is_memory(&error) && heap.has_refused(), "at {before}");
-                assert!(rt; writer.is_empty(), "at {before}");
-            }
-        }
-        if !heap.has_refused() {
-            return Ok(());
-        }
-    }
-    assert!(rt; false, "it grows without end");
+    let request = REQUEST.to_data(rt.alloc())?;
+    assert!(rt;
+        grows(rt.alloc(), Call::ToVec, &request, &expected),
+        "to_vec"
+    );
+    assert!(rt;
+        grows(rt.alloc(), Call::ToWriter, &request, &expected),
+        "to_writer"
+    );
+    assert!(rt;
+        grows(rt.alloc(), Call::Serialize, &request, &expected),
+        "serialize"
+    );
     Ok(())
 }
 
@@ -139,57 +229,27 @@ fn is_broken_pipe<A: Allocator>(error: &Error<A>) -> bool {
     }
 }
 
-// A writer that fails has taken the bytes before that, and one that is only interrupted takes them all.
+// Whether a writer that fails has taken the bytes before that, and one that is only interrupted takes
+// them all.
+fn is_taken_up_to(heap: Global, room: usize, expected: &[u8]) -> bool {
+    let mut writer = Narrow {
+        taken: Vec::new(heap),
+        room,
+        is_ready: false,
+    };
+    let is_right = match &to_writer(heap, &REQUEST, &mut writer) {
+        Ok(()) => room == expected.len(),
+        Err(error) => is_broken_pipe(error) && room < expected.len(),
+    };
+    is_right && writer.taken.len() == room && expected.starts_with(writer.taken.as_slice())
+}
+
 #[test]
 fn writers_that_fail(rt: HostRuntime) -> Result<(), Fail> {
     let expected = whole(rt.alloc())?;
     for room in 0..=expected.len() {
-        let mut writer = Narrow {
-            taken: Vec::new(rt.alloc()),
-            room,
-            is_ready: false,
-        };
-        match to_writer(rt.alloc(), &REQUEST, &mut writer) {
-            Ok(()) => assert_eq!(rt; room, expected.len()),
-            Err(error) => assert!(rt; is_broken_pipe(&error) && room < expected.len(), "{room}"),
-        }
-        assert!(rt;
-            expected.as_slice().starts_with(writer.taken.as_slice()) && writer.taken.len() == room,
-            "{room}"
-        );
+        assert!(rt; is_taken_up_to(rt.alloc(), room, &expected), "{room}");
     }
-    Ok(())
-}
-
-#[test]
-fn a_serializer_of_a_request_grows(rt: HostRuntime) -> Result<(), Fail> {
-    let expected = whole(rt.alloc())?;
-    let request = REQUEST.to_data(rt.alloc())?;
-    for before in 0..200u64 {
-        let heap = RefusingAllocator::new(rt.alloc(), before);
-        let mut serializer = TtlvSerializer::new(&heap);
-        match serializer.serialize(&request) {
-            Ok(()) => match serializer.into_vec() {
-                Ok(bytes) => {
-                    assert_eq!(rt; bytes.as_slice(), expected.as_slice(), "at {before}");
-                    return Ok(());
-                }
-                Err(_) => assert!(rt; false, "at {before}"),
-            },
-            Err(error) => {
-                assert!(rt; is_memory(&error) && heap.has_refused(), "at {before}");
-                match serializer.serialize(&request) {
-                    Ok(()) => assert!(rt; false, "at {before}"),
-                    Err(error) => assert!(rt; is_closed(&error), "at {before}"),
-                }
-                match serializer.into_vec() {
-                    Ok(_) => assert!(rt; false, "at {before}"),
-                    Err(error) => assert!(rt; is_closed(&error), "at {before}"),
-                }
-            }
-        }
-    }
-    assert!(rt; false, "it grows without end");
     Ok(())
 }
 
@@ -205,22 +265,28 @@ fn growths_of<A: Allocator + Copy, B: Allocator>(alloc: A, data: &Data<B>) -> u6
     100
 }
 
+// A structure of so many leaves.
+fn structure_of(alloc: Global, leaves: u32) -> Result<Data, AllocError> {
+    let mut fields = Vec::new(alloc);
+    for _ in 0..leaves {
+        fields.push(tagged_number(alloc, "Transparent:0xBBBBBB", 3)?)?;
+    }
+    let name = "0xAAAAAA";
+    Ok(Data::Struct { name, fields })
+}
+
+// How many growths a new serializer asks for, for a structure of so many leaves.
+fn growths_for(alloc: Global, leaves: u32) -> Option<u64> {
+    match &structure_of(alloc, leaves) {
+        Ok(data) => Some(growths_of(alloc, data)),
+        Err(_) => None,
+    }
+}
+
 #[test]
 fn a_serializer_grows_alike_for_many_leaves(rt: HostRuntime) -> Result<(), Fail> {
-    let alloc = rt.alloc();
-    let mut counts = [0u64, 0];
-    for (turn, leaves) in [1u32, 1000].into_iter().enumerate() {
-        let mut fields = Vec::new(alloc);
-        for _ in 0..leaves {
-            fields.push(tagged_number(alloc, "Transparent:0xBBBBBB", 3)?)?;
-        }
-        let name = "0xAAAAAA";
-        let count = growths_of(alloc, &Data::Struct { name, fields });
-        if turn < counts.len() {
-            counts[turn] = count;
-        }
-    }
-    assert_eq!(rt; counts[0], counts[1]);
-    assert!(rt; counts[0] < 100);
+    let count = growths_for(rt.alloc(), 1).ok_or("no memory")?;
+    assert!(rt; growths_for(rt.alloc(), 1000) == Some(count));
+    assert!(rt; count < 100);
     Ok(())
 }

@@ -1,56 +1,67 @@
 //! What values are written as, and their first refusals.
 
 use crate::data::{newtype, tagged_number, variant};
+use crate::low_level::{are_bytes, is_text};
 use crate::request::CreateRequest;
 use crate::samples::{Single, there_and_back};
+use kmip_ttlv::error::{Error, ErrorKind};
 use kmip_ttlv::ser::TtlvSerializer;
-use kmip_ttlv::shape::Data;
+use kmip_ttlv::shape::{Data, Serialize};
 use kmip_ttlv::to_vec;
-use std::alloc::Global;
-use std::process::Abort;
+use std::alloc::{AllocError, Global};
 use std::test::Fail;
 
-// The data is written as these bytes, in hexadecimal.
-fn writes(rt: &(impl Abort + Alloc<A = Global>), data: &Data, text: &str) -> Result<(), Fail> {
-    let mut serializer = TtlvSerializer::new(rt.alloc());
-    assert!(rt; serializer.serialize(data).is_ok(), "{text}");
-    match serializer.into_vec() {
-        Ok(bytes) => {
-            let written = hex::encode_upper(rt.alloc(), bytes.as_slice())?;
-            assert_eq!(rt; written.as_str(), text);
-        }
-        Err(_) => assert!(rt; false, "{text}"),
+// Whether the serializer gives these bytes, in hexadecimal.
+fn gives(alloc: Global, serializer: TtlvSerializer<Global>, text: &str) -> bool {
+    match &serializer.into_vec() {
+        Ok(bytes) => are_bytes(alloc, bytes.as_slice(), text),
+        Err(_) => false,
     }
-    Ok(())
 }
 
-// The data is refused at this offset; the text is that of the error.
-fn refuses(
-    rt: &(impl Abort + Alloc<A = Global>),
-    data: &Data,
-    offset: u64,
-    text: &str,
-) -> Result<(), Fail> {
-    let mut serializer = TtlvSerializer::new(rt.alloc());
-    match serializer.serialize(data) {
-        Ok(()) => assert!(rt; false, "{text}"),
-        Err(error) => {
-            let kind = error.kind();
-            assert_eq!(rt; format!(in rt.alloc(); "{kind:?}")?.as_str(), text);
-            let location = error.location();
-            assert_eq!(rt;
-                location.offset().map(|offset| offset.0),
-                Some(offset),
-                "{text}"
-            );
-            assert!(rt;
-                location.tag().is_none() && location.typ().is_none(),
-                "{text}"
-            );
-            assert!(rt; location.parent_tags().is_empty(), "{text}");
-        }
+// Whether the data, where memory was there for it, is written as these bytes, in hexadecimal.
+fn writes(alloc: Global, data: Result<Data, AllocError>, text: &str) -> bool {
+    match &data {
+        Ok(data) => is_written(alloc, data, text),
+        Err(_) => false,
     }
-    Ok(())
+}
+
+// Whether the data is written as these bytes, in hexadecimal.
+fn is_written(alloc: Global, data: &Data, text: &str) -> bool {
+    let mut serializer = TtlvSerializer::new(alloc);
+    serializer.serialize(data).is_ok() && gives(alloc, serializer, text)
+}
+
+// Whether a refusal is of this kind, as it is printed.
+fn is_of_kind(alloc: Global, kind: &ErrorKind, text: &str) -> bool {
+    is_text(&format!(in alloc; "{kind:?}"), text)
+}
+
+// Whether the place of a refusal is known by this offset alone.
+fn is_at(error: &Error, offset: u64) -> bool {
+    let place = error.location();
+    matches!(place.offset(), Some(at) if at.0 == offset)
+        && place.tag().is_none()
+        && place.typ().is_none()
+        && place.parent_tags().is_empty()
+}
+
+// Whether the data is refused at this offset; the text is that of the error.
+fn is_refused(alloc: Global, data: &Data, offset: u64, text: &str) -> bool {
+    let mut serializer = TtlvSerializer::new(alloc);
+    match &serializer.serialize(data) {
+        Ok(()) => false,
+        Err(error) => is_at(error, offset) && is_of_kind(alloc, error.kind(), text),
+    }
+}
+
+// Whether the data, where memory was there for it, is refused so.
+fn refuses(alloc: Global, data: Result<Data, AllocError>, offset: u64, text: &str) -> bool {
+    match &data {
+        Ok(data) => is_refused(alloc, data, offset, text),
+        Err(_) => false,
+    }
 }
 
 fn structure(name: &'static str, fields: Vec<Data>) -> Data {
@@ -61,227 +72,266 @@ fn unit(name: &'static str, variant: &'static str) -> Data {
     Data::UnitVariant { name, variant }
 }
 
+// One field.
+fn one(alloc: Global, field: Data) -> Result<Vec<Data>, AllocError> {
+    let mut fields = Vec::new(alloc);
+    fields.push(field)?;
+    Ok(fields)
+}
+
+// Two fields.
+fn two(alloc: Global, first: Data, second: Data) -> Result<Vec<Data>, AllocError> {
+    let mut fields = one(alloc, first)?;
+    fields.push(second)?;
+    Ok(fields)
+}
+
+// The data under the tag AABBCC.
+fn tagged(alloc: Global, data: Data) -> Result<Data, AllocError> {
+    newtype(alloc, "Transparent:0xAABBCC", data)
+}
+
+// A value that is there.
+fn present(alloc: Global, data: Data) -> Result<Data, AllocError> {
+    Ok(Data::Some(Box::new(alloc, data)?))
+}
+
 #[test]
 fn leaves_under_a_tag(rt: HostRuntime) -> Result<(), Fail> {
     let alloc = rt.alloc();
-    let number = newtype(alloc, "Transparent:0xAABBCC", Data::I32(3))?;
-    writes(&rt, &number, "AABBCC02000000040000000300000000")?;
-    let date = newtype(alloc, "Transparent:0xAABBCC", Data::U64(1 << 63))?;
-    writes(&rt, &date, "AABBCC09000000088000000000000000")?;
-    let some = Data::Some(Box::new(alloc, Data::I32(3))?);
-    let present = newtype(alloc, "Transparent:0xAABBCC", some)?;
-    writes(&rt, &present, "AABBCC02000000040000000300000000")?;
-    let bytes = [0x80u8].to_vec(alloc)?;
-    let big = newtype(alloc, "Transparent:0xAABBCC", Data::BigInteger(bytes))?;
-    writes(&rt, &big, "AABBCC0400000008FFFFFFFFFFFFFF80")?;
+    let text = "AABBCC02000000040000000300000000";
+    assert!(rt; writes(alloc, tagged(alloc, Data::I32(3)), text));
+    let text = "AABBCC09000000088000000000000000";
+    assert!(rt; writes(alloc, tagged(alloc, Data::U64(1 << 63)), text));
+    let text = "AABBCC02000000040000000300000000";
+    assert!(rt; writes(alloc, tagged(alloc, present(alloc, Data::I32(3))?), text));
+    let big = Data::BigInteger([0x80u8].to_vec(alloc)?);
+    let text = "AABBCC0400000008FFFFFFFFFFFFFF80";
+    assert!(rt; writes(alloc, tagged(alloc, big), text));
     Ok(())
 }
 
-// The data is written under the tag 420020 as these bytes behind the tag, in hexadecimal.
-fn leaf_writes(rt: &(impl Abort + Alloc<A = Global>), data: Data, rest: &str) -> Result<(), Fail> {
-    let leaf = newtype(rt.alloc(), "Transparent:0x420020", data)?;
-    let text = format!(in rt.alloc(); "420020{rest}")?;
-    writes(rt, &leaf, text.as_str())
+// The data under the tag 420020.
+fn leaf(alloc: Global, data: Data) -> Result<Data, AllocError> {
+    newtype(alloc, "Transparent:0x420020", data)
+}
+
+// Whether the data is written under the tag 420020 as these bytes behind the tag, in hexadecimal.
+fn leaf_writes(alloc: Global, data: Data, rest: &str) -> bool {
+    match &format!(in alloc; "420020{rest}") {
+        Ok(text) => writes(alloc, leaf(alloc, data), text.as_str()),
+        Err(_) => false,
+    }
 }
 
 #[test]
 fn numbers_of_the_standard(rt: HostRuntime) -> Result<(), Fail> {
-    leaf_writes(&rt, Data::I32(8), "02000000040000000800000000")?;
-    leaf_writes(&rt, Data::I8(-1), "0200000004FFFFFFFF00000000")?;
-    leaf_writes(&rt, Data::I16(-2), "0200000004FFFFFFFE00000000")?;
-    leaf_writes(
-        &rt,
-        Data::I64(123456789000000000),
-        "030000000801B69B4BA5749200",
-    )?;
-    leaf_writes(&rt, Data::U32(255), "0500000004000000FF00000000")?;
-    leaf_writes(&rt, Data::Bool(true), "06000000080000000000000001")?;
-    leaf_writes(&rt, Data::Bool(false), "06000000080000000000000000")?;
-    leaf_writes(&rt, Data::U64(0x47DA_67F8), "09000000080000000047DA67F8")?;
-    leaf_writes(&rt, Data::Interval(864000), "0A00000004000D2F0000000000")?;
+    let alloc = rt.alloc();
+    assert!(rt; leaf_writes(alloc, Data::I32(8), "02000000040000000800000000"));
+    assert!(rt; leaf_writes(alloc, Data::I8(-1), "0200000004FFFFFFFF00000000"));
+    assert!(rt; leaf_writes(alloc, Data::I16(-2), "0200000004FFFFFFFE00000000"));
+    let number = Data::I64(123456789000000000);
+    assert!(rt; leaf_writes(alloc, number, "030000000801B69B4BA5749200"));
+    assert!(rt; leaf_writes(alloc, Data::U32(255), "0500000004000000FF00000000"));
+    assert!(rt; leaf_writes(alloc, Data::Bool(true), "06000000080000000000000001"));
+    assert!(rt; leaf_writes(alloc, Data::Bool(false), "06000000080000000000000000"));
+    assert!(rt; leaf_writes(alloc, Data::U64(0x47DA_67F8), "09000000080000000047DA67F8"));
+    assert!(rt; leaf_writes(alloc, Data::Interval(864000), "0A00000004000D2F0000000000"));
     Ok(())
 }
 
 #[test]
 fn strings_of_the_standard(rt: HostRuntime) -> Result<(), Fail> {
     let alloc = rt.alloc();
-    let text = String::from_str(alloc, "Hello World")?;
-    leaf_writes(
-        &rt,
-        Data::Text(text),
-        "070000000B48656C6C6F20576F726C640000000000",
-    )?;
-    let bytes = [1u8, 2, 3].to_vec(alloc)?;
-    leaf_writes(&rt, Data::Bytes(bytes), "08000000030102030000000000")?;
-    let number = hex::decode(alloc, "03FD35EB6BC2DF4618080000")?;
-    leaf_writes(
-        &rt,
-        Data::BigInteger(number),
-        "04000000100000000003FD35EB6BC2DF4618080000",
-    )?;
+    let text = Data::Text(String::from_str(alloc, "Hello World")?);
+    assert!(rt; leaf_writes(alloc, text, "070000000B48656C6C6F20576F726C640000000000"));
+    let bytes = Data::Bytes([1u8, 2, 3].to_vec(alloc)?);
+    assert!(rt; leaf_writes(alloc, bytes, "08000000030102030000000000"));
+    let number = Data::BigInteger(hex::decode(alloc, "03FD35EB6BC2DF4618080000")?);
+    assert!(rt; leaf_writes(alloc, number, "04000000100000000003FD35EB6BC2DF4618080000"));
     Ok(())
+}
+
+// A tuple variant of one number.
+fn tuple(alloc: Global) -> Result<Data, AllocError> {
+    let fields = one(alloc, tagged_number(alloc, "Transparent:0xBBBBBB", 3)?)?;
+    Ok(Data::TupleVariant {
+        name: "Override:0xAABBCC",
+        variant: "Items",
+        fields,
+    })
 }
 
 #[test]
 fn structures_and_sequences(rt: HostRuntime) -> Result<(), Fail> {
     let alloc = rt.alloc();
-    let mut fields = Vec::new(alloc);
-    fields.push(tagged_number(alloc, "Transparent:0xBBBBBB", 3)?)?;
-    let tuple = Data::TupleVariant {
-        name: "Override:0xAABBCC",
-        variant: "Items",
-        fields,
-    };
-    writes(
-        &rt,
-        &tuple,
-        "AABBCC0100000010BBBBBB02000000040000000300000000",
-    )?;
-    writes(
-        &rt,
-        &structure("0x123456", Vec::new(alloc)),
-        "1234560100000000",
-    )?;
-    writes(&rt, &Data::Seq(Vec::new(alloc)), "")?;
+    let text = "AABBCC0100000010BBBBBB02000000040000000300000000";
+    assert!(rt; writes(alloc, tuple(alloc), text));
+    let empty = structure("0x123456", Vec::new(alloc));
+    assert!(rt; writes(alloc, Ok(empty), "1234560100000000"));
+    assert!(rt; writes(alloc, Ok(Data::Seq(Vec::new(alloc))), ""));
     Ok(())
+}
+
+// The data under the tag 42000B, which overrides its own.
+fn overridden(alloc: Global, data: Data) -> Result<Data, AllocError> {
+    variant(alloc, "Override:0x42000B", "Transparent", data)
+}
+
+// Two units under a tag that overrides their own.
+fn overridden_units(alloc: Global) -> Result<Data, AllocError> {
+    let both = two(alloc, unit("420028", "0x1"), unit("420028", "0x2"))?;
+    overridden(alloc, Data::Seq(both))
 }
 
 #[test]
 fn overriding_tags(rt: HostRuntime) -> Result<(), Fail> {
     let alloc = rt.alloc();
-    let one = variant(
-        alloc,
-        "Override:0x42000B",
-        "Transparent",
-        unit("420028", "0x00000003"),
-    )?;
-    writes(&rt, &one, "42000B05000000040000000300000000")?;
-    let mut both = Vec::new(alloc);
-    both.push(unit("420028", "0x1"))?;
-    both.push(unit("420028", "0x2"))?;
-    let two = variant(alloc, "Override:0x42000B", "Transparent", Data::Seq(both))?;
-    writes(
-        &rt,
-        &two,
-        "42000B0500000004000000010000000042002805000000040000000200000000",
-    )?;
+    let one = overridden(alloc, unit("420028", "0x00000003"));
+    assert!(rt; writes(alloc, one, "42000B05000000040000000300000000"));
+    let text = "42000B0500000004000000010000000042002805000000040000000200000000";
+    assert!(rt; writes(alloc, overridden_units(alloc), text));
     Ok(())
+}
+
+// A number in a structure, under a prefix that stands twice.
+fn twice_overridden(alloc: Global) -> Result<Data, AllocError> {
+    let inner = newtype(alloc, "Transparent:0xBBBBBB", Data::I32(3))?;
+    variant(alloc, "Override:Override:0xAABBCC", "X", inner)
 }
 
 #[test]
 fn a_doubled_prefix_is_stripped_twice(rt: HostRuntime) -> Result<(), Fail> {
     let alloc = rt.alloc();
-    let inner = newtype(alloc, "Transparent:0xBBBBBB", Data::I32(3))?;
-    let twice = variant(alloc, "Override:Override:0xAABBCC", "X", inner)?;
-    writes(
-        &rt,
-        &twice,
-        "AABBCC0100000010BBBBBB02000000040000000300000000",
-    )?;
+    let text = "AABBCC0100000010BBBBBB02000000040000000300000000";
+    assert!(rt; writes(alloc, twice_overridden(alloc), text));
     let once = variant(
         alloc,
         "Override:Override:0xAABBCC",
         "Transparent",
         Data::I32(3),
-    )?;
-    refuses(
-        &rt,
-        &once,
-        0,
-        "SerdeError(InvalidTag(\"Override:0xAABBCC\"))",
-    )?;
+    );
+    let text = "SerdeError(InvalidTag(\"Override:0xAABBCC\"))";
+    assert!(rt; refuses(alloc, once, 0, text));
     Ok(())
+}
+
+// A structure of one number, without a tag where no name gives one.
+fn structure_of_number(alloc: Global, name: &'static str, number: i32) -> Result<Data, AllocError> {
+    Ok(structure(name, one(alloc, Data::I32(number))?))
 }
 
 #[test]
 fn items_without_a_tag(rt: HostRuntime) -> Result<(), Fail> {
     let alloc = rt.alloc();
-    let mut bare = Vec::new(alloc);
-    bare.push(Data::I32(3))?;
     let text =
         "MalformedTtlv(UnexpectedTtlvField { expected: Value, actual: TypeAndLengthAndValue })";
-    refuses(&rt, &structure("0xAABBCC", bare), 8, text)?;
+    assert!(rt; refuses(alloc, structure_of_number(alloc, "0xAABBCC", 3), 8, text));
     let text =
         "MalformedTtlv(UnexpectedTtlvField { expected: Tag, actual: TypeAndLengthAndValue })";
-    refuses(&rt, &Data::I32(3), 0, text)?;
+    assert!(rt; refuses(alloc, Ok(Data::I32(3)), 0, text));
     Ok(())
+}
+
+// A number under two tags.
+fn twice_tagged(alloc: Global) -> Result<Data, AllocError> {
+    let inner = newtype(alloc, "Transparent:0xDDDDDD", Data::I32(4))?;
+    newtype(alloc, "Transparent:0xCCCCCC", inner)
+}
+
+// A structure of a number under one tag, and a number under two.
+fn tag_without_an_item(alloc: Global) -> Result<Data, AllocError> {
+    let first = variant(alloc, "Override:0xBBBBBB", "Transparent", Data::I32(3))?;
+    let second = twice_tagged(alloc)?;
+    Ok(structure("0xAAAAAA", two(alloc, first, second)?))
 }
 
 #[test]
 fn tags_without_an_item(rt: HostRuntime) -> Result<(), Fail> {
     let alloc = rt.alloc();
     let text = "MalformedTtlv(UnexpectedTtlvField { expected: Typ, actual: Tag })";
-    let empty = newtype(alloc, "Transparent:0xAABBCC", Data::Seq(Vec::new(alloc)))?;
-    refuses(&rt, &empty, 3, text)?;
-    let mut fields = Vec::new(alloc);
-    fields.push(variant(alloc, "Override:0xBBBBBB", "Transparent", Data::I32(3))?)?;
-    let inner = newtype(alloc, "Transparent:0xDDDDDD", Data::I32(4))?;
-    fields.push(newtype(alloc, "Transparent:0xCCCCCC", inner)?)?;
-    refuses(&rt, &structure("0xAAAAAA", fields), 27, text)?;
+    let empty = tagged(alloc, Data::Seq(Vec::new(alloc)));
+    assert!(rt; refuses(alloc, empty, 3, text));
+    assert!(rt; refuses(alloc, tag_without_an_item(alloc), 27, text));
     Ok(())
 }
 
 #[test]
 fn names_and_types_that_are_refused(rt: HostRuntime) -> Result<(), Fail> {
     let alloc = rt.alloc();
-    refuses(
-        &rt,
-        &unit("0x42005C", "Create"),
-        3,
-        "SerdeError(InvalidVariant(\"Create\"))",
-    )?;
-    let none = newtype(alloc, "Transparent:0xAABBCC", Data::None)?;
-    refuses(&rt, &none, 3, "SerdeError(UnsupportedRustType(\"None\"))")?;
-    let other = newtype(alloc, "Transparent:0xAABBCC", Data::Unsupported("f32"))?;
-    refuses(&rt, &other, 3, "SerdeError(UnsupportedRustType(\"f32\"))")?;
-    let mut one = Vec::new(alloc);
-    one.push(Data::I32(1))?;
+    let create = unit("0x42005C", "Create");
+    let text = "SerdeError(InvalidVariant(\"Create\"))";
+    assert!(rt; refuses(alloc, Ok(create), 3, text));
+    let text = "SerdeError(UnsupportedRustType(\"None\"))";
+    assert!(rt; refuses(alloc, tagged(alloc, Data::None), 3, text));
+    let text = "SerdeError(UnsupportedRustType(\"f32\"))";
+    assert!(rt; refuses(alloc, tagged(alloc, Data::Unsupported("f32")), 3, text));
     let text = "SerdeError(InvalidTag(\"Transparent:0xAABBCC\"))";
-    refuses(&rt, &structure("Transparent:0xAABBCC", one), 0, text)?;
+    let one = structure_of_number(alloc, "Transparent:0xAABBCC", 1);
+    assert!(rt; refuses(alloc, one, 0, text));
     Ok(())
+}
+
+// Whether the serializer takes the data.
+fn takes(serializer: &mut TtlvSerializer<Global>, data: Data) -> bool {
+    serializer.serialize(&data).is_ok()
+}
+
+// Whether the serializer refuses the data, at this offset or at an unknown one.
+fn refuses_at(serializer: &mut TtlvSerializer<Global>, data: Data, offset: Option<u64>) -> bool {
+    match (&serializer.serialize(&data), offset) {
+        (Err(error), Some(offset)) => {
+            matches!(error.location().offset(), Some(at) if at.0 == offset)
+        }
+        (Err(error), None) => error.location().is_unknown(),
+        (Ok(()), _) => false,
+    }
 }
 
 #[test]
 fn a_serializer_that_refused_refuses_on(rt: HostRuntime) -> Result<(), Fail> {
     let alloc = rt.alloc();
     let mut serializer = TtlvSerializer::new(alloc);
-    assert!(rt;
-        serializer
-            .serialize(&structure("0xAABBCC", Vec::new(alloc)))
-            .is_ok()
-    );
-    let number: Data = Data::I32(3);
-    match serializer.serialize(&number) {
-        Ok(()) => assert!(rt; false),
-        Err(error) => assert_eq!(rt; error.location().offset().map(|offset| offset.0), Some(8)),
-    }
+    assert!(rt; takes(&mut serializer, structure("0xAABBCC", Vec::new(alloc))));
+    assert!(rt; refuses_at(&mut serializer, Data::I32(3), Some(8)));
     for _ in 0..2 {
-        match serializer.serialize(&structure("0xAABBCC", Vec::new(alloc))) {
-            Ok(()) => assert!(rt; false),
-            Err(error) => assert!(rt; error.location().is_unknown()),
-        }
+        let empty = structure("0xAABBCC", Vec::new(alloc));
+        assert!(rt; refuses_at(&mut serializer, empty, None));
     }
     assert!(rt; serializer.into_vec().is_err());
     Ok(())
 }
 
+// Whether the value is written as these bytes, in hexadecimal.
+fn value_is_written<T: Serialize>(alloc: Global, value: &T, text: &str) -> bool {
+    match &to_vec(alloc, value) {
+        Ok(bytes) => are_bytes(alloc, bytes.as_slice(), text),
+        Err(_) => false,
+    }
+}
+
+// Whether the value is written in so many bytes.
+fn is_written_in<T: Serialize>(alloc: Global, value: &T, count: usize) -> bool {
+    match &to_vec(alloc, value) {
+        Ok(bytes) => bytes.len() == count,
+        Err(_) => false,
+    }
+}
+
+// Whether a structure of this number comes back.
+fn comes_back(alloc: Global, number: i32) -> bool {
+    match &there_and_back(alloc, Single { number }) {
+        Ok(back) => *back == Single { number },
+        Err(_) => false,
+    }
+}
+
 #[test]
 fn a_number_that_is_written_and_read_back(rt: HostRuntime) -> Result<(), Fail> {
-    match to_vec(rt.alloc(), &Single { number: 3 }) {
-        Ok(bytes) => {
-            let text = hex::encode_upper(rt.alloc(), bytes.as_slice())?;
-            assert_eq!(rt;
-                text.as_str(),
-                "AAAAAA0100000010BBBBBB02000000040000000300000000"
-            );
-        }
-        Err(_) => assert!(rt; false),
-    }
+    let text = "AAAAAA0100000010BBBBBB02000000040000000300000000";
+    assert!(rt; value_is_written(rt.alloc(), &Single { number: 3 }, text));
     for number in [0, 3, -5, i32::MIN, i32::MAX] {
-        match there_and_back(rt.alloc(), Single { number }) {
-            Ok(back) => assert_eq!(rt; back, Single { number }),
-            Err(_) => assert!(rt; false, "{number}"),
-        }
+        assert!(rt; comes_back(rt.alloc(), number), "{number}");
     }
     Ok(())
 }
@@ -300,13 +350,7 @@ fn a_request_to_create_a_key(rt: HostRuntime) -> Result<(), Fail> {
         bits: 128,
         usage: 12,
     };
-    match to_vec(rt.alloc(), &request) {
-        Ok(bytes) => {
-            let text = hex::encode_upper(rt.alloc(), bytes.as_slice())?;
-            assert_eq!(rt; text.as_str(), CREATE_REQUEST);
-            assert_eq!(rt; bytes.len(), 296);
-        }
-        Err(_) => assert!(rt; false),
-    }
+    assert!(rt; value_is_written(rt.alloc(), &request, CREATE_REQUEST));
+    assert!(rt; is_written_in(rt.alloc(), &request, 296));
     Ok(())
 }

@@ -1,11 +1,12 @@
 //! Each growth refused in turn: a call answers OutOfMemory where a growth was refused, and else what it
 //! answers with ample memory. And how much memory a length without its bytes takes.
 
-use crate::samples::is_failure;
-use kmip_ttlv_base::error::{ErrorKind, ErrorLocation, SerdeError};
-use kmip_ttlv_base::types::ByteOffset;
+use crate::samples::{
+    bytes_are_cloned, is_failure, is_whole_place, number_is_cloned, text_is_cloned, whole_place,
+};
+use kmip_ttlv_base::error::{ErrorKind, SerdeError};
 use kmip_ttlv_types::{
-    Error, SerializableTtlvType, TtlvBigInteger, TtlvByteString, TtlvTag, TtlvTextString, TtlvType,
+    Error, SerializableTtlvType, TtlvBigInteger, TtlvByteString, TtlvTag, TtlvTextString,
 };
 use refusing_allocator::{BoundedAllocator, RefusingAllocator};
 use std::alloc::{AllocError, Global};
@@ -74,16 +75,24 @@ fn content_of(leaf: &[u8]) -> &[u8] {
     }
 }
 
+// The value that the leaf is read as, or what reading answers in its place.
+fn reading<T: SerializableTtlvType>(alloc: T::Alloc, leaf: &[u8]) -> Result<T, Answer> {
+    let mut source = leaf;
+    match T::read(alloc, &mut source) {
+        Ok(value) => Ok(value),
+        Err(Error::OutOfMemory) => Err(Answer::OutOfMemory),
+        Err(_) => Err(Answer::Other),
+    }
+}
+
 #[derive(Drop)]
 struct ReadText<'a>(&'a [u8]);
 
 impl Call for ReadText<'_> {
     fn answer(&self, memory: &RefusingAllocator<Global>) -> Answer {
-        let mut source = self.0;
-        match &TtlvTextString::read(memory, &mut source) {
+        match &reading::<TtlvTextString<_>>(memory, self.0) {
             Ok(text) => ample_if(text.as_bytes() == content_of(self.0)),
-            Err(Error::OutOfMemory) => Answer::OutOfMemory,
-            Err(_) => Answer::Other,
+            Err(answer) => *answer,
         }
     }
 }
@@ -93,11 +102,9 @@ struct ReadBytes<'a>(&'a [u8]);
 
 impl Call for ReadBytes<'_> {
     fn answer(&self, memory: &RefusingAllocator<Global>) -> Answer {
-        let mut source = self.0;
-        match &TtlvByteString::read(memory, &mut source) {
+        match &reading::<TtlvByteString<_>>(memory, self.0) {
             Ok(bytes) => ample_if(bytes.as_slice() == content_of(self.0)),
-            Err(Error::OutOfMemory) => Answer::OutOfMemory,
-            Err(_) => Answer::Other,
+            Err(answer) => *answer,
         }
     }
 }
@@ -107,11 +114,9 @@ struct ReadNumber<'a>(&'a [u8]);
 
 impl Call for ReadNumber<'_> {
     fn answer(&self, memory: &RefusingAllocator<Global>) -> Answer {
-        let mut source = self.0;
-        match &TtlvBigInteger::read(memory, &mut source) {
+        match &reading::<TtlvBigInteger<_>>(memory, self.0) {
             Ok(number) => ample_if(number.as_slice() == content_of(self.0)),
-            Err(Error::OutOfMemory) => Answer::OutOfMemory,
-            Err(_) => Answer::Other,
+            Err(answer) => *answer,
         }
     }
 }
@@ -172,54 +177,18 @@ fn answer_of(is_wanted: Result<bool, AllocError>) -> Answer {
     }
 }
 
-// Makes a text and a clone of it.
-fn text_is_cloned(memory: &RefusingAllocator<Global>) -> Result<bool, AllocError> {
-    let text = TtlvTextString(String::from_str(memory, "Hello World")?);
-    let copy = text.clone()?;
-    Ok(copy.as_str() == "Hello World")
-}
-
-// Makes a byte string and a clone of it.
-fn bytes_are_cloned(memory: &RefusingAllocator<Global>) -> Result<bool, AllocError> {
-    let bytes = TtlvByteString(Vec::from_slice(memory, b"\x01\x02\x03")?);
-    let copy = bytes.clone()?;
-    Ok(copy.as_slice() == b"\x01\x02\x03".as_slice())
-}
-
-// Makes a big integer and a clone of it.
-fn number_is_cloned(memory: &RefusingAllocator<Global>) -> Result<bool, AllocError> {
-    let number = TtlvBigInteger(Vec::from_slice(memory, b"\x80\x00")?);
-    let copy = number.clone()?;
-    Ok(copy.as_slice() == b"\x80\x00".as_slice())
-}
-
-// Makes a place with two parents and a clone of it.
+// Makes a place with two parents, and says whether a clone of it is the same.
 fn place_is_cloned(memory: &RefusingAllocator<Global>) -> Result<bool, AllocError> {
-    let tags = [
-        TtlvTag::from([0xAA, 0xAA, 0xAA]),
-        TtlvTag::from([0xBB, 0xBB, 0xBB]),
-    ];
-    let tag = TtlvTag::from([0xCC, 0xCC, 0xCC]);
-    let place = ErrorLocation::at(
-        Some(ByteOffset(16)),
-        Some(Vec::from_slice(memory, &tags)?),
-        Some(tag),
-        Some(TtlvType::Integer),
-    );
+    let place = whole_place(memory)?;
     let copy = place.clone()?;
-    Ok(
-        copy.offset() == Some(ByteOffset(16))
-            && copy.parent_tags() == tags.as_slice()
-            && copy.tag() == Some(tag)
-            && copy.typ() == Some(TtlvType::Integer),
-    )
+    Ok(is_whole_place(&copy))
 }
 
 struct CloneText;
 
 impl Call for CloneText {
     fn answer(&self, memory: &RefusingAllocator<Global>) -> Answer {
-        answer_of(text_is_cloned(memory))
+        answer_of(text_is_cloned(memory, "Hello World"))
     }
 }
 
@@ -227,7 +196,7 @@ struct CloneBytes;
 
 impl Call for CloneBytes {
     fn answer(&self, memory: &RefusingAllocator<Global>) -> Answer {
-        answer_of(bytes_are_cloned(memory))
+        answer_of(bytes_are_cloned(memory, b"\x01\x02\x03"))
     }
 }
 
@@ -235,7 +204,7 @@ struct CloneNumber;
 
 impl Call for CloneNumber {
     fn answer(&self, memory: &RefusingAllocator<Global>) -> Answer {
-        answer_of(number_is_cloned(memory))
+        answer_of(number_is_cloned(memory, b"\x80\x00"))
     }
 }
 
@@ -274,21 +243,22 @@ fn a_length_without_its_bytes_takes_one_piece(rt: HostRuntime) -> Result<(), Fai
     Ok(())
 }
 
+// Whether reading the leaf is refused for want of memory.
+fn is_out_of_memory<T: SerializableTtlvType>(alloc: T::Alloc, leaf: &[u8]) -> bool {
+    let mut source = leaf;
+    matches!(&T::read(alloc, &mut source), Err(Error::OutOfMemory))
+}
+
 #[test]
 fn a_piece_has_65_536_bytes(rt: HostRuntime) -> Result<(), Fail> {
+    let leaf = long_leaf(rt.alloc())?;
+    let bytes = leaf.as_slice();
     let memory = BoundedAllocator::new(rt.alloc(), 65_536);
     assert!(rt; ends_early::<TtlvTextString<_>>(&memory));
     assert!(rt; ends_early::<TtlvByteString<_>>(&memory));
     assert!(rt; ends_early::<TtlvBigInteger<_>>(&memory));
-    let leaf = long_leaf(rt.alloc())?;
-    let mut text = leaf.as_slice();
-    let read = TtlvTextString::read(&memory, &mut text);
-    assert!(rt; matches!(&read, Err(Error::OutOfMemory)));
-    let mut bytes = leaf.as_slice();
-    let read = TtlvByteString::read(&memory, &mut bytes);
-    assert!(rt; matches!(&read, Err(Error::OutOfMemory)));
-    let mut number = leaf.as_slice();
-    let read = TtlvBigInteger::read(&memory, &mut number);
-    assert!(rt; matches!(&read, Err(Error::OutOfMemory)));
+    assert!(rt; is_out_of_memory::<TtlvTextString<_>>(&memory, bytes));
+    assert!(rt; is_out_of_memory::<TtlvByteString<_>>(&memory, bytes));
+    assert!(rt; is_out_of_memory::<TtlvBigInteger<_>>(&memory, bytes));
     Ok(())
 }

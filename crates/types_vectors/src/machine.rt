@@ -3,45 +3,68 @@
 use kmip_ttlv_types::{Error, FieldType, TtlvStateMachine, TtlvStateMachineMode};
 use std::test::Fail;
 
+// Whether the machine takes the field as one that is there.
+fn takes(machine: &mut TtlvStateMachine, field: FieldType) -> bool {
+    matches!(machine.advance(field), Ok(true))
+}
+
+// Whether the machine takes the field as one that is left out.
+fn leaves_out(machine: &mut TtlvStateMachine, field: FieldType) -> bool {
+    matches!(machine.advance(field), Ok(false))
+}
+
+// Whether the machine refuses the field.
+fn refuses(machine: &mut TtlvStateMachine, field: FieldType) -> bool {
+    machine.advance(field).is_err()
+}
+
+// Whether the machine refuses the field since another is expected.
+fn refuses_for(machine: &mut TtlvStateMachine, field: FieldType, wanted: FieldType) -> bool {
+    match &machine.advance(field) {
+        Err(Error::UnexpectedTtlvField { expected, actual }) => {
+            *expected == wanted && *actual == field
+        }
+        _ => false,
+    }
+}
+
+// Whether the machine can leave out no tag.
+fn ignores_no_tag(machine: &mut TtlvStateMachine) -> bool {
+    matches!(
+        &machine.ignore_next_tag(),
+        Err(Error::InvalidStateMachineOperation)
+    )
+}
+
 #[test]
 fn an_ignored_tag(rt: HostRuntime) -> Result<(), Fail> {
     let mut machine = TtlvStateMachine::new(TtlvStateMachineMode::Serializing);
-    assert!(rt; matches!(machine.advance(FieldType::Tag), Ok(true)));
+    assert!(rt; takes(&mut machine, FieldType::Tag));
     assert!(rt; machine.ignore_next_tag().is_ok());
-    assert!(rt; matches!(machine.advance(FieldType::Tag), Ok(false)));
-    assert!(rt; matches!(machine.advance(FieldType::TypeAndLengthAndValue), Ok(true)));
+    assert!(rt; leaves_out(&mut machine, FieldType::Tag));
+    assert!(rt; takes(&mut machine, FieldType::TypeAndLengthAndValue));
     Ok(())
 }
 
 #[test]
 fn a_refused_tag(rt: HostRuntime) -> Result<(), Fail> {
     let mut machine = TtlvStateMachine::new(TtlvStateMachineMode::Serializing);
-    assert!(rt; matches!(machine.advance(FieldType::Tag), Ok(true)));
-    match machine.advance(FieldType::Tag) {
-        Err(Error::UnexpectedTtlvField { expected, actual }) => {
-            assert!(rt; expected == FieldType::Typ && actual == FieldType::Tag);
-        }
-        _ => assert!(rt; false),
-    }
-    assert!(rt; matches!(machine.advance(FieldType::Typ), Ok(true)));
+    assert!(rt; takes(&mut machine, FieldType::Tag));
+    assert!(rt; refuses_for(&mut machine, FieldType::Tag, FieldType::Typ));
+    assert!(rt; takes(&mut machine, FieldType::Typ));
     Ok(())
 }
 
 #[test]
 fn reading_ignores_no_tag(rt: HostRuntime) -> Result<(), Fail> {
     let mut machine = TtlvStateMachine::new(TtlvStateMachineMode::Deserializing);
-    assert!(rt; matches!(machine.advance(FieldType::Tag), Ok(true)));
-    assert!(rt; matches!(machine.advance(FieldType::Typ), Ok(true)));
-    assert!(rt; matches!(machine.advance(FieldType::LengthAndValue), Ok(true)));
-    assert!(rt;
-        matches!(
-            machine.ignore_next_tag(),
-            Err(Error::InvalidStateMachineOperation)
-        )
-    );
+    assert!(rt; takes(&mut machine, FieldType::Tag));
+    assert!(rt; takes(&mut machine, FieldType::Typ));
+    assert!(rt; takes(&mut machine, FieldType::LengthAndValue));
+    assert!(rt; ignores_no_tag(&mut machine));
     machine.reset();
-    assert!(rt; machine.advance(FieldType::Value).is_err());
-    assert!(rt; matches!(machine.advance(FieldType::Tag), Ok(true)));
+    assert!(rt; refuses(&mut machine, FieldType::Value));
+    assert!(rt; takes(&mut machine, FieldType::Tag));
     Ok(())
 }
 
@@ -58,7 +81,7 @@ fn a_structure_is_walked(rt: HostRuntime) -> Result<(), Fail> {
         FieldType::Value,
         FieldType::Tag,
     ] {
-        assert!(rt; matches!(machine.advance(field), Ok(true)));
+        assert!(rt; takes(&mut machine, field));
     }
     Ok(())
 }

@@ -4,74 +4,105 @@ use kmip_ttlv_types::{
     ByteOffset, Error, FieldType, TtlvInteger, TtlvLength, TtlvTag, TtlvTextString, TtlvType,
     number,
 };
-use std::alloc::AllocError;
+use std::alloc::{AllocError, Global};
+use std::fmt::{Debug, Display};
 use std::io::Cursor;
 use std::test::Fail;
+
+// Whether the name is that of a tag of this number, or where none is given, is refused as it stands.
+fn names_tag(heap: Global, name: &str, number: Option<u32>) -> bool {
+    match &TtlvTag::from_str(heap, name) {
+        Ok(tag) => number == Some(**tag),
+        Err(Error::InvalidTtlvTag(text)) => number.is_none() && text.as_str() == name,
+        Err(_) => false,
+    }
+}
+
+// Whether the text is that of this number, or where none is given, of none.
+fn is_number(text: &str, wanted: Option<u32>) -> bool {
+    number(text) == wanted
+}
 
 #[test]
 fn names_of_tags(rt: HostRuntime) -> Result<(), Fail> {
     for (name, value) in [
-        ("0x0x1", 1),
-        ("+1F", 0x1F),
-        ("000", 0),
-        ("0x0", 0),
-        ("001", 1),
-        ("0x4200AA", 0x42_00AA),
-        ("FFFFFF", 0xFF_FFFF),
+        ("0x0x1", Some(1)),
+        ("+1F", Some(0x1F)),
+        ("000", Some(0)),
+        ("0x0", Some(0)),
+        ("001", Some(1)),
+        ("0x4200AA", Some(0x42_00AA)),
+        ("FFFFFF", Some(0xFF_FFFF)),
+        ("0x1000000", None),
+        ("", None),
+        ("XYZ", None),
+        ("    ", None),
+        ("0x", None),
+        ("-1", None),
     ] {
-        match TtlvTag::from_str(rt.alloc(), name) {
-            Ok(tag) => assert_eq!(rt; *tag, value),
-            Err(_) => assert!(rt; false),
-        }
+        assert!(rt; names_tag(rt.alloc(), name, value), "{name}");
     }
-    for name in ["0x1000000", "", "XYZ", "    ", "0x", "-1"] {
-        match TtlvTag::from_str(rt.alloc(), name) {
-            Err(Error::InvalidTtlvTag(text)) => assert_eq!(rt; text.as_str(), name),
-            _ => assert!(rt; false),
-        }
-    }
-    assert_eq!(rt; number("0xFFFFFFFF"), Some(u32::MAX));
-    assert_eq!(rt; number("100000000"), None);
+    assert!(rt; is_number("0xFFFFFFFF", Some(u32::MAX)));
+    assert!(rt; is_number("100000000", None));
     Ok(())
 }
 
 #[test]
 fn tags_and_bytes(rt: HostRuntime) -> Result<(), Fail> {
     let tag = TtlvTag::from([0x42, 0, 0x20]);
-    assert_eq!(rt; *tag, 0x42_0020);
-    assert_eq!(rt; TtlvTag::from(&[0x42, 0, 0x20]), tag);
+    assert!(rt; *tag == 0x42_0020);
+    assert!(rt; TtlvTag::from(&[0x42, 0, 0x20]) == tag);
     let bytes: [u8; 3] = tag.into();
-    assert_eq!(rt; bytes, [0x42, 0, 0x20]);
+    assert!(rt; bytes == [0x42, 0, 0x20]);
     let bytes: [u8; 3] = (&tag).into();
-    assert_eq!(rt; bytes, [0x42, 0, 0x20]);
+    assert!(rt; bytes == [0x42, 0, 0x20]);
     Ok(())
 }
 
 #[test]
 fn digits_of_tags(rt: HostRuntime) -> Result<(), Fail> {
-    assert_eq!(rt; TtlvTag::from([0x42, 0x00, 0x20]).digits(), *b"420020");
-    assert_eq!(rt; TtlvTag::from([0, 0, 0x1F]).digits(), *b"00001F");
-    assert_eq!(rt; TtlvTag::from([0xAB, 0xCD, 0xEF]).digits(), *b"ABCDEF");
+    for (bytes, digits) in [
+        ([0x42, 0x00, 0x20], *b"420020"),
+        ([0, 0, 0x1F], *b"00001F"),
+        ([0xAB, 0xCD, 0xEF], *b"ABCDEF"),
+    ] {
+        assert!(rt; TtlvTag::from(bytes).digits() == digits);
+    }
     Ok(())
+}
+
+// Whether a code from 1 to 10 is that of a type, which gives it back, and any other is refused.
+fn is_code_or_refused(code: u8) -> bool {
+    match &TtlvType::try_from(code) {
+        Ok(typ) => {
+            let bytes: [u8; 1] = (*typ).into();
+            code >= 1 && code <= 10 && bytes == [code]
+        }
+        Err(Error::InvalidTtlvType(refused)) => *refused == code && (code == 0 || code > 10),
+        Err(_) => false,
+    }
 }
 
 #[test]
 fn codes_of_types(rt: HostRuntime) -> Result<(), Fail> {
     for code in 0..=255u8 {
-        match TtlvType::try_from(code) {
-            Ok(typ) => {
-                assert!(rt; code >= 1 && code <= 10);
-                let bytes: [u8; 1] = typ.into();
-                assert_eq!(rt; bytes, [code]);
-            }
-            Err(Error::InvalidTtlvType(refused)) => {
-                assert!(rt; refused == code && (code == 0 || code > 10));
-            }
-            Err(_) => assert!(rt; false),
-        }
+        assert!(rt; is_code_or_refused(code), "{code}");
     }
-    assert!(rt; matches!(TtlvType::try_from(0x0A), Ok(TtlvType::Interval)));
+    assert!(rt; TtlvType::try_from(0x0A).ok() == Some(TtlvType::Interval));
     Ok(())
+}
+
+// Whether this is the text.
+fn is_text(text: &Result<String, AllocError>, wanted: &str) -> bool {
+    match text {
+        Ok(text) => text.as_str() == wanted,
+        Err(_) => false,
+    }
+}
+
+/// Whether the value is printed so.
+pub fn prints<D: Display + Drop>(heap: Global, shown: D, text: &str) -> bool {
+    is_text(&format!(in heap; "{shown}"), text)
 }
 
 #[test]
@@ -88,24 +119,21 @@ fn texts_of_types(rt: HostRuntime) -> Result<(), Fail> {
         (TtlvType::DateTime, "DateTime (0x09)"),
         (TtlvType::Interval, "Interval (0x0A)"),
     ] {
-        assert_eq!(rt; format!(in rt.alloc(); "{typ}")?.as_str(), text);
+        assert!(rt; prints(rt.alloc(), typ, text), "{text}");
     }
     Ok(())
 }
 
-// Whether this is the text.
-fn is_text(text: &Result<String, AllocError>, wanted: &str) -> bool {
-    match text {
-        Ok(text) => text.as_str() == wanted,
-        Err(_) => false,
-    }
+// Whether the value is printed so for a programmer.
+fn shows<D: Debug + Drop>(heap: Global, shown: D, text: &str) -> bool {
+    is_text(&format!(in heap; "{shown:?}"), text)
 }
 
 #[test]
 fn texts_of_tags(rt: HostRuntime) -> Result<(), Fail> {
     let tag = TtlvTag::from([0, 0, 0x12]);
-    assert!(rt; is_text(&format!(in rt.alloc(); "{tag}"), "0x000012"));
-    assert!(rt; is_text(&format!(in rt.alloc(); "{tag:?}"), "0x12"));
+    assert!(rt; prints(rt.alloc(), tag, "0x000012"));
+    assert!(rt; shows(rt.alloc(), tag, "0x12"));
     assert!(rt; is_text(&format!(in rt.alloc(); "{tag:X}"), "12"));
     assert!(rt; is_text(&format!(in rt.alloc(); "{tag:06X}"), "000012"));
     assert!(rt; is_text(&format!(in rt.alloc(); "{tag:8X}"), "      12"));
@@ -115,14 +143,13 @@ fn texts_of_tags(rt: HostRuntime) -> Result<(), Fail> {
 #[test]
 fn texts_of_lengths_and_values(rt: HostRuntime) -> Result<(), Fail> {
     let length = TtlvLength::new(0x1_00AB);
-    assert!(rt; is_text(&format!(in rt.alloc(); "{length}"), "0x000100AB"));
-    assert!(rt; is_text(&format!(in rt.alloc(); "{length:?}"), "0x100AB"));
+    assert!(rt; prints(rt.alloc(), length, "0x000100AB"));
+    assert!(rt; shows(rt.alloc(), length, "0x100AB"));
     assert!(rt; is_text(&format!(in rt.alloc(); "{length:X}"), "100AB"));
     assert!(rt; is_text(&format!(in rt.alloc(); "{length:08X}"), "000100AB"));
-    let number = TtlvInteger(-5);
-    assert!(rt; is_text(&format!(in rt.alloc(); "{number:?}"), "TtlvInteger(-5)"));
+    assert!(rt; shows(rt.alloc(), TtlvInteger(-5), "TtlvInteger(-5)"));
     let text = TtlvTextString(String::from_str(rt.alloc(), "a")?);
-    assert!(rt; is_text(&format!(in rt.alloc(); "{text:?}"), "TtlvTextString(\"a\")"));
+    assert!(rt; shows(rt.alloc(), text, "TtlvTextString(\"a\")"));
     Ok(())
 }
 
@@ -136,7 +163,7 @@ fn texts_of_fields(rt: HostRuntime) -> Result<(), Fail> {
         (FieldType::LengthAndValue, "LengthAndValue"),
         (FieldType::TypeAndLengthAndValue, "TypeAndLengthAndValue"),
     ] {
-        assert_eq!(rt; format!(in rt.alloc(); "{field}")?.as_str(), text);
+        assert!(rt; prints(rt.alloc(), field, text), "{text}");
     }
     Ok(())
 }
@@ -145,11 +172,9 @@ fn texts_of_fields(rt: HostRuntime) -> Result<(), Fail> {
 fn offsets(rt: HostRuntime) -> Result<(), Fail> {
     let mut cursor = Cursor::new(b"abc".as_slice());
     cursor.set_position(2);
-    assert_eq!(rt; ByteOffset::from(&cursor), ByteOffset(2));
-    assert_eq!(rt; ByteOffset::from(cursor), ByteOffset(2));
-    assert_eq!(rt; ByteOffset::from(7u64), ByteOffset(7));
-    assert_eq!(rt; *ByteOffset::from(&7u64), 7);
-    assert_eq!(rt; ByteOffset::try_from(7usize), Ok(ByteOffset(7)));
-    assert_eq!(rt; ByteOffset::try_from(usize::MAX), Err(()));
+    assert!(rt; (ByteOffset::from(&cursor).0 == 2) & (ByteOffset::from(cursor).0 == 2));
+    assert!(rt; (ByteOffset::from(7u64).0 == 7) & (*ByteOffset::from(&7u64) == 7));
+    assert!(rt; matches!(ByteOffset::try_from(7usize), Ok(ByteOffset(7))));
+    assert!(rt; ByteOffset::try_from(usize::MAX).is_err());
     Ok(())
 }

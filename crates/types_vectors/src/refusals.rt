@@ -1,5 +1,7 @@
 //! Kinds and places of refusals.
 
+use crate::names::prints;
+use crate::samples::whole_place;
 use kmip_ttlv_base::error::{Error, ErrorKind, ErrorLocation, MalformedTtlvError, SerdeError};
 use kmip_ttlv_base::types;
 use kmip_ttlv_base::types::{ByteOffset, FieldType, TtlvTag, TtlvType};
@@ -8,115 +10,129 @@ use std::io;
 use std::io::Cursor;
 use std::test::Fail;
 
-// The place of a whole refusal.
-fn whole_place(alloc: Global) -> Result<ErrorLocation, Fail> {
-    let parents = Vec::from_slice(
-        alloc,
-        &[
-            TtlvTag::from([0xAA, 0xAA, 0xAA]),
-            TtlvTag::from([0xBB, 0xBB, 0xBB]),
-        ],
-    )?;
-    Ok(ErrorLocation::at(
-        Some(ByteOffset(16)),
-        Some(parents),
-        Some(TtlvTag::from([0xCC, 0xCC, 0xCC])),
-        Some(TtlvType::Integer),
-    ))
+// Whether the place, where there is one, is printed so.
+fn place_prints(heap: Global, place: Result<ErrorLocation, AllocError>, text: &str) -> bool {
+    match place {
+        Ok(place) => prints(heap, place, text),
+        Err(_) => false,
+    }
 }
 
 #[test]
 fn texts_of_places(rt: HostRuntime) -> Result<(), Fail> {
-    let unknown: ErrorLocation = ErrorLocation::unknown();
-    assert_eq!(rt; format!(in rt.alloc(); "{unknown}")?.as_str(), "Unknown");
-    let place = whole_place(rt.alloc())?;
-    assert_eq!(rt;
-        format!(in rt.alloc(); "{place}")?.as_str(),
-        "pos: 16 bytes, parent tags: 0xAAAAAA > 0xBBBBBB, tag: 0xCCCCCC, type: Integer (0x02)"
+    let alloc = rt.alloc();
+    assert!(rt; place_prints(alloc, Ok(ErrorLocation::unknown()), "Unknown"));
+    assert!(rt;
+        place_prints(
+            alloc,
+            whole_place(alloc),
+            "pos: 16 bytes, parent tags: 0xAAAAAA > 0xBBBBBB, tag: 0xCCCCCC, type: Integer (0x02)",
+        )
     );
-    let typ: ErrorLocation = ErrorLocation::at(None, None, None, Some(TtlvType::Boolean));
-    assert_eq!(rt;
-        format!(in rt.alloc(); "{typ}")?.as_str(),
-        "type: Boolean (0x06)"
-    );
-    let none = Vec::new(rt.alloc());
-    let tag: ErrorLocation = ErrorLocation::at(
-        None,
-        Some(none),
-        Some(TtlvTag::from([0, 0, 1])),
-        None,
-    );
-    assert_eq!(rt; format!(in rt.alloc(); "{tag}")?.as_str(), "tag: 0x000001");
+    let typ = ErrorLocation::at(None, None, None, Some(TtlvType::Boolean));
+    assert!(rt; place_prints(alloc, Ok(typ), "type: Boolean (0x06)"));
+    let one = Some(TtlvTag::from([0, 0, 1]));
+    let tag = ErrorLocation::at(None, Some(Vec::new(alloc)), one, None);
+    assert!(rt; place_prints(alloc, Ok(tag), "tag: 0x000001"));
     Ok(())
+}
+
+// Whether the place is known by this offset alone.
+fn is_at(place: ErrorLocation, offset: u64) -> bool {
+    place.offset() == Some(ByteOffset(offset))
+        && place.tag().is_none()
+        && place.typ().is_none()
+        && place.parent_tags().is_empty()
+        && !place.is_unknown()
+}
+
+// Whether nothing is known of the place.
+fn is_nowhere(place: ErrorLocation) -> bool {
+    place.is_unknown()
 }
 
 #[test]
 fn places_of_numbers(rt: HostRuntime) -> Result<(), Fail> {
     let mut cursor = Cursor::new(b"abc".as_slice());
     cursor.set_position(2);
-    let places: [ErrorLocation; 9] = [
-        ErrorLocation::from(2u8),
-        ErrorLocation::from(2u16),
-        ErrorLocation::from(2u32),
-        ErrorLocation::from(2u64),
-        ErrorLocation::from(2usize),
-        ErrorLocation::from(ByteOffset(2)),
-        ErrorLocation::from(&cursor),
-        ErrorLocation::from(&mut cursor),
-        ErrorLocation::from(cursor),
-    ];
-    for place in &places {
-        assert_eq!(rt; place.offset(), Some(ByteOffset(2)));
-        assert!(rt; place.tag().is_none() && place.typ().is_none());
-        assert!(rt; place.parent_tags().is_empty());
-        assert!(rt; !place.is_unknown());
-    }
-    let greatest: ErrorLocation = ErrorLocation::from(usize::MAX);
-    assert!(rt; greatest.is_unknown());
-    let greatest: ErrorLocation = ErrorLocation::from(u64::MAX);
-    assert_eq!(rt; greatest.offset(), Some(ByteOffset(u64::MAX)));
+    assert!(rt;
+        is_at(ErrorLocation::from(2u8), 2)
+            && is_at(ErrorLocation::from(2u16), 2)
+            && is_at(ErrorLocation::from(2u32), 2)
+            && is_at(ErrorLocation::from(2u64), 2)
+            && is_at(ErrorLocation::from(2usize), 2)
+            && is_at(ErrorLocation::from(ByteOffset(2)), 2)
+    );
+    assert!(rt;
+        is_at(ErrorLocation::from(&cursor), 2)
+            && is_at(ErrorLocation::from(&mut cursor), 2)
+            && is_at(ErrorLocation::from(cursor), 2)
+    );
+    assert!(rt; is_nowhere(ErrorLocation::from(usize::MAX)));
+    assert!(rt; is_at(ErrorLocation::from(u64::MAX), u64::MAX));
     Ok(())
+}
+
+// A place under one structure.
+fn place_of_one_parent(heap: Global) -> Result<ErrorLocation, AllocError> {
+    let parents = Vec::from_slice(heap, &[TtlvTag::from([0xAA, 0xAA, 0xAA])])?;
+    Ok(ErrorLocation::at(None, Some(parents), None, None))
+}
+
+// A clone of it.
+fn cloned_place(heap: Global) -> Result<ErrorLocation, AllocError> {
+    place_of_one_parent(heap)?.clone()
+}
+
+// Whether the place has so many structures around it.
+fn has_parents(place: &Result<ErrorLocation, AllocError>, count: usize) -> bool {
+    match place {
+        Ok(place) => place.parent_tags().len() == count,
+        Err(_) => false,
+    }
 }
 
 #[test]
 fn clones_of_places(rt: HostRuntime) -> Result<(), Fail> {
-    let parents = Vec::from_slice(rt.alloc(), &[TtlvTag::from([0xAA, 0xAA, 0xAA])])?;
-    let place: ErrorLocation = ErrorLocation::at(None, Some(parents), None, None);
-    let copy = place.clone()?;
-    assert_eq!(rt; copy.parent_tags().len(), 1);
-    assert_eq!(rt;
-        format!(in rt.alloc(); "{copy}")?.as_str(),
-        "parent tags: 0xAAAAAA"
-    );
+    let copy = cloned_place(rt.alloc());
+    assert!(rt; has_parents(&copy, 1));
+    assert!(rt; place_prints(rt.alloc(), copy, "parent tags: 0xAAAAAA"));
     Ok(())
+}
+
+// Whether the low-level refusal is a disagreement in these words.
+fn is_in_words(heap: Global, low: types::Error, wanted: &str) -> bool {
+    match &ErrorKind::from_types(heap, low) {
+        ErrorKind::SerdeError(SerdeError::Other(words)) => words.as_str() == wanted,
+        _ => false,
+    }
+}
+
+// Whether the low-level refusal is that of this name.
+fn is_of_name(heap: Global, low: types::Error, wanted: &str) -> bool {
+    match &ErrorKind::from_types(heap, low) {
+        ErrorKind::SerdeError(SerdeError::InvalidTag(name)) => name.as_str() == wanted,
+        _ => false,
+    }
+}
+
+// Whether the low-level refusal is that of bytes which are no TTLV in this way.
+fn is_malformed(heap: Global, low: types::Error, wanted: MalformedTtlvError) -> bool {
+    match &ErrorKind::from_types(heap, low) {
+        ErrorKind::MalformedTtlv(kind) => *kind == wanted,
+        _ => false,
+    }
 }
 
 #[test]
 fn kinds_of_low_refusals(rt: HostRuntime) -> Result<(), Fail> {
-    let low: types::Error = types::Error::InvalidStateMachineOperation;
-    match &ErrorKind::from_types(rt.alloc(), low) {
-        ErrorKind::SerdeError(SerdeError::Other(words)) => {
-            assert_eq!(rt;
-                words.as_str(),
-                "Internal error: invalid state machine operaiton"
-            );
-        }
-        _ => assert!(rt; false),
-    }
-    let low: types::Error = types::Error::InvalidTtlvTag(String::from_str(rt.alloc(), "XYZ")?);
-    match &ErrorKind::from_types(rt.alloc(), low) {
-        ErrorKind::SerdeError(SerdeError::InvalidTag(name)) => {
-            assert_eq!(rt; name.as_str(), "XYZ");
-        }
-        _ => assert!(rt; false),
-    }
-    let low: types::Error = types::Error::UnsupportedTtlvType(10);
-    match &ErrorKind::from_types(rt.alloc(), low) {
-        ErrorKind::MalformedTtlv(kind) => {
-            assert_eq!(rt; *kind, MalformedTtlvError::UnsupportedType(10));
-        }
-        _ => assert!(rt; false),
-    }
+    let alloc = rt.alloc();
+    let words = "Internal error: invalid state machine operaiton";
+    assert!(rt; is_in_words(alloc, types::Error::InvalidStateMachineOperation, words));
+    let name = String::from_str(alloc, "XYZ")?;
+    assert!(rt; is_of_name(alloc, types::Error::InvalidTtlvTag(name), "XYZ"));
+    let wanted = MalformedTtlvError::UnsupportedType(10);
+    assert!(rt; is_malformed(alloc, types::Error::UnsupportedTtlvType(10), wanted));
     Ok(())
 }
 
@@ -125,64 +141,52 @@ fn overflows(rt: HostRuntime) -> Result<(), Fail> {
     let wanted = MalformedTtlvError::Overflow {
         field_end: ByteOffset(12),
     };
-    assert_eq!(rt; MalformedTtlvError::overflow(12u64), wanted);
-    assert_eq!(rt; MalformedTtlvError::overflow(&12u64), wanted);
-    assert_eq!(rt; MalformedTtlvError::overflow(ByteOffset(12)), wanted);
+    assert!(rt; MalformedTtlvError::overflow(12u64) == wanted);
+    assert!(rt; MalformedTtlvError::overflow(&12u64) == wanted);
+    assert!(rt; MalformedTtlvError::overflow(ByteOffset(12)) == wanted);
     let mut cursor = Cursor::new(b"abc".as_slice());
     cursor.set_position(12);
-    assert_eq!(rt; MalformedTtlvError::overflow(&cursor), wanted);
-    assert_eq!(rt; MalformedTtlvError::overflow(cursor), wanted);
+    assert!(rt; MalformedTtlvError::overflow(&cursor) == wanted);
+    assert!(rt; MalformedTtlvError::overflow(cursor) == wanted);
     Ok(())
 }
 
-// How a refusal of this kind after three bytes is printed.
-fn text_of(heap: Global, kind: ErrorKind) -> Result<String, AllocError> {
-    let error = Error::new(kind, ErrorLocation::from(3u8));
-    format!(in heap; "{error}")
+// Whether a refusal of this kind after three bytes is printed so.
+fn refusal_prints(heap: Global, kind: ErrorKind, text: &str) -> bool {
+    prints(heap, Error::new(kind, ErrorLocation::from(3u8)), text)
 }
 
 #[test]
 fn texts_of_refusals(rt: HostRuntime) -> Result<(), Fail> {
+    let alloc = rt.alloc();
+    let kind = ErrorKind::from(io::Error::from(io::ErrorKind::BrokenPipe));
+    assert!(rt; refusal_prints(alloc, kind, "IO error broken pipe (at pos: 3 bytes)"));
+    let kind = ErrorKind::ResponseSizeExceedsLimit(24);
+    assert!(rt; refusal_prints(alloc, kind, "Response size 24 exceeds the configured limit"));
     let malformed = MalformedTtlvError::UnexpectedTtlvField {
         expected: FieldType::Typ,
         actual: FieldType::Tag,
     };
-    let serde: SerdeError = SerdeError::InvalidVariant("Create");
-    for (kind, text) in [
-        (
-            ErrorKind::from(io::Error::from(io::ErrorKind::BrokenPipe)),
-            "IO error broken pipe (at pos: 3 bytes)",
-        ),
-        (
-            ErrorKind::ResponseSizeExceedsLimit(24),
-            "Response size 24 exceeds the configured limit",
-        ),
-        (
-            ErrorKind::from(malformed),
-            "Malformed TTLV: field Tag where Type is expected (at pos: 3 bytes)",
-        ),
-        (
-            ErrorKind::from(serde),
-            "Serde error : the variant Create is no number (at pos: 3 bytes)",
-        ),
-        (ErrorKind::OutOfMemory, "Out of memory"),
-        (
-            ErrorKind::LengthOverflow,
-            "Length overflow (at pos: 3 bytes)",
-        ),
-    ] {
-        assert_eq!(rt; text_of(rt.alloc(), kind)?.as_str(), text);
-    }
+    let text = "Malformed TTLV: field Tag where Type is expected (at pos: 3 bytes)";
+    assert!(rt; refusal_prints(alloc, ErrorKind::from(malformed), text));
+    let text = "Serde error : the variant Create is no number (at pos: 3 bytes)";
+    let kind = ErrorKind::from(SerdeError::InvalidVariant("Create"));
+    assert!(rt; refusal_prints(alloc, kind, text));
+    assert!(rt; refusal_prints(alloc, ErrorKind::OutOfMemory, "Out of memory"));
+    let text = "Length overflow (at pos: 3 bytes)";
+    assert!(rt; refusal_prints(alloc, ErrorKind::LengthOverflow, text));
     Ok(())
+}
+
+// Whether a refusal of this kind at no place is printed so.
+fn refusal_at_no_place_prints(heap: Global, kind: ErrorKind, text: &str) -> bool {
+    prints(heap, Error::new(kind, ErrorLocation::unknown()), text)
 }
 
 #[test]
 fn a_refusal_at_no_place(rt: HostRuntime) -> Result<(), Fail> {
-    let error: Error = Error::new(ErrorKind::LengthOverflow, ErrorLocation::unknown());
-    assert_eq!(rt;
-        format!(in rt.alloc(); "{error}")?.as_str(),
-        "Length overflow (at Unknown)"
-    );
+    let text = "Length overflow (at Unknown)";
+    assert!(rt; refusal_at_no_place_prints(rt.alloc(), ErrorKind::LengthOverflow, text));
     Ok(())
 }
 
@@ -231,53 +235,41 @@ fn texts_of_kinds(rt: HostRuntime) -> Result<(), Fail> {
             "unknown structure length",
         ),
     ] {
-        assert_eq!(rt; format!(in rt.alloc(); "{kind}")?.as_str(), text);
+        assert!(rt; prints(rt.alloc(), kind, text), "{text}");
     }
     Ok(())
 }
 
+// Whether the disagreement is printed so.
+fn says(heap: Global, kind: SerdeError, text: &str) -> bool {
+    prints(heap, kind, text)
+}
+
 #[test]
 fn texts_of_disagreements(rt: HostRuntime) -> Result<(), Fail> {
-    let text = |words: &str| String::from_str(rt.alloc(), words);
-    let disagreements: [(SerdeError, &str); 8] = [
-        (
-            SerdeError::InvalidVariant("Create"),
-            "the variant Create is no number",
-        ),
-        (
-            SerdeError::InvalidVariantMatcherSyntax(text("if x")?),
-            "the variant if x is no rule",
-        ),
-        (
-            SerdeError::InvalidTag(text("XYZ")?),
-            "the name XYZ is no tag",
-        ),
-        (
-            SerdeError::MissingIdentifier,
-            "an item in a struct without fields",
-        ),
-        (SerdeError::Other(text("in words")?), "in words"),
-        (
-            SerdeError::UnexpectedTag {
-                expected: TtlvTag::from([0xAA, 0xAA, 0xAA]),
-                actual: TtlvTag::from([0, 0, 1]),
-            },
-            "tag 0x000001 where 0xAAAAAA is expected",
-        ),
-        (
-            SerdeError::UnexpectedType {
-                expected: TtlvType::TextString,
-                actual: TtlvType::Interval,
-            },
-            "type Interval (0x0A) where TextString (0x07) is expected",
-        ),
-        (
-            SerdeError::UnsupportedRustType("f64"),
-            "values of f64 aren't written",
-        ),
-    ];
-    for (kind, words) in &disagreements {
-        assert_eq!(rt; format!(in rt.alloc(); "{kind}")?.as_str(), *words);
-    }
+    let alloc = rt.alloc();
+    let kind = SerdeError::InvalidVariant("Create");
+    assert!(rt; says(alloc, kind, "the variant Create is no number"));
+    let kind = SerdeError::InvalidVariantMatcherSyntax(String::from_str(alloc, "if x")?);
+    assert!(rt; says(alloc, kind, "the variant if x is no rule"));
+    let kind = SerdeError::InvalidTag(String::from_str(alloc, "XYZ")?);
+    assert!(rt; says(alloc, kind, "the name XYZ is no tag"));
+    let kind = SerdeError::MissingIdentifier;
+    assert!(rt; says(alloc, kind, "an item in a struct without fields"));
+    let kind = SerdeError::Other(String::from_str(alloc, "in words")?);
+    assert!(rt; says(alloc, kind, "in words"));
+    let kind = SerdeError::UnexpectedTag {
+        expected: TtlvTag::from([0xAA, 0xAA, 0xAA]),
+        actual: TtlvTag::from([0, 0, 1]),
+    };
+    assert!(rt; says(alloc, kind, "tag 0x000001 where 0xAAAAAA is expected"));
+    let kind = SerdeError::UnexpectedType {
+        expected: TtlvType::TextString,
+        actual: TtlvType::Interval,
+    };
+    let text = "type Interval (0x0A) where TextString (0x07) is expected";
+    assert!(rt; says(alloc, kind, text));
+    let kind = SerdeError::UnsupportedRustType("f64");
+    assert!(rt; says(alloc, kind, "values of f64 aren't written"));
     Ok(())
 }

@@ -1,7 +1,7 @@
 //! The allocators on which the tests of refused growths rest.
 
 use refusing_allocator::{BoundedAllocator, RefusingAllocator};
-use std::alloc::{AllocError, Allocator};
+use std::alloc::{AllocError, Allocator, Global};
 use std::test::Fail;
 
 // Takes memory three times: for a text, for a vector, and for the vector's second growth.
@@ -14,32 +14,55 @@ fn grow<A: Allocator + Copy>(alloc: A) -> Result<usize, AllocError> {
     Ok(bytes.len())
 }
 
+// Whether, of the growths, the one after so many is refused and no other.
+fn one_is_refused(alloc: Global, before: u64) -> bool {
+    let heap = RefusingAllocator::new(alloc, before);
+    grow(&heap).is_err() && heap.has_refused() && grow(&heap).ok() == Some(4)
+}
+
+// Whether none of the growths is refused where so many are allowed.
+fn none_is_refused(alloc: Global, before: u64) -> bool {
+    let heap = RefusingAllocator::new(alloc, before);
+    grow(&heap).ok() == Some(4) && !heap.has_refused()
+}
+
 #[test]
 fn one_growth_is_refused(rt: HostRuntime) -> Result<(), Fail> {
     for before in 0..3u64 {
-        let heap = RefusingAllocator::new(rt.alloc(), before);
-        assert!(rt; grow(&heap).is_err(), "at {before}");
-        assert!(rt; heap.has_refused(), "at {before}");
-        assert_eq!(rt; grow(&heap).ok(), Some(4), "again at {before}");
+        assert!(rt; one_is_refused(rt.alloc(), before), "at {before}");
     }
-    let heap = RefusingAllocator::new(rt.alloc(), 3);
-    assert_eq!(rt; grow(&heap).ok(), Some(4));
-    assert!(rt; !heap.has_refused());
+    assert!(rt; none_is_refused(rt.alloc(), 3));
     Ok(())
+}
+
+// Whether the vector takes ten bytes more.
+fn takes_ten<A: Allocator>(bytes: &mut Vec<u8, A>) -> bool {
+    for byte in 0..10u8 {
+        if bytes.push(byte).is_err() {
+            return false;
+        }
+    }
+    true
+}
+
+// Whether ten bytes fit where requests are bounded by ten, and no more.
+fn ten_bytes_fit(alloc: Global) -> Option<bool> {
+    let heap = BoundedAllocator::new(alloc, 10);
+    let mut bytes = Vec::with_capacity(&heap, 10).ok()?;
+    Some(takes_ten(&mut bytes) && bytes.push(10).is_err() && bytes.len() == 10)
+}
+
+// Whether room for so many values is refused where requests are bounded by ten bytes.
+fn room_is_refused<T: Drop>(alloc: Global, len: usize) -> bool {
+    let heap = BoundedAllocator::new(alloc, 10);
+    let room: Result<Vec<T, _>, AllocError> = Vec::with_capacity(&heap, len);
+    room.is_err()
 }
 
 #[test]
 fn large_requests_are_refused(rt: HostRuntime) -> Result<(), Fail> {
-    let heap = BoundedAllocator::new(rt.alloc(), 10);
-    let mut bytes = Vec::with_capacity(&heap, 10)?;
-    for byte in 0..10u8 {
-        bytes.push(byte)?;
-    }
-    assert!(rt; bytes.push(10).is_err());
-    assert_eq!(rt; bytes.len(), 10);
-    let more: Result<Vec<u8, _>, AllocError> = Vec::with_capacity(&heap, 11);
-    assert!(rt; more.is_err());
-    let words: Result<Vec<u64, _>, AllocError> = Vec::with_capacity(&heap, 2);
-    assert!(rt; words.is_err());
+    assert!(rt; ten_bytes_fit(rt.alloc()) == Some(true));
+    assert!(rt; room_is_refused::<u8>(rt.alloc(), 11));
+    assert!(rt; room_is_refused::<u64>(rt.alloc(), 2));
     Ok(())
 }

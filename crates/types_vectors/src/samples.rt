@@ -1,13 +1,15 @@
 //! A value of each primitive and of each part of a header, with the bytes that it is written as. Those
 //! of the primitives are the standard's examples (KMIP 1.0, section 9.1.2).
 
+use kmip_ttlv_base::error::ErrorLocation;
+use kmip_ttlv_base::types::ByteOffset;
 use kmip_ttlv_types::stream::{Sink, Source};
 use kmip_ttlv_types::{
     Error, SerializableTtlvType, TtlvBigInteger, TtlvBoolean, TtlvByteString, TtlvDateTime,
     TtlvEnumeration, TtlvInteger, TtlvInterval, TtlvLength, TtlvLongInteger, TtlvTag,
     TtlvTextString, TtlvType,
 };
-use std::alloc::{AllocError, Global};
+use std::alloc::{AllocError, Allocator, Global};
 use std::io::ErrorKind;
 
 /// What has a value for the tests.
@@ -44,21 +46,100 @@ pub fn is_failure<T>(answer: &Result<T, Error>, kind: ErrorKind) -> bool {
     }
 }
 
+/// Whether a tag of this number is read.
+pub fn is_tag<S: Source>(source: &mut S, number: u32) -> bool {
+    match TtlvTag::read(source) {
+        Ok(tag) => *tag == number,
+        Err(_) => false,
+    }
+}
+
+/// Whether this type is read.
+pub fn is_type<S: Source>(source: &mut S, wanted: TtlvType) -> bool {
+    match TtlvType::read(source) {
+        Ok(typ) => typ == wanted,
+        Err(_) => false,
+    }
+}
+
+/// Whether this length is read.
+pub fn is_length<S: Source>(source: &mut S, wanted: u32) -> bool {
+    match TtlvLength::read(source) {
+        Ok(length) => *length == wanted,
+        Err(_) => false,
+    }
+}
+
+/// Whether this integer is read behind its type.
+pub fn is_integer<S: Source>(source: &mut S, wanted: i32) -> bool {
+    match TtlvInteger::read((), source) {
+        Ok(number) => number.0 == wanted,
+        Err(_) => false,
+    }
+}
+
+/// Makes a text, and says whether a clone of it is the same.
+pub fn text_is_cloned<A: Allocator + Copy>(alloc: A, text: &str) -> Result<bool, AllocError> {
+    let made = TtlvTextString(String::from_str(alloc, text)?);
+    let copy = made.clone()?;
+    Ok(copy.as_str() == text)
+}
+
+/// Makes a byte string, and says whether a clone of it is the same.
+pub fn bytes_are_cloned<A: Allocator + Copy>(alloc: A, bytes: &[u8]) -> Result<bool, AllocError> {
+    let made = TtlvByteString(Vec::from_slice(alloc, bytes)?);
+    let copy = made.clone()?;
+    Ok(copy.as_slice() == bytes)
+}
+
+/// Makes a big integer, and says whether a clone of it is the same.
+pub fn number_is_cloned<A: Allocator + Copy>(alloc: A, number: &[u8]) -> Result<bool, AllocError> {
+    let made = TtlvBigInteger(Vec::from_slice(alloc, number)?);
+    let copy = made.clone()?;
+    Ok(copy.as_slice() == number)
+}
+
+/// A place of which everything is known: under two structures.
+pub fn whole_place<A: Allocator>(alloc: A) -> Result<ErrorLocation<A>, AllocError> {
+    let tags = [
+        TtlvTag::from([0xAA, 0xAA, 0xAA]),
+        TtlvTag::from([0xBB, 0xBB, 0xBB]),
+    ];
+    Ok(ErrorLocation::at(
+        Some(ByteOffset(16)),
+        Some(Vec::from_slice(alloc, &tags)?),
+        Some(TtlvTag::from([0xCC, 0xCC, 0xCC])),
+        Some(TtlvType::Integer),
+    ))
+}
+
+/// Whether this is that place.
+pub fn is_whole_place<A: Allocator>(place: &ErrorLocation<A>) -> bool {
+    let tags = [
+        TtlvTag::from([0xAA, 0xAA, 0xAA]),
+        TtlvTag::from([0xBB, 0xBB, 0xBB]),
+    ];
+    place.offset() == Some(ByteOffset(16))
+        && place.parent_tags() == tags.as_slice()
+        && place.tag() == Some(TtlvTag::from([0xCC, 0xCC, 0xCC]))
+        && place.typ() == Some(TtlvType::Integer)
+}
+
 /// A call for each type that has a value; it is true where each of them is.
 macro_rules! for_each_sample {
     ($holds:ident($($argument:expr),*)) => {
         $holds::<kmip_ttlv_types::TtlvInteger>($($argument),*)
-            && $holds::<kmip_ttlv_types::TtlvLongInteger>($($argument),*)
-            && $holds::<kmip_ttlv_types::TtlvBigInteger>($($argument),*)
-            && $holds::<kmip_ttlv_types::TtlvEnumeration>($($argument),*)
-            && $holds::<kmip_ttlv_types::TtlvBoolean>($($argument),*)
-            && $holds::<kmip_ttlv_types::TtlvTextString>($($argument),*)
-            && $holds::<kmip_ttlv_types::TtlvByteString>($($argument),*)
-            && $holds::<kmip_ttlv_types::TtlvDateTime>($($argument),*)
-            && $holds::<kmip_ttlv_types::TtlvInterval>($($argument),*)
-            && $holds::<kmip_ttlv_types::TtlvTag>($($argument),*)
-            && $holds::<kmip_ttlv_types::TtlvType>($($argument),*)
-            && $holds::<kmip_ttlv_types::TtlvLength>($($argument),*)
+            & $holds::<kmip_ttlv_types::TtlvLongInteger>($($argument),*)
+            & $holds::<kmip_ttlv_types::TtlvBigInteger>($($argument),*)
+            & $holds::<kmip_ttlv_types::TtlvEnumeration>($($argument),*)
+            & $holds::<kmip_ttlv_types::TtlvBoolean>($($argument),*)
+            & $holds::<kmip_ttlv_types::TtlvTextString>($($argument),*)
+            & $holds::<kmip_ttlv_types::TtlvByteString>($($argument),*)
+            & $holds::<kmip_ttlv_types::TtlvDateTime>($($argument),*)
+            & $holds::<kmip_ttlv_types::TtlvInterval>($($argument),*)
+            & $holds::<kmip_ttlv_types::TtlvTag>($($argument),*)
+            & $holds::<kmip_ttlv_types::TtlvType>($($argument),*)
+            & $holds::<kmip_ttlv_types::TtlvLength>($($argument),*)
     };
 }
 

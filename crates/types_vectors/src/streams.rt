@@ -2,8 +2,8 @@
 //! changes but that of the call that met the failure.
 
 use crate::faulty::{InterruptedReader, InterruptedWriter, SlowReader, SlowWriter};
-use crate::samples::{Sample, for_each_sample, is_failure, is_value};
-use kmip_ttlv_types::{SerializableTtlvType, TtlvByteString, TtlvLength, TtlvTag, TtlvType};
+use crate::samples::{Sample, for_each_sample, is_failure, is_length, is_tag, is_type, is_value};
+use kmip_ttlv_types::{SerializableTtlvType, TtlvByteString, TtlvLength, TtlvType};
 use std::alloc::Global;
 use std::io::ErrorKind;
 use std::test::Fail;
@@ -55,10 +55,10 @@ fn a_reader_that_failed_once_goes_on(rt: HostRuntime) -> Result<(), Fail> {
         calls_before_fault: 3,
         kind: ErrorKind::TimedOut,
     };
-    assert!(rt; matches!(TtlvTag::read(&mut reader), Ok(tag) if *tag == 0x42_0020));
+    assert!(rt; is_tag(&mut reader, 0x42_0020));
     assert!(rt; is_failure(&TtlvType::read(&mut reader), ErrorKind::TimedOut));
-    assert!(rt; matches!(TtlvType::read(&mut reader), Ok(TtlvType::Integer)));
-    assert!(rt; matches!(TtlvLength::read(&mut reader), Ok(length) if *length == 4));
+    assert!(rt; is_type(&mut reader, TtlvType::Integer));
+    assert!(rt; is_length(&mut reader, 4));
     Ok(())
 }
 
@@ -192,20 +192,37 @@ fn writers_that_are_interrupted_often(rt: HostRuntime) -> Result<(), Fail> {
     Ok(())
 }
 
+// The length of a content of 150,000 bytes, and that content.
+fn long_leaf(heap: Global) -> Option<Vec<u8>> {
+    let mut bytes = Vec::new(heap);
+    TtlvLength::new(150_000).write(&mut bytes).ok()?;
+    bytes.resize(150_004, b'a').ok()?;
+    Some(bytes)
+}
+
+// Whether the leaf is read as its content.
+fn is_read_whole(heap: Global, leaf: &[u8]) -> bool {
+    let mut rest = leaf;
+    match (&TtlvByteString::read(heap, &mut rest), leaf.get(4..)) {
+        (Ok(read), Some(content)) => read.as_slice() == content,
+        _ => false,
+    }
+}
+
+// Whether the leaf ends before its content does.
+fn is_cut_leaf(heap: Global, leaf: &[u8]) -> bool {
+    let mut rest = leaf;
+    is_failure(
+        &TtlvByteString::read(heap, &mut rest),
+        ErrorKind::UnexpectedEof,
+    )
+}
+
 // Three pieces of a long text are read whole, and one byte too few is missed.
 #[test]
 fn a_text_of_several_pieces(rt: HostRuntime) -> Result<(), Fail> {
-    let mut bytes = Vec::new(rt.alloc());
-    assert!(rt; TtlvLength::new(150_000).write(&mut bytes).is_ok());
-    bytes.resize(150_004, b'a')?;
-    let mut whole = bytes.as_slice();
-    match TtlvByteString::read(rt.alloc(), &mut whole) {
-        Ok(read) => assert_eq!(rt; read.as_slice(), &bytes[4..]),
-        Err(_) => assert!(rt; false),
-    }
-    assert!(rt; bytes.pop().is_some());
-    let mut cut = bytes.as_slice();
-    let read = TtlvByteString::read(rt.alloc(), &mut cut);
-    assert!(rt; is_failure(&read, ErrorKind::UnexpectedEof));
+    let leaf = long_leaf(rt.alloc()).ok_or("no memory")?;
+    assert!(rt; is_read_whole(rt.alloc(), leaf.as_slice()));
+    assert!(rt; is_cut_leaf(rt.alloc(), leaf.get(..150_003).unwrap_or(&[])));
     Ok(())
 }

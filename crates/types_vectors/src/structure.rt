@@ -1,21 +1,60 @@
 //! The standard's example of a structure (KMIP 1.0, section 9.1.2), written field by field, and read.
 
+use crate::samples::{is_integer, is_length, is_tag, is_type};
 use kmip_ttlv_types::{
     SerializableTtlvType, TtlvEnumeration, TtlvInteger, TtlvLength, TtlvTag, TtlvType,
 };
 use std::alloc::Global;
 use std::test::Fail;
 
-// What follows the tag and the type, where these are 420020 and the wanted type.
-fn after_head(bytes: &[u8], wanted: TtlvType) -> Option<&[u8]> {
+// What follows the tag and the type, where these are the wanted ones.
+fn after_head(bytes: &[u8], tag: u32, typ: TtlvType) -> Option<&[u8]> {
     let mut rest = bytes;
-    let tag = TtlvTag::read(&mut rest).ok()?;
-    let typ = TtlvType::read(&mut rest).ok()?;
-    if *tag == 0x42_0020 && typ == wanted {
+    if is_tag(&mut rest, tag) && is_type(&mut rest, typ) {
         Some(rest)
     } else {
         None
     }
+}
+
+// What follows the length, where it is this.
+fn after_length(bytes: &[u8], length: u32) -> Option<&[u8]> {
+    let mut rest = bytes;
+    if is_length(&mut rest, length) {
+        Some(rest)
+    } else {
+        None
+    }
+}
+
+// What follows the length and the value of an Enumeration, where it is this.
+fn after_enumeration(bytes: &[u8], number: u32) -> Option<&[u8]> {
+    let mut rest = bytes;
+    if TtlvEnumeration::read((), &mut rest).ok() == Some(TtlvEnumeration(number)) {
+        Some(rest)
+    } else {
+        None
+    }
+}
+
+// What follows the length and the value of an Integer, where it is this.
+fn after_integer(bytes: &[u8], number: i32) -> Option<&[u8]> {
+    let mut rest = bytes;
+    if is_integer(&mut rest, number) {
+        Some(rest)
+    } else {
+        None
+    }
+}
+
+// What follows the structure, where its items are the wanted ones.
+fn after_structure(bytes: &[u8]) -> Option<&[u8]> {
+    let rest = after_head(bytes, 0x42_0020, TtlvType::Structure)?;
+    let rest = after_length(rest, 32)?;
+    let rest = after_head(rest, 0x42_0004, TtlvType::Enumeration)?;
+    let rest = after_enumeration(rest, 254)?;
+    let rest = after_head(rest, 0x42_0005, TtlvType::Integer)?;
+    after_integer(rest, 255)
 }
 
 // An Enumeration 420004 of 254 and an Integer 420005 of 255.
@@ -37,26 +76,17 @@ fn write_structure(alloc: Global, out: &mut Vec<u8>) -> Option<()> {
     out.extend_from_slice(items.as_slice()).ok()
 }
 
+// Whether the structure is written as these bytes.
+fn is_written_as(alloc: Global, bytes: &[u8]) -> bool {
+    let mut out = Vec::new(alloc);
+    write_structure(alloc, &mut out).is_some() && out.as_slice() == bytes
+}
+
 #[test]
 fn a_structure(rt: HostRuntime) -> Result<(), Fail> {
     let bytes =
         b"\x42\x00\x20\x01\x00\x00\x00\x20\x42\x00\x04\x05\x00\x00\x00\x04\x00\x00\x00\xFE\x00\x00\x00\x00\x42\x00\x05\x02\x00\x00\x00\x04\x00\x00\x00\xFF\x00\x00\x00\x00";
-    let mut out = Vec::new(rt.alloc());
-    assert!(rt; write_structure(rt.alloc(), &mut out).is_some());
-    assert_eq!(rt; out.as_slice(), bytes.as_slice());
-    let mut rest = after_head(bytes, TtlvType::Structure).unwrap_or(&[]);
-    assert!(rt; matches!(TtlvLength::read(&mut rest), Ok(length) if *length == 32));
-    assert!(rt; matches!(TtlvTag::read(&mut rest), Ok(tag) if *tag == 0x42_0004));
-    assert!(rt; matches!(TtlvType::read(&mut rest), Ok(TtlvType::Enumeration)));
-    assert!(rt;
-        matches!(
-            TtlvEnumeration::read((), &mut rest),
-            Ok(TtlvEnumeration(254))
-        )
-    );
-    assert!(rt; matches!(TtlvTag::read(&mut rest), Ok(tag) if *tag == 0x42_0005));
-    assert!(rt; matches!(TtlvType::read(&mut rest), Ok(TtlvType::Integer)));
-    assert!(rt; matches!(TtlvInteger::read((), &mut rest), Ok(TtlvInteger(255))));
-    assert!(rt; rest.is_empty());
+    assert!(rt; is_written_as(rt.alloc(), bytes));
+    assert!(rt; matches!(after_structure(bytes), Some(rest) if rest.is_empty()));
     Ok(())
 }

@@ -1,10 +1,11 @@
 //! What single calls of the primitives answer.
 
+use crate::samples::{bytes_are_cloned, is_failure, number_is_cloned, text_is_cloned};
 use kmip_ttlv_types::{
-    Error, SerializableTtlvType, TtlvBigInteger, TtlvBoolean, TtlvByteString, TtlvEnumeration,
-    TtlvInteger, TtlvInterval, TtlvTextString, TtlvType,
+    Error, SerializableTtlvType, TtlvBigInteger, TtlvBoolean, TtlvEnumeration, TtlvInteger,
+    TtlvInterval, TtlvTextString, TtlvType,
 };
-use std::alloc::Global;
+use std::alloc::{AllocError, Global};
 use std::io::ErrorKind;
 use std::test::Fail;
 
@@ -27,108 +28,172 @@ fn big_integers_go_on_with_their_sign(rt: HostRuntime) -> Result<(), Fail> {
     Ok(())
 }
 
-#[test]
-fn big_integers_are_read_as_they_stand(rt: HostRuntime) -> Result<(), Fail> {
-    let mut bytes: &[u8] = b"\x00\x00\x00\x03\x01\x02\x03\x00\x00\x00\x00\x00";
-    match TtlvBigInteger::read(rt.alloc(), &mut bytes) {
-        Ok(number) => assert_eq!(rt; number.as_slice(), b"\x01\x02\x03".as_slice()),
-        Err(_) => assert!(rt; false),
+// Whether the answer is a big integer of these bytes.
+fn is_number(answer: &Result<TtlvBigInteger, Error>, wanted: &[u8]) -> bool {
+    match answer {
+        Ok(number) => number.as_slice() == wanted,
+        Err(_) => false,
     }
-    assert!(rt; bytes.is_empty());
-    let mut content: &[u8] = b"\x01\x02\x03";
-    match TtlvBigInteger::read_value(rt.alloc(), &mut content, 3) {
-        Ok(number) => assert_eq!(rt; number.as_slice(), b"\x01\x02\x03".as_slice()),
-        Err(_) => assert!(rt; false),
-    }
-    Ok(())
+}
+
+// Whether a length and its content are read whole as a big integer of these bytes.
+fn number_is_read(heap: Global, leaf: &[u8], wanted: &[u8]) -> bool {
+    let mut rest = leaf;
+    is_number(&TtlvBigInteger::read(heap, &mut rest), wanted) && rest.is_empty()
+}
+
+// Whether a content of three bytes is read as a big integer of these.
+fn content_is_read(heap: Global, content: &[u8], wanted: &[u8]) -> bool {
+    let mut rest = content;
+    is_number(&TtlvBigInteger::read_value(heap, &mut rest, 3), wanted)
 }
 
 #[test]
-fn booleans_are_refused(rt: HostRuntime) -> Result<(), Fail> {
-    let mut short: &[u8] = b"\x00\x00\x00\x04\x00\x00\x00\x01\x00\x00\x00\x00";
-    match TtlvBoolean::read((), &mut short) {
+fn big_integers_are_read_as_they_stand(rt: HostRuntime) -> Result<(), Fail> {
+    let leaf = b"\x00\x00\x00\x03\x01\x02\x03\x00\x00\x00\x00\x00";
+    assert!(rt; number_is_read(rt.alloc(), leaf, b"\x01\x02\x03"));
+    assert!(rt; content_is_read(rt.alloc(), b"\x01\x02\x03", b"\x01\x02\x03"));
+    Ok(())
+}
+
+// Whether the answer is that a value of a type is so long, where another length is wanted.
+fn is_length_refused<T>(answer: &Result<T, Error>, wanted: u32, length: u32, of: TtlvType) -> bool {
+    match answer {
         Err(
             Error::InvalidTtlvValueLength {
                 expected,
                 actual,
                 typ,
             },
-        ) => assert!(rt; expected == 8 && actual == 4 && typ == TtlvType::Boolean),
-        _ => assert!(rt; false),
+        ) => *expected == wanted && *actual == length && *typ == of,
+        _ => false,
     }
+}
+
+// Whether the answer is that it is no value of this type.
+fn is_value_refused<T>(answer: &Result<T, Error>, of: TtlvType) -> bool {
+    match answer {
+        Err(Error::InvalidTtlvValue(typ)) => *typ == of,
+        _ => false,
+    }
+}
+
+#[test]
+fn booleans_are_refused(rt: HostRuntime) -> Result<(), Fail> {
+    let mut short: &[u8] = b"\x00\x00\x00\x04\x00\x00\x00\x01\x00\x00\x00\x00";
+    let read = TtlvBoolean::read((), &mut short);
+    assert!(rt; is_length_refused(&read, 8, 4, TtlvType::Boolean));
     let mut two: &[u8] = b"\x00\x00\x00\x08\x00\x00\x00\x00\x00\x00\x00\x02";
-    let read = TtlvBoolean::read((), &mut two);
-    assert!(rt; matches!(read, Err(Error::InvalidTtlvValue(TtlvType::Boolean))));
+    assert!(rt; is_value_refused(&TtlvBoolean::read((), &mut two), TtlvType::Boolean));
     Ok(())
 }
 
 #[test]
 fn lengths_are_refused(rt: HostRuntime) -> Result<(), Fail> {
     let mut five: &[u8] = b"\x00\x00\x00\x05\x00\x00\x00\x01\x00\x00\x00\x00";
-    match TtlvInterval::read((), &mut five) {
-        Err(
-            Error::InvalidTtlvValueLength {
-                expected,
-                actual,
-                typ,
-            },
-        ) => assert!(rt; expected == 4 && actual == 5 && typ == TtlvType::Interval),
-        _ => assert!(rt; false),
-    }
-    assert_eq!(rt; five.len(), 8);
+    assert!(rt;
+        is_length_refused(&TtlvInterval::read((), &mut five), 4, 5, TtlvType::Interval)
+            && five.len() == 8
+    );
     Ok(())
+}
+
+// Whether the bytes are read as no text, of its value.
+fn is_no_text(heap: Global, bytes: &[u8]) -> bool {
+    let mut rest = bytes;
+    is_value_refused(&TtlvTextString::read(heap, &mut rest), TtlvType::TextString)
+}
+
+// Whether the bytes end before the text does.
+fn is_cut_text(heap: Global, bytes: &[u8]) -> bool {
+    let mut rest = bytes;
+    is_failure(
+        &TtlvTextString::read(heap, &mut rest),
+        ErrorKind::UnexpectedEof,
+    )
 }
 
 #[test]
 fn texts_are_checked_before_their_padding(rt: HostRuntime) -> Result<(), Fail> {
-    let mut bytes: &[u8] = b"\x00\x00\x00\x01\xFF";
-    let read = TtlvTextString::read(rt.alloc(), &mut bytes);
-    assert!(rt; matches!(read, Err(Error::InvalidTtlvValue(TtlvType::TextString))));
-    let mut cut: &[u8] = b"\x00\x00\x00\x01a\x00\x00";
-    match TtlvTextString::read(rt.alloc(), &mut cut) {
-        Err(Error::IoError(e)) => assert_eq!(rt; e.kind(), ErrorKind::UnexpectedEof),
-        _ => assert!(rt; false),
-    }
+    assert!(rt; is_no_text(rt.alloc(), b"\x00\x00\x00\x01\xFF"));
+    assert!(rt; is_cut_text(rt.alloc(), b"\x00\x00\x00\x01a\x00\x00"));
     Ok(())
+}
+
+// Whether three bytes 00 are written after a value of five bytes.
+fn padding_is_written(heap: Global) -> bool {
+    let mut out = Vec::new(heap);
+    TtlvInteger::write_pad_bytes(&mut out, 5).is_ok()
+        && out.as_slice() == b"\x00\x00\x00".as_slice()
+}
+
+// Whether three bytes of any value are read after a value of five bytes.
+fn padding_is_read() -> bool {
+    let mut padding: &[u8] = b"\xFF\xFF\xFF\xFF";
+    TtlvInteger::read_pad_bytes(&mut padding, 5).is_ok() && padding.len() == 1
 }
 
 #[test]
 fn padding_is_counted(rt: HostRuntime) -> Result<(), Fail> {
     for (len, pad) in [(0, 0), (5, 3), (8, 0), (1, 7), (u32::MAX, 1)] {
-        assert_eq!(rt; TtlvInteger::calc_pad_bytes(len), pad);
+        assert!(rt; TtlvInteger::calc_pad_bytes(len) == pad);
     }
-    assert_eq!(rt; TtlvInteger(1).ttlv_type(), TtlvType::Integer);
-    let mut out = Vec::new(rt.alloc());
-    assert!(rt; TtlvInteger::write_pad_bytes(&mut out, 5).is_ok());
-    assert_eq!(rt; out.as_slice(), b"\x00\x00\x00".as_slice());
-    let mut padding: &[u8] = b"\xFF\xFF\xFF\xFF";
-    assert!(rt; TtlvInteger::read_pad_bytes(&mut padding, 5).is_ok());
-    assert_eq!(rt; padding.len(), 1);
+    assert!(rt; TtlvInteger(1).ttlv_type() == TtlvType::Integer);
+    assert!(rt; padding_is_written(rt.alloc()));
+    assert!(rt; padding_is_read());
     Ok(())
+}
+
+// Whether the value's length is this.
+fn has_length<T: SerializableTtlvType>(value: &T, length: u32) -> bool {
+    matches!(value.value_length(), Ok(answer) if answer == length)
+}
+
+// Whether a text answers its length, and is written, without its type, as these bytes.
+fn text_is_counted(heap: Global, text: &str, length: u32, bytes: &[u8]) -> bool {
+    let Ok(text) = String::from_str(heap, text) else {
+        return false;
+    };
+    let text = TtlvTextString(text);
+    let mut out = Vec::new(heap);
+    has_length(&text, length)
+        && matches!(text.write_length_and_value(&mut out), Ok(answer) if answer == length)
+        && out.as_slice() == bytes
+}
+
+// Whether a big integer of these bytes answers this length.
+fn number_is_counted(heap: Global, number: &[u8], length: u32) -> bool {
+    match Vec::from_slice(heap, number) {
+        Ok(number) => has_length(&TtlvBigInteger(number), length),
+        Err(_) => false,
+    }
 }
 
 #[test]
 fn lengths_are_answered(rt: HostRuntime) -> Result<(), Fail> {
-    assert!(rt; matches!(TtlvEnumeration(1).value_length(), Ok(4)));
-    assert!(rt; matches!(TtlvBoolean(true).value_length(), Ok(8)));
-    let text = TtlvTextString(String::from_str(rt.alloc(), "abc")?);
-    assert!(rt; matches!(text.value_length(), Ok(3)));
-    let big = TtlvBigInteger(Vec::from_slice(rt.alloc(), b"abc")?);
-    assert!(rt; matches!(big.value_length(), Ok(8)));
-    let mut out = Vec::new(rt.alloc());
-    assert!(rt; matches!(text.write_length_and_value(&mut out), Ok(3)));
-    assert_eq!(rt; out.as_slice(), b"\x00\x00\x00\x03abc".as_slice());
+    assert!(rt; has_length(&TtlvEnumeration(1), 4));
+    assert!(rt; has_length(&TtlvBoolean(true), 8));
+    assert!(rt; text_is_counted(rt.alloc(), "abc", 3, b"\x00\x00\x00\x03abc"));
+    assert!(rt; number_is_counted(rt.alloc(), b"abc", 8));
     Ok(())
+}
+
+// Whether a clone was made, and is the same.
+fn is_same(clone: Result<bool, AllocError>) -> bool {
+    matches!(clone, Ok(true))
+}
+
+// Whether a clone of the integer is the same.
+fn integer_is_cloned(number: TtlvInteger) -> bool {
+    matches!(number.clone(), Ok(copy) if copy == number)
 }
 
 #[test]
 fn clones_are_the_same(rt: HostRuntime) -> Result<(), Fail> {
-    let big = TtlvBigInteger(Vec::from_slice(rt.alloc(), b"\x80")?);
-    assert_eq!(rt; big.clone()?.as_slice(), b"\x80".as_slice());
-    let text = TtlvTextString(String::from_str(rt.alloc(), "a")?);
-    assert_eq!(rt; text.clone()?.as_str(), "a");
-    let bytes = TtlvByteString(Vec::from_slice(rt.alloc(), b"\x01")?);
-    assert_eq!(rt; bytes.clone()?.as_slice(), b"\x01".as_slice());
-    assert_eq!(rt; TtlvInteger(5).clone()?, TtlvInteger(5));
+    let alloc = rt.alloc();
+    assert!(rt; is_same(number_is_cloned(alloc, b"\x80")));
+    assert!(rt; is_same(text_is_cloned(alloc, "a")));
+    assert!(rt; is_same(bytes_are_cloned(alloc, b"\x01")));
+    assert!(rt; integer_is_cloned(TtlvInteger(5)));
     Ok(())
 }
