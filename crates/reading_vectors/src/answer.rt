@@ -37,7 +37,7 @@ pub fn answer<P: Part>(alloc: Global, text: &str) -> Result<String, Fail> {
 }
 
 /// Where the bytes are refused for another cause, which is said in words of our own.
-pub fn other_place<P: Part>(alloc: Global, text: &str) -> Result<String, Fail> {
+fn other_place<P: Part>(alloc: Global, text: &str) -> Result<String, Fail> {
     let error = match read::<P>(alloc, text)? {
         Ok(found) => return Ok(found.text),
         Err(error) => error,
@@ -49,16 +49,30 @@ pub fn other_place<P: Part>(alloc: Global, text: &str) -> Result<String, Fail> {
     }
 }
 
-/// The messages that are not read as the texts beside them, each with what it is read as.
-pub fn others<P: Part>(alloc: Global, rows: &[(&str, &str)]) -> Result<String, Fail> {
-    let mut others = String::new(alloc);
-    for row in rows {
-        let (message, text) = *row;
-        let found = answer::<P>(alloc, message)?;
-        if found.as_str() != text {
-            let line = format!(in alloc; "{message}: {found}\n")?;
-            others.push_str(line.as_str())?;
-        }
+// Fails unless what was found of a message is what is wanted.
+fn compare(found: Result<String, Fail>, message: &str, wanted: &str) -> Result<(), Fail> {
+    let found = found?;
+    if found.as_str() == wanted {
+        return Ok(());
     }
-    Ok(others)
+    Err(Fail::new(format_args!("{message}: {found}")))
+}
+
+/// Fails unless the message is answered as is wanted.
+pub fn check<P: Part>(alloc: Global, message: &str, wanted: &str) -> Result<(), Fail> {
+    compare(answer::<P>(alloc, message), message, wanted)
+}
+
+/// Fails unless the message is refused at this place, for another cause.
+pub fn check_place<P: Part>(alloc: Global, message: &str, place: &str) -> Result<(), Fail> {
+    compare(other_place::<P>(alloc, message), message, place)
+}
+
+/// Fails unless each message is answered as the text beside it says.
+pub fn check_rows<P: Part>(alloc: Global, rows: &[(&str, &str)]) -> Result<(), Fail> {
+    for row in rows {
+        let (message, wanted) = *row;
+        check::<P>(alloc, message, wanted)?;
+    }
+    Ok(())
 }

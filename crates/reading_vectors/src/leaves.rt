@@ -1,12 +1,14 @@
 //! Structures of one leaf, and what is behind it.
 
-use crate::answer::{Of, Single, answer, others};
-use crate::names::{TagA, TagB, TagC, TagD};
+use crate::answer::{Of, Single, answer, check, check_rows};
+use crate::names::{NoTag, TagA, TagB, TagC, TagD};
 use crate::parts::{
-    ClosedStructure, LongNumber, Maybe, Number, Octets, OneField, Span, Structure, Text,
+    BigNumber, ClosedStructure, LongNumber, Maybe, Number, Octets, OneField, Span, Structure, Text,
     ThreeFields, Truth, TwoFields,
 };
 use std::test::Fail;
+
+const SINGLE: &str = "AAAAAA0100000010BBBBBB02000000040000000300000000";
 
 const TWO_ITEMS: &str =
     "AAAAAA0100000020BBBBBB02000000040000000300000000CCCCCC02000000040000000500000000";
@@ -19,7 +21,7 @@ const THREE: &str = "Struct { name: \"0xAAAAAA\", fields: [I32(3)] }";
 
 // Padding is of any value, and neither are further items looked at nor bytes behind the message.
 const NUMBERS: [(&str, &str); 5] = [
-    ("AAAAAA0100000010BBBBBB02000000040000000300000000", THREE),
+    (SINGLE, THREE),
     ("AAAAAA0100000010BBBBBB020000000400000003FFFFFFFF", THREE),
     ("AAAAAA0100000010BBBBBB02000000040000000300000000FF", THREE),
     (TWO_ITEMS, THREE),
@@ -77,23 +79,42 @@ const NO_NUMBERS: [(&str, &str); 11] = [
     ),
 ];
 
+// Each field is judged as soon as it is there.
+const BEGINNINGS: [(&str, &str); 5] = [
+    (
+        "AAAAAA02",
+        "MalformedTtlv(UnexpectedType { expected: Structure, actual: Integer }); pos: 4 bytes, tag: 0xAAAAAA, type: Integer (0x02)",
+    ),
+    (
+        "AAAAAA0C",
+        "MalformedTtlv(InvalidType(12)); pos: 3 bytes, tag: 0xAAAAAA",
+    ),
+    (
+        "AAAAAA0100000010CCCCCC02",
+        "SerdeError(UnexpectedTag { expected: 0xBBBBBB, actual: 0xCCCCCC }); pos: 12 bytes, parent tags: 0xAAAAAA, tag: 0xCCCCCC, type: Integer (0x02)",
+    ),
+    (
+        "AAAAAA0100000010BBBBBB03",
+        "SerdeError(UnexpectedType { expected: Integer, actual: LongInteger }); pos: 12 bytes, parent tags: 0xAAAAAA, tag: 0xBBBBBB, type: LongInteger (0x03)",
+    ),
+    (
+        "AAAAAA0100000010BBBBBB0200000005",
+        "MalformedTtlv(InvalidLength { expected: 4, actual: 5, typ: Integer }); pos: 16 bytes, parent tags: 0xAAAAAA, tag: 0xBBBBBB, type: Integer (0x02)",
+    ),
+];
+
 #[test]
 fn numbers(rt: HostRuntime) -> Result<(), Fail> {
-    assert_eq!(rt; others::<Single>(rt.alloc(), &NUMBERS)?.as_str(), "");
-    assert_eq!(rt; others::<Single>(rt.alloc(), &NO_NUMBERS)?.as_str(), "");
-    Ok(())
+    check_rows::<Single>(rt.alloc(), &NUMBERS)?;
+    check_rows::<Single>(rt.alloc(), &NO_NUMBERS)?;
+    check_rows::<Single>(rt.alloc(), &BEGINNINGS)
 }
 
 #[test]
 fn a_message_that_is_cut(rt: HostRuntime) -> Result<(), Fail> {
-    let whole = "AAAAAA0100000010BBBBBB02000000040000000300000000";
     for count in 0..24usize {
-        let text = whole.get(..2 * count).unwrap_or(whole);
-        assert_eq!(rt;
-            answer::<Single>(rt.alloc(), text)?.as_str(),
-            "UnexpectedEof",
-            "{text}"
-        );
+        let text = SINGLE.get(..2 * count).unwrap_or(SINGLE);
+        check::<Single>(rt.alloc(), text, "UnexpectedEof")?;
     }
     Ok(())
 }
@@ -109,8 +130,7 @@ fn refusals_stand_whatever_bytes_follow(rt: HostRuntime) -> Result<(), Fail> {
     for text in refused {
         let wanted = answer::<Single>(rt.alloc(), text)?;
         let longer = format!(in rt.alloc(); "{text}FFBBBBBB02000000040000000300000000")?;
-        let found = answer::<Single>(rt.alloc(), longer.as_str())?;
-        assert_eq!(rt; found.as_str(), wanted.as_str(), "{text}");
+        check::<Single>(rt.alloc(), longer.as_str(), wanted.as_str())?;
     }
     Ok(())
 }
@@ -126,7 +146,7 @@ const LONG_NUMBERS: [(&str, &str); 2] = [
     ),
 ];
 
-const SPANS: [(&str, &str); 2] = [
+const SPANS: [(&str, &str); 3] = [
     (
         "AAAAAA0100000010BBBBBB0A000000040000000100000000",
         "Struct { name: \"0xAAAAAA\", fields: [Interval(1)] }",
@@ -134,6 +154,10 @@ const SPANS: [(&str, &str); 2] = [
     (
         "AAAAAA0100000010BBBBBB0A000000050000000100000000",
         "MalformedTtlv(InvalidLength { expected: 4, actual: 5, typ: Interval }); pos: 16 bytes, parent tags: 0xAAAAAA, tag: 0xBBBBBB, type: Interval (0x0A)",
+    ),
+    (
+        SINGLE,
+        "SerdeError(UnexpectedType { expected: Interval, actual: Integer }); pos: 12 bytes, parent tags: 0xAAAAAA, tag: 0xBBBBBB, type: Integer (0x02)",
     ),
 ];
 
@@ -148,11 +172,20 @@ const TRUTHS: [(&str, &str); 2] = [
     ),
 ];
 
-const TEXTS: [(&str, &str); 2] = [
+const TEXTS: [(&str, &str); 4] = [
     (TEXT, "Struct { name: \"0xAAAAAA\", fields: [Text(\"a\")] }"),
     (
         "AAAAAA0100000010BBBBBB0700000001FF00000000000000",
         "MalformedTtlv(InvalidValue { typ: TextString }); pos: 17 bytes, parent tags: 0xAAAAAA, tag: 0xBBBBBB, type: TextString (0x07)",
+    ),
+    // Content is judged before its padding is asked for.
+    (
+        "AAAAAA0100000010BBBBBB0700000001FF",
+        "MalformedTtlv(InvalidValue { typ: TextString }); pos: 17 bytes, parent tags: 0xAAAAAA, tag: 0xBBBBBB, type: TextString (0x07)",
+    ),
+    (
+        SINGLE,
+        "SerdeError(UnexpectedType { expected: TextString, actual: Integer }); pos: 12 bytes, parent tags: 0xAAAAAA, tag: 0xBBBBBB, type: Integer (0x02)",
     ),
 ];
 
@@ -172,43 +205,74 @@ const OCTETS: [(&str, &str); 3] = [
     ),
 ];
 
+const BIG_NUMBERS: [(&str, &str); 1] = [(
+    "AAAAAA0100000010BBBBBB08000000080000000000000005",
+    "SerdeError(UnexpectedType { expected: BigInteger, actual: ByteString }); pos: 12 bytes, parent tags: 0xAAAAAA, tag: 0xBBBBBB, type: ByteString (0x08)",
+)];
+
 #[test]
 fn other_leaves(rt: HostRuntime) -> Result<(), Fail> {
-    assert_eq!(rt;
-        others::<Of<LongNumber>>(rt.alloc(), &LONG_NUMBERS)?.as_str(),
-        ""
-    );
-    assert_eq!(rt; others::<Of<Span>>(rt.alloc(), &SPANS)?.as_str(), "");
-    assert_eq!(rt; others::<Of<Truth>>(rt.alloc(), &TRUTHS)?.as_str(), "");
-    assert_eq!(rt; others::<Of<Text>>(rt.alloc(), &TEXTS)?.as_str(), "");
-    assert_eq!(rt; others::<Of<Octets>>(rt.alloc(), &OCTETS)?.as_str(), "");
-    Ok(())
+    check_rows::<Of<LongNumber>>(rt.alloc(), &LONG_NUMBERS)?;
+    check_rows::<Of<Span>>(rt.alloc(), &SPANS)?;
+    check_rows::<Of<Truth>>(rt.alloc(), &TRUTHS)?;
+    check_rows::<Of<Text>>(rt.alloc(), &TEXTS)?;
+    check_rows::<Of<Octets>>(rt.alloc(), &OCTETS)?;
+    check_rows::<Of<BigNumber>>(rt.alloc(), &BIG_NUMBERS)
 }
+
+// No item is let through behind the fields.
+const CLOSED: [(&str, &str); 3] = [
+    (
+        TWO_ITEMS,
+        "SerdeError(Other(\"unknown field\")); pos: 28 bytes, parent tags: 0xAAAAAA, tag: 0xAAAAAA, type: Structure (0x01)",
+    ),
+    (
+        "AAAAAA0100000020BBBBBB02000000040000000300000000BBBBBB02000000040000000400000000",
+        "SerdeError(Other(\"duplicate field\")); pos: 28 bytes, parent tags: 0xAAAAAA, tag: 0xAAAAAA, type: Structure (0x01)",
+    ),
+    (
+        "AAAAAA0100000020BBBBBB02000000040000000300000000CCCCCC0C0000000000000000",
+        "MalformedTtlv(InvalidType(12)); pos: 27 bytes, parent tags: 0xAAAAAA, tag: 0xCCCCCC",
+    ),
+];
+
+// Three numbers are wanted, and two are there. In the second row the end is within the last.
+const TWO_OF_THREE: [(&str, &str); 2] = [
+    (
+        TWO_ITEMS,
+        "SerdeError(Other(\"missing field\")); pos: 40 bytes, parent tags: 0xAAAAAA, tag: 0xAAAAAA, type: Structure (0x01)",
+    ),
+    (
+        "AAAAAA0100000014BBBBBB02000000040000000300000000CCCCCC02000000040000000400000000",
+        "MalformedTtlv(Overflow { field_end: ByteOffset(28) }); pos: 40 bytes, parent tags: 0xAAAAAA, tag: 0xCCCCCC, type: Integer (0x02)",
+    ),
+];
 
 #[test]
 fn further_and_missing_fields(rt: HostRuntime) -> Result<(), Fail> {
     type Closed = ClosedStructure<TagA, OneField<TagB, Number>>;
     type Three = Structure<TagA, ThreeFields<TagB, Number, TagC, Number, TagD, Number>>;
+    check_rows::<Closed>(rt.alloc(), &CLOSED)?;
+    check_rows::<Three>(rt.alloc(), &TWO_OF_THREE)
+}
+
+#[test]
+fn options(rt: HostRuntime) -> Result<(), Fail> {
     type Lacking = Structure<TagA, TwoFields<TagB, Maybe<Number>, TagC, Number>>;
-    assert_eq!(rt;
-        answer::<Closed>(rt.alloc(), TWO_ITEMS)?.as_str(),
-        "SerdeError(Other(\"unknown field\")); pos: 28 bytes, parent tags: 0xAAAAAA, tag: 0xAAAAAA, type: Structure (0x01)"
-    );
-    assert_eq!(rt;
-        answer::<Three>(rt.alloc(), TWO_ITEMS)?.as_str(),
-        "SerdeError(Other(\"missing field\")); pos: 40 bytes, parent tags: 0xAAAAAA, tag: 0xAAAAAA, type: Structure (0x01)"
-    );
-    assert_eq!(rt;
-        answer::<Of<Maybe<Number>>>(rt.alloc(), EMPTY)?.as_str(),
-        "Struct { name: \"0xAAAAAA\", fields: [None] }"
-    );
-    assert_eq!(rt;
-        answer::<Lacking>(
-            rt.alloc(),
-            "AAAAAA0100000010CCCCCC02000000040000000500000000"
-        )?
-        .as_str(),
-        "Struct { name: \"0xAAAAAA\", fields: [None, I32(5)] }"
-    );
-    Ok(())
+    type Nameless = Structure<TagA, TwoFields<NoTag, Maybe<Number>, TagB, Number>>;
+    check::<Of<Maybe<Number>>>(
+        rt.alloc(),
+        EMPTY,
+        "Struct { name: \"0xAAAAAA\", fields: [None] }",
+    )?;
+    check::<Lacking>(
+        rt.alloc(),
+        "AAAAAA0100000010CCCCCC02000000040000000500000000",
+        "Struct { name: \"0xAAAAAA\", fields: [None, I32(5)] }",
+    )?;
+    check::<Nameless>(
+        rt.alloc(),
+        SINGLE,
+        "Struct { name: \"0xAAAAAA\", fields: [None, I32(3)] }",
+    )
 }

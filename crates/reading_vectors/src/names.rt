@@ -1,555 +1,231 @@
 //! The names of tags and variants in the shapes of the tests.
 
-ghost use Rattle.std.specs.Prelude.{◌≡◌, codes};
+ghost use Rattle.std.specs.Prelude.{◌≡◌, [], map, slice_index_or};
+ghost use Rattle.reading_vectors.specs.declared.names.TheConstants.{NAMES};
 
 use crate::parts::Name;
 
-/// A tag.
-pub struct TagA;
+// Each name, at its place.
+const NAMES: [&str; 50] = [
+    "0xAAAAAA", // 0
+    "0xBBBBBB", // 1
+    "0xCCCCCC", // 2
+    "0xDDDDDD", // 3
+    "0xEEEEEE", // 4
+    "x", // 5
+    "0x00000001", // 6
+    "0x00000007", // 7
+    "if 0xBBBBBB==0x1", // 8
+    "if 0xBBBBBB==0x00000001", // 9
+    "if  0xBBBBBB == 0x00000001 ", // 10
+    "if 0xBBBBBB>=0x2", // 11
+    "if 0xBBBBBB>=1", // 12
+    "if 0xBBBBBB in [a==b]", // 13
+    "if 0xBBBBBB in [0x00000002, 0x00000001]", // 14
+    "if 0xBBBBBB in 0x00000001", // 15
+    "if 0xBBBBBB in []", // 16
+    "if 0xDDDDDD>=zz", // 17
+    "if 0xBBBBBB>=zz", // 18
+    "if zz>=0x1", // 19
+    "if 0x1000000==x", // 20
+    "if 0x1000000 in [x]", // 21
+    "if type==Integer", // 22
+    "if type==TextString", // 23
+    "if type==Structure", // 24
+    "if type==Interval", // 25
+    "if type==BigInteger", // 26
+    "if type>=1", // 27
+    "if type in [x]", // 28
+    "if 0xBBBBBB==a", // 29
+    "if 0xBBBBBB==b", // 30
+    "if ", // 31
+    "if >=", // 32
+    "if ==", // 33
+    "if in", // 34
+    "0x42007B", // 35
+    "0x42007A", // 36
+    "0x420069", // 37
+    "0x42006A", // 38
+    "0x42006B", // 39
+    "0x420092", // 40
+    "0x42000D", // 41
+    "0x42000F", // 42
+    "0x42005C", // 43
+    "0x42007F", // 44
+    "0x42007C", // 45
+    "0x420057", // 46
+    "0x420094", // 47
+    "0x00000000", // 48
+    "0x00000002", // 49
+];
 
-impl Name for TagA {
-    ghost letters = { codes "0xAAAAAA" };
+// The text at this place, or none behind the last.
+fn text_at(texts: &[&'static str], place: usize) -> &'static str
+    ensures { result.now ≡ slice_index_or (map (λ x. x.now) texts.now) place [] }
+{
+    match texts.get(place) {
+        Some(text) => *text,
+        None => "",
+    }
+}
+
+/// A type that stands for the name at this place of the list.
+pub struct Listed<const N: u8>;
+
+impl<const N: u8> Name for Listed<N> {
+    ghost letters = { slice_index_or (map (λ x. x.now) NAMES) N [] };
 
     fn name() -> &'static str {
-        "0xAAAAAA"
+        text_at(&NAMES, N as usize)
     }
 }
 
 /// A tag.
-pub struct TagB;
-
-impl Name for TagB {
-    ghost letters = { codes "0xBBBBBB" };
-
-    fn name() -> &'static str {
-        "0xBBBBBB"
-    }
-}
+pub type TagA = Listed<0>;
 
 /// A tag.
-pub struct TagC;
-
-impl Name for TagC {
-    ghost letters = { codes "0xCCCCCC" };
-
-    fn name() -> &'static str {
-        "0xCCCCCC"
-    }
-}
+pub type TagB = Listed<1>;
 
 /// A tag.
-pub struct TagD;
-
-impl Name for TagD {
-    ghost letters = { codes "0xDDDDDD" };
-
-    fn name() -> &'static str {
-        "0xDDDDDD"
-    }
-}
+pub type TagC = Listed<2>;
 
 /// A tag.
-pub struct TagE;
+pub type TagD = Listed<3>;
 
-impl Name for TagE {
-    ghost letters = { codes "0xEEEEEE" };
-
-    fn name() -> &'static str {
-        "0xEEEEEE"
-    }
-}
+/// A tag.
+pub type TagE = Listed<4>;
 
 /// A name that is no tag.
-pub struct NoTag;
-
-impl Name for NoTag {
-    ghost letters = { codes "x" };
-
-    fn name() -> &'static str {
-        "x"
-    }
-}
+pub type NoTag = Listed<5>;
 
 /// The number of a variant.
-pub struct One;
-
-impl Name for One {
-    ghost letters = { codes "0x00000001" };
-
-    fn name() -> &'static str {
-        "0x00000001"
-    }
-}
+pub type One = Listed<6>;
 
 /// The number of a variant.
-pub struct Seven;
-
-impl Name for Seven {
-    ghost letters = { codes "0x00000007" };
-
-    fn name() -> &'static str {
-        "0x00000007"
-    }
-}
+pub type Seven = Listed<7>;
 
 /// A rule: the text is `0x1`.
-pub struct IfOneShort;
-
-impl Name for IfOneShort {
-    ghost letters = { codes "if 0xBBBBBB==0x1" };
-
-    fn name() -> &'static str {
-        "if 0xBBBBBB==0x1"
-    }
-}
+pub type IfOneShort = Listed<8>;
 
 /// A rule: the text is `0x00000001`.
-pub struct IfOne;
-
-impl Name for IfOne {
-    ghost letters = { codes "if 0xBBBBBB==0x00000001" };
-
-    fn name() -> &'static str {
-        "if 0xBBBBBB==0x00000001"
-    }
-}
+pub type IfOne = Listed<9>;
 
 /// A rule with spaces: the text is `0x00000001`.
-pub struct IfOneSpaced;
-
-impl Name for IfOneSpaced {
-    ghost letters = { codes "if  0xBBBBBB == 0x00000001 " };
-
-    fn name() -> &'static str {
-        "if  0xBBBBBB == 0x00000001 "
-    }
-}
+pub type IfOneSpaced = Listed<10>;
 
 /// A rule: the number is at least two.
-pub struct IfAtLeastTwo;
-
-impl Name for IfAtLeastTwo {
-    ghost letters = { codes "if 0xBBBBBB>=0x2" };
-
-    fn name() -> &'static str {
-        "if 0xBBBBBB>=0x2"
-    }
-}
+pub type IfAtLeastTwo = Listed<11>;
 
 /// A rule: the number is at least one.
-pub struct IfAtLeastOne;
-
-impl Name for IfAtLeastOne {
-    ghost letters = { codes "if 0xBBBBBB>=1" };
-
-    fn name() -> &'static str {
-        "if 0xBBBBBB>=1"
-    }
-}
+pub type IfAtLeastOne = Listed<12>;
 
 /// A rule that is split at its `==`.
-pub struct IfInStrange;
-
-impl Name for IfInStrange {
-    ghost letters = { codes "if 0xBBBBBB in [a==b]" };
-
-    fn name() -> &'static str {
-        "if 0xBBBBBB in [a==b]"
-    }
-}
+pub type IfInStrange = Listed<13>;
 
 /// A rule: the text is one of two.
-pub struct IfInTwo;
-
-impl Name for IfInTwo {
-    ghost letters = { codes "if 0xBBBBBB in [0x00000002, 0x00000001]" };
-
-    fn name() -> &'static str {
-        "if 0xBBBBBB in [0x00000002, 0x00000001]"
-    }
-}
+pub type IfInTwo = Listed<14>;
 
 /// A rule whose one member has no brackets.
-pub struct IfInOne;
-
-impl Name for IfInOne {
-    ghost letters = { codes "if 0xBBBBBB in 0x00000001" };
-
-    fn name() -> &'static str {
-        "if 0xBBBBBB in 0x00000001"
-    }
-}
+pub type IfInOne = Listed<15>;
 
 /// A rule: the text is empty.
-pub struct IfInNothing;
-
-impl Name for IfInNothing {
-    ghost letters = { codes "if 0xBBBBBB in []" };
-
-    fn name() -> &'static str {
-        "if 0xBBBBBB in []"
-    }
-}
+pub type IfInNothing = Listed<16>;
 
 /// A rule that compares with a word.
-pub struct IfOtherAtLeastWord;
-
-impl Name for IfOtherAtLeastWord {
-    ghost letters = { codes "if 0xDDDDDD>=zz" };
-
-    fn name() -> &'static str {
-        "if 0xDDDDDD>=zz"
-    }
-}
+pub type IfOtherAtLeastWord = Listed<17>;
 
 /// A rule that compares with a word.
-pub struct IfAtLeastWord;
-
-impl Name for IfAtLeastWord {
-    ghost letters = { codes "if 0xBBBBBB>=zz" };
-
-    fn name() -> &'static str {
-        "if 0xBBBBBB>=zz"
-    }
-}
+pub type IfAtLeastWord = Listed<18>;
 
 /// A rule of a word that is no tag.
-pub struct IfWordAtLeastOne;
-
-impl Name for IfWordAtLeastOne {
-    ghost letters = { codes "if zz>=0x1" };
-
-    fn name() -> &'static str {
-        "if zz>=0x1"
-    }
-}
+pub type IfWordAtLeastOne = Listed<19>;
 
 /// A rule of a number that is no tag.
-pub struct IfLargeIs;
-
-impl Name for IfLargeIs {
-    ghost letters = { codes "if 0x1000000==x" };
-
-    fn name() -> &'static str {
-        "if 0x1000000==x"
-    }
-}
+pub type IfLargeIs = Listed<20>;
 
 /// A rule of a number that is no tag.
-pub struct IfLargeIn;
-
-impl Name for IfLargeIn {
-    ghost letters = { codes "if 0x1000000 in [x]" };
-
-    fn name() -> &'static str {
-        "if 0x1000000 in [x]"
-    }
-}
+pub type IfLargeIn = Listed<21>;
 
 /// A rule: the type is Integer.
-pub struct IfInteger;
-
-impl Name for IfInteger {
-    ghost letters = { codes "if type==Integer" };
-
-    fn name() -> &'static str {
-        "if type==Integer"
-    }
-}
+pub type IfInteger = Listed<22>;
 
 /// A rule: the type is TextString.
-pub struct IfText;
-
-impl Name for IfText {
-    ghost letters = { codes "if type==TextString" };
-
-    fn name() -> &'static str {
-        "if type==TextString"
-    }
-}
+pub type IfText = Listed<23>;
 
 /// A rule: the type is Structure.
-pub struct IfStructure;
-
-impl Name for IfStructure {
-    ghost letters = { codes "if type==Structure" };
-
-    fn name() -> &'static str {
-        "if type==Structure"
-    }
-}
+pub type IfStructure = Listed<24>;
 
 /// A rule: the type is Interval.
-pub struct IfInterval;
-
-impl Name for IfInterval {
-    ghost letters = { codes "if type==Interval" };
-
-    fn name() -> &'static str {
-        "if type==Interval"
-    }
-}
+pub type IfInterval = Listed<25>;
 
 /// A rule: the type is BigInteger.
-pub struct IfBigInteger;
-
-impl Name for IfBigInteger {
-    ghost letters = { codes "if type==BigInteger" };
-
-    fn name() -> &'static str {
-        "if type==BigInteger"
-    }
-}
+pub type IfBigInteger = Listed<26>;
 
 /// A rule that compares a type with a number.
-pub struct IfTypeAtLeast;
-
-impl Name for IfTypeAtLeast {
-    ghost letters = { codes "if type>=1" };
-
-    fn name() -> &'static str {
-        "if type>=1"
-    }
-}
+pub type IfTypeAtLeast = Listed<27>;
 
 /// A rule that seeks a type among words.
-pub struct IfTypeIn;
-
-impl Name for IfTypeIn {
-    ghost letters = { codes "if type in [x]" };
-
-    fn name() -> &'static str {
-        "if type in [x]"
-    }
-}
+pub type IfTypeIn = Listed<28>;
 
 /// A rule: the text is `a`.
-pub struct IfTextA;
-
-impl Name for IfTextA {
-    ghost letters = { codes "if 0xBBBBBB==a" };
-
-    fn name() -> &'static str {
-        "if 0xBBBBBB==a"
-    }
-}
+pub type IfTextA = Listed<29>;
 
 /// A rule: the text is `b`.
-pub struct IfTextB;
-
-impl Name for IfTextB {
-    ghost letters = { codes "if 0xBBBBBB==b" };
-
-    fn name() -> &'static str {
-        "if 0xBBBBBB==b"
-    }
-}
+pub type IfTextB = Listed<30>;
 
 /// No rule.
-pub struct IfNothing;
-
-impl Name for IfNothing {
-    ghost letters = { codes "if " };
-
-    fn name() -> &'static str {
-        "if "
-    }
-}
+pub type IfNothing = Listed<31>;
 
 /// A rule without its sides.
-pub struct IfAtLeastAlone;
-
-impl Name for IfAtLeastAlone {
-    ghost letters = { codes "if >=" };
-
-    fn name() -> &'static str {
-        "if >="
-    }
-}
+pub type IfAtLeastAlone = Listed<32>;
 
 /// A rule without its sides.
-pub struct IfEqualAlone;
-
-impl Name for IfEqualAlone {
-    ghost letters = { codes "if ==" };
-
-    fn name() -> &'static str {
-        "if =="
-    }
-}
+pub type IfEqualAlone = Listed<33>;
 
 /// A rule without its sides.
-pub struct IfInAlone;
-
-impl Name for IfInAlone {
-    ghost letters = { codes "if in" };
-
-    fn name() -> &'static str {
-        "if in"
-    }
-}
+pub type IfInAlone = Listed<34>;
 
 /// The tag of a response.
-pub struct ResponseMessage;
-
-impl Name for ResponseMessage {
-    ghost letters = { codes "0x42007B" };
-
-    fn name() -> &'static str {
-        "0x42007B"
-    }
-}
+pub type ResponseMessage = Listed<35>;
 
 /// The tag of a response's header.
-pub struct ResponseHeader;
-
-impl Name for ResponseHeader {
-    ghost letters = { codes "0x42007A" };
-
-    fn name() -> &'static str {
-        "0x42007A"
-    }
-}
+pub type ResponseHeader = Listed<36>;
 
 /// The tag of the protocol's version.
-pub struct ProtocolVersion;
-
-impl Name for ProtocolVersion {
-    ghost letters = { codes "0x420069" };
-
-    fn name() -> &'static str {
-        "0x420069"
-    }
-}
+pub type ProtocolVersion = Listed<37>;
 
 /// The tag of the version's first number.
-pub struct MajorVersion;
-
-impl Name for MajorVersion {
-    ghost letters = { codes "0x42006A" };
-
-    fn name() -> &'static str {
-        "0x42006A"
-    }
-}
+pub type MajorVersion = Listed<38>;
 
 /// The tag of the version's second number.
-pub struct MinorVersion;
-
-impl Name for MinorVersion {
-    ghost letters = { codes "0x42006B" };
-
-    fn name() -> &'static str {
-        "0x42006B"
-    }
-}
+pub type MinorVersion = Listed<39>;
 
 /// The tag of the time of a message.
-pub struct TimeStamp;
-
-impl Name for TimeStamp {
-    ghost letters = { codes "0x420092" };
-
-    fn name() -> &'static str {
-        "0x420092"
-    }
-}
+pub type TimeStamp = Listed<40>;
 
 /// The tag of how many items a message has.
-pub struct BatchCount;
-
-impl Name for BatchCount {
-    ghost letters = { codes "0x42000D" };
-
-    fn name() -> &'static str {
-        "0x42000D"
-    }
-}
+pub type BatchCount = Listed<41>;
 
 /// The tag of an item of a message.
-pub struct BatchItem;
-
-impl Name for BatchItem {
-    ghost letters = { codes "0x42000F" };
-
-    fn name() -> &'static str {
-        "0x42000F"
-    }
-}
+pub type BatchItem = Listed<42>;
 
 /// The tag of what is to be done.
-pub struct Operation;
-
-impl Name for Operation {
-    ghost letters = { codes "0x42005C" };
-
-    fn name() -> &'static str {
-        "0x42005C"
-    }
-}
+pub type Operation = Listed<43>;
 
 /// The tag of how it went.
-pub struct ResultStatus;
-
-impl Name for ResultStatus {
-    ghost letters = { codes "0x42007F" };
-
-    fn name() -> &'static str {
-        "0x42007F"
-    }
-}
+pub type ResultStatus = Listed<44>;
 
 /// The tag of what an operation answers.
-pub struct ResponsePayload;
-
-impl Name for ResponsePayload {
-    ghost letters = { codes "0x42007C" };
-
-    fn name() -> &'static str {
-        "0x42007C"
-    }
-}
+pub type ResponsePayload = Listed<45>;
 
 /// The tag of the kind of an object.
-pub struct ObjectType;
-
-impl Name for ObjectType {
-    ghost letters = { codes "0x420057" };
-
-    fn name() -> &'static str {
-        "0x420057"
-    }
-}
+pub type ObjectType = Listed<46>;
 
 /// The tag of an object's name.
-pub struct UniqueIdentifier;
-
-impl Name for UniqueIdentifier {
-    ghost letters = { codes "0x420094" };
-
-    fn name() -> &'static str {
-        "0x420094"
-    }
-}
+pub type UniqueIdentifier = Listed<47>;
 
 /// The number of a variant.
-pub struct Zero;
-
-impl Name for Zero {
-    ghost letters = { codes "0x00000000" };
-
-    fn name() -> &'static str {
-        "0x00000000"
-    }
-}
+pub type Zero = Listed<48>;
 
 /// The number of a variant.
-pub struct Two;
-
-impl Name for Two {
-    ghost letters = { codes "0x00000002" };
-
-    fn name() -> &'static str {
-        "0x00000002"
-    }
-}
+pub type Two = Listed<49>;

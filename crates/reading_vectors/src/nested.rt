@@ -1,6 +1,6 @@
 //! Structures in structures, sequences, and shapes that no message has.
 
-use crate::answer::{Of, answer, other_place, others};
+use crate::answer::{Of, check, check_place, check_rows};
 use crate::names::{NoTag, TagA, TagB, TagC, TagD};
 use crate::parts::{Maybe, NoFields, Number, OneField, Sequence, Structure, TwoFields, Wrapping};
 use std::test::Fail;
@@ -9,29 +9,47 @@ const SINGLE: &str = "AAAAAA0100000010BBBBBB02000000040000000300000000";
 
 const NESTED: &str = "AAAAAA0100000018BBBBBB0100000010CCCCCC02000000040000000300000000";
 
+// A struct in a field goes by its own name, and this one's is the item's tag.
+const NUMBER_IN_ONE: [(&str, &str); 2] = [
+    (
+        NESTED,
+        "Struct { name: \"0xAAAAAA\", fields: [Struct { name: \"0xBBBBBB\", fields: [I32(3)] }] }",
+    ),
+    (
+        SINGLE,
+        "MalformedTtlv(UnexpectedType { expected: Structure, actual: Integer }); pos: 12 bytes, parent tags: 0xAAAAAA, tag: 0xBBBBBB, type: Integer (0x02)",
+    ),
+];
+
 #[test]
 fn structures_in_structures(rt: HostRuntime) -> Result<(), Fail> {
     type Inner = Structure<TagA, OneField<NoTag, Structure<TagB, OneField<TagC, Number>>>>;
+    type InField = Of<Structure<TagB, OneField<TagC, Number>>>;
+    check_rows::<Inner>(rt.alloc(), &NUMBER_IN_ONE)?;
+    check_rows::<InField>(rt.alloc(), &NUMBER_IN_ONE)
+}
+
+#[test]
+fn refusals_in_structures(rt: HostRuntime) -> Result<(), Fail> {
     type Other = Structure<TagA, OneField<NoTag, Structure<TagD, OneField<TagC, Number>>>>;
     type Innermost = Structure<TagB, OneField<NoTag, Structure<TagC, OneField<TagD, Number>>>>;
     type Deep = Structure<TagA, OneField<NoTag, Innermost>>;
-    assert_eq!(rt;
-        answer::<Inner>(rt.alloc(), NESTED)?.as_str(),
-        "Struct { name: \"0xAAAAAA\", fields: [Struct { name: \"0xBBBBBB\", fields: [I32(3)] }] }"
-    );
-    assert_eq!(rt;
-        answer::<Other>(rt.alloc(), NESTED)?.as_str(),
-        "SerdeError(UnexpectedTag { expected: 0xDDDDDD, actual: 0xBBBBBB }); pos: 12 bytes, parent tags: 0xAAAAAA, tag: 0xBBBBBB, type: Structure (0x01)"
-    );
-    assert_eq!(rt;
-        answer::<Deep>(
-            rt.alloc(),
-            "AAAAAA0100000020BBBBBB0100000018CCCCCC0100000010DDDDDD03000000080000000000000003"
-        )?
-        .as_str(),
-        "SerdeError(UnexpectedType { expected: Integer, actual: LongInteger }); pos: 28 bytes, parent tags: 0xAAAAAA > 0xBBBBBB > 0xCCCCCC, tag: 0xDDDDDD, type: LongInteger (0x03)"
-    );
-    Ok(())
+    type Nameless = Of<Structure<NoTag, OneField<TagC, Number>>>;
+    check::<Other>(
+        rt.alloc(),
+        NESTED,
+        "SerdeError(UnexpectedTag { expected: 0xDDDDDD, actual: 0xBBBBBB }); pos: 12 bytes, parent tags: 0xAAAAAA, tag: 0xBBBBBB, type: Structure (0x01)",
+    )?;
+    check::<Deep>(
+        rt.alloc(),
+        "AAAAAA0100000020BBBBBB0100000018CCCCCC0100000010DDDDDD03000000080000000000000003",
+        "SerdeError(UnexpectedType { expected: Integer, actual: LongInteger }); pos: 28 bytes, parent tags: 0xAAAAAA > 0xBBBBBB > 0xCCCCCC, tag: 0xDDDDDD, type: LongInteger (0x03)",
+    )?;
+    check::<Nameless>(
+        rt.alloc(),
+        NESTED,
+        "SerdeError(InvalidTag(\"x\")); pos: 12 bytes, parent tags: 0xAAAAAA, tag: 0xBBBBBB, type: Structure (0x01)",
+    )
 }
 
 const SEQUENCES: [(&str, &str); 4] = [
@@ -54,23 +72,13 @@ const SEQUENCES: [(&str, &str); 4] = [
 #[test]
 fn sequences(rt: HostRuntime) -> Result<(), Fail> {
     type Twice = Structure<TagA, TwoFields<TagB, Number, TagB, Number>>;
-    assert_eq!(rt;
-        others::<Of<Sequence<Number>>>(rt.alloc(), &SEQUENCES)?.as_str(),
-        ""
-    );
-    assert_eq!(rt;
-        answer::<Twice>(
-            rt.alloc(),
-            "AAAAAA0100000020BBBBBB02000000040000000300000000BBBBBB02000000040000000400000000"
-        )?
-        .as_str(),
-        "Struct { name: \"0xAAAAAA\", fields: [I32(3), I32(4)] }"
-    );
-    assert_eq!(rt;
-        other_place::<Sequence<Number>>(rt.alloc(), SINGLE)?.as_str(),
-        "pos: 0 bytes"
-    );
-    Ok(())
+    check_rows::<Of<Sequence<Number>>>(rt.alloc(), &SEQUENCES)?;
+    check::<Twice>(
+        rt.alloc(),
+        "AAAAAA0100000020BBBBBB02000000040000000300000000BBBBBB02000000040000000400000000",
+        "Struct { name: \"0xAAAAAA\", fields: [I32(3), I32(4)] }",
+    )?;
+    check_place::<Sequence<Number>>(rt.alloc(), SINGLE, "pos: 0 bytes")
 }
 
 // A root whose name is no tag is refused before a byte is looked at.
@@ -82,18 +90,22 @@ const NO_TAG: [(&str, &str); 2] = [
 #[test]
 fn shapes_that_no_message_has(rt: HostRuntime) -> Result<(), Fail> {
     type Required = Of<Wrapping<NoTag, Maybe<Number>>>;
-    assert_eq!(rt;
-        others::<Structure<NoTag, NoFields>>(rt.alloc(), &NO_TAG)?.as_str(),
-        ""
-    );
-    assert_eq!(rt;
-        answer::<Structure<TagA, NoFields>>(rt.alloc(), SINGLE)?.as_str(),
-        "SerdeError(MissingIdentifier); pos: 12 bytes, parent tags: 0xAAAAAA, tag: 0xBBBBBB, type: Integer (0x02)"
-    );
+    type Nameless = Structure<TagA, OneField<NoTag, Number>>;
+    check_rows::<Structure<NoTag, NoFields>>(rt.alloc(), &NO_TAG)?;
+    check::<Structure<TagA, NoFields>>(
+        rt.alloc(),
+        SINGLE,
+        "SerdeError(MissingIdentifier); pos: 12 bytes, parent tags: 0xAAAAAA, tag: 0xBBBBBB, type: Integer (0x02)",
+    )?;
+    check::<Nameless>(
+        rt.alloc(),
+        SINGLE,
+        "SerdeError(InvalidTag(\"x\")); pos: 12 bytes, parent tags: 0xAAAAAA, tag: 0xBBBBBB, type: Integer (0x02)",
+    )?;
     // An option within a newtype is required.
-    assert_eq!(rt;
-        answer::<Required>(rt.alloc(), "AAAAAA0100000000")?.as_str(),
-        "SerdeError(Other(\"missing field\")); pos: 8 bytes, parent tags: 0xAAAAAA, tag: 0xAAAAAA, type: Structure (0x01)"
-    );
-    Ok(())
+    check::<Required>(
+        rt.alloc(),
+        "AAAAAA0100000000",
+        "SerdeError(Other(\"missing field\")); pos: 8 bytes, parent tags: 0xAAAAAA, tag: 0xAAAAAA, type: Structure (0x01)",
+    )
 }

@@ -1,6 +1,6 @@
 //! The response to a request that created a key (KMIP 1.0, section 4.1).
 
-use crate::answer::answer;
+use crate::answer::check;
 use crate::names::{
     BatchCount, BatchItem, MajorVersion, MinorVersion, ObjectType, One, Operation, ProtocolVersion,
     ResponseHeader, ResponseMessage, ResponsePayload, ResultStatus, TimeStamp, Two,
@@ -45,22 +45,18 @@ pub const RESPONSE: &str =
 
 #[test]
 fn the_whole_response(rt: HostRuntime) -> Result<(), Fail> {
-    assert_eq!(rt;
-        answer::<Response>(rt.alloc(), RESPONSE)?.as_str(),
-        "Struct { name: \"0x42007B\", fields: [Struct { name: \"0x42007A\", fields: [Struct { name: \"0x420069\", fields: [I32(1), I32(0)] }, I64(1258022850), I32(1)] }, Struct { name: \"0x42000F\", fields: [UnitVariant { name: \"0x42005C\", variant: \"0x00000001\" }, UnitVariant { name: \"0x42007F\", variant: \"0x00000000\" }, Struct { name: \"0x42007C\", fields: [UnitVariant { name: \"0x420057\", variant: \"0x00000002\" }, Text(\"fc8833de-70d2-4ece-b063-fede3a3c59fe\")] }] }] }"
-    );
-    Ok(())
+    check::<Response>(
+        rt.alloc(),
+        RESPONSE,
+        "Struct { name: \"0x42007B\", fields: [Struct { name: \"0x42007A\", fields: [Struct { name: \"0x420069\", fields: [I32(1), I32(0)] }, I64(1258022850), I32(1)] }, Struct { name: \"0x42000F\", fields: [UnitVariant { name: \"0x42005C\", variant: \"0x00000001\" }, UnitVariant { name: \"0x42007F\", variant: \"0x00000000\" }, Struct { name: \"0x42007C\", fields: [UnitVariant { name: \"0x420057\", variant: \"0x00000002\" }, Text(\"fc8833de-70d2-4ece-b063-fede3a3c59fe\")] }] }] }",
+    )
 }
 
 #[test]
 fn the_response_cut_anywhere(rt: HostRuntime) -> Result<(), Fail> {
     for count in 0..200usize {
         let text = RESPONSE.get(..2 * count).unwrap_or(RESPONSE);
-        assert_eq!(rt;
-            answer::<Response>(rt.alloc(), text)?.as_str(),
-            "UnexpectedEof",
-            "{count}"
-        );
+        check::<Response>(rt.alloc(), text, "UnexpectedEof")?;
     }
     Ok(())
 }
