@@ -147,6 +147,11 @@ fn refuses(alloc: Global, line: &str, input: &[u8], beginning: &str) -> bool {
     }
 }
 
+fn refuses_row(alloc: Global, row: Row) -> bool {
+    let (line, input, beginning) = row;
+    refuses(alloc, line, input.as_bytes(), beginning)
+}
+
 #[test]
 fn texts_are_printed(rt: HostRuntime) {
     for row in PRINTED {
@@ -156,11 +161,8 @@ fn texts_are_printed(rt: HostRuntime) {
 
 #[test]
 fn refusals_are_lines(rt: HostRuntime) {
-    for (line, input, beginning) in REFUSED {
-        assert!(rt;
-            refuses(rt.alloc(), line, input.as_bytes(), beginning),
-            "{line} on {input}"
-        );
+    for row in REFUSED {
+        assert!(rt; refuses_row(rt.alloc(), row), "{row:?}");
     }
     assert!(rt; refuses(rt.alloc(), "undiag", b"69\xff[", "not UTF-8\n"));
 }

@@ -186,26 +186,30 @@ fn a_failing_output_has_a_beginning(rt: HostRuntime) -> Result<(), AllocError> {
     Ok(())
 }
 
-#[test]
-fn failing_errors_change_no_status(rt: HostRuntime) -> Result<(), AllocError> {
-    let words = words_of(rt.alloc(), "diag 4200")?;
-    let mut taken = Vec::new(rt.alloc());
+// A run whose input is no hexadecimal text, and whose errors take three bytes.
+fn run_short(alloc: Global, words: &[String]) -> Outcome {
+    let mut input: &[u8] = b"zz";
+    let mut output = Vec::new(alloc);
+    let mut taken = Vec::new(alloc);
     let mut errors = Narrow {
         taken: &mut taken,
         room: 3,
         kind: ErrorKind::BrokenPipe,
     };
-    let mut output = Vec::new(rt.alloc());
-    let mut input: &[u8] = b"zz";
-    let status = run(
-        rt.alloc(),
-        words.as_slice(),
-        &mut input,
-        &mut output,
-        &mut errors,
-    );
-    assert_eq!(rt; taken.as_slice(), b"not".as_slice());
-    assert_eq!(rt; output.as_slice(), b"".as_slice());
-    assert_eq!(rt; status, 1);
+    let status = run(alloc, words, &mut input, &mut output, &mut errors);
+    Outcome {
+        status,
+        output,
+        errors: taken,
+    }
+}
+
+#[test]
+fn failing_errors_change_no_status(rt: HostRuntime) -> Result<(), AllocError> {
+    let words = words_of(rt.alloc(), "diag 4200")?;
+    let outcome = run_short(rt.alloc(), words.as_slice());
+    assert!(rt; outcome.errors.as_slice() == b"not".as_slice());
+    assert!(rt; outcome.output.is_empty());
+    assert_eq!(rt; outcome.status, 1);
     Ok(())
 }

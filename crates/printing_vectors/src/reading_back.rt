@@ -9,7 +9,9 @@ const CREATE_RESPONSE: &str =
     "Tag: 0x42007B, Type: Structure (0x01), Data: \n  Tag: 0x42007A, Type: Structure (0x01), Data: \n    Tag: 0x420069, Type: Structure (0x01), Data: \n      Tag: 0x42006A, Type: Integer (0x02), Data: <redacted>\n      Tag: 0x42006B, Type: Integer (0x02), Data: <redacted>\n    Tag: 0x420092, Type: DateTime (0x09), Data: <redacted>\n    Tag: 0x42000D, Type: Integer (0x02), Data: <redacted>\n  Tag: 0x42000F, Type: Structure (0x01), Data: \n    Tag: 0x42005C, Type: Enumeration (0x05), Data: 1\n    Tag: 0x42007F, Type: Enumeration (0x05), Data: 0\n    Tag: 0x42007C, Type: Structure (0x01), Data: \n      Tag: 0x420057, Type: Enumeration (0x05), Data: 2\n      Tag: 0x420094, Type: TextString (0x07), Data: <redacted>";
 
 // A prefix, a diagnostic, and the lines that it is read back as.
-const ROWS: [(&str, &str, &str); 15] = [
+type Row = (&'static str, &'static str, &'static str);
+
+const ROWS: [Row; 15] = [
     (
         "4200",
         "7B[7A[69[6Ai6Bi]92d0Di]0F[5Ce1:7Fe0:7C[57e2:94t]]]",
@@ -55,19 +57,17 @@ const ROWS: [(&str, &str, &str); 15] = [
     ),
 ];
 
-// Whether these lines are what the text is read back as.
-fn reads(alloc: Global, prefix: &str, text: &str, lines: &str) -> Result<bool, AllocError> {
+// Whether the row's text is read back as its lines.
+fn reads(alloc: Global, row: Row) -> Result<bool, AllocError> {
+    let (prefix, text, lines) = row;
     let printer = printer(alloc, prefix, false)?;
     is_read_back(&printer, text, lines)
 }
 
 #[test]
 fn diagnostics_are_read_back(rt: HostRuntime) {
-    for (prefix, text, lines) in ROWS {
-        assert!(rt;
-            reads(rt.alloc(), prefix, text, lines) == Ok(true),
-            "{text}"
-        );
+    for row in ROWS {
+        assert!(rt; reads(rt.alloc(), row) == Ok(true), "{row:?}");
     }
 }
 

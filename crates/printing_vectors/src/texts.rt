@@ -126,8 +126,14 @@ fn prints(alloc: Global, closed: bool, message: &str, text: &str) -> bool {
     is_readable(&printer, bytes.as_slice(), text) == Ok(true)
 }
 
+fn prints_message(alloc: Global, row: (bool, &str, &str)) -> bool {
+    let (closed, message, text) = row;
+    prints(alloc, closed, message, text)
+}
+
 // Whether the item in a structure is printed with this type and this value.
-fn prints_value(alloc: Global, item: &str, typ: &str, value: &str) -> Result<bool, AllocError> {
+fn prints_value(alloc: Global, row: (&str, &str, &str)) -> Result<bool, AllocError> {
+    let (item, typ, value) = row;
     let message = joined(alloc, &["42002001", item])?;
     let head = "Tag: 0x420020, Type: Structure (0x01), Data:\n  Tag: 0x420020, Type: ";
     let text = joined(alloc, &[head, typ, ", Data: ", value, "\n"])?;
@@ -136,14 +142,11 @@ fn prints_value(alloc: Global, item: &str, typ: &str, value: &str) -> Result<boo
 
 #[test]
 fn readable_texts(rt: HostRuntime) {
-    for (closed, message, text) in MESSAGES {
-        assert!(rt; prints(rt.alloc(), closed, message, text), "{message}");
+    for row in MESSAGES {
+        assert!(rt; prints_message(rt.alloc(), row), "{row:?}");
     }
-    for (item, typ, value) in VALUES {
-        assert!(rt;
-            prints_value(rt.alloc(), item, typ, value) == Ok(true),
-            "{item}"
-        );
+    for row in VALUES {
+        assert!(rt; prints_value(rt.alloc(), row) == Ok(true), "{row:?}");
     }
 }
 
