@@ -1,20 +1,11 @@
 //! Reads a TTLV message as hexadecimal text, or a diagnostic, from standard input, and prints a
 //! text of it.
 //!
-//! The words say which: `task` reads them, `input` takes the input, `texts` makes the text, and
-//! `run` puts them together over any reader and any writers. `refusal` has the reasons for status 1.
+//! Here the words and the streams of the process are handed to `hex_to_txt_run`, which does the rest
+//! over any reader and any writers.
 #![tactic(auto)]
 
-mod input;
-mod pair;
-mod refusal;
-mod run;
-mod task;
-#[cfg(test)]
-mod tests;
-mod texts;
-
-use run::run;
+use hex_to_txt_run::run::run;
 use std::alloc::Global;
 use std::io::{ErrorKind, Write};
 use std::process::ExitCode;

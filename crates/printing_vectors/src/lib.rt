@@ -1,5 +1,5 @@
 //! What the printers of the crate `kmip_ttlv` make of messages, of malformed bytes and of diagnostics,
-//! as tests, with each growth refused in turn.
+//! and what the program `hex_to_txt` answers, as tests, with each growth refused in turn.
 #![tactic(auto)]
 
 #[cfg(test)]
@@ -8,6 +8,12 @@ mod diagnostics;
 mod growing;
 #[cfg(test)]
 mod messages;
+#[cfg(test)]
+mod printers;
+#[cfg(test)]
+mod program;
+#[cfg(test)]
+mod program_faults;
 #[cfg(test)]
 mod reading_back;
 #[cfg(test)]

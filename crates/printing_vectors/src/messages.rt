@@ -1,6 +1,5 @@
-//! Messages, and printers for them.
+//! Messages, and texts that are put together.
 
-use kmip_ttlv::PrettyPrinter;
 use std::alloc::{AllocError, Global};
 
 /// A version of the protocol: two numbers.
@@ -21,14 +20,6 @@ pub const SHORT: &str = "420069010000001042006A010000000042006B02000000040000000
 pub const CREATE_RESPONSE: &str =
     "42007B01000000C042007A0100000048420069010000002042006A0200000004000000010000000042006B020000000400000000000000004200920900000008000000004AFBE7C242000D0200000004000000010000000042000F010000006842005C0500000004000000010000000042007F0500000004000000000000000042007C010000004042005705000000040000000200000000420094070000002466633838333364652D373064322D346563652D623036332D66656465336133633539666500000000";
 
-/// A printer that takes this prefix from tags.
-pub fn printer(alloc: Global, prefix: &str, closed: bool) -> Result<PrettyPrinter, AllocError> {
-    let mut printer = PrettyPrinter::new(alloc);
-    printer.with_tag_prefix(String::from_str(alloc, prefix)?);
-    printer.with_closed_empty(closed);
-    Ok(printer)
-}
-
 /// So many of these parts, and then the end.
 pub fn repeated(alloc: Global, part: &str, count: usize, end: &str) -> Result<String, AllocError> {
     let mut text = String::new(alloc);
@@ -36,5 +27,14 @@ pub fn repeated(alloc: Global, part: &str, count: usize, end: &str) -> Result<St
         text.push_str(part)?;
     }
     text.push_str(end)?;
+    Ok(text)
+}
+
+/// These parts, one after the other.
+pub fn joined(alloc: Global, parts: &[&str]) -> Result<String, AllocError> {
+    let mut text = String::new(alloc);
+    for part in parts {
+        text.push_str(part)?;
+    }
     Ok(text)
 }

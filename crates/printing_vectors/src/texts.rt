@@ -1,10 +1,9 @@
 //! Readable texts, and how a printer is shown.
 
-use crate::messages::{CREATE_RESPONSE, EMPTY_FIRST, VERSION, VERSION_LINES, printer};
-use kmip_ttlv::types::TtlvTag;
-use std::alloc::Global;
-use std::collections::HashMap;
-use std::test::Fail;
+use crate::messages::{CREATE_RESPONSE, EMPTY_FIRST, VERSION, VERSION_LINES, joined};
+use crate::printers::{is_readable, naming_printer, printer};
+use hex::FromHexError;
+use std::alloc::{AllocError, Global};
 
 const CREATE_RESPONSE_LINES: &str =
     "Tag: 0x42007B, Type: Structure (0x01), Data:\n  Tag: 0x42007A, Type: Structure (0x01), Data:\n    Tag: 0x420069, Type: Structure (0x01), Data:\n      Tag: 0x42006A, Type: Integer (0x02), Data: 0x000001 (1)\n      Tag: 0x42006B, Type: Integer (0x02), Data: 0x000000 (0)\n    Tag: 0x420092, Type: DateTime (0x09), Data: 0x4AFBE7C2\n    Tag: 0x42000D, Type: Integer (0x02), Data: 0x000001 (1)\n  Tag: 0x42000F, Type: Structure (0x01), Data:\n    Tag: 0x42005C, Type: Enumeration (0x05), Data: 0x000001 (1)\n    Tag: 0x42007F, Type: Enumeration (0x05), Data: 0x000000 (0)\n    Tag: 0x42007C, Type: Structure (0x01), Data:\n      Tag: 0x420057, Type: Enumeration (0x05), Data: 0x000002 (2)\n      Tag: 0x420094, Type: TextString (0x07), Data: fc8833de-70d2-4ece-b063-fede3a3c59fe\n";
@@ -117,47 +116,53 @@ const VALUES: [(&str, &str, &str); 14] = [
 ];
 
 // Whether the message is printed as this text.
-fn prints(alloc: Global, closed: bool, message: &str, text: &str) -> Result<bool, Fail> {
-    let printer = printer(alloc, "4200", closed)?;
-    let bytes = hex::decode(alloc, message)?;
-    let shown = printer.to_string(&bytes)?;
-    Ok(shown.as_str() == text)
+fn prints(alloc: Global, closed: bool, message: &str, text: &str) -> bool {
+    let Ok(printer) = printer(alloc, "4200", closed) else {
+        return false;
+    };
+    let Ok(bytes) = hex::decode(alloc, message) else {
+        return false;
+    };
+    is_readable(&printer, bytes.as_slice(), text) == Ok(true)
+}
+
+fn prints_message(alloc: Global, row: (bool, &str, &str)) -> bool {
+    let (closed, message, text) = row;
+    prints(alloc, closed, message, text)
+}
+
+// Whether the item in a structure is printed with this type and this value.
+fn prints_value(alloc: Global, row: (&str, &str, &str)) -> Result<bool, AllocError> {
+    let (item, typ, value) = row;
+    let message = joined(alloc, &["42002001", item])?;
+    let head = "Tag: 0x420020, Type: Structure (0x01), Data:\n  Tag: 0x420020, Type: ";
+    let text = joined(alloc, &[head, typ, ", Data: ", value, "\n"])?;
+    Ok(prints(alloc, false, message.as_str(), text.as_str()))
 }
 
 #[test]
-fn readable_texts(rt: HostRuntime) -> Result<(), Fail> {
-    for (closed, message, text) in MESSAGES {
-        assert!(rt; prints(rt.alloc(), closed, message, text)?, "{message}");
+fn readable_texts(rt: HostRuntime) {
+    for row in MESSAGES {
+        assert!(rt; prints_message(rt.alloc(), row), "{row:?}");
     }
-    for (item, typ, value) in VALUES {
-        let message = format!(in rt.alloc(); "42002001{item}")?;
-        let text = format!(in rt.alloc();
-            "Tag: 0x420020, Type: Structure (0x01), Data:\n  Tag: 0x420020, Type: {typ}, Data: {value}\n"
-        )?;
-        let is_printed = prints(rt.alloc(), false, message.as_str(), text.as_str())?;
-        assert!(rt; is_printed, "{item}");
+    for row in VALUES {
+        assert!(rt; prints_value(rt.alloc(), row) == Ok(true), "{row:?}");
     }
-    Ok(())
 }
 
 #[test]
-fn tags_that_have_names(rt: HostRuntime) -> Result<(), Fail> {
-    let mut names = HashMap::new(rt.alloc());
-    let tag = TtlvTag::from([0x42, 0x00, 0x6A]);
-    assert!(rt; names.insert(tag, "Protocol Version Major").is_ok());
-    let mut printer = printer(rt.alloc(), "4200", false)?;
-    printer.with_tag_map(names);
+fn tags_that_have_names(rt: HostRuntime) -> Result<(), FromHexError> {
+    let name = "Protocol Version Major";
+    let printer = naming_printer(rt.alloc(), [0x42, 0x00, 0x6A], name)?;
     let bytes = hex::decode(rt.alloc(), VERSION)?;
-    let text = printer.to_string(&bytes)?;
-    assert_eq!(rt;
-        text.as_str(),
-        "Tag: 0x420069, Type: Structure (0x01), Data:\n  Tag: Protocol Version Major (0x42006A), Type: Integer (0x02), Data: 0x000001 (1)\n  Tag: 0x42006B, Type: Integer (0x02), Data: 0x000000 (0)\n"
-    );
+    let text =
+        "Tag: 0x420069, Type: Structure (0x01), Data:\n  Tag: Protocol Version Major (0x42006A), Type: Integer (0x02), Data: 0x000001 (1)\n  Tag: 0x42006B, Type: Integer (0x02), Data: 0x000000 (0)\n";
+    assert!(rt; is_readable(&printer, bytes.as_slice(), text) == Ok(true));
     Ok(())
 }
 
 #[test]
-fn debug(rt: HostRuntime) -> Result<(), Fail> {
+fn debug(rt: HostRuntime) -> Result<(), AllocError> {
     let printer = printer(rt.alloc(), "4200", true)?;
     let text = format!(in rt.alloc(); "{printer:?}")?;
     assert!(rt; text.as_str().starts_with("PrettyPrinter"));

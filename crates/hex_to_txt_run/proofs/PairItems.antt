@@ -1,0 +1,42 @@
+-- The item that a pair is written as, and that it fits.
+use Rattle.std.proofs.Common.{◌≡◌, ℕ, ℤ, List, [], ◌∷◌, Some, None, refl, ap, sym, ◌∙◌, length, append-nil, lit<}
+use Rattle.std.specs.Int.{w32, to_be_bytes}
+use Rattle.kmip_ttlv.specs.declared.types.TtlvType.TheVariants.{Integer}
+use Rattle.kmip_ttlv.specs.Errors.{Kind, io_error, exceeds_limit, malformed, mismatch, out_of_memory, length_overflow, Location}
+use Rattle.kmip_ttlv.specs.Names.{tag_of, number, transparent_name}
+use Rattle.kmip_ttlv.specs.Trees.{Tree, leaf_bytes, node_bytes, bytes, bytes_all}
+use Rattle.kmip_ttlv.specs.WrittenItems.{take_tag, some_item}
+use Rattle.kmip_ttlv.specs.Sizes.{FitsAfter}
+use Rattle.kmip_ttlv.specs.WriteAnswers.{IsWrittenAs, IsRefusedAs, origin}
+use Rattle.hex_to_txt_run.specs.Pair.{written_pair, pair_tree}
+
+pub leaf_long : (tag n : ℕ) → length (leaf_bytes tag Integer (to_be_bytes w32 n)) ≡ 16
+unfolding leaf_bytes
+leaf_long tag n = refl
+
+the_tree : (a b : ℤ) (ts : List Tree) → Some (pair_tree a b ∷ []) ≡ Some ts → bytes_all ts ≡ bytes (pair_tree a b)
+the_tree a b ts same =
+    let is : pair_tree a b ∷ [] ≡ ts = cc in
+    ap bytes_all (sym is) ∙ append-nil _
+
+-- a pair is written as its item
+pub pair_written : (a b : ℤ) (n : ℕ) (out : List ℕ) → IsWrittenAs (written_pair a b) n out → out ≡ bytes (pair_tree a b)
+unfolding take_tag tag_of number transparent_name some_item
+pair_written a b n out w = w.bytes_are ∙ the_tree a b w.trees w.are
+
+pair_fits : (a b : ℤ) → FitsAfter 0 (pair_tree a b ∷ [])
+unfolding leaf_bytes node_bytes
+pair_fits a b = record { each = ((lit< tt, (lit< tt, (lit< tt, tt))), tt); total = lit< tt }
+
+none_refused : (a b : ℤ) → Some (pair_tree a b ∷ []) ≡ None → ⊥
+none_refused a b same = cc
+
+-- and refused for want of memory alone
+pub pair_refused : (a b : ℤ) (kind : Kind) (location : Location) → IsRefusedAs (written_pair a b) origin kind location → kind ≡ out_of_memory
+unfolding take_tag tag_of number transparent_name some_item
+pair_refused a b out_of_memory l h = refl
+pair_refused a b length_overflow l h = absurd (h.1 (pair_fits a b))
+pair_refused a b (malformed e) l h = absurd (none_refused a b h.no_items)
+pair_refused a b (mismatch e) l h = absurd (none_refused a b h.no_items)
+pair_refused a b (io_error e) l h = absurd h
+pair_refused a b (exceeds_limit n) l h = absurd h

@@ -1,0 +1,46 @@
+-- What the refusals of the reader and the writer say of a pair.
+use Rattle.std.proofs.Common.{◌≡◌, ◌≢◌, ℕ, List, [], ◌++◌, Ok, refl, sym, subst, append-nil}
+use Rattle.kmip_ttlv_base.specs.declared.error.Error.{Error}
+use Rattle.kmip_ttlv_base.specs.declared.error.ErrorKind.{ErrorKind}
+use Rattle.kmip_ttlv_base.specs.declared.error.ErrorKind.TheVariants.{IoError, ResponseSizeExceedsLimit, MalformedTtlv, SerdeError, OutOfMemory, LengthOverflow}
+use Rattle.kmip_ttlv.specs.Errors.{out_of_memory, view_of_kind, kind_of}
+use Rattle.kmip_ttlv.specs.Values.{Value}
+use Rattle.kmip_ttlv.specs.Forms.{Form}
+use Rattle.kmip_ttlv.specs.Reads.{Begins}
+use Rattle.kmip_ttlv.specs.ReadAnswers.{Refuses, RefusesAs, sort_of_kind}
+use Rattle.hex_to_txt_run.specs.Inputs.{decoded}
+use Rattle.hex_to_txt_run.specs.Pair.{pair_form}
+use Rattle.hex_to_txt_run.specs.Reasons.{Reason, unknown_words, unreadable_input, not_hexadecimal, not_utf8, refused_message, unwritable_output, refused_memory}
+use Rattle.hex_to_txt_run.specs.Tasks.{pair_task}
+use Rattle.hex_to_txt_run.specs.Texts.{MeansRefused, TaskRefuses}
+
+pub is_memory : {A : Type 0} (k : ErrorKind A) → view_of_kind k ≡ out_of_memory → k ≡ OutOfMemory
+is_memory OutOfMemory h = refl
+is_memory (IoError e) h = cc
+is_memory (ResponseSizeExceedsLimit n) h = cc
+is_memory (MalformedTtlv e) h = cc
+is_memory (SerdeError e) h = cc
+is_memory LengthOverflow h = cc
+
+on_no_more : (s : Form) (bytes : List ℕ) (v : Value) → Begins s bytes v → Begins s (bytes ++ []) v
+on_no_more s bytes v b =
+    let P : List ℕ → Type 0 = λ bs. Begins s bs v in
+    subst P (sym (append-nil bytes)) b
+
+none_begins : {A : Type 0} (k : ErrorKind A) (s : Form) (bytes : List ℕ) → k ≢ OutOfMemory → RefusesAs s bytes (sort_of_kind (view_of_kind k)) → (v : Value) → Begins s bytes v → ⊥
+none_begins OutOfMemory s bytes other h v b = other refl
+none_begins (IoError e) s bytes other h v b = h v b
+none_begins (ResponseSizeExceedsLimit n) s bytes other h v b = h [] v (on_no_more s bytes v b)
+none_begins (MalformedTtlv e) s bytes other h v b = h [] v (on_no_more s bytes v b)
+none_begins (SerdeError e) s bytes other h v b = h [] v (on_no_more s bytes v b)
+none_begins LengthOverflow s bytes other h v b = h [] v (on_no_more s bytes v b)
+
+-- a refusal that is no want of memory says that there is no pair
+pub no_pair : {A : Type 0} (e : Error A) (input bytes : List ℕ) (why : Reason) → decoded input ≡ Ok bytes → Refuses pair_form bytes e → MeansRefused e why → TaskRefuses pair_task input why
+no_pair e input bytes refused_memory decodes refuses means = tt
+no_pair e input bytes (refused_message line) decodes refuses means = (record { bytes = bytes; decodes = decodes; none = none_begins (kind_of e) pair_form bytes means.1 refuses }, means.0)
+no_pair e input bytes unknown_words decodes refuses means = absurd means
+no_pair e input bytes unreadable_input decodes refuses means = absurd means
+no_pair e input bytes not_hexadecimal decodes refuses means = absurd means
+no_pair e input bytes unwritable_output decodes refuses means = absurd means
+no_pair e input bytes not_utf8 decodes refuses means = absurd means

@@ -1,0 +1,34 @@
+-- Why the program ends with status 1, and the line that says so.
+use Rattle.std.specs.Prelude.{ℕ, List, codes, string_bytes}
+use Rattle.hex_to_txt_run.specs.declared.refusal.Refusal.{Refusal}
+use Rattle.hex_to_txt_run.specs.declared.refusal.Refusal.TheVariants as held
+
+-- why the program ends with status 1
+pub data Reason : Type 0 where
+  unknown_words : Reason
+  unreadable_input : Reason
+  not_hexadecimal : Reason
+  not_utf8 : Reason
+  refused_message : (line : List ℕ) → Reason
+  unwritable_output : Reason
+  refused_memory : Reason
+
+-- the line on standard error
+abbrev pub line_of : Reason → List ℕ
+line_of unknown_words = codes "usage: hex_to_txt flat|text|diag|closed|undiag [prefix]\n"
+line_of unreadable_input = codes "cannot read\n"
+line_of not_hexadecimal = codes "not hexadecimal\n"
+line_of not_utf8 = codes "not UTF-8\n"
+line_of (refused_message line) = line
+line_of unwritable_output = codes "cannot write\n"
+line_of refused_memory = codes "out of memory\n"
+
+-- the reason, without where its line lies in memory
+abbrev pub reason_of : {A : Type 0} → Refusal A → Reason
+reason_of held.UnknownWords = unknown_words
+reason_of held.UnreadableInput = unreadable_input
+reason_of held.NotHexadecimal = not_hexadecimal
+reason_of held.NotUtf8 = not_utf8
+reason_of (held.RefusedMessage line) = refused_message (string_bytes line)
+reason_of held.UnwritableOutput = unwritable_output
+reason_of held.RefusedMemory = refused_memory

@@ -1,0 +1,72 @@
+//! The whole program, over any reader and any writers.
+
+ghost use Rattle.std.specs.Prelude.{◌≡◌, ◌≤◌, map, string_bytes, None};
+ghost use Rattle.std.specs.Io.KnownBytes.{Keeps};
+ghost use Rattle.kmip_ttlv.specs.Streams.{AppendsFront};
+ghost use Rattle.hex_to_txt_run.specs.Reasons.{reason_of, line_of};
+ghost use Rattle.hex_to_txt_run.specs.Tasks.{task_of};
+ghost use Rattle.hex_to_txt_run.specs.Runs.{Responds, Printed, Failed, HasNoText};
+
+use crate::input::read_all;
+use crate::refusal::Refusal;
+use crate::task::task_of;
+use crate::texts::text_of;
+use kmip_ttlv::types::stream::Sink;
+use std::alloc::Allocator;
+use std::io::{Read, Write};
+
+// Prints what the words ask for, or answers why not. The whole text is made before its first byte
+// is written.
+fn respond<A: Allocator + Copy, B: Allocator, R: Read, W: Write>(
+    alloc: A,
+    words: &[String<B>],
+    input: &mut R,
+    output: &mut W,
+) -> Result<(), Refusal<A>>
+    ensures { Responds reason_of (task_of (map string_bytes words.now))
+        (record { input = R.remaining input.old; input_left = R.remaining input.new; output = W.contents output.old; output_now = W.contents output.new }) result }
+{
+    let Some(task) = task_of(words) else {
+        return Err(Refusal::UnknownWords);
+    };
+    let bytes = read_all(alloc, input)?;
+    let text = text_of(alloc, task, bytes.as_slice())?;
+    match output.send(text.as_bytes()) {
+        Ok(()) => Ok(()),
+        Err(_) => Err(Refusal::UnwritableOutput),
+    }
+}
+
+/// Runs the program: reads `input` to its end, prints the text that the words ask for to `output`,
+/// and answers the exit status, 0 or 1. With status 1 one line on `errors` says why.
+///
+/// Interrupted reads and writes are tried again, as often as a 64-bit count allows. Where `errors`
+/// can't be written, the status is the same.
+pub fn run<A: Allocator + Copy, B: Allocator, R: Read, W: Write, E: Write>(
+    alloc: A,
+    words: &[String<B>],
+    input: &mut R,
+    output: &mut W,
+    errors: &mut E,
+) -> u8
+    ensures status { result ≤ 1 }
+    // With status 0 the text of the whole input was appended to the output, and nothing else.
+    ensures printed { result ≡ 0 → Printed (task_of (map string_bytes words.now))
+        (record { input = R.remaining input.old; input_left = R.remaining input.new; output = W.contents output.old; output_now = W.contents output.new })
+        × Keeps (E.contents errors.old) (E.contents errors.new) }
+    // With status 1 there is a reason, which is true of the words and the input.
+    ensures failed { result ≡ 1 → Failed (task_of (map string_bytes words.now))
+        (record { input = R.remaining input.old; input_left = R.remaining input.new; output = W.contents output.old; output_now = W.contents output.new })
+        (E.contents errors.old) (E.contents errors.new) }
+    // Where no text is the input's, the output gets nothing.
+    ensures nothing { HasNoText (task_of (map string_bytes words.now)) (R.remaining input.old)
+        → (result ≡ 1) × Keeps (W.contents output.old) (W.contents output.new) }
+{
+    match respond(alloc, words, input, output) {
+        Ok(()) => 0,
+        Err(refusal) => {
+            let _ = errors.send(refusal.line().as_bytes());
+            1
+        }
+    }
+}
