@@ -44,7 +44,8 @@ ReadsWholeLeaves {T} typ bytes_of takes_memory =
 -- a value was written into memory and read from there: it has the bytes that were written; or it is too
 -- long to be written; or it is not, and memory was refused for its bytes or for the value that is read
 abbrev pub Rereads : {T A : Type 0} → TtlvType → (T → List ℕ) → T → Result T (Error A) → Type 0
-Rereads typ bytes_of v (Ok w) = (length (content_of typ (bytes_of v)) < 2 ^ 32) × (bytes_of w ≡ content_of typ (bytes_of v))
+Rereads typ bytes_of v (Ok w) =
+    (length (content_of typ (bytes_of v)) < 2 ^ 32) × (bytes_of w ≡ content_of typ (bytes_of v))
 Rereads typ bytes_of v (Err LengthOverflow) = 2 ^ 32 ≤ length (content_of typ (bytes_of v))
 Rereads typ bytes_of v (Err OutOfMemory) = length (content_of typ (bytes_of v)) < 2 ^ 32
 Rereads typ bytes_of v (Err _) = ⊥
