@@ -433,12 +433,15 @@ impl<T, A: Allocator> From<&Cursor<T>> for ErrorLocation<A> {
     }
 }
 
-/// The cursor's position alone.
+/// The cursor's position alone. The cursor stays as it is.
 impl<T, A: Allocator> From<&mut Cursor<T>> for ErrorLocation<A> {
     ghost from_gives = { λ x l. view_of_location l ≡ only_offset (cursor_position x.now) };
 
-    fn from(cursor: &mut Cursor<T>) -> ErrorLocation<A> {
-        ErrorLocation::from(ByteOffset(cursor.position()))
+    fn from(cursor: &mut Cursor<T>) -> ErrorLocation<A>
+        ensures place { view_of_location result ≡ only_offset (cursor_position cursor.old) }
+        ensures unchanged { cursor.new ≡ cursor.old }
+    {
+        ErrorLocation::from(&*cursor)
     }
 }
 

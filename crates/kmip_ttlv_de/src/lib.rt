@@ -90,11 +90,6 @@ pub fn one_value()
     ensures { (s : Form) (bytes : List ℕ) (v w : Value) → Begins s bytes v → Begins s bytes w → v ≡ w }
 {}
 
-/// Bytes behind the message change nothing of what is read.
-pub fn later_bytes()
-    ensures { (s : Form) (bytes more : List ℕ) (v : Value) → Begins s bytes v → Begins s (bytes ++ more) v }
-{}
-
 /// At most one list of items splits bytes.
 pub fn one_split()
     ensures { (bytes : List ℕ) (xs ys : List Raw) → Splits xs bytes → Splits ys bytes → xs ≡ ys }

@@ -1,22 +1,22 @@
--- Leaves that were written are read back.
-use Rattle.std.proofs.Common.{◌≡◌, ℕ, ℤ, Bool, true, false, List, [], ◌∷◌, Some, refl, ap, subst, ◌∙◌, FitsSigned, arith}
+-- Leaves and unit variants that were written are read back.
+use Rattle.std.proofs.Common.{◌≡◌, ℕ, ℤ, Bool, true, false, List, [], ◌∷◌, Option, Some, refl, ap, subst, ◌∙◌, FitsSigned, arith}
 use Rattle.std.specs.Int.{w32, w64, to_be_bytes, from_be_bytes, cast_signed, cast_unsigned}
 use Rattle.std.proofs.lemmas.Int.{to_z-of_z}
 use Rattle.std.proofs.lemmas.Nat.{from_be_bytes-to_be_bytes_4, from_be_bytes-to_be_bytes_8}
 use Rattle.std.proofs.Math.Facts.{Fits-of_z}
 use Rattle.kmip_ttlv_types.specs.declared.typ.TtlvType.{TtlvType}
-use Rattle.kmip_ttlv_types.specs.declared.typ.TtlvType.TheVariants.{Integer, LongInteger, BigInteger, Boolean, TextString, ByteString, DateTime, Interval}
+use Rattle.kmip_ttlv_types.specs.declared.typ.TtlvType.TheVariants.{Integer, LongInteger, BigInteger, Enumeration, Boolean, TextString, ByteString, DateTime, Interval}
 use Rattle.kmip_ttlv_types.specs.Leaves.{is_valid}
 use Rattle.kmip_ttlv_types.specs.Items.{Raw}
 use Rattle.kmip_ttlv_types.specs.Trees.{leaf as leaf_tree}
 use Rattle.kmip_ttlv_base.specs.Forms.{Form, int32, int64, boolean, text, octets, interval, big_integer}
-use Rattle.kmip_ttlv_base.specs.Values.{Value, boolean_value, i8_value, i16_value, i32_value, i64_value, u64_value, interval_value, text_value, bytes_value, big_integer_value}
+use Rattle.kmip_ttlv_base.specs.Values.{Value, boolean_value, i8_value, i16_value, i32_value, i64_value, u64_value, interval_value, text_value, bytes_value, big_integer_value, unit_variant_value}
 use Rattle.kmip_ttlv_ser.specs.declared.held.Held.TheVariants.{Plain}
 use Rattle.kmip_ttlv_types.specs.Primitives.{sign_extended}
-use Rattle.kmip_ttlv_ser.specs.Items.{items}
+use Rattle.kmip_ttlv_ser.specs.Items.{items, enumeration, one_leaf, ◌>>=◌}
 use Rattle.kmip_ttlv_de.specs.Keeps.{Keep}
-use Rattle.kmip_ttlv_de.specs.Reads.{Reads, leaf, leaf_value, takes, with_leaf}
-use Rattle.kmip_ttlv_laws.specs.Laws.{LeavesComeBack, LeafComesBack}
+use Rattle.kmip_ttlv_de.specs.Reads.{Reads, leaf, by_number, leaf_value, takes, with_leaf}
+use Rattle.kmip_ttlv_laws.specs.Laws.{LeavesComeBack, LeafComesBack, UnitsComeBack}
 use Rattle.kmip_ttlv_laws.specs.Returns.{as_big_integer, as_big_octets, as_boolean, as_date, as_int16, as_int32, as_int64, as_int8, as_interval, as_octets, as_text}
 
 -- a leaf whose content the form takes, and for whose content it gives this value
@@ -51,3 +51,11 @@ leaves_come_back s v w t k xs (as_octets {s = c}) = by_content octets (bytes_val
 leaves_come_back s v w t k xs (as_interval {n = n} lt) = by_content interval (interval_value n) (interval_value n) t Interval (to_be_bytes w32 n) k xs refl refl refl (ap interval_value (from_be_bytes-to_be_bytes_4 n lt))
 leaves_come_back s v w t k xs (as_big_integer {s = c}) = by_content big_integer (big_integer_value c) (big_integer_value (sign_extended c)) t BigInteger (sign_extended c) k xs refl refl refl refl
 leaves_come_back s v w t k xs (as_big_octets {s = c}) = by_content octets (big_integer_value c) (bytes_value (sign_extended c)) t BigInteger (sign_extended c) k xs refl refl refl refl
+
+-- a unit variant comes back by its number
+pub units_come_back : UnitsComeBack
+unfolding enumeration
+units_come_back name vname own vs w t n k xs taken number_is names =
+    let written : items (unit_variant_value name vname) w ≡ Some (leaf_tree t Enumeration (to_be_bytes w32 n) ∷ []) = ap (λ (o : Option ℕ). o >>= λ s. enumeration s vname) taken ∙ ap (λ (o : Option ℕ). o >>= λ m. one_leaf (Plain t) Enumeration (to_be_bytes w32 m)) number_is in
+    let h : Raw = record { tag = t; typ = Enumeration; content = to_be_bytes w32 n } in
+    (leaf_tree t Enumeration (to_be_bytes w32 n), written, by_number {h = h} names.no_rule refl refl names.named)

@@ -19,7 +19,7 @@ use Rattle.kmip_ttlv_laws.proofs.RootForms.{root_structure}
 use Rattle.kmip_ttlv_laws.proofs.Padding.{reads_same, turned, types_same}
 use Rattle.kmip_ttlv_laws.specs.Padding.{AllSameButPadding, SameButPadding, both_end, both_go_on}
 use Rattle.kmip_ttlv_laws.proofs.Made.{AllMade, Any, any_texts, items_made, text_of_tree}
-use Rattle.kmip_ttlv_laws.specs.Laws.{LaterBytes, MessageAlone, CutMessages, ReadsAlone, ReadingWhatWasWritten, PaddingIsFree, EqualItemsReadAlike}
+use Rattle.kmip_ttlv_laws.specs.Laws.{LaterBytes, MessageAlone, CutMessages, ReadsAlone, ReadingWhatWasWritten, PaddingIsFree}
 
 -- a text is as long as its item is
 pub text_length : (x : Raw) (a : List ℕ) → IsTextOf x a → length a ≡ size x.typ (length x.content)
@@ -112,13 +112,6 @@ reading_what_was_written v d n written r rest s w is root =
     let fit : FitsAfter n (r ∷ rest) = subst (FitsAfter n) same w.fit in
     let parts : written ≡ bytes r ++ bytes_all rest = w.bytes_are ∙ ap bytes_all same in
     rw parts (begins_alone s (raw_of r) (bytes r) (bytes_all rest) d root (text_of_tree Any r made.0 fit.each.0))
-
--- equal items are written alike
-pub equal_items_read_alike : EqualItemsReadAlike
-equal_items_read_alike v w m n a b s d g h e =
-    let trees : g.trees ≡ h.trees = let k : Some g.trees ≡ Some h.trees = sym g.are ∙ e ∙ h.are in cc in
-    let same : a ≡ b = g.bytes_are ∙ ap bytes_all trees ∙ sym h.bytes_are in
-    (λ k. subst (λ (l : List ℕ). Begins s l d) same k, λ k. subst (λ (l : List ℕ). Begins s l d) (sym same) k)
 
 -- an item that is the same but for padding is read alike
 root_alike : (s : Form) (x y : Raw) (v : Value) → SameButPadding x y → ReadsRoot s x v → ReadsRoot s y v

@@ -2,19 +2,21 @@
 use Rattle.std.specs.Prelude.{◌≡◌, ◌↔◌, ℕ, ◌+◌, ◌<◌, ◌≤◌, true, List, [], ◌∷◌, ◌++◌, length, map, take, Some}
 use Rattle.std.specs.List.{AllByRecursion}
 use Rattle.kmip_ttlv_types.specs.Items.{Raw, IsTextOf, Splits}
+use Rattle.kmip_ttlv_types.specs.Names.{number}
 use Rattle.kmip_ttlv_types.specs.Places.{length_at}
 use Rattle.kmip_ttlv_types.specs.Trees.{Tree, bytes, bytes_all, raw_of, IsTreeText}
-use Rattle.kmip_ttlv_base.specs.Forms.{Form}
-use Rattle.kmip_ttlv_base.specs.Values.{Value}
+use Rattle.kmip_ttlv_base.specs.Forms.{Form, enum, Variants}
+use Rattle.kmip_ttlv_base.specs.Values.{Value, unit_variant_value}
+use Rattle.kmip_ttlv_ser.specs.declared.held.Held.{Held}
 use Rattle.kmip_ttlv_ser.specs.declared.held.Held.TheVariants.{Nothing, Plain}
 use Rattle.kmip_ttlv_ser.specs.Answers.{IsWrittenAs}
-use Rattle.kmip_ttlv_ser.specs.Items.{items}
+use Rattle.kmip_ttlv_ser.specs.Items.{items, take_tag}
 use Rattle.kmip_ttlv_de.specs.Answer.{RefusesAs, other}
 use Rattle.kmip_ttlv_de.specs.Keeps.{Keep}
 use Rattle.kmip_ttlv_de.specs.Reads.{Reads, Begins, is_root, with_leaf}
 use Rattle.kmip_ttlv_laws.specs.Contents.{ContainsItems}
 use Rattle.kmip_ttlv_laws.specs.Texts.{TextsAreUtf8}
-use Rattle.kmip_ttlv_laws.specs.Returns.{ComesBack}
+use Rattle.kmip_ttlv_laws.specs.Returns.{ComesBack, NamesUnit, text_of_number}
 use Rattle.kmip_ttlv_laws.specs.Padding.{SameButPadding, EndsInLack}
 
 -- behind the whole text of an item any bytes may follow in place of any others
@@ -61,10 +63,6 @@ PaddingIsRequired = (s : Form) (k k' : List Keep) (x : Raw) (xs ys : List Raw) (
 abbrev pub PaddingOfRootsIsRequired : Type 0
 PaddingOfRootsIsRequired = (s : Form) (x : Raw) (text after : List ℕ) (v : Value) → IsTextOf x text → EndsInLack x → Begins s (text ++ after) v → ⊥
 
--- what is written of two values with equal items begins with the same values
-abbrev pub EqualItemsReadAlike : Type 0
-EqualItemsReadAlike = (v w : Value) (m n : ℕ) (a b : List ℕ) (s : Form) (d : Value) → IsWrittenAs v m a → IsWrittenAs w n b → items v Nothing ≡ items w Nothing → Begins s a d ↔ Begins s b d
-
 -- what is written of a value whose texts are UTF-8 is one text of each of its items, one after the other
 abbrev pub WrittenIsWellFormed : Type 0
 WrittenIsWellFormed = (v : Value) (n : ℕ) (written : List ℕ) (ts : List Tree) → IsWrittenAs v n written → items v Nothing ≡ Some ts → TextsAreUtf8 v → AllByRecursion (λ t. IsTreeText t (bytes t)) ts × (written ≡ bytes_all ts)
@@ -84,6 +82,20 @@ LeafComesBack s v w t k xs = (x : Tree) × (items v (Plain t) ≡ Some (x ∷ []
 -- each pair of values that comes back does so as one leaf
 abbrev pub LeavesComeBack : Type 0
 LeavesComeBack = (s : Form) (v w : Value) (t : ℕ) (k : List Keep) (xs : List Raw) → ComesBack s v w → LeafComesBack s v w t k xs
+
+-- the variant is written under the held tag as one leaf, from which the enum reads the unit of the number's
+-- text, and keeps that text, whatever was kept before and follows
+abbrev pub UnitComesBack : (name vname own : List ℕ) → Variants → Held → (t n : ℕ) → List Keep → List Raw → Type 0
+UnitComesBack name vname own vs w t n k xs =
+    let kept = k ++ record { tag = t; text = text_of_number n } ∷ [] in
+    (x : Tree) × (items (unit_variant_value name vname) w ≡ Some (x ∷ []))
+    × Reads (enum own vs) k (raw_of x ∷ xs) (unit_variant_value own (text_of_number n)) kept xs
+
+-- each unit variant of a number does so, where the enum names a unit by that number
+abbrev pub UnitsComeBack : Type 0
+UnitsComeBack =
+    (name vname own : List ℕ) (vs : Variants) (w : Held) (t n : ℕ) (k : List Keep) (xs : List Raw)
+    → take_tag w name ≡ Some t → number vname ≡ Some n → NamesUnit vs k n → UnitComesBack name vname own vs w t n k xs
 
 -- what is written is the items of the trees, one after the other, and so is each content, at every depth
 abbrev pub WrittenIsItems : Type 0

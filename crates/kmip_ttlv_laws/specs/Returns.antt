@@ -1,10 +1,14 @@
--- What leaves come back as.
-use Rattle.std.specs.Prelude.{◌≡◌, ℕ, ℤ, Bool, true, ◌<◌, ◌^◌, List, FitsSigned}
-use Rattle.std.specs.Int.{w32, w64, cast_signed}
+-- What leaves and unit variants come back as.
+use Rattle.std.specs.Prelude.{◌≡◌, ℕ, ℤ, Bool, true, ◌<◌, ◌^◌, List, Some, FitsSigned}
+use Rattle.std.specs.Int.{w32, w64, cast_signed, to_be_bytes}
 use Rattle.std.specs.Str.{is_utf8}
-use Rattle.kmip_ttlv_base.specs.Forms.{Form, int32, int64, boolean, text, octets, interval, big_integer}
+use Rattle.kmip_ttlv_types.specs.declared.typ.TtlvType.TheVariants.{Enumeration}
+use Rattle.kmip_ttlv_base.specs.Forms.{Form, int32, int64, boolean, text, octets, interval, big_integer, Variants, unit}
 use Rattle.kmip_ttlv_base.specs.Values.{Value, boolean_value, i8_value, i16_value, i32_value, i64_value, u64_value, interval_value, text_value, bytes_value, big_integer_value}
 use Rattle.kmip_ttlv_types.specs.Primitives.{sign_extended}
+use Rattle.kmip_ttlv_de.specs.Keeps.{Keep}
+use Rattle.kmip_ttlv_de.specs.Reads.{number_text, first_named}
+use Rattle.kmip_ttlv_de.specs.Rules.{by_value, choice}
 
 -- by this form the one value, written as a leaf, is read back as the other
 pub data ComesBack : Form → Value → Value → Type 0 where
@@ -19,3 +23,12 @@ pub data ComesBack : Form → Value → Value → Type 0 where
   as_interval : {n : ℕ} → n < 2 ^ 32 → ComesBack interval (interval_value n) (interval_value n)
   as_big_integer : {s : List ℕ} → ComesBack big_integer (big_integer_value s) (big_integer_value (sign_extended s))
   as_big_octets : {s : List ℕ} → ComesBack octets (big_integer_value s) (bytes_value (sign_extended s))
+
+-- a number of four bytes in the text by which an enum looks for it
+abbrev pub text_of_number : ℕ → List ℕ
+text_of_number n = number_text (to_be_bytes w32 n)
+
+-- of an Enumeration no rule chooses a variant, and the first that bears the number's text is a unit
+pub record NamesUnit (vs : Variants) (k : List Keep) (n : ℕ) : Type 0 where
+  pub no_rule : choice vs k Enumeration ≡ by_value
+  pub named : first_named (text_of_number n) vs ≡ Some unit

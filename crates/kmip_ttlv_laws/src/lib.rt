@@ -11,7 +11,7 @@
 ghost use Rattle.kmip_ttlv_base.specs.declared.shape.Data.{Data};
 ghost use Rattle.kmip_ttlv_base.specs.Values.{view};
 ghost use Rattle.kmip_ttlv_laws.specs.Texts.{TextsAreUtf8};
-ghost use Rattle.kmip_ttlv_laws.specs.Laws.{LaterBytes, MessageAlone, CutMessages, OneTree, ReadingWhatWasWritten, PaddingIsFree, TextsDifferInPadding, PaddingOfTreesIsFree, PaddingIsRequired, PaddingOfRootsIsRequired, EqualItemsReadAlike, WrittenIsWellFormed, WrittenIsItems, CanonicalIsText, ReadingTrees, LeavesComeBack};
+ghost use Rattle.kmip_ttlv_laws.specs.Laws.{LaterBytes, MessageAlone, CutMessages, OneTree, ReadingWhatWasWritten, PaddingIsFree, TextsDifferInPadding, PaddingOfTreesIsFree, PaddingIsRequired, PaddingOfRootsIsRequired, WrittenIsWellFormed, WrittenIsItems, CanonicalIsText, ReadingTrees, LeavesComeBack, UnitsComeBack};
 
 use std::alloc::Allocator;
 
@@ -108,14 +108,6 @@ pub fn padding_is_required()
     ensures root { PaddingOfRootsIsRequired }
 {}
 
-/// Two values with equal items are read alike, by every shape.
-///
-/// Clients rely on it that change how a request is made up in Rust: what a server reads stays.
-pub fn written_values_are_read_alike()
-    // The items have to be equal: a server tells an Integer 1 from an Integer 2.
-    ensures { EqualItemsReadAlike }
-{}
-
 /// What is written is the items of the value, one after the other, and each Structure's content is
 /// the items of what is in it, at every depth.
 ///
@@ -159,4 +151,15 @@ pub fn canonical_is_text()
 pub fn leaves_are_read_back()
     // The numbers have to fit, and the text has to be UTF-8: 2^31 would come back as -2^31.
     ensures { LeavesComeBack }
+{}
+
+/// A unit variant that was written is read back by its number: as the unit that an enum's shape names by
+/// that number in eight uppercase digits behind `0x`, and so as itself where its own name is that text.
+///
+/// Round trips of users' enums rest on it.
+pub fn units_are_read_back()
+    // No rule may choose a variant before the number does, and the first variant of that text has to be
+    // a unit: a variant named `0x1` is written as 00000001, and looked for as `0x00000001`. A tag has to
+    // be there to be taken: under one that was taken before without `Override:`, nothing is written.
+    ensures { UnitsComeBack }
 {}

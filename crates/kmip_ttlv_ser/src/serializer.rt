@@ -106,6 +106,7 @@ impl<A: Allocator + Copy> TtlvSerializer<A> {
     }
 }
 
+/// The number of bytes of the accepted calls. The serializer stays as it is.
 impl<A: Allocator, B: Allocator> From<&mut TtlvSerializer<B>> for ErrorLocation<A> {
     ghost use Rattle.std.specs.Prelude.{length};
     ghost use Rattle.kmip_ttlv_base.specs.Errors.{view_of_location, only_offset};
@@ -113,7 +114,10 @@ impl<A: Allocator, B: Allocator> From<&mut TtlvSerializer<B>> for ErrorLocation<
 
     ghost from_gives = { λ s l. view_of_location l ≡ only_offset (length (progress s.now).bytes) };
 
-    fn from(serializer: &mut TtlvSerializer<B>) -> ErrorLocation<A> {
+    fn from(serializer: &mut TtlvSerializer<B>) -> ErrorLocation<A>
+        ensures place { view_of_location result ≡ only_offset (length (progress serializer.old).bytes) }
+        ensures unchanged { serializer.new ≡ serializer.old }
+    {
         let bytes = serializer.out.len() as u64;
         ErrorLocation::at(Some(ByteOffset(bytes)), None, None, None)
     }

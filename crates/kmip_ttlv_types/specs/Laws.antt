@@ -41,14 +41,14 @@ ReadsWholeLeaves {T} typ bytes_of takes_memory =
     → (can_fail : Bool) (new : Option (List ℕ)) (result : Result T (Error Global)) → ReadsLeaf typ bytes_of takes_memory can_fail (Some ((length_and_content content ++ pad) ++ rest)) new result
     → MatchResult result (λ w. (bytes_of w ≡ content) × (new ≡ Some rest)) (FailsToRead takes_memory can_fail content)
 
--- a value was written into memory and read from there; or it is too long to be written; or there was no
--- memory for its bytes; or none for the value that was read, where it is taken
-abbrev pub Rereads : {T A : Type 0} → TtlvType → (T → List ℕ) → (takes_memory : Bool) → T → Result T (Error A) → Type 0
-Rereads typ bytes_of takes_memory v (Ok w) = bytes_of w ≡ content_of typ (bytes_of v)
-Rereads typ bytes_of takes_memory v (Err LengthOverflow) = 2 ^ 32 ≤ length (content_of typ (bytes_of v))
-Rereads typ bytes_of takes_memory v (Err (IoError e)) = Unit {0}
-Rereads typ bytes_of takes_memory v (Err OutOfMemory) = IsTrue takes_memory × (0 < length (content_of typ (bytes_of v)))
-Rereads typ bytes_of takes_memory v (Err _) = ⊥
+-- a value was written into memory and read from there: it has the bytes that were written; or it is too
+-- long to be written; or it is not, and memory was refused for its bytes or for the value that is read
+abbrev pub Rereads : {T A : Type 0} → TtlvType → (T → List ℕ) → T → Result T (Error A) → Type 0
+Rereads typ bytes_of v (Ok w) =
+    (length (content_of typ (bytes_of v)) < 2 ^ 32) × (bytes_of w ≡ content_of typ (bytes_of v))
+Rereads typ bytes_of v (Err LengthOverflow) = 2 ^ 32 ≤ length (content_of typ (bytes_of v))
+Rereads typ bytes_of v (Err OutOfMemory) = length (content_of typ (bytes_of v)) < 2 ^ 32
+Rereads typ bytes_of v (Err _) = ⊥
 
 -- a tag, a type or a length is read from memory that has its bytes; of a type the byte may be no code
 abbrev pub ReadsHeaders : Type 0

@@ -104,19 +104,24 @@ pub fn an_interval_is_told_by_its_bytes(a: TtlvInterval, b: TtlvInterval)
     ensures { ⟦<TtlvInterval as SerializableTtlvType>⟧.value_bytes a ≡ ⟦<TtlvInterval as SerializableTtlvType>⟧.value_bytes b → a ≡ b }
 {}
 
+// How many bytes are written of a leaf's type, length and padding at most.
+const BESIDES_CONTENT: usize = 12;
+
 /// Writes a value into memory, and reads it from there: the value of the bytes that were written.
 ///
-/// LengthOverflow where the value is too long to be written; IoError where memory for its bytes is
-/// refused; OutOfMemory where memory for the value that is read is refused.
+/// LengthOverflow exactly where the value is too long to be written; OutOfMemory where memory for its
+/// bytes, or for the value that is read, is refused.
 pub fn reread<T: SerializableTtlvType, A: Allocator>(
     room: A,
     alloc: T::Alloc,
     value: &T,
 ) -> Result<T>
-    ensures { Rereads T.HasTtlvType.TTLV_TYPE T.SerializableTtlvType.value_bytes T.SerializableTtlvType.takes_memory value.now result }
+    ensures { Rereads T.HasTtlvType.TTLV_TYPE T.SerializableTtlvType.value_bytes value.now result }
 {
     what_was_written_is_read_back(value);
+    let length = value.value_length()?;
     let mut written = MemorySink(Vec::new(room));
+    written.0.reserve(length as usize + BESIDES_CONTENT)?;
     value.write(&mut written)?;
     let mut source = MemorySource(written.0.as_slice());
     TtlvType::read(&mut source)?;

@@ -68,3 +68,7 @@ abbrev pub TellsOutlines : Type 0
 TellsOutlines = (prefix : List ℕ) (closed : Bool) (a b : List ℕ) (t u : Tree) → EachIndex a (λ i. slice_index a i < 256) → EachIndex b (λ i. slice_index b i < 256)
     → IsTreeText t a → IsTreeText u b → IsStructure t → IsStructure u → (closed ≡ false → HasNoEmpty t) → (closed ≡ false → HasNoEmpty u)
     → (hostile prefix closed (length a) (trace closed a) ≡ hostile prefix closed (length b) (trace closed b)) ↔ (outline_of t ≡ outline_of u)
+
+-- under one prefix, equal diagnostics are those of equal outlines
+abbrev pub HasOneOutline : Type 0
+HasOneOutline = (prefix : List ℕ) (o p : Outline) → IsOutline o → IsOutline p → diag prefix o ≡ diag prefix p → o ≡ p

@@ -1,9 +1,15 @@
 //! Laws of the definitions that the printers' contracts cite, each on a function without a body.
 
-ghost use Rattle.kmip_ttlv_util.specs.Answer.{TellsOutlines};
+ghost use Rattle.kmip_ttlv_util.specs.Answer.{TellsOutlines, HasOneOutline};
 
 /// Two well-formed messages, without empty structures unless these are closed, have equal
 /// diagnostics exactly if their outlines are equal: tags, types, nesting and enumeration values.
 pub fn diagnostics_tell_outlines()
     ensures { TellsOutlines }
+{}
+
+/// A text is the diagnostic of one outline at most, whatever the prefix: two outlines with equal
+/// diagnostics are equal, also where no message has them.
+pub fn a_diagnostic_has_one_outline()
+    ensures { HasOneOutline }
 {}
