@@ -9,10 +9,22 @@ use refusing_allocator::RefusingAllocator;
 use std::alloc::{Allocator, Global};
 use std::test::Fail;
 
+// Whether an error is want of memory, at no place.
 fn is_memory<A: Allocator>(error: &Error<A>) -> bool {
+    if !error.location().is_unknown() {
+        return false;
+    }
     match error.kind() {
-        ErrorKind::OutOfMemory => error.location().is_unknown(),
+        ErrorKind::OutOfMemory => true,
         _ => false,
+    }
+}
+
+// Whether reading answered this text, and whether it answered want of memory.
+fn outcome<P, A: Allocator>(read: Result<Reading<P, A>, Error<A>>, text: &str) -> (bool, bool) {
+    match read {
+        Ok(found) => (found.text.as_str() == text, false),
+        Err(error) => (false, is_memory(&error)),
     }
 }
 
@@ -22,19 +34,15 @@ fn a_response_that_is_read_grows(rt: HostRuntime) -> Result<(), Fail> {
     let bytes = hex::decode(rt.alloc(), RESPONSE)?;
     for before in 0..1000u64 {
         let heap = RefusingAllocator::new(rt.alloc(), before);
-        match from_slice::<Reading<Response, _>, _>(&heap, bytes.as_slice()) {
-            Ok(found) => assert_eq!(rt; found.text.as_str(), ample.as_str(), "at {before}"),
-            Err(error) => {
-                assert!(rt; is_memory(&error), "at {before}");
-                assert!(rt; heap.has_refused(), "at {before}");
-            }
-        }
+        let read = from_slice::<Reading<Response, _>, _>(&heap, bytes.as_slice());
+        let (is_whole, is_short) = outcome(read, ample.as_str());
         if !heap.has_refused() {
+            assert!(rt; is_whole, "at {before}");
             return Ok(());
         }
+        assert!(rt; is_whole || is_short, "at {before}");
     }
-    assert!(rt; false, "it grows without end");
-    Ok(())
+    Err(Fail::new("it grows without end"))
 }
 
 // The growths whose refusal is answered as want of memory, in reading a structure of one number.
@@ -42,16 +50,12 @@ fn refused_growths(alloc: Global, bytes: &[u8]) -> Result<Vec<u64>, Fail> {
     let mut refused = Vec::new(alloc);
     for before in 0..1000u64 {
         let heap = RefusingAllocator::new(alloc, before);
-        match from_slice::<Reading<Single, _>, _>(&heap, bytes) {
-            Ok(_) => {}
-            Err(error) => {
-                if is_memory(&error) {
-                    refused.push(before)?;
-                }
-            }
+        let (_, is_short) = outcome(from_slice::<Reading<Single, _>, _>(&heap, bytes), "");
+        if is_short {
+            refused.push(before)?;
         }
         if !heap.has_refused() {
-            return Ok(refused);
+            break;
         }
     }
     Ok(refused)
