@@ -29,3 +29,11 @@ tag_part names depth tag = indent depth ++ (codes "Tag: " ++ tag_named (names ta
 -- and up to the type
 abbrev pub typ_part : (ℕ → Option (List ℕ)) → ℕ → ℕ → TtlvType → List ℕ
 typ_part names depth tag typ = tag_part names depth tag ++ (codes ", Type: " ++ type_text typ)
+
+-- a whole line, with its data
+unfoldable pub line : (ℕ → Option (List ℕ)) → ℕ → ℕ → TtlvType → List ℕ → List ℕ
+line names depth tag typ shown = typ_part names depth tag typ ++ (codes ", Data: " ++ (shown ++ (10 ∷ [])))
+
+-- what stands for a value that is not told
+abbrev pub hidden : List ℕ
+hidden = codes "<redacted>"

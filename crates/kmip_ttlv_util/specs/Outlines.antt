@@ -5,7 +5,8 @@ use Rattle.std.specs.Int.{w32, from_be_bytes}
 use Rattle.std.specs.Fmt.{digits}
 use Rattle.kmip_ttlv_types.specs.Digits.{six_digits}
 use Rattle.kmip_ttlv_types.specs.declared.typ.TtlvType.{TtlvType}
-use Rattle.kmip_ttlv_types.specs.declared.typ.TtlvType.TheVariants.{Structure, Integer, LongInteger, BigInteger, Enumeration, Boolean, TextString, ByteString, DateTime, Interval}
+use Rattle.kmip_ttlv_types.specs.declared.typ.TtlvType.TheVariants.{Structure, Enumeration}
+use Rattle.kmip_ttlv_util.specs.Letters.{letter}
 use Rattle.kmip_ttlv_types.specs.Trees.{Tree, Trees, leaf, node, no_trees, tree}
 
 mutual
@@ -59,19 +60,6 @@ hex_upper n = digits 16 true n
 -- the digits without the prefix, where they begin with it
 abbrev pub stripped : List ℕ → List ℕ → List ℕ
 stripped prefix text = if starts_with nat_eq text prefix then drop (length prefix) text else text
-
--- a type's letter: il I e b t o d n, and [ of a structure
-abbrev pub letter : TtlvType → ℕ
-letter Structure = 91
-letter Integer = 105
-letter LongInteger = 108
-letter BigInteger = 73
-letter Enumeration = 101
-letter Boolean = 98
-letter TextString = 116
-letter ByteString = 111
-letter DateTime = 100
-letter Interval = 110
 
 -- a value and `:`
 abbrev pub value_text : Option ℕ → List ℕ
