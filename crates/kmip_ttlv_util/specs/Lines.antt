@@ -10,7 +10,7 @@ at_least width digits = replicate (width - length digits) 48 ++ digits
 
 -- `0x` and at least so many digits
 abbrev pub hex_padded : ℕ → ℕ → List ℕ
-hex_padded width n = 48 ∷ 120 ∷ at_least width (hex_upper n)
+hex_padded width n = codes "0x" ++ at_least width (hex_upper n)
 
 -- two spaces a level
 abbrev pub indent : ℕ → List ℕ

@@ -1,5 +1,5 @@
 -- Outlines of messages: what a diagnostic tells, and its text.
-use Rattle.std.specs.Prelude.{ℕ, ◌^◌, ◌<◌, List, [], ◌∷◌, ◌++◌, length, drop, true, if◌then◌else◌, Option, Some, None, nat_eq}
+use Rattle.std.specs.Prelude.{ℕ, ◌^◌, ◌<◌, List, [], ◌∷◌, ◌++◌, length, drop, true, if◌then◌else◌, Option, Some, None, nat_eq, codes}
 use Rattle.std.specs.List.{starts_with}
 use Rattle.std.specs.Int.{w32, from_be_bytes}
 use Rattle.std.specs.Fmt.{digits}
@@ -64,7 +64,7 @@ stripped prefix text = if starts_with nat_eq text prefix then drop (length prefi
 -- a value and `:`
 abbrev pub value_text : Option ℕ → List ℕ
 value_text None = []
-value_text (Some n) = hex_upper n ++ (58 ∷ [])
+value_text (Some n) = hex_upper n ++ codes ":"
 
 -- a leaf, or the opening of a structure
 unfoldable pub mark : List ℕ → ℕ → TtlvType → Option ℕ → List ℕ
@@ -74,7 +74,7 @@ mark prefix tag typ value = stripped prefix (six_digits tag) ++ (letter typ ∷ 
 abbrev mutual
   pub diag : List ℕ → Outline → List ℕ
   diag prefix (leaf_outline tag typ value) = mark prefix tag typ value
-  diag prefix (node_outline tag below) = mark prefix tag Structure None ++ (diag_all prefix below ++ (93 ∷ []))
+  diag prefix (node_outline tag below) = mark prefix tag Structure None ++ (diag_all prefix below ++ codes "]")
 
   pub diag_all : List ℕ → Outlines → List ℕ
   diag_all prefix no_outlines = []

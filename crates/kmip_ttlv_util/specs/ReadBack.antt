@@ -1,5 +1,5 @@
 -- What a diagnostic is read back as: the lines of the longest list of parts with which the text begins; of an outline's diagnostic, the outline's redacted lines.
-use Rattle.std.specs.Prelude.{◌≡◌, ◌≢◌, ℕ, suc, ◌-◌, ◌<◌, List, [], ◌∷◌, ◌++◌, length, take, drop, Option, Some, None, if◌then◌else◌, ◌==◌}
+use Rattle.std.specs.Prelude.{codes, ◌≡◌, ◌≢◌, ℕ, suc, ◌-◌, ◌<◌, List, [], ◌∷◌, ◌++◌, length, take, drop, Option, Some, None, if◌then◌else◌, ◌==◌}
 use Rattle.std.specs.List.{prefix_len, AllByRecursion}
 use Rattle.std.specs.Str.{trim_end}
 use Rattle.kmip_ttlv_types.specs.declared.typ.TtlvType.{TtlvType}
@@ -28,7 +28,7 @@ StandsBehind typ after shown rest = (shown ≡ hidden) × (rest ≡ after) × (0
 -- the tag that stands in front: the longest front of digits, behind `0x` and the prefix
 abbrev pub tag_in_front : List ℕ → List ℕ → Option ℕ
 tag_in_front prefix [] = None
-tag_in_front prefix (c ∷ s) = if c == 93 then None else tag_of (48 ∷ 120 ∷ (prefix ++ take (prefix_len is_hex (c ∷ s)) (c ∷ s)))
+tag_in_front prefix (c ∷ s) = if c == 93 then None else tag_of (codes "0x" ++ (prefix ++ take (prefix_len is_hex (c ∷ s)) (c ∷ s)))
 
 -- the type that stands behind these digits
 abbrev pub typ_in_front : List ℕ → Option TtlvType

@@ -1,6 +1,6 @@
 -- A diagnostic read back, as a function of the text: part by part. What the answer is, in words of the text alone, stands in ReadBack.
 use Rattle.std.specs.Borrow.{Bor}
-use Rattle.std.specs.Prelude.{◌≡◌, ℕ, zero, suc, ◌+◌, ◌&&◌, List, [], ◌∷◌, ◌++◌, length, take, drop, Option, Some, None, if◌then◌else◌, ◌==◌, nat_lt}
+use Rattle.std.specs.Prelude.{codes, ◌≡◌, ℕ, zero, suc, ◌+◌, ◌&&◌, List, [], ◌∷◌, ◌++◌, length, take, drop, Option, Some, None, if◌then◌else◌, ◌==◌, nat_lt}
 use Rattle.std.specs.List.{prefix_len, position_or_len}
 use Rattle.std.specs.Str.{trim_end}
 use Rattle.kmip_ttlv_types.specs.declared.typ.TtlvType.{TtlvType}
@@ -67,7 +67,7 @@ tag_step names depth s (Some tag) = letter_step names depth tag s
 
 -- the digits in front, after `0x` and the prefix, are a tag
 abbrev pub digits_step : (ℕ → Option (List ℕ)) → List ℕ → ℕ → List ℕ → ℕ → Step
-digits_step names prefix depth s n = tag_step names depth (drop n s) (tag_of (48 ∷ 120 ∷ (prefix ++ take n s)))
+digits_step names prefix depth s n = tag_step names depth (drop n s) (tag_of (codes "0x" ++ (prefix ++ take n s)))
 
 -- the next part of a text so deep
 unfoldable pub step : (ℕ → Option (List ℕ)) → List ℕ → ℕ → List ℕ → Step
