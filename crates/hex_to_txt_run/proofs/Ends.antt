@@ -5,7 +5,7 @@ use Rattle.kmip_ttlv.specs.Streams.{AppendsFront}
 use Rattle.hex_to_txt_run.specs.Inputs.{TakesAll}
 use Rattle.hex_to_txt_run.specs.Reasons.{Reason, unknown_words, unreadable_input, not_hexadecimal, not_utf8, refused_message, unwritable_output, refused_memory, line_of}
 use Rattle.hex_to_txt_run.specs.Tasks.{Task, pair_task, readable_task, diagnostic_task, read_back_task}
-use Rattle.hex_to_txt_run.specs.Texts.{TaskPrints, TaskRefuses}
+use Rattle.hex_to_txt_run.specs.TaskTexts.{TaskPrints, TaskRefuses}
 use Rattle.hex_to_txt_run.specs.Runs.{Streams, Fails, Failed, HasNoText, Printed, Responds}
 
 -- whether the line was written to its end or not, a beginning of it was

@@ -11,7 +11,7 @@ use Rattle.kmip_ttlv.specs.Lines.{typ_part}
 use Rattle.kmip_ttlv.specs.Undiag.{undiag}
 use Rattle.kmip_ttlv.specs.TagNames.{no_names}
 use Rattle.hex_to_txt_run.specs.Inputs.{decoded}
-use Rattle.hex_to_txt_run.specs.Texts.{ended, is_line_feed, PrintsReadable}
+use Rattle.hex_to_txt_run.specs.TaskTexts.{ended, is_line_feed, PrintsReadable}
 
 -- a text that ends with a line feed
 EndsLine : List ℕ → Type 0

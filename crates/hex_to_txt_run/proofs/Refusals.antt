@@ -12,7 +12,7 @@ use Rattle.hex_to_txt_run.specs.Inputs.{decoded}
 use Rattle.hex_to_txt_run.specs.Pair.{pair_form}
 use Rattle.hex_to_txt_run.specs.Reasons.{Reason, unknown_words, unreadable_input, not_hexadecimal, not_utf8, refused_message, unwritable_output, refused_memory}
 use Rattle.hex_to_txt_run.specs.Tasks.{pair_task}
-use Rattle.hex_to_txt_run.specs.Texts.{MeansRefused, TaskRefuses}
+use Rattle.hex_to_txt_run.specs.TaskTexts.{MeansRefused, TaskRefuses}
 
 pub is_memory : {A : Type 0} (k : ErrorKind A) → view_of_kind k ≡ out_of_memory → k ≡ OutOfMemory
 is_memory OutOfMemory h = refl

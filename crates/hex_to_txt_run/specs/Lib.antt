@@ -2,5 +2,5 @@ pub mod Pair
 pub mod Tasks
 pub mod Inputs
 pub mod Reasons
-pub mod Texts
+pub mod TaskTexts
 pub mod Runs

@@ -5,7 +5,7 @@ use Rattle.kmip_ttlv.specs.Streams.{AppendsFront}
 use Rattle.hex_to_txt_run.specs.Inputs.{TakesAll}
 use Rattle.hex_to_txt_run.specs.Reasons.{Reason, unknown_words, unreadable_input, unwritable_output, refused_memory, line_of}
 use Rattle.hex_to_txt_run.specs.Tasks.{Task}
-use Rattle.hex_to_txt_run.specs.Texts.{TaskPrints, TaskRefuses}
+use Rattle.hex_to_txt_run.specs.TaskTexts.{TaskPrints, TaskRefuses}
 
 -- what the input has and what the output holds, before and after a run, as far as that is known
 pub record Streams : Type 0 where

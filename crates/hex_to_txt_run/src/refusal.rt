@@ -2,7 +2,7 @@
 
 ghost use Rattle.std.specs.Prelude.{◌≡◌, IfOk, string_bytes};
 ghost use Rattle.hex_to_txt_run.specs.Reasons.{line_of, reason_of};
-ghost use Rattle.hex_to_txt_run.specs.Texts.{IsRefusalLine, MeansRefused};
+ghost use Rattle.hex_to_txt_run.specs.TaskTexts.{IsRefusalLine, MeansRefused};
 
 use kmip_ttlv::error::{Error, ErrorKind};
 use std::alloc::{AllocError, Allocator};

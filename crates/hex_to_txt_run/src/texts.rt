@@ -5,7 +5,7 @@ ghost use Rattle.kmip_ttlv.specs.Trees.{bytes};
 ghost use Rattle.hex_to_txt_run.specs.Pair.{pair_tree, pair_text};
 ghost use Rattle.hex_to_txt_run.specs.Reasons.{reason_of};
 ghost use Rattle.hex_to_txt_run.specs.Tasks.{pair_task, readable_task, diagnostic_task, read_back_task, seen_task};
-ghost use Rattle.hex_to_txt_run.specs.Texts.{TaskAnswers, ended, is_line_feed};
+ghost use Rattle.hex_to_txt_run.specs.TaskTexts.{TaskAnswers, ended, is_line_feed};
 
 use crate::input::{decode, text_in};
 use crate::pair::Pair;

@@ -19,11 +19,11 @@ pub use Rattle.kmip_ttlv_base.specs.Forms
 pub use Rattle.kmip_ttlv_base.specs.Gives
 pub use Rattle.kmip_ttlv_base.specs.Errors
 pub use Rattle.kmip_ttlv_base.specs.LocationTexts
-pub use Rattle.kmip_ttlv_ser.specs.Items as WrittenItems
+pub use Rattle.kmip_ttlv_ser.specs.WrittenItems
 pub use Rattle.kmip_ttlv_ser.specs.Sizes
 pub use Rattle.kmip_ttlv_ser.specs.Faults
 pub use Rattle.kmip_ttlv_ser.specs.Lengths
-pub use Rattle.kmip_ttlv_ser.specs.Answers as WriteAnswers
+pub use Rattle.kmip_ttlv_ser.specs.WriteAnswers
 pub use Rattle.kmip_ttlv_de.specs.Keeps
 pub use Rattle.kmip_ttlv_de.specs.Rules
 pub use Rattle.kmip_ttlv_de.specs.Reads
@@ -34,14 +34,16 @@ pub use Rattle.kmip_ttlv_de.specs.Answer as ReadAnswers
 pub use Rattle.kmip_ttlv_util.specs.Outlines
 pub use Rattle.kmip_ttlv_util.specs.Traces
 pub use Rattle.kmip_ttlv_util.specs.Diagnostics
-pub use Rattle.kmip_ttlv_util.specs.Names as TagNames
+pub use Rattle.kmip_ttlv_util.specs.TagNames
 pub use Rattle.kmip_ttlv_util.specs.Lines
 pub use Rattle.kmip_ttlv_util.specs.Pretty
+pub use Rattle.kmip_ttlv_util.specs.Letters
+pub use Rattle.kmip_ttlv_util.specs.ReadBack
 pub use Rattle.kmip_ttlv_util.specs.Undiag
 pub use Rattle.kmip_ttlv_util.specs.Printers
 pub use Rattle.kmip_ttlv_util.specs.Lending
-pub use Rattle.kmip_ttlv_util.specs.Answer as PrintAnswers
-pub use Rattle.kmip_ttlv_ser.specs.Laws as WriteLaws
+pub use Rattle.kmip_ttlv_util.specs.PrintAnswers
+pub use Rattle.kmip_ttlv_ser.specs.WriteLaws
 pub use Rattle.kmip_ttlv_ser.specs.Rows
 pub use Rattle.kmip_ttlv_de.specs.Leaves as ReadLeaves
 pub use Rattle.kmip_ttlv_de.specs.Wholes
@@ -50,4 +52,4 @@ pub use Rattle.kmip_ttlv_laws.specs.Texts
 pub use Rattle.kmip_ttlv_laws.specs.Padding
 pub use Rattle.kmip_ttlv_laws.specs.Contents
 pub use Rattle.kmip_ttlv_laws.specs.Returns
-pub use Rattle.kmip_ttlv_laws.specs.Laws as ReadingLaws
+pub use Rattle.kmip_ttlv_laws.specs.ReadingLaws

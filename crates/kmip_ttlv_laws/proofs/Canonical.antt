@@ -9,7 +9,7 @@ use Rattle.kmip_ttlv_types.specs.Items.{IsTextOf}
 use Rattle.kmip_ttlv_types.specs.Trees.{Tree, leaf, node, Trees, no_trees, tree, bytes, bytes_below, bytes_all, raw_of, leaf_bytes, node_bytes, Fits, FitsBelow, IsTreeText, AreTreeTexts}
 use Rattle.kmip_ttlv_ser.specs.declared.held.Held.TheVariants.{Nothing}
 use Rattle.kmip_ttlv_ser.specs.Sizes.{FitsAfter}
-use Rattle.kmip_ttlv_laws.specs.Laws.{CanonicalIsText, ReadingTrees, WrittenIsWellFormed}
+use Rattle.kmip_ttlv_laws.specs.ReadingLaws.{CanonicalIsText, ReadingTrees, WrittenIsWellFormed}
 use Rattle.kmip_ttlv_laws.specs.Texts.{Utf8}
 use Rattle.kmip_ttlv_laws.proofs.Made.{AllMade, AreMade, IsContent, IsMade, items_made, text_of_tree}
 use Rattle.kmip_ttlv_laws.proofs.Roots.{begins_alone}

@@ -6,7 +6,7 @@ use Rattle.kmip_ttlv_types.specs.Trees.{Fits, FitsBelow, Tree, Trees, bytes, byt
 use Rattle.kmip_ttlv_ser.specs.declared.held.Held.TheVariants.{Nothing}
 use Rattle.kmip_ttlv_ser.specs.Sizes.{FitsAfter}
 use Rattle.kmip_ttlv_laws.specs.Contents.{ContainBelow, ContainsItems, items_below}
-use Rattle.kmip_ttlv_laws.specs.Laws.{WrittenIsItems}
+use Rattle.kmip_ttlv_laws.specs.ReadingLaws.{WrittenIsItems}
 use Rattle.kmip_ttlv_laws.proofs.Made.{AllMade, Any, AreMade, IsMade, any_texts, items_made, text_of_tree}
 
 -- the bytes of trees are their items

@@ -15,7 +15,7 @@ use Rattle.kmip_ttlv_types.specs.Trees.{Tree, leaf, node, Trees, no_trees, tree,
 use Rattle.kmip_ttlv_base.specs.Values.{Value, boolean_value, i8_value, i16_value, i32_value, u32_value, i64_value, u64_value, interval_value, text_value, bytes_value, big_integer_value, none, some, seq_value, struct_value, newtype_value, unit_variant_value, newtype_variant_value, tuple_variant_value, unsupported_value, Values, no_values, value}
 use Rattle.kmip_ttlv_ser.specs.declared.held.Held.{Held}
 use Rattle.kmip_ttlv_ser.specs.declared.held.Held.TheVariants.{Nothing, Plain, Overriding}
-use Rattle.kmip_ttlv_ser.specs.Items.{◌>>=◌, take_tag, one_leaf, one_node, one_structure, some_item, left_over, without_override, held_over, enumeration, newtype_row, variant_row, is_wrapper, items, items_in}
+use Rattle.kmip_ttlv_ser.specs.WrittenItems.{◌>>=◌, take_tag, one_leaf, one_node, one_structure, some_item, left_over, without_override, held_over, enumeration, newtype_row, variant_row, is_wrapper, items, items_in}
 use Rattle.kmip_ttlv_laws.specs.Texts.{EachText, EachTextIn}
 
 -- the content of a leaf of this type, where texts are such ones

@@ -13,10 +13,10 @@ use Rattle.kmip_ttlv_base.specs.Forms.{Form, int32, int64, boolean, text, octets
 use Rattle.kmip_ttlv_base.specs.Values.{Value, boolean_value, i8_value, i16_value, i32_value, i64_value, u64_value, interval_value, text_value, bytes_value, big_integer_value, unit_variant_value}
 use Rattle.kmip_ttlv_ser.specs.declared.held.Held.TheVariants.{Plain}
 use Rattle.kmip_ttlv_types.specs.Primitives.{sign_extended}
-use Rattle.kmip_ttlv_ser.specs.Items.{items, enumeration, one_leaf, ◌>>=◌}
+use Rattle.kmip_ttlv_ser.specs.WrittenItems.{items, enumeration, one_leaf, ◌>>=◌}
 use Rattle.kmip_ttlv_de.specs.Keeps.{Keep}
 use Rattle.kmip_ttlv_de.specs.Reads.{Reads, leaf, by_number, leaf_value, takes, with_leaf}
-use Rattle.kmip_ttlv_laws.specs.Laws.{LeavesComeBack, LeafComesBack, UnitsComeBack}
+use Rattle.kmip_ttlv_laws.specs.ReadingLaws.{LeavesComeBack, LeafComesBack, UnitsComeBack}
 use Rattle.kmip_ttlv_laws.specs.Returns.{as_big_integer, as_big_octets, as_boolean, as_date, as_int16, as_int32, as_int64, as_int8, as_interval, as_octets, as_text}
 
 -- a leaf whose content the form takes, and for whose content it gives this value

@@ -19,7 +19,7 @@ use Rattle.kmip_ttlv_laws.proofs.RootForms.{root_structure}
 use Rattle.kmip_ttlv_laws.proofs.Padding.{reads_same, turned, types_same}
 use Rattle.kmip_ttlv_laws.specs.Padding.{AllSameButPadding, SameButPadding, both_end, both_go_on}
 use Rattle.kmip_ttlv_laws.proofs.Made.{AllMade, Any, any_texts, items_made, text_of_tree}
-use Rattle.kmip_ttlv_laws.specs.Laws.{LaterBytes, MessageAlone, CutMessages, ReadsAlone, ReadingWhatWasWritten, PaddingIsFree}
+use Rattle.kmip_ttlv_laws.specs.ReadingLaws.{LaterBytes, MessageAlone, CutMessages, ReadsAlone, ReadingWhatWasWritten, PaddingIsFree}
 
 -- a text is as long as its item is
 pub text_length : (x : Raw) (a : List ℕ) → IsTextOf x a → length a ≡ size x.typ (length x.content)

@@ -3,7 +3,7 @@ use Rattle.std.proofs.Common.{◌≡◌, ℕ, List, [], ◌∷◌, refl, subst}
 use Rattle.kmip_ttlv_types.specs.declared.typ.TtlvType.TheVariants.{Structure}
 use Rattle.kmip_ttlv_types.specs.Items.{Raw, IsTextOf, Splits}
 use Rattle.kmip_ttlv_types.specs.Trees.{Tree, leaf, node, Trees, no_trees, tree, IsTreeText, AreTreeTexts}
-use Rattle.kmip_ttlv_laws.specs.Laws.{TextsDifferInPadding, PaddingOfTreesIsFree}
+use Rattle.kmip_ttlv_laws.specs.ReadingLaws.{TextsDifferInPadding, PaddingOfTreesIsFree}
 use Rattle.kmip_ttlv_laws.specs.Padding.{AllSameButPadding, SameButPadding, both_go_on, both_end, equal_items, split_alike}
 use Rattle.kmip_ttlv_laws.proofs.Roots.{one_item, padding_is_free}
 

@@ -2,4 +2,4 @@ pub mod Texts
 pub mod Padding
 pub mod Contents
 pub mod Returns
-pub mod Laws
+pub mod ReadingLaws

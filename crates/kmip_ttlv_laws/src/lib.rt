@@ -11,7 +11,7 @@
 ghost use Rattle.kmip_ttlv_base.specs.declared.shape.Data.{Data};
 ghost use Rattle.kmip_ttlv_base.specs.Values.{view};
 ghost use Rattle.kmip_ttlv_laws.specs.Texts.{TextsAreUtf8};
-ghost use Rattle.kmip_ttlv_laws.specs.Laws.{LaterBytes, MessageAlone, CutMessages, OneTree, ReadingWhatWasWritten, PaddingIsFree, TextsDifferInPadding, PaddingOfTreesIsFree, PaddingIsRequired, PaddingOfRootsIsRequired, WrittenIsWellFormed, WrittenIsItems, CanonicalIsText, ReadingTrees, LeavesComeBack, UnitsComeBack};
+ghost use Rattle.kmip_ttlv_laws.specs.ReadingLaws.{LaterBytes, MessageAlone, CutMessages, OneTree, ReadingWhatWasWritten, PaddingIsFree, TextsDifferInPadding, PaddingOfTreesIsFree, PaddingIsRequired, PaddingOfRootsIsRequired, WrittenIsWellFormed, WrittenIsItems, CanonicalIsText, ReadingTrees, LeavesComeBack, UnitsComeBack};
 
 use std::alloc::Allocator;
 

@@ -13,7 +13,7 @@ use Rattle.kmip_ttlv_types.specs.Trees.{Tree, leaf, node, trees_of, leaf_bytes, 
 use Rattle.kmip_ttlv_base.specs.Values.{Value, Values, value, unit_variant_value, newtype_value, newtype_variant_value}
 use Rattle.kmip_ttlv_ser.specs.declared.held.Held.{Held}
 use Rattle.kmip_ttlv_ser.specs.declared.held.Held.TheVariants.{Plain}
-use Rattle.kmip_ttlv_ser.specs.Items.{◌>>=◌, is_wrapper, without_override, held_over, take_tag, one_leaf, one_node, one_structure, held_tag, some_item, held_after, left_over, enumeration, newtype_row, variant_row, items, items_in}
+use Rattle.kmip_ttlv_ser.specs.WrittenItems.{◌>>=◌, is_wrapper, without_override, held_over, take_tag, one_leaf, one_node, one_structure, held_tag, some_item, held_after, left_over, enumeration, newtype_row, variant_row, items, items_in}
 use Rattle.kmip_ttlv_ser.specs.Sizes.{sizes, sizes_below, sizes_all}
 use Rattle.kmip_ttlv_ser.specs.Passes.{Planned, Emitted}
 use Rattle.kmip_ttlv_types.proofs.Padding.{length-sign_extended}

@@ -13,7 +13,7 @@ use Rattle.kmip_ttlv_ser.specs.declared.held.Held.TheVariants.{Plain}
 use Rattle.kmip_ttlv_ser.specs.declared.held.Place.{Place}
 use Rattle.kmip_ttlv_ser.specs.declared.refusal.Refusal.{Refusal}
 use Rattle.kmip_ttlv_ser.specs.declared.refusal.Refusal.TheVariants.{OutOfMemory, LengthOverflow, Refused}
-use Rattle.kmip_ttlv_ser.specs.Items.{◌>>=◌, take_tag, held_tag, one_leaf, one_node, one_structure, some_item, enumeration}
+use Rattle.kmip_ttlv_ser.specs.WrittenItems.{◌>>=◌, take_tag, held_tag, one_leaf, one_node, one_structure, some_item, enumeration}
 use Rattle.kmip_ttlv_ser.specs.Sizes.{sizes, sizes_all}
 use Rattle.kmip_ttlv_ser.specs.Faults.{Fault, held_len, fault_at, name_kind, tag_unused, under_name, structure_fault, within, place_after, inside}
 use Rattle.kmip_ttlv_ser.specs.Lengths.{reach, Under, structure_long, IsLongContent}

@@ -7,7 +7,7 @@ use Rattle.kmip_ttlv_base.specs.Values.{Value, boolean_value, i8_value, i16_valu
 use Rattle.kmip_ttlv_ser.specs.declared.held.Held.{Held}
 use Rattle.kmip_ttlv_ser.specs.declared.held.Held.TheVariants.{Nothing, Plain}
 use Rattle.kmip_ttlv_ser.specs.declared.held.Place.{Place}
-use Rattle.kmip_ttlv_ser.specs.Items.{take_tag, held_over, without_override, is_wrapper, left_over, items}
+use Rattle.kmip_ttlv_ser.specs.WrittenItems.{take_tag, held_over, without_override, is_wrapper, left_over, items}
 use Rattle.kmip_ttlv_ser.specs.Faults.{Fault, fault_at, name_kind, no_tag, under_name, within, newtype_fault, variant_fault, in_turn, place_after, inside, fault, fault_in}
 
 at_least : (k : Kind) (w : Held) (p : Place) → p.offset ≤ (fault_at k w p).offset

@@ -16,12 +16,12 @@ use Rattle.kmip_ttlv_ser.specs.declared.refusal.Cause.{Cause}
 use Rattle.kmip_ttlv_ser.specs.declared.refusal.Cause.TheVariants.{NoTag, TagUnused, InvalidTag, InvalidVariant, UnsupportedType}
 use Rattle.kmip_ttlv_ser.specs.declared.refusal.Refusal.{Refusal}
 use Rattle.kmip_ttlv_ser.specs.declared.refusal.Refusal.TheVariants.{OutOfMemory, LengthOverflow, Refused}
-use Rattle.kmip_ttlv_ser.specs.Items.{◌>>=◌, take_tag, held_tag, one_node, some_item, held_over, without_override, is_wrapper, left_over, newtype_row, variant_row, items, items_in}
+use Rattle.kmip_ttlv_ser.specs.WrittenItems.{◌>>=◌, take_tag, held_tag, one_node, some_item, held_over, without_override, is_wrapper, left_over, newtype_row, variant_row, items, items_in}
 use Rattle.kmip_ttlv_ser.specs.Sizes.{sizes_all}
 use Rattle.kmip_ttlv_ser.specs.Faults.{Fault, place_after, opened_after, fault, fault_in}
 use Rattle.kmip_ttlv_ser.specs.Lengths.{HasLongLeaf, HaveLongLeaf, HasLongStructure, HaveLongStructure, IsLongContent, Under, After, content_start, newtype_long, variant_long}
 use Rattle.kmip_ttlv_ser.specs.Passes.{Measured, Planned, Emitted, Stops, Overlong, kind_of_cause, IsErrorOf}
-use Rattle.kmip_ttlv_ser.specs.Answers.{IsTooLongFor, IsRefusedAs, IsFirstRefusal, Refuses, AppendedTo}
+use Rattle.kmip_ttlv_ser.specs.WriteAnswers.{IsTooLongFor, IsRefusedAs, IsFirstRefusal, Refuses, AppendedTo}
 use Rattle.kmip_ttlv_ser.proofs.Leaves.{place_len, below_is, fits_each, each_front, each_back}
 use Rattle.kmip_ttlv_ser.proofs.Emitting.{some_same, split_of}
 

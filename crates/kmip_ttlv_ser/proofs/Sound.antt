@@ -11,9 +11,9 @@ use Rattle.kmip_ttlv_types.specs.Trees.{Tree, leaf, node, trees_of, bytes_all, F
 use Rattle.kmip_ttlv_base.specs.Values.{Value, boolean_value, i8_value, i16_value, i32_value, u32_value, i64_value, u64_value, interval_value, text_value, bytes_value, big_integer_value, none, some, seq_value, struct_value, newtype_value, unit_variant_value, newtype_variant_value, tuple_variant_value, unsupported_value, Values, no_values, value}
 use Rattle.kmip_ttlv_ser.specs.declared.held.Held.{Held}
 use Rattle.kmip_ttlv_ser.specs.declared.held.Held.TheVariants.{Nothing, Plain, Overriding}
-use Rattle.kmip_ttlv_ser.specs.Items.{◌>>=◌, take_tag, held_tag, one_leaf, one_node, enumeration, some_item, held_over, without_override, is_wrapper, left_over, newtype_row, variant_row, items, items_in}
-use Rattle.kmip_ttlv_ser.specs.Answers.{IsWrittenAs}
-use Rattle.kmip_ttlv_ser.specs.Laws.{IsSound, AreSound}
+use Rattle.kmip_ttlv_ser.specs.WrittenItems.{◌>>=◌, take_tag, held_tag, one_leaf, one_node, enumeration, some_item, held_over, without_override, is_wrapper, left_over, newtype_row, variant_row, items, items_in}
+use Rattle.kmip_ttlv_ser.specs.WriteAnswers.{IsWrittenAs}
+use Rattle.kmip_ttlv_ser.specs.WriteLaws.{IsSound, AreSound}
 use Rattle.kmip_ttlv_ser.proofs.Leaves.{fits_each, each_front, each_back}
 use Rattle.kmip_ttlv_ser.proofs.Emitting.{some_same, split_of, unwrap}
 use Rattle.kmip_ttlv_ser.proofs.Telling.{all_same}

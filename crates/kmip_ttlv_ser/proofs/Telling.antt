@@ -8,7 +8,7 @@ use Rattle.kmip_ttlv_types.specs.declared.typ.TtlvType.TheVariants.{Structure, I
 use Rattle.kmip_ttlv_types.specs.ItemTypes.{code, type_of, is_structure, pad_len}
 use Rattle.kmip_ttlv_types.specs.Items.{header}
 use Rattle.kmip_ttlv_types.specs.Trees.{Tree, leaf, node, Trees, no_trees, tree, trees_of, leaf_bytes, node_bytes, bytes, bytes_below, bytes_all}
-use Rattle.kmip_ttlv_ser.specs.Laws.{IsSound, AreSound}
+use Rattle.kmip_ttlv_ser.specs.WriteLaws.{IsSound, AreSound}
 use Rattle.kmip_ttlv_ser.proofs.Leaves.{below_is, tree_len}
 use Rattle.kmip_ttlv_ser.proofs.Emitting.{some_same}
 

@@ -9,7 +9,7 @@ use Rattle.kmip_ttlv_ser.specs.declared.held.Held.{Held}
 use Rattle.kmip_ttlv_ser.specs.declared.held.Held.TheVariants.{Nothing}
 use Rattle.kmip_ttlv_ser.specs.declared.held.Place.{Place}
 use Rattle.kmip_ttlv_ser.specs.declared.refusal.Refusal.{Refusal}
-use Rattle.kmip_ttlv_ser.specs.Items.{◌>>=◌, held_after, left_over, items, items_in}
+use Rattle.kmip_ttlv_ser.specs.WrittenItems.{◌>>=◌, held_after, left_over, items, items_in}
 use Rattle.kmip_ttlv_ser.specs.Sizes.{sizes, sizes_all}
 use Rattle.kmip_ttlv_ser.specs.Faults.{Fault, in_turn, place_after, fault, fault_in}
 use Rattle.kmip_ttlv_ser.specs.Lengths.{HasLongLeaf, HaveLongLeaf, HasLongStructure, HaveLongStructure, After, reach}

@@ -10,7 +10,7 @@ use Rattle.kmip_ttlv_base.specs.Values.{Value, boolean_value, i8_value, i16_valu
 use Rattle.kmip_ttlv_ser.specs.declared.held.Held.{Held}
 use Rattle.kmip_ttlv_ser.specs.declared.held.Held.TheVariants.{Nothing, Plain, Overriding}
 use Rattle.kmip_ttlv_ser.specs.declared.held.Place.{Place}
-use Rattle.kmip_ttlv_ser.specs.Items.{take_tag, held_over, without_override, is_wrapper, left_over, items}
+use Rattle.kmip_ttlv_ser.specs.WrittenItems.{take_tag, held_over, without_override, is_wrapper, left_over, items}
 
 -- why a value is refused, and the number of bytes before the refused field
 pub record Fault : Type 0 where

@@ -7,7 +7,7 @@ use Rattle.kmip_ttlv_base.specs.Values.{Value, text_value, bytes_value, big_inte
 use Rattle.kmip_ttlv_ser.specs.declared.held.Held.{Held}
 use Rattle.kmip_ttlv_ser.specs.declared.held.Held.TheVariants.{Nothing, Plain}
 use Rattle.kmip_ttlv_ser.specs.declared.held.Place.{Place}
-use Rattle.kmip_ttlv_ser.specs.Items.{take_tag, held_over, without_override, is_wrapper, left_over, items, items_in}
+use Rattle.kmip_ttlv_ser.specs.WrittenItems.{take_tag, held_over, without_override, is_wrapper, left_over, items, items_in}
 use Rattle.kmip_ttlv_ser.specs.Faults.{Fault, fault, fault_in}
 
 -- a text, a byte string or a sign-extended big integer anywhere in a value is too long

@@ -1,8 +1,8 @@
-pub mod Items
+pub mod WrittenItems
 pub mod Sizes
 pub mod Faults
 pub mod Lengths
-pub mod Answers
+pub mod WriteAnswers
 pub mod Passes
-pub mod Laws
+pub mod WriteLaws
 pub mod Rows

@@ -6,7 +6,7 @@ ghost use Rattle.kmip_ttlv_types.specs.declared.typ.TtlvType.TheVariants.{BigInt
 ghost use Rattle.kmip_ttlv_types.specs.Items.{header};
 ghost use Rattle.kmip_ttlv_types.specs.Primitives.{sign_byte, sign_extended};
 ghost use Rattle.kmip_ttlv_base.specs.Values.{view, views, i32_value, newtype_value, unit_variant_value, newtype_variant_value};
-ghost use Rattle.kmip_ttlv_ser.specs.Items.{one_leaf, one_structure, items, items_in};
+ghost use Rattle.kmip_ttlv_ser.specs.WrittenItems.{one_leaf, one_structure, items, items_in};
 ghost use Rattle.kmip_ttlv_ser.specs.Passes.{Planned, Emitted};
 ghost use Rattle.kmip_ttlv_ser.specs.declared.held.Held.TheVariants.{Nothing as SpecNothing};
 

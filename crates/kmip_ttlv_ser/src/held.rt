@@ -1,7 +1,7 @@
 //! The tag that waits for the next item, and the place that writing has reached.
 
 ghost use Rattle.std.specs.Prelude.{◌≡◌};
-ghost use Rattle.kmip_ttlv_ser.specs.Items.{take_tag, held_tag, held_after, held_over};
+ghost use Rattle.kmip_ttlv_ser.specs.WrittenItems.{take_tag, held_tag, held_after, held_over};
 ghost use Rattle.kmip_ttlv_ser.specs.Faults.{held_len};
 ghost use Rattle.kmip_ttlv_ser.specs.Passes.{Advances, IsBeforeField};
 
@@ -44,7 +44,7 @@ impl Held {
     }
 
     /// The tag that stands after a name was taken.
-    #[tactic(auto, unfolding(crate::specs::Items::take_tag))]
+    #[tactic(auto, unfolding(crate::specs::WrittenItems::take_tag))]
     pub fn take(&self, name: &str) -> Option<TtlvTag>
         ensures { result ≡ take_tag self.now name.now }
     {
@@ -60,7 +60,7 @@ impl Held {
 
     /// What waits for a wrapper's content: the taken tag overrides where nothing was held before
     /// and the wrapper's name begins with `Override:`.
-    #[tactic(auto, unfolding(crate::specs::Items::held_over))]
+    #[tactic(auto, unfolding(crate::specs::WrittenItems::held_over))]
     pub fn over(&self, name: &'static str, tag: TtlvTag) -> Held
         ensures { result ≡ held_over self.now name.now tag }
     {

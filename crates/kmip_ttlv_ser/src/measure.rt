@@ -5,7 +5,7 @@ ghost use Rattle.kmip_ttlv_types.specs.declared.typ.TtlvType.{TtlvType as SpecTy
 ghost use Rattle.kmip_ttlv_types.specs.ItemTypes.{pad_len};
 ghost use Rattle.kmip_ttlv_base.specs.Values.{view, views, newtype_value, unit_variant_value, newtype_variant_value};
 ghost use Rattle.kmip_ttlv_ser.specs.declared.refusal.Refusal.TheVariants.{LengthOverflow as SpecLengthOverflow};
-ghost use Rattle.kmip_ttlv_ser.specs.Items.{one_leaf};
+ghost use Rattle.kmip_ttlv_ser.specs.WrittenItems.{one_leaf};
 ghost use Rattle.kmip_ttlv_ser.specs.Faults.{no_tag, fault_at};
 ghost use Rattle.kmip_ttlv_ser.specs.Passes.{Measures, MeasuresValue, MeasuresValues, MeasuresField, MeasuresFields, MeasuresWrapped};
 

@@ -2,7 +2,7 @@
 
 ghost use Rattle.std.specs.Prelude.{◌≡◌, option_map};
 ghost use Rattle.kmip_ttlv_types.specs.Names.{transparent_name, override_name};
-ghost use Rattle.kmip_ttlv_ser.specs.Items.{without_override, is_wrapper};
+ghost use Rattle.kmip_ttlv_ser.specs.WrittenItems.{without_override, is_wrapper};
 
 /// What follows `Transparent:`, where a name begins with it.
 pub(crate) fn transparent_name(name: &'static str) -> Option<&'static str>
@@ -29,7 +29,7 @@ pub(crate) fn without_override(name: &'static str) -> &'static str
 }
 
 /// Whether a newtype variant of this name is a wrapper.
-#[tactic(auto, unfolding(crate::specs::Items::is_wrapper))]
+#[tactic(auto, unfolding(crate::specs::WrittenItems::is_wrapper))]
 pub(crate) fn is_wrapper(variant: &str) -> bool
     ensures { result ≡ is_wrapper variant.now }
 {

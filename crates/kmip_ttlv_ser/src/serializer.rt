@@ -2,7 +2,7 @@
 
 ghost use Rattle.std.specs.Prelude.{◌≡◌, [], false};
 ghost use Rattle.kmip_ttlv_base.specs.Values.{view};
-ghost use Rattle.kmip_ttlv_ser.specs.Answers.{Writes, WritesTo, progress, Serializes, GivesAll, IsClosed, AppendsValue};
+ghost use Rattle.kmip_ttlv_ser.specs.WriteAnswers.{Writes, WritesTo, progress, Serializes, GivesAll, IsClosed, AppendsValue};
 
 use crate::emit::emit;
 use crate::held::{Held, Place};
@@ -110,7 +110,7 @@ impl<A: Allocator + Copy> TtlvSerializer<A> {
 impl<A: Allocator, B: Allocator> From<&mut TtlvSerializer<B>> for ErrorLocation<A> {
     ghost use Rattle.std.specs.Prelude.{length};
     ghost use Rattle.kmip_ttlv_base.specs.Errors.{view_of_location, only_offset};
-    ghost use Rattle.kmip_ttlv_ser.specs.Answers.{progress};
+    ghost use Rattle.kmip_ttlv_ser.specs.WriteAnswers.{progress};
 
     ghost from_gives = { λ s l. view_of_location l ≡ only_offset (length (progress s.now).bytes) };
 

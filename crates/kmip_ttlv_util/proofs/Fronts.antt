@@ -6,7 +6,8 @@ use Rattle.std.specs.Str.{IsUtf8, IsCharBoundary}
 use Rattle.std.proofs.lemmas.Str.{IsUtf8-from_ascii, IsCharBoundary-from_take, IsCharBoundary-after_ascii}
 use Rattle.std.proofs.lemmas.Bool.{ne_eqb, cases_lt, and_right, lt-leb, lt-ltb, le-ltb}
 use Rattle.kmip_ttlv_types.specs.declared.typ.TtlvType.{TtlvType}
-use Rattle.kmip_ttlv_util.specs.Undiag.{is_hex, type_of_letter, value_up_to}
+use Rattle.kmip_ttlv_util.specs.Letters.{is_hex, type_of_letter}
+use Rattle.kmip_ttlv_util.specs.Undiag.{value_up_to}
 use Rattle.kmip_ttlv_util.specs.Lines.{indent}
 
 -- a digit is ASCII

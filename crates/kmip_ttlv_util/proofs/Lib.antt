@@ -1,5 +1,6 @@
 pub mod Entries
 pub mod Fronts
+pub mod Letters
 pub mod Longest
 pub mod Loop
 pub mod MapClones

@@ -8,23 +8,16 @@ use Rattle.std.proofs.lemmas.List.{take-append-drop, length-take-le}
 use Rattle.kmip_ttlv_types.specs.declared.typ.TtlvType.{TtlvType}
 use Rattle.kmip_ttlv_types.specs.declared.typ.TtlvType.TheVariants.{Structure, Integer, LongInteger, BigInteger, Enumeration, Boolean, TextString, ByteString, DateTime, Interval}
 use Rattle.kmip_ttlv_types.specs.Names.{tag_of}
-use Rattle.kmip_ttlv_util.specs.Outlines.{letter}
+use Rattle.kmip_ttlv_util.specs.Letters.{letter}
 use Rattle.kmip_ttlv_util.specs.Lines.{tag_part, typ_part}
-use Rattle.kmip_ttlv_util.specs.Undiag.{is_hex, type_of_letter, line, hidden, Step, reads_on, stops_with, close_step, value_step, data_step, type_step, letter_step, tag_step, digits_step, step, undiag_from, undiag_lines, undiag, Part, close_part, item_part, NoColon, StandsBehind, tag_in_front, typ_in_front, Stands, depth_behind, part_line, part_lines, unfinished, Longest, ReadsLongest}
+use Rattle.kmip_ttlv_util.specs.Letters.{is_hex, type_of_letter}
+use Rattle.kmip_ttlv_util.specs.Lines.{line, hidden}
+use Rattle.kmip_ttlv_util.specs.Undiag.{Step, reads_on, stops_with, close_step, value_step, data_step, type_step, letter_step, tag_step, digits_step, step, undiag_from, undiag_lines, undiag}
+use Rattle.kmip_ttlv_util.specs.ReadBack.{close_part, item_part}
+use Rattle.kmip_ttlv_util.specs.ReadBack.{Part, NoColon, StandsBehind, tag_in_front, typ_in_front, Stands, depth_behind, part_line, part_lines, unfinished, Longest, ReadsLongest}
 use Rattle.kmip_ttlv_util.proofs.Reading.{Shorter, step_shorter, lines_of}
 use Rattle.kmip_ttlv_util.proofs.ReadBack.{letter_back}
-
--- a letter is its type's
-letter_by : (c n : ℕ) (t u : TtlvType) (o : Option TtlvType) → letter u ≡ n → (o ≡ Some t → c ≡ letter t) → cond (eqb c n) (Some u) o ≡ Some t → c ≡ letter t
-letter_by c n t u o is more = by (eqb c n) refl
-  where
-    by : (b : Bool) → eqb c n ≡ b → cond b (Some u) o ≡ Some t → c ≡ letter t
-    by true e k = let same : u ≡ t = cc in eqb-true c n e ∙ sym is ∙ ap letter same
-    by false e k = more k
-
--- a type's letter is that letter
-letter_type : (c : ℕ) (t : TtlvType) → type_of_letter c ≡ Some t → c ≡ letter t
-letter_type c t = letter_by c 91 t Structure _ refl (letter_by c 105 t Integer _ refl (letter_by c 108 t LongInteger _ refl (letter_by c 73 t BigInteger _ refl (letter_by c 101 t Enumeration _ refl (letter_by c 98 t Boolean _ refl (letter_by c 116 t TextString _ refl (letter_by c 111 t ByteString _ refl (letter_by c 100 t DateTime _ refl (letter_by c 110 t Interval None refl (λ k. absurd cc))))))))))
+use Rattle.kmip_ttlv_util.proofs.Letters.{letter_type}
 
 -- ---- a value before a colon
 

@@ -5,7 +5,7 @@ use Rattle.std.specs.Option.{option_map}
 use Rattle.std.specs.List.{AllZip}
 use Rattle.std.specs.HashMap.{IsClone}
 use Rattle.std.specs.Map.{lookup}
-use Rattle.kmip_ttlv_util.specs.Names.{NameMap, name_in}
+use Rattle.kmip_ttlv_util.specs.TagNames.{NameMap, name_in}
 
 -- equal entries make equal lists
 entries_same : (xs ys : List (ℕ × Bor (List ℕ))) → AllZip (λ p q. (q.0 ≡ p.0) × (q.1 ≡ p.1)) xs ys → ys ≡ xs

@@ -15,7 +15,8 @@ use Rattle.kmip_ttlv_util.specs.Outlines.{IsKept, IsOutline, AreOutlines, value_
 use Rattle.kmip_ttlv_util.specs.Traces.{entry_at, kept, detail_of, trace}
 use Rattle.kmip_ttlv_util.specs.Diagnostics.{diag_style, hostile}
 use Rattle.kmip_ttlv_util.specs.declared.item.Item.{Item}
-use Rattle.kmip_ttlv_util.specs.Answer.{IsExact, IsItem}
+use Rattle.kmip_ttlv_util.specs.PrintAnswers.{IsExact}
+use Rattle.kmip_ttlv_util.specs.Walks.{IsItem}
 use Rattle.kmip_ttlv_util.proofs.Unique.{diag_one}
 use Rattle.kmip_ttlv_types.proofs.PlaceLemmas.{raw_with, header_of}
 use Rattle.kmip_ttlv_util.proofs.Entries.{kept_enumeration}

@@ -6,7 +6,9 @@ use Rattle.std.proofs.lemmas.Bool.{ne_eqb}
 use Rattle.kmip_ttlv_types.specs.declared.typ.TtlvType.{TtlvType}
 use Rattle.kmip_ttlv_types.specs.declared.typ.TtlvType.TheVariants.{Structure, Integer, LongInteger, BigInteger, Enumeration, Boolean, TextString, ByteString, DateTime, Interval}
 use Rattle.kmip_ttlv_types.specs.Names.{tag_of}
-use Rattle.kmip_ttlv_util.specs.Undiag.{is_hex, type_of_letter, with_rest, front_type, front_value, line, hidden, Step, reads_on, stops_with, close_step, data_step, type_step, letter_step, tag_step, step, Reads}
+use Rattle.kmip_ttlv_util.specs.Letters.{is_hex, type_of_letter}
+use Rattle.kmip_ttlv_util.specs.Undiag.{with_rest, front_type, front_value, Step, reads_on, stops_with, close_step, data_step, type_step, letter_step, tag_step, step, Reads}
+use Rattle.kmip_ttlv_util.specs.Lines.{line, hidden}
 use Rattle.kmip_ttlv_util.specs.Lines.{tag_part, typ_part}
 
 module _ (names : ℕ → Option (List ℕ)) where

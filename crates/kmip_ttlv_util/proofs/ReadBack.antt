@@ -13,8 +13,13 @@ use Rattle.kmip_ttlv_types.specs.declared.typ.TtlvType.{TtlvType}
 use Rattle.kmip_ttlv_types.specs.declared.typ.TtlvType.TheVariants.{Structure, Integer, LongInteger, BigInteger, Enumeration, Boolean, TextString, ByteString, DateTime, Interval}
 use Rattle.kmip_ttlv_types.specs.Names.{tag_of, number, numeral, without_0x, all_digits, below_tag_limit}
 use Rattle.kmip_ttlv_types.specs.Digits.{six_digits}
-use Rattle.kmip_ttlv_util.specs.Outlines.{Outline, Outlines, leaf_outline, node_outline, no_outlines, outline, IsKept, IsOutline, AreOutlines, hex_upper, stripped, letter, value_text, mark, diag, diag_all}
-use Rattle.kmip_ttlv_util.specs.Undiag.{is_hex, type_of_letter, reads_on, line, value_step, data_step, tag_step, digits_step, step, undiag_from, undiag_lines, shown, lines, lines_all, Begins, AllBegin, AllsBegin}
+use Rattle.kmip_ttlv_util.specs.Outlines.{Outline, Outlines, leaf_outline, node_outline, no_outlines, outline, IsKept, IsOutline, AreOutlines, hex_upper, stripped, value_text, mark, diag, diag_all}
+use Rattle.kmip_ttlv_util.specs.Letters.{letter}
+use Rattle.kmip_ttlv_util.specs.Letters.{is_hex, type_of_letter}
+use Rattle.kmip_ttlv_util.specs.Undiag.{reads_on, value_step, data_step, tag_step, digits_step, step, undiag_from, undiag_lines}
+use Rattle.kmip_ttlv_util.specs.ReadBack.{lines_all}
+use Rattle.kmip_ttlv_util.specs.Lines.{line}
+use Rattle.kmip_ttlv_util.specs.ReadBack.{shown, lines, Begins, AllBegin, AllsBegin}
 use Rattle.kmip_ttlv_util.proofs.Texts.{stripped_some}
 use Rattle.kmip_ttlv_util.proofs.Unique.{AllDigits, hex_digits, glyph_digit, step_1, step_2, step_3, step_4, step_5, step_6}
 

@@ -6,7 +6,8 @@ use Rattle.std.proofs.lemmas.List.{length-drop}
 use Rattle.kmip_ttlv_types.specs.declared.typ.TtlvType.{TtlvType}
 use Rattle.kmip_ttlv_types.specs.declared.typ.TtlvType.TheVariants.{Structure, Integer, LongInteger, BigInteger, Enumeration, Boolean, TextString, ByteString, DateTime, Interval}
 use Rattle.kmip_ttlv_types.specs.Names.{tag_of}
-use Rattle.kmip_ttlv_util.specs.Undiag.{is_hex, type_of_letter, Step, reads_on, stops_with, close_step, data_step, type_step, letter_step, tag_step, step, written_by, undiag_from, undiag_lines, undiag, Reads}
+use Rattle.kmip_ttlv_util.specs.Letters.{is_hex, type_of_letter}
+use Rattle.kmip_ttlv_util.specs.Undiag.{Step, reads_on, stops_with, close_step, data_step, type_step, letter_step, tag_step, step, written_by, undiag_from, undiag_lines, undiag, Reads}
 
 module _ (names : ℕ → Option (List ℕ)) where
   -- what is written, with the lines that are left

@@ -13,7 +13,10 @@ use Rattle.kmip_ttlv_types.specs.declared.typ.TtlvType.{TtlvType}
 use Rattle.kmip_ttlv_types.specs.declared.typ.TtlvType.TheVariants.{Structure, Integer, LongInteger, BigInteger, Enumeration, Boolean, TextString, ByteString, DateTime, Interval}
 use Rattle.kmip_ttlv_util.specs.Outlines.{Outline, Outlines, leaf_outline, node_outline, no_outlines, outline, IsKept, IsOutline, AreOutlines, hex_upper}
 use Rattle.kmip_ttlv_util.specs.Lines.{typ_part}
-use Rattle.kmip_ttlv_util.specs.Undiag.{line, hidden, shown, lines, lines_all, undiag, undiag_lines, NoneEmpty, AllNoneEmpty, IsReadBack}
+use Rattle.kmip_ttlv_util.specs.Lines.{line, hidden}
+use Rattle.kmip_ttlv_util.specs.ReadBack.{shown, lines, NoneEmpty, AllNoneEmpty, IsReadBack}
+use Rattle.kmip_ttlv_util.specs.Undiag.{undiag, undiag_lines}
+use Rattle.kmip_ttlv_util.specs.ReadBack.{lines_all}
 use Rattle.kmip_ttlv_util.proofs.ReadBack.{undiag_message, hex_some}
 
 -- ---- a visible character before a line feed

@@ -13,7 +13,8 @@ use Rattle.std.proofs.lemmas.Bool.Decides.{Decides-eqb}
 use Rattle.kmip_ttlv_types.specs.declared.typ.TtlvType.{TtlvType}
 use Rattle.kmip_ttlv_types.specs.declared.typ.TtlvType.TheVariants.{Structure, Integer, LongInteger, BigInteger, Enumeration, Boolean, TextString, ByteString, DateTime, Interval}
 use Rattle.kmip_ttlv_types.specs.Digits.{six_digits}
-use Rattle.kmip_ttlv_util.specs.Outlines.{Outline, Outlines, leaf_outline, node_outline, no_outlines, outline, IsKept, IsOutline, AreOutlines, hex_upper, stripped, letter, value_text, mark, diag, diag_all}
+use Rattle.kmip_ttlv_util.specs.Outlines.{Outline, Outlines, leaf_outline, node_outline, no_outlines, outline, IsKept, IsOutline, AreOutlines, hex_upper, stripped, value_text, mark, diag, diag_all}
+use Rattle.kmip_ttlv_util.specs.Letters.{letter}
 
 -- a digit of upper case hexadecimal: no letter, no bracket and no colon
 abbrev pub IsDigit : ℕ → Type 0

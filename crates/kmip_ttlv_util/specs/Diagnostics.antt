@@ -12,9 +12,9 @@ exceeded = codes "\nERROR: TTLV structure content exceeds the structure length."
 abbrev pub diag_style : List ℕ → Style
 diag_style prefix = record {
   item = λ depth p x t. mark prefix (tag_at x.header 0) t (kept t x.detail);
-  close = 93 ∷ [];
+  close = codes "]";
   passed = exceeded;
-  unreadable = 69 ∷ 82 ∷ 82 ∷ [];
+  unreadable = codes "ERR";
 }
 
 -- the diagnostic of bytes, from how many there are and from their trace

@@ -1,10 +1,13 @@
+pub mod Letters
 pub mod Outlines
 pub mod Traces
 pub mod Diagnostics
-pub mod Answer
+pub mod PrintAnswers
+pub mod Walks
 pub mod Lending
 pub mod Lines
-pub mod Names
+pub mod TagNames
 pub mod Pretty
 pub mod Printers
+pub mod ReadBack
 pub mod Undiag

@@ -10,7 +10,7 @@ at_least width digits = replicate (width - length digits) 48 ++ digits
 
 -- `0x` and at least so many digits
 abbrev pub hex_padded : ℕ → ℕ → List ℕ
-hex_padded width n = 48 ∷ 120 ∷ at_least width (hex_upper n)
+hex_padded width n = codes "0x" ++ at_least width (hex_upper n)
 
 -- two spaces a level
 abbrev pub indent : ℕ → List ℕ
@@ -29,3 +29,11 @@ tag_part names depth tag = indent depth ++ (codes "Tag: " ++ tag_named (names ta
 -- and up to the type
 abbrev pub typ_part : (ℕ → Option (List ℕ)) → ℕ → ℕ → TtlvType → List ℕ
 typ_part names depth tag typ = tag_part names depth tag ++ (codes ", Type: " ++ type_text typ)
+
+-- a whole line, with its data
+unfoldable pub line : (ℕ → Option (List ℕ)) → ℕ → ℕ → TtlvType → List ℕ → List ℕ
+line names depth tag typ shown = typ_part names depth tag typ ++ (codes ", Data: " ++ (shown ++ (10 ∷ [])))
+
+-- what stands for a value that is not told
+abbrev pub hidden : List ℕ
+hidden = codes "<redacted>"

@@ -1,11 +1,12 @@
 -- Outlines of messages: what a diagnostic tells, and its text.
-use Rattle.std.specs.Prelude.{ℕ, ◌^◌, ◌<◌, List, [], ◌∷◌, ◌++◌, length, drop, true, if◌then◌else◌, Option, Some, None, nat_eq}
+use Rattle.std.specs.Prelude.{ℕ, ◌^◌, ◌<◌, List, [], ◌∷◌, ◌++◌, length, drop, true, if◌then◌else◌, Option, Some, None, nat_eq, codes}
 use Rattle.std.specs.List.{starts_with}
 use Rattle.std.specs.Int.{w32, from_be_bytes}
 use Rattle.std.specs.Fmt.{digits}
 use Rattle.kmip_ttlv_types.specs.Digits.{six_digits}
 use Rattle.kmip_ttlv_types.specs.declared.typ.TtlvType.{TtlvType}
-use Rattle.kmip_ttlv_types.specs.declared.typ.TtlvType.TheVariants.{Structure, Integer, LongInteger, BigInteger, Enumeration, Boolean, TextString, ByteString, DateTime, Interval}
+use Rattle.kmip_ttlv_types.specs.declared.typ.TtlvType.TheVariants.{Structure, Enumeration}
+use Rattle.kmip_ttlv_util.specs.Letters.{letter}
 use Rattle.kmip_ttlv_types.specs.Trees.{Tree, Trees, leaf, node, no_trees, tree}
 
 mutual
@@ -60,23 +61,10 @@ hex_upper n = digits 16 true n
 abbrev pub stripped : List ℕ → List ℕ → List ℕ
 stripped prefix text = if starts_with nat_eq text prefix then drop (length prefix) text else text
 
--- a type's letter: il I e b t o d n, and [ of a structure
-abbrev pub letter : TtlvType → ℕ
-letter Structure = 91
-letter Integer = 105
-letter LongInteger = 108
-letter BigInteger = 73
-letter Enumeration = 101
-letter Boolean = 98
-letter TextString = 116
-letter ByteString = 111
-letter DateTime = 100
-letter Interval = 110
-
 -- a value and `:`
 abbrev pub value_text : Option ℕ → List ℕ
 value_text None = []
-value_text (Some n) = hex_upper n ++ (58 ∷ [])
+value_text (Some n) = hex_upper n ++ codes ":"
 
 -- a leaf, or the opening of a structure
 unfoldable pub mark : List ℕ → ℕ → TtlvType → Option ℕ → List ℕ
@@ -86,7 +74,7 @@ mark prefix tag typ value = stripped prefix (six_digits tag) ++ (letter typ ∷ 
 abbrev mutual
   pub diag : List ℕ → Outline → List ℕ
   diag prefix (leaf_outline tag typ value) = mark prefix tag typ value
-  diag prefix (node_outline tag below) = mark prefix tag Structure None ++ (diag_all prefix below ++ (93 ∷ []))
+  diag prefix (node_outline tag below) = mark prefix tag Structure None ++ (diag_all prefix below ++ codes "]")
 
   pub diag_all : List ℕ → Outlines → List ℕ
   diag_all prefix no_outlines = []

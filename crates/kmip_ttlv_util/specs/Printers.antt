@@ -1,6 +1,6 @@
 -- What a printer holds.
 use Rattle.std.specs.Prelude.{ℕ, Bool, List, Option, string_bytes}
-use Rattle.kmip_ttlv_util.specs.Names.{name_in}
+use Rattle.kmip_ttlv_util.specs.TagNames.{name_in}
 use Rattle.kmip_ttlv_util.specs.declared.printer.PrettyPrinter.{PrettyPrinter}
 
 -- the prefix that is left out of tags in diagnostics

@@ -3,7 +3,8 @@
 ghost use Rattle.std.specs.Prelude.{◌≡◌, ℕ, ◌+◌, ◌/◌, ◌<◌, ◌≤◌, ◌^◌, ◌++◌, ◌∷◌, List, [], length, IfOk, OnOk, IfSome, string_bytes};
 ghost use Rattle.std.specs.Prelude.{true};
 ghost use Rattle.kmip_ttlv_types.specs.Digits.{six_digits};
-ghost use Rattle.kmip_ttlv_util.specs.Outlines.{stripped, letter, value_text, mark};
+ghost use Rattle.kmip_ttlv_util.specs.Outlines.{stripped, value_text, mark};
+ghost use Rattle.kmip_ttlv_util.specs.Letters.{letter};
 ghost use Rattle.kmip_ttlv_util.specs.Traces.{trace};
 ghost use Rattle.kmip_ttlv_util.specs.Diagnostics.{hostile};
 

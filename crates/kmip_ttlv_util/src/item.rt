@@ -7,7 +7,7 @@ ghost use Rattle.kmip_ttlv_types.specs.ItemTypes.{code, padding, type_of};
 ghost use Rattle.kmip_ttlv_types.specs.Leaves.{is_valid};
 ghost use Rattle.kmip_ttlv_types.specs.Places.{tag_at, code_at, length_at, size};
 ghost use Rattle.kmip_ttlv_util.specs.Traces.{entry_at, type_read};
-ghost use Rattle.kmip_ttlv_util.specs.Answer.{IsItem};
+ghost use Rattle.kmip_ttlv_util.specs.Walks.{IsItem};
 
 use kmip_ttlv_types::{TtlvTag, TtlvType};
 use std::str;

@@ -1,6 +1,7 @@
 //! Laws of the definitions that the printers' contracts cite, each on a function without a body.
 
-ghost use Rattle.kmip_ttlv_util.specs.Answer.{TellsOutlines, HasOneOutline};
+ghost use Rattle.kmip_ttlv_util.specs.Letters.{LettersTellTypes};
+ghost use Rattle.kmip_ttlv_util.specs.PrintAnswers.{TellsOutlines, HasOneOutline};
 
 /// Two well-formed messages, without empty structures unless these are closed, have equal
 /// diagnostics exactly if their outlines are equal: tags, types, nesting and enumeration values.
@@ -12,4 +13,9 @@ pub fn diagnostics_tell_outlines()
 /// diagnostics are equal, also where no message has them.
 pub fn a_diagnostic_has_one_outline()
     ensures { HasOneOutline }
+{}
+
+/// Each type has a letter of its own in diagnostics, and no other character is one.
+pub fn letters_tell_types()
+    ensures { LettersTellTypes }
 {}

@@ -3,7 +3,7 @@
 ghost use Rattle.std.specs.Prelude.{◌≡◌, ℕ, ◌++◌, OnOk, codes, string_bytes};
 ghost use Rattle.kmip_ttlv_types.specs.TypeTexts.{type_text};
 ghost use Rattle.kmip_ttlv_util.specs.Lines.{indent, hex_padded, tag_named, tag_part, typ_part};
-ghost use Rattle.kmip_ttlv_util.specs.Names.{name_in};
+ghost use Rattle.kmip_ttlv_util.specs.TagNames.{name_in};
 
 use kmip_ttlv_types::{TtlvTag, TtlvType};
 use std::alloc::{AllocError, Allocator, Global};

@@ -8,7 +8,7 @@ ghost use Rattle.std.specs.Str.{IsUtf8};
 ghost use Rattle.kmip_ttlv_types.specs.declared.typ.TtlvType.TheVariants.{Structure as TheStructure};
 ghost use Rattle.kmip_ttlv_types.specs.Leaves.{is_valid};
 ghost use Rattle.kmip_ttlv_util.specs.Lines.{hex_padded};
-ghost use Rattle.kmip_ttlv_util.specs.Names.{name_in};
+ghost use Rattle.kmip_ttlv_util.specs.TagNames.{name_in};
 ghost use Rattle.kmip_ttlv_util.specs.Pretty.{bracketed, two_digits, hex_bytes, value_shown, data_shown, pretty_line, warning, IsPrinted};
 
 use crate::diagnostic::EXCEEDED;

@@ -4,11 +4,12 @@ ghost use Rattle.std.specs.Prelude.{◌≡◌, ℕ, ◌+◌, ◌/◌, ◌≤◌,
 ghost use Rattle.std.specs.Borrow.{sem};
 ghost use Rattle.kmip_ttlv_util.specs.Traces.{trace};
 ghost use Rattle.kmip_ttlv_util.specs.Diagnostics.{hostile};
-ghost use Rattle.kmip_ttlv_util.specs.Answer.{IsExact};
+ghost use Rattle.kmip_ttlv_util.specs.PrintAnswers.{IsExact};
 ghost use Rattle.kmip_ttlv_util.specs.Pretty.{IsPrinted, IsPretty};
 ghost use Rattle.kmip_ttlv_util.specs.Printers.{prefix_of, names_of, closes_empty};
-ghost use Rattle.kmip_ttlv_util.specs.Names.{name_in, no_names};
-ghost use Rattle.kmip_ttlv_util.specs.Undiag.{undiag, ReadsLongest, IsReadBack};
+ghost use Rattle.kmip_ttlv_util.specs.TagNames.{name_in, no_names};
+ghost use Rattle.kmip_ttlv_util.specs.Undiag.{undiag};
+ghost use Rattle.kmip_ttlv_util.specs.ReadBack.{ReadsLongest, IsReadBack};
 
 use crate::diagnostic::diagnose;
 use crate::lines::TagMap;

@@ -5,8 +5,9 @@ ghost use Rattle.std.specs.List.{prefix_len};
 ghost use Rattle.std.specs.Str.{IsUtf8};
 ghost use Rattle.kmip_ttlv_types.specs.Names.{tag_of};
 ghost use Rattle.kmip_ttlv_util.specs.Lines.{typ_part};
-ghost use Rattle.kmip_ttlv_util.specs.Names.{name_in};
-ghost use Rattle.kmip_ttlv_util.specs.Undiag.{is_hex, type_of_letter, front_type, front_value, data_step, step, Reads, undiag, undiag_lines};
+ghost use Rattle.kmip_ttlv_util.specs.TagNames.{name_in};
+ghost use Rattle.kmip_ttlv_util.specs.Letters.{is_hex, type_of_letter};
+ghost use Rattle.kmip_ttlv_util.specs.Undiag.{front_type, front_value, data_step, step, Reads, undiag, undiag_lines};
 
 use crate::lines::{TagMap, push_tag_part, push_type_part};
 use kmip_ttlv_types::{TtlvTag, TtlvType};

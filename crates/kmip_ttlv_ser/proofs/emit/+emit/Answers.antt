@@ -7,7 +7,7 @@ use Rattle.kmip_ttlv_types.specs.Trees.{bytes_all}
 use Rattle.kmip_ttlv_base.specs.declared.shape.Data.{the_lemmas}
 use Rattle.kmip_ttlv_base.specs.Values.{view, views, no_values, value, newtype_value, newtype_variant_value}
 use Rattle.kmip_ttlv_ser.specs.declared.held.Held.TheVariants.{Nothing, Plain}
-use Rattle.kmip_ttlv_ser.specs.Items.{one_structure, items, items_in, held_after, held_over, without_override, is_wrapper, take_tag}
+use Rattle.kmip_ttlv_ser.specs.WrittenItems.{one_structure, items, items_in, held_after, held_over, without_override, is_wrapper, take_tag}
 use Rattle.kmip_ttlv_ser.specs.Passes.{Planned, Emitted}
 use Rattle.kmip_ttlv_base.proofs.Views.{view-Struct, view-TupleVariant}
 use Rattle.kmip_ttlv_ser.proofs.Emitting.{at_emitted, structure_room, structure_rest, structure_emitted, unwrapped_plan, wrapped_emitted, transparent_items, wrapper_items, Emitting, emitting_start, emitting_end, emitted_len, loop_plan, loop_emit}

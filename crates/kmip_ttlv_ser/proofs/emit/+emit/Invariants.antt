@@ -1,6 +1,6 @@
 use Rattle.std.proofs.Common.{drop, length, ◌-◌, ◌≤◌, vec_capacity, vec_len}
 use Rattle.kmip_ttlv_base.specs.Values.{views}
-use Rattle.kmip_ttlv_ser.specs.Items.{items_in, held_after}
+use Rattle.kmip_ttlv_ser.specs.WrittenItems.{items_in, held_after}
 use Rattle.kmip_ttlv_ser.proofs.Emitting.{Emitting}
 use Rattle.kmip_ttlv_ser.proofs.emit.+emit.Given as goal
 

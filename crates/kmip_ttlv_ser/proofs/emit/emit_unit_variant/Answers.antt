@@ -3,7 +3,7 @@ use Rattle.std.specs.Int.{w32, to_be_bytes}
 use Rattle.kmip_ttlv_types.specs.declared.typ.TtlvType.TheVariants.{Enumeration}
 use Rattle.kmip_ttlv_base.specs.Values.{unit_variant_value}
 use Rattle.kmip_ttlv_ser.specs.declared.held.Held.TheVariants.{Plain}
-use Rattle.kmip_ttlv_ser.specs.Items.{one_leaf, items, take_tag}
+use Rattle.kmip_ttlv_ser.specs.WrittenItems.{one_leaf, items, take_tag}
 use Rattle.kmip_ttlv_ser.specs.Passes.{Planned, Emitted}
 use Rattle.kmip_ttlv_ser.proofs.Emitting.{at_plan, at_emitted, unplanned, unit_items, unit_no_items}
 use Rattle.kmip_ttlv_ser.proofs.emit.emit_unit_variant.Goals as goal

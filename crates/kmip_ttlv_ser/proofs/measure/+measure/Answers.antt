@@ -6,7 +6,7 @@ use Rattle.kmip_ttlv_types.specs.ItemTypes.{pad_len}
 use Rattle.kmip_ttlv_types.specs.Primitives.{sign_extended}
 use Rattle.kmip_ttlv_base.specs.Values.{view, views, no_values, value, boolean_value, i8_value, i16_value, i32_value, u32_value, i64_value, u64_value, interval_value, text_value, bytes_value, big_integer_value, unit_variant_value}
 use Rattle.kmip_ttlv_ser.specs.declared.held.Held.TheVariants.{Nothing}
-use Rattle.kmip_ttlv_ser.specs.Items.{◌>>=◌, take_tag, some_item, one_leaf, one_structure, items, items_in}
+use Rattle.kmip_ttlv_ser.specs.WrittenItems.{◌>>=◌, take_tag, some_item, one_leaf, one_structure, items, items_in}
 use Rattle.kmip_ttlv_ser.specs.Faults.{no_tag, fault_at, inside, within, structure_fault, fault, fault_in}
 use Rattle.kmip_ttlv_ser.specs.Lengths.{HasLongLeaf, HaveLongLeaf, HasLongStructure, HaveLongStructure, IsLongContent, content_start, structure_long}
 use Rattle.kmip_ttlv_ser.specs.Passes.{Measured, MeasuresValue, MeasuresValues}

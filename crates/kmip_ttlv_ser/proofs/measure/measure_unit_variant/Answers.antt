@@ -3,7 +3,7 @@ use Rattle.std.specs.Int.{w32, to_be_bytes}
 use Rattle.kmip_ttlv_types.specs.declared.typ.TtlvType.TheVariants.{Enumeration}
 use Rattle.kmip_ttlv_types.specs.Names.{number}
 use Rattle.kmip_ttlv_ser.specs.declared.held.Held.TheVariants.{Plain}
-use Rattle.kmip_ttlv_ser.specs.Items.{take_tag}
+use Rattle.kmip_ttlv_ser.specs.WrittenItems.{take_tag}
 use Rattle.kmip_ttlv_ser.specs.Faults.{no_tag, fault_at}
 use Rattle.kmip_ttlv_ser.proofs.Measuring.{none_of, some_of, unit_refused, unit_measured}
 use Rattle.kmip_ttlv_ser.proofs.measure.measure_unit_variant.Goals as goal

@@ -2,9 +2,9 @@ use Rattle.std.proofs.Common.{◌≡◌, ◌-◌, [], length, vec_len, vec_capac
 use Rattle.kmip_ttlv_base.specs.Values.{view}
 use Rattle.kmip_ttlv_ser.specs.declared.held.Held.TheVariants.{Nothing}
 use Rattle.kmip_ttlv_ser.specs.declared.held.Place.{Place}
-use Rattle.kmip_ttlv_ser.specs.Items.{items}
+use Rattle.kmip_ttlv_ser.specs.WrittenItems.{items}
 use Rattle.kmip_ttlv_ser.specs.Passes.{Measured, Emitted}
-use Rattle.kmip_ttlv_ser.specs.Answers.{Refuses}
+use Rattle.kmip_ttlv_ser.specs.WriteAnswers.{Refuses}
 use Rattle.kmip_ttlv_ser.proofs.Leaves.{place_len}
 use Rattle.kmip_ttlv_ser.proofs.Refusing.{refused, planned_by, appended}
 use Rattle.kmip_ttlv_ser.proofs.serializer.append.Goals as goal

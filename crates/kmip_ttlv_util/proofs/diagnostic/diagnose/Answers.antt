@@ -3,7 +3,7 @@ use Rattle.std.specs.Prelude.{string_bytes, reverse}
 use Rattle.kmip_ttlv_util.specs.Traces.{Place, type_read, entry_at}
 use Rattle.kmip_ttlv_util.specs.Diagnostics.{diag_style, exceeded, hostile}
 use Rattle.kmip_ttlv_util.proofs.Message.{item_mark}
-use Rattle.kmip_ttlv_util.specs.Answer.{place_of, Ready}
+use Rattle.kmip_ttlv_util.specs.Walks.{place_of, Ready}
 use Rattle.kmip_ttlv_util.proofs.Loop.{Walking, smaller, walking_start, walking_reads, walking_unreadable, walking_closes, walking_over, walking_past}
 use Rattle.kmip_ttlv_util.proofs.diagnostic.diagnose.Goals as goal
 

@@ -1,7 +1,7 @@
 use Rattle.std.proofs.Common.{◌+◌, ◌-◌, ◌*◌, length}
 use Rattle.std.specs.Prelude.{string_bytes}
 use Rattle.kmip_ttlv_util.specs.Diagnostics.{diag_style}
-use Rattle.kmip_ttlv_util.specs.Answer.{place_of}
+use Rattle.kmip_ttlv_util.specs.Walks.{place_of}
 use Rattle.kmip_ttlv_util.proofs.Loop.{Walking}
 use Rattle.kmip_ttlv_util.proofs.diagnostic.diagnose.Given as goal
 

@@ -1,7 +1,8 @@
 use Rattle.std.proofs.Common.{◌≡◌, ℕ, List, [], ◌++◌, ◌∷◌, ◌∙◌, append_assoc}
 use Rattle.std.specs.Prelude.{string_bytes}
 use Rattle.kmip_ttlv_types.specs.Digits.{six_digits}
-use Rattle.kmip_ttlv_util.specs.Outlines.{mark, letter, value_text, stripped}
+use Rattle.kmip_ttlv_util.specs.Outlines.{mark, value_text, stripped}
+use Rattle.kmip_ttlv_util.specs.Letters.{letter}
 use Rattle.kmip_ttlv_util.proofs.diagnostic.push_mark.Goals as goal
 
 marked : (new b2 b1 old st en vt : List ℕ) (l m : ℕ) → new ≡ b2 ++ vt → b2 ≡ b1 ++ en → en ≡ l ∷ [] → b1 ≡ old ++ st → l ≡ m → new ≡ old ++ (st ++ (m ∷ vt))

@@ -4,9 +4,9 @@ use Rattle.std.specs.Fmt.{decimal}
 use Rattle.std.proofs.lemmas.List.{length-reverse}
 use Rattle.kmip_ttlv_util.specs.Traces.{Place, type_read, entry_at}
 use Rattle.kmip_ttlv_util.specs.Diagnostics.{exceeded}
-use Rattle.kmip_ttlv_util.specs.Names.{name_in}
+use Rattle.kmip_ttlv_util.specs.TagNames.{name_in}
 use Rattle.kmip_ttlv_util.specs.Pretty.{pretty_style, pretty_line, warning}
-use Rattle.kmip_ttlv_util.specs.Answer.{place_of, Ready}
+use Rattle.kmip_ttlv_util.specs.Walks.{place_of, Ready}
 use Rattle.kmip_ttlv_util.proofs.Loop.{Walking, smaller, walking_start, walking_reads, walking_unreadable, walking_closes, walking_over, walking_past}
 use Rattle.kmip_ttlv_util.proofs.PrettyTexts.{item_line}
 use Rattle.kmip_ttlv_util.proofs.pretty.print.Goals as goal

@@ -1,7 +1,7 @@
 use Rattle.std.proofs.Common.{ℕ, ◌+◌, ◌-◌, ◌*◌, List, length}
 use Rattle.std.specs.Prelude.{string_bytes}
-use Rattle.kmip_ttlv_util.specs.Answer.{place_of}
-use Rattle.kmip_ttlv_util.specs.Names.{name_in}
+use Rattle.kmip_ttlv_util.specs.Walks.{place_of}
+use Rattle.kmip_ttlv_util.specs.TagNames.{name_in}
 use Rattle.kmip_ttlv_util.specs.Pretty.{pretty_style}
 use Rattle.kmip_ttlv_util.proofs.Loop.{Walking}
 use Rattle.kmip_ttlv_util.proofs.pretty.print.Given as goal

@@ -1,6 +1,6 @@
 use Rattle.std.proofs.Common.{◌≡◌, ◌+◌, ◌-◌, ◌≤◌, length, drop}
 use Rattle.std.specs.List.{prefix_len}
-use Rattle.kmip_ttlv_util.specs.Undiag.{is_hex}
+use Rattle.kmip_ttlv_util.specs.Letters.{is_hex}
 use Rattle.kmip_ttlv_util.proofs.undiag.digits_len.Given as goal
 
 abbrev pub invariant-loop-n : goal.invariant-loop-n

@@ -2,7 +2,7 @@ use Rattle.std.proofs.Common.{rules, ℕ, Bor, List, Option, ap, subst, ◌∙�
 use Rattle.std.specs.Prelude.{string_bytes}
 use Rattle.std.specs.Str.{IsUtf8, trim_end}
 use Rattle.kmip_ttlv_util.specs.Undiag.{step, Reads}
-use Rattle.kmip_ttlv_util.specs.Names.{name_in}
+use Rattle.kmip_ttlv_util.specs.TagNames.{name_in}
 use Rattle.std.proofs.lemmas.Str.{IsUtf8-string_bytes}
 use Rattle.kmip_ttlv_util.proofs.Reading.{reading_goes, reading_stops, trimmed, whole}
 use Rattle.kmip_ttlv_util.proofs.undiag.read_back.Goals as goal

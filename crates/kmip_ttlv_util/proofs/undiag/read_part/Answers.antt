@@ -4,9 +4,10 @@ use Rattle.std.specs.List.{prefix_len}
 use Rattle.std.proofs.lemmas.Bool.{eqb-true, eqb-false}
 use Rattle.std.proofs.lemmas.Str.Pattern.{strip_prefix_char}
 use Rattle.kmip_ttlv_types.specs.Names.{tag_of}
-use Rattle.kmip_ttlv_util.specs.Undiag.{is_hex, Step, step, data_step, front_type, Reads}
+use Rattle.kmip_ttlv_util.specs.Letters.{is_hex}
+use Rattle.kmip_ttlv_util.specs.Undiag.{Step, step, data_step, front_type, Reads}
 use Rattle.kmip_ttlv_util.specs.Lines.{tag_part, typ_part}
-use Rattle.kmip_ttlv_util.specs.Names.{name_in}
+use Rattle.kmip_ttlv_util.specs.TagNames.{name_in}
 use Rattle.kmip_ttlv_types.specs.TypeTexts.{type_text}
 use Rattle.kmip_ttlv_util.proofs.Parts.{reads_nothing, reads_last_close, reads_close, reads_stop, tag_is, letter_is, letter_none}
 use Rattle.kmip_ttlv_util.proofs.undiag.read_part.Goals as goal

@@ -9,8 +9,8 @@ use Rattle.kmip_ttlv_base.specs.Forms.{Form, enum, Variants}
 use Rattle.kmip_ttlv_base.specs.Values.{Value, unit_variant_value}
 use Rattle.kmip_ttlv_ser.specs.declared.held.Held.{Held}
 use Rattle.kmip_ttlv_ser.specs.declared.held.Held.TheVariants.{Nothing, Plain}
-use Rattle.kmip_ttlv_ser.specs.Answers.{IsWrittenAs}
-use Rattle.kmip_ttlv_ser.specs.Items.{items, take_tag}
+use Rattle.kmip_ttlv_ser.specs.WriteAnswers.{IsWrittenAs}
+use Rattle.kmip_ttlv_ser.specs.WrittenItems.{items, take_tag}
 use Rattle.kmip_ttlv_de.specs.Answer.{RefusesAs, other}
 use Rattle.kmip_ttlv_de.specs.Keeps.{Keep}
 use Rattle.kmip_ttlv_de.specs.Reads.{Reads, Begins, is_root, with_leaf}

@@ -11,7 +11,7 @@ use Rattle.kmip_ttlv_base.specs.Values.{Value}
 use Rattle.kmip_ttlv_ser.specs.declared.held.Held.TheVariants.{Nothing}
 use Rattle.kmip_ttlv_ser.specs.declared.held.Place.{Place}
 use Rattle.kmip_ttlv_ser.specs.declared.serializer.TtlvSerializer.{TtlvSerializer}
-use Rattle.kmip_ttlv_ser.specs.Items.{items}
+use Rattle.kmip_ttlv_ser.specs.WrittenItems.{items}
 use Rattle.kmip_ttlv_ser.specs.Sizes.{FitsAfter}
 use Rattle.kmip_ttlv_ser.specs.Faults.{fault, opened_after}
 use Rattle.kmip_ttlv_ser.specs.Lengths.{IsLong}

@@ -1,16 +1,13 @@
--- What the printer's calls answer.
-use Rattle.std.specs.Prelude.{slice_index, EachIndex, ◌≡◌, ◌≢◌, ℕ, Bool, true, false, ◌+◌, ◌<◌, ◌≤◌, List, [], ◌∷◌, ◌↔◌, length, take, drop, reverse, Some}
+-- Words of the printers' inner calls: the item at a place, and where a walk stands.
+use Rattle.std.specs.Prelude.{◌≡◌, ◌≢◌, ℕ, true, false, ◌+◌, ◌<◌, ◌≤◌, List, [], ◌∷◌, length, take, drop, reverse, Some}
 use Rattle.kmip_ttlv_types.specs.declared.typ.TtlvType.TheVariants.{Structure}
 use Rattle.kmip_ttlv_types.specs.Leaves.{is_valid}
 use Rattle.kmip_ttlv_types.specs.Places.{tag_at, length_at}
-use Rattle.kmip_ttlv_types.specs.Trees.{Tree, IsTreeText, IsStructure, HasNoEmpty}
 use Rattle.kmip_ttlv_util.specs.declared.item.Item.{Item}
 use Rattle.kmip_ttlv_util.specs.declared.walk.Walk.{Walk}
 use Rattle.kmip_ttlv_util.specs.declared.walk.Next.{Next}
 use Rattle.kmip_ttlv_util.specs.declared.walk.Next.TheVariants.{Closes, Over, Past, Reads}
-use Rattle.kmip_ttlv_util.specs.Outlines.{Outline, IsOutline, diag, outline_of}
-use Rattle.kmip_ttlv_util.specs.Traces.{entry_at, type_read, Place, left_at, turn, entry_follows, kept, extent, trace}
-use Rattle.kmip_ttlv_util.specs.Diagnostics.{hostile}
+use Rattle.kmip_ttlv_util.specs.Traces.{entry_at, type_read, Place, left_at, turn, entry_follows, kept, extent}
 
 -- the item at a place is read
 pub record IsItem (bytes : List ℕ) (p : ℕ) (i : Item) : Type 0 where
@@ -53,22 +50,3 @@ Comes old new Closes = Closed old new
 Comes old new Over = old.ends ≡ old.pos ∷ []
 Comes old new Past = Passed old
 Comes old new Reads = (new ≡ old) × Ready old
-
--- the text of a message's outline, and of no other
-pub record Exact (prefix : List ℕ) (t : Tree) (text : List ℕ) : Type 0 where
-  pub is : text ≡ diag prefix (outline_of t)
-  pub only : (o : Outline) → IsOutline o → (text ≡ diag prefix o) ↔ (o ≡ outline_of t)
-
--- of a well-formed message, which has no empty structure unless these are closed
-abbrev pub IsExact : List ℕ → Bool → List ℕ → List ℕ → Type 0
-IsExact prefix closed bytes text = (t : Tree) → IsTreeText t bytes → IsStructure t → (closed ≡ false → HasNoEmpty t) → Exact prefix t text
-
--- two well-formed messages have equal diagnostics exactly if their outlines are equal
-abbrev pub TellsOutlines : Type 0
-TellsOutlines = (prefix : List ℕ) (closed : Bool) (a b : List ℕ) (t u : Tree) → EachIndex a (λ i. slice_index a i < 256) → EachIndex b (λ i. slice_index b i < 256)
-    → IsTreeText t a → IsTreeText u b → IsStructure t → IsStructure u → (closed ≡ false → HasNoEmpty t) → (closed ≡ false → HasNoEmpty u)
-    → (hostile prefix closed (length a) (trace closed a) ≡ hostile prefix closed (length b) (trace closed b)) ↔ (outline_of t ≡ outline_of u)
-
--- under one prefix, equal diagnostics are those of equal outlines
-abbrev pub HasOneOutline : Type 0
-HasOneOutline = (prefix : List ℕ) (o p : Outline) → IsOutline o → IsOutline p → diag prefix o ≡ diag prefix p → o ≡ p
