@@ -1,5 +1,5 @@
 -- Items that are ignored after the last field.
-use Rattle.std.proofs.Common.{◌≡◌, ◌≢◌, ℕ, ◌+◌, ◌<◌, ◌≤◌, Bool, true, false, cond, not, ◌&&◌, ◌||◌, List, [], ◌∷◌, ◌++◌, length, get_or, take, drop, None, refl, sym, ap, subst, ◌∙◌, arith}
+use Rattle.std.proofs.Common.{◌≡◌, ◌≢◌, ℕ, ◌+◌, ◌<◌, ◌≤◌, Bool, true, false, cond, not, ◌&&◌, ◌||◌, List, [], ◌∷◌, ◌++◌, length, get_or, take, drop, None, refl, sym, ap, subst, ◌∙◌, arith, ◌==◌, rules}
 use Rattle.kmip_ttlv_types.specs.ItemTypes.{code, is_structure}
 use Rattle.kmip_ttlv_types.specs.Items.{Raw}
 use Rattle.kmip_ttlv_types.specs.Leaves.{is_valid}
@@ -101,3 +101,7 @@ refused_cut fs deny b p e k r t n early lt typ len short = refused_end (rest_of 
 
 pub structure_leaf : (b : List ℕ) (p : ℕ) (t : TtlvType) (n q : ℕ) → t ≡ Structure → code_at b p ≡ code t → n ≡ length_at b p → q ≡ p + size t n → q ≤ length b → LeafAt b p Structure n (take n (drop (p + 8) b)) q
 structure_leaf b p t n q same typ len next le = record { typ_is = typ ∙ ap code same; len_is = len; content_is = refl; next_is = next ∙ ap (λ y. p + size y n) same; there = le }
+
+-- a length that is equal to 0 by the test
+pub empty_length : (n : ℕ) → true ≡ (n == 0) → n ≡ 0
+empty_length n e = search rules

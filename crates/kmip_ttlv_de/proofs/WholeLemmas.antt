@@ -6,11 +6,12 @@ use Rattle.kmip_ttlv_types.specs.Items.{Raw}
 use Rattle.kmip_ttlv_types.specs.Places.{ItemAt, ItemsAt, code_at, length_at, size}
 use Rattle.kmip_ttlv_types.specs.declared.typ.TtlvType.{TtlvType}
 use Rattle.kmip_ttlv_types.specs.declared.typ.TtlvType.TheVariants.{Structure}
+use Rattle.kmip_ttlv_base.specs.Forms.{Form}
 use Rattle.kmip_ttlv_base.specs.declared.error.Error.{Error}
 use Rattle.kmip_ttlv_de.proofs.Going.{content_items, items_then}
 use Rattle.kmip_ttlv_types.proofs.PlaceLemmas.{code_one, items_one}
 use Rattle.kmip_ttlv_de.specs.Answer.{Goes}
-use Rattle.kmip_ttlv_de.specs.Facts.{Cause, Facts, NotBefore, Says, place_of}
+use Rattle.kmip_ttlv_de.specs.Facts.{Facts, NotBefore, Says, place_of}
 use Rattle.kmip_ttlv_de.specs.Keeps.{Keep}
 use Rattle.kmip_ttlv_de.specs.Reading.{Got}
 use Rattle.kmip_ttlv_de.specs.Wholes.{AllDeep, AreWhole, Deep, leaf_item, more_deep, split_item}
@@ -57,8 +58,8 @@ whole_there b p e t lt typ w =
 
 -- ---- so an early end is refused nowhere
 
-pub early_says : {A : Type 0} (h : Cause → Bool) (b : List ℕ) (p e : ℕ) (r : Error A) → Facts h b r → (place_of r).offset ≡ None → (AreWhole b p e → ⊥) → Says h b p e r
-early_says h b p e r facts none never = record { facts = facts; late = subst (λ o. NotBefore p o) (sym none) tt; not_early = λ w s. never w }
+pub early_says : {A : Type 0} (f : Form) (b : List ℕ) (p e : ℕ) (r : Error A) → Facts f b r → (place_of r).offset ≡ None → (AreWhole b p e → ⊥) → Says f b p e r
+early_says f b p e r facts none never = record { facts = facts; late = subst (λ o. NotBefore p o) (sym none) tt; not_early = λ w s. never w }
 
 -- the header is cut
 pub early_header : (b : List ℕ) (p e : ℕ) → p < e → length b < p + 8 → AreWhole b p e → ⊥
