@@ -128,6 +128,7 @@ number_valid b s t number four x =
   where
     taken_length : (b : List ℕ) (s n : ℕ) → s + 8 + n ≤ length b → length (take n (drop (s + 8) b)) ≡ n
     taken_length b s n le = length-take-le n (drop (s + 8) b) (omega (arith, le, length-drop (s + 8) b))
+
     by_type : (t : TtlvType) → is_number_type t ≡ true → eqb (length (content_at b s)) 4 ≡ true → is_valid t (content_at b s) ≡ true
     by_type Integer e h = h
     by_type Enumeration e h = h

@@ -4,7 +4,7 @@ use Rattle.kmip_ttlv_types.specs.Items.{Raw}
 use Rattle.kmip_ttlv_types.specs.Places.{code_at, length_at, size, tag_at}
 use Rattle.kmip_ttlv_types.specs.ItemTypes.{code}
 use Rattle.kmip_ttlv_types.specs.declared.typ.TtlvType.{TtlvType}
-use Rattle.kmip_ttlv_base.specs.Forms.{Content, Fields, Form, Forms, content_of, enum, struct, fields_of, form_of, forms_of, seq, variants_of}
+use Rattle.kmip_ttlv_base.specs.Forms.{Fields, Form, Forms, content_of, enum, struct, fields_of, form_of, forms_of, seq, variants_of}
 use Rattle.kmip_ttlv_base.specs.declared.shape.FieldShape.{FieldShape}
 use Rattle.kmip_ttlv_base.specs.declared.shape.Shape.{Shape}
 use Rattle.kmip_ttlv_base.specs.declared.shape.VariantShape.{VariantShape}
@@ -13,7 +13,7 @@ use Rattle.kmip_ttlv_de.specs.Answer.{Goes}
 use Rattle.kmip_ttlv_de.specs.Facts.{GoesPast}
 use Rattle.kmip_ttlv_de.specs.Keeps.{Keep}
 use Rattle.kmip_ttlv_de.specs.Parts.{HasField, HasForm, first_field, first_form, later_field, later_form, variant_content}
-use Rattle.kmip_ttlv_de.specs.Places.{InContent, IsFieldItem, IsInside, IsItem, LeafAt, StructRead, TupleRead, IsLast, IsStructure, ItemMayBegin, GoesOnAt, Opens, PartAt, StructAt, WholeItems, first_item, first_of_seq, for_struct, for_tuple, in_field, in_newtype, in_option, in_tuple, in_variant, inner_item, later_of_seq, root, stated_end}
+use Rattle.kmip_ttlv_de.specs.Places.{InContent, IsFieldItem, IsInside, IsItem, LeafAt, StructRead, TupleRead, IsLast, IsStructure, ItemMayBegin, Opens, PartAt, StructAt, WholeItems, first_item, first_of_seq, for_struct, for_tuple, in_field, in_newtype, in_option, in_tuple, in_variant, inner_item, later_of_seq, root, stated_end}
 use Rattle.kmip_ttlv_de.specs.Reading.{Got}
 use Rattle.kmip_ttlv_de.specs.Reads.{is_root}
 

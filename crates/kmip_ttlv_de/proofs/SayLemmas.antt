@@ -1,12 +1,12 @@
 -- What refusals say, as readers hand them on.
-use Rattle.std.proofs.Common.{◌≡◌, ◌≢◌, ℕ, ◌+◌, ◌<◌, ◌≤◌, ◌⊎◌, inl, inr, Bool, true, false, List, [], length, Option, Some, None, refl, sym, ap, subst, ◌∙◌, arith, Result, Ok, Err, IfErr, IfOk, IsErrAnd}
+use Rattle.std.proofs.Common.{◌≡◌, ◌≢◌, ℕ, ◌+◌, ◌<◌, ◌≤◌, ◌⊎◌, inl, inr, Bool, true, false, List, [], length, Option, Some, None, refl, sym, ap, subst, ◌∙◌, arith, Result, Ok, Err, IfErr, IfOk}
 use Rattle.kmip_ttlv_base.specs.declared.error.MalformedTtlvError.TheVariants as malformeds
 use Rattle.kmip_ttlv_types.specs.ItemTypes.{code, is_structure, type_of}
 use Rattle.kmip_ttlv_types.specs.Items.{Raw}
 use Rattle.kmip_ttlv_types.specs.Places.{code_at, length_at, size, tag_at}
 use Rattle.kmip_ttlv_types.specs.declared.typ.TtlvType.{TtlvType}
 use Rattle.kmip_ttlv_types.specs.declared.typ.TtlvType.TheVariants.{Structure}
-use Rattle.kmip_ttlv_base.specs.Errors.{IsMemory, Kind, Location, Mismatch, exceeds_limit, io_error, length_overflow, malformed, mismatch, other_cause, out_of_memory, view_of_kind}
+use Rattle.kmip_ttlv_base.specs.Errors.{Kind, Location, Mismatch, exceeds_limit, io_error, length_overflow, malformed, mismatch, other_cause, out_of_memory, view_of_kind}
 use Rattle.kmip_ttlv_base.specs.Forms.{Content, Fields, Form, Variants, enum}
 use Rattle.kmip_ttlv_de.specs.Parts.{HasField, NumberChooses, RuleChooses}
 use Rattle.kmip_ttlv_base.specs.declared.error.Error.{Error}
@@ -15,9 +15,9 @@ use Rattle.kmip_ttlv_de.proofs.FactLemmas.{exact_says, maybe_says, memory_says, 
 use Rattle.kmip_ttlv_de.proofs.PartLemmas.{field_part, last_past, opens_structure}
 use Rattle.kmip_ttlv_de.proofs.WholeLemmas.{whole_inside, whole_rest}
 use Rattle.kmip_ttlv_de.specs.Answer.{Goes, memory, sort_of, sort_of_kind}
-use Rattle.kmip_ttlv_de.specs.Facts.{KindFacts, LeafRead, MalformedFacts, MayBeRefusal, MismatchFacts, NotBefore, RuleFacts, Says, Widened, WordFacts, WrongLength, WrongValue, cause_of, code_place, item_place, place_of, struct_place, without_parents}
+use Rattle.kmip_ttlv_de.specs.Facts.{KindFacts, MalformedFacts, MayBeRefusal, MismatchFacts, NotBefore, RuleFacts, Says, Widened, WordFacts, cause_of, code_place, item_place, place_of, struct_place, without_parents}
 use Rattle.kmip_ttlv_de.specs.Keeps.{Keep}
-use Rattle.kmip_ttlv_de.specs.Places.{HasType, IsFieldItem, IsInside, IsItem, IsLast, ItemMayBegin, Opens, PartAt, StructAt, StructRead, stated_end}
+use Rattle.kmip_ttlv_de.specs.Places.{HasType, IsFieldItem, IsInside, IsItem, IsLast, ItemMayBegin, Opens, PartAt, StructRead, stated_end}
 use Rattle.kmip_ttlv_de.specs.Reading.{Got}
 use Rattle.kmip_ttlv_de.specs.Rules.{mismatch_of}
 use Rattle.kmip_ttlv_de.specs.Wholes.{AreWhole}

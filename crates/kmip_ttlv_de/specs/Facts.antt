@@ -97,33 +97,33 @@ pub record NumberRead (f : Form) (b : List ℕ) (s : ℕ) (t : TtlvType) : Type 
 pub data NameWanted (f : Form) (b : List ℕ) (s : ℕ) : List ℕ → Type 0 where
   of_struct : {name : List ℕ} {fs : Fields} {deny : Bool} {o e : ℕ} → PartAt f b (struct name fs deny) s o e → NameWanted f b s name
   of_field :
-    {name field_name : List ℕ} {fs : Fields} {deny : Bool} {p : ℕ} {form : Form}
-    → StructRead f b name fs deny p
-    → HasField fs field_name form
-    → is_struct form ≡ false
-    → InContent b p s
-    → NameWanted f b s field_name
+      {name field_name : List ℕ} {fs : Fields} {deny : Bool} {p : ℕ} {form : Form}
+      → StructRead f b name fs deny p
+      → HasField fs field_name form
+      → is_struct form ≡ false
+      → InContent b p s
+      → NameWanted f b s field_name
 
 -- a Structure is wanted: for a struct of this tag, or for a tuple that a rule chose
 pub data StructureWanted (f : Form) (b : List ℕ) (s : ℕ) (t : TtlvType) : Type 0 where
   for_struct :
-    {name : List ℕ} {fs : Fields} {deny : Bool} {o e : ℕ}
-    → PartAt f b (struct name fs deny) s o e
-    → tag_of name ≡ Some (tag_at b s)
-    → StructureWanted f b s t
+      {name : List ℕ} {fs : Fields} {deny : Bool} {o e : ℕ}
+      → PartAt f b (struct name fs deny) s o e
+      → tag_of name ≡ Some (tag_at b s)
+      → StructureWanted f b s t
   for_tuple :
-    {name : List ℕ} {vs : Variants} {ss : Forms} {o e : ℕ}
-    → PartAt f b (enum name vs) s o e
-    → RuleChooses vs t (tuple ss)
-    → StructureWanted f b s t
+      {name : List ℕ} {vs : Variants} {ss : Forms} {o e : ℕ}
+      → PartAt f b (enum name vs) s o e
+      → RuleChooses vs t (tuple ss)
+      → StructureWanted f b s t
 
 -- a type is wanted, and not that of the item: the one of a leaf's form, or a number's where one chooses a variant
 pub data TypeWanted (f : Form) (b : List ℕ) (s : ℕ) (t : TtlvType) : TtlvType → Type 0 where
   for_leaf :
-    (leaf : Leaf) {o e : ℕ}
-    → PartAt f b (form_of_leaf leaf) s o e
-    → takes (form_of_leaf leaf) t ≡ false
-    → TypeWanted f b s t (first_type leaf)
+      (leaf : Leaf) {o e : ℕ}
+      → PartAt f b (form_of_leaf leaf) s o e
+      → takes (form_of_leaf leaf) t ≡ false
+      → TypeWanted f b s t (first_type leaf)
   for_number : NumberRead f b s t → is_number_type t ≡ false → TypeWanted f b s t Enumeration
 
 -- ---- what each refusal says, at a place
@@ -164,26 +164,26 @@ pub record OverflowFacts (f : Form) (b : List ℕ) (l : Location) (end : ℕ) : 
 -- padded number.
 pub data FieldFacts (f : Form) (b : List ℕ) (l : Location) : FieldType → FieldType → Type 0 where
   ruled_unit :
-    {name : List ℕ} {vs : Variants} {s o e : ℕ} {t : TtlvType}
-    → PartAt f b (enum name vs) s o e
-    → HasType b s t
-    → RuleChooses vs t unit
-    → l ≡ item_place b s 4 t
-    → FieldFacts f b l fields.Length fields.Tag
+      {name : List ℕ} {vs : Variants} {s o e : ℕ} {t : TtlvType}
+      → PartAt f b (enum name vs) s o e
+      → HasType b s t
+      → RuleChooses vs t unit
+      → l ≡ item_place b s 4 t
+      → FieldFacts f b l fields.Length fields.Tag
   numbered_form :
-    {s : ℕ} {t : TtlvType} {form : Form}
-    → (r : NumberRead f b s t)
-    → is_number_type t ≡ true
-    → first_named (number_text (content_at b s)) r.variants ≡ Some (wrapped form)
-    → l ≡ item_place b s 16 t
-    → FieldFacts f b l fields.Tag fields.LengthAndValue
+      {s : ℕ} {t : TtlvType} {form : Form}
+      → (r : NumberRead f b s t)
+      → is_number_type t ≡ true
+      → first_named (number_text (content_at b s)) r.variants ≡ Some (wrapped form)
+      → l ≡ item_place b s 16 t
+      → FieldFacts f b l fields.Tag fields.LengthAndValue
   numbered_tuple :
-    {s : ℕ} {t : TtlvType} {forms : Forms}
-    → (r : NumberRead f b s t)
-    → is_number_type t ≡ true
-    → first_named (number_text (content_at b s)) r.variants ≡ Some (tuple forms)
-    → l ≡ item_place b s 16 t
-    → FieldFacts f b l fields.Tag fields.Length
+      {s : ℕ} {t : TtlvType} {forms : Forms}
+      → (r : NumberRead f b s t)
+      → is_number_type t ≡ true
+      → first_named (number_text (content_at b s)) r.variants ≡ Some (tuple forms)
+      → l ≡ item_place b s 16 t
+      → FieldFacts f b l fields.Tag fields.Length
 
 -- a leaf where a Structure is wanted: behind the type
 pub record StructureFacts (f : Form) (b : List ℕ) (l : Location) (t : TtlvType) : Type 0 where
@@ -251,47 +251,47 @@ pub record TypeFacts (f : Form) (b : List ℕ) (l : Location) (expected actual :
 -- what is refused in words, each within the innermost struct around
 pub data WordFacts (f : Form) (b : List ℕ) (l : Location) : List ℕ → Type 0 where
   missing_field :
-    {name field_name : List ℕ} {fs : Fields} {deny : Bool} {p : ℕ} {form : Form}
-    → StructRead f b name fs deny p
-    → HasField fs field_name form
-    → is_option form ≡ false
-    → l ≡ struct_place (stated_end b p) (tag_at b p)
-    → WordFacts f b l (codes "missing field")
+      {name field_name : List ℕ} {fs : Fields} {deny : Bool} {p : ℕ} {form : Form}
+      → StructRead f b name fs deny p
+      → HasField fs field_name form
+      → is_option form ≡ false
+      → l ≡ struct_place (stated_end b p) (tag_at b p)
+      → WordFacts f b l (codes "missing field")
   missing_part :
-    {forms : Forms} {p o : ℕ}
-    → TupleRead f b forms p o
-    → l ≡ struct_place (stated_end b p) o
-    → WordFacts f b l (codes "too few items")
+      {forms : Forms} {p o : ℕ}
+      → TupleRead f b forms p o
+      → l ≡ struct_place (stated_end b p) o
+      → WordFacts f b l (codes "too few items")
   surplus_item :
-    {forms : Forms} {p s o : ℕ}
-    → TupleRead f b forms p o
-    → InContent b p s
-    → l ≡ struct_place s o
-    → WordFacts f b l (codes "too many items")
+      {forms : Forms} {p s o : ℕ}
+      → TupleRead f b forms p o
+      → InContent b p s
+      → l ≡ struct_place s o
+      → WordFacts f b l (codes "too many items")
   field_again :
-    {name : List ℕ} {fs : Fields} {deny : Bool} {p s : ℕ}
-    → StructRead f b name fs deny p
-    → InContent b p s
-    → s + 4 ≤ length b
-    → names_tag fs (tag_at b s) ≡ true
-    → l ≡ struct_place (s + 4) (tag_at b p)
-    → WordFacts f b l (codes "duplicate field")
+      {name : List ℕ} {fs : Fields} {deny : Bool} {p s : ℕ}
+      → StructRead f b name fs deny p
+      → InContent b p s
+      → s + 4 ≤ length b
+      → names_tag fs (tag_at b s) ≡ true
+      → l ≡ struct_place (s + 4) (tag_at b p)
+      → WordFacts f b l (codes "duplicate field")
   unknown_field :
-    {name : List ℕ} {fs : Fields} {p s : ℕ}
-    → StructRead f b name fs true p
-    → InContent b p s
-    → s + 4 ≤ length b
-    → names_tag fs (tag_at b s) ≡ false
-    → l ≡ struct_place (s + 4) (tag_at b p)
-    → WordFacts f b l (codes "unknown field")
+      {name : List ℕ} {fs : Fields} {p s : ℕ}
+      → StructRead f b name fs true p
+      → InContent b p s
+      → s + 4 ≤ length b
+      → names_tag fs (tag_at b s) ≡ false
+      → l ≡ struct_place (s + 4) (tag_at b p)
+      → WordFacts f b l (codes "unknown field")
   unknown_variant :
-    {s : ℕ} {t : TtlvType}
-    → (r : NumberRead f b s t)
-    → is_number_type t ≡ true
-    → first_named (number_text (content_at b s)) r.variants ≡ None
-    → s + 16 ≤ length b
-    → l ≡ struct_place (s + 16) r.owner
-    → WordFacts f b l (codes "unknown variant")
+      {s : ℕ} {t : TtlvType}
+      → (r : NumberRead f b s t)
+      → is_number_type t ≡ true
+      → first_named (number_text (content_at b s)) r.variants ≡ None
+      → s + 16 ≤ length b
+      → l ≡ struct_place (s + 16) r.owner
+      → WordFacts f b l (codes "unknown variant")
 
 -- ---- by the kind
 

@@ -93,26 +93,26 @@ pub data PartAt (f : Form) (b : List ℕ) : Form → ℕ → ℕ → ℕ → Typ
   first_of_seq : {s : Form} {p o e : ℕ} → PartAt f b (seq s) p o e → PartAt f b s p o e
   later_of_seq : {s : Form} {p q o e : ℕ} → PartAt f b (seq s) p o e → GoesOnAt b p q e → PartAt f b s q o e
   in_field :
-    {name field_name : List ℕ} {fs : Fields} {deny : Bool} {s : Form} {p q o e : ℕ}
-    → PartAt f b (struct name fs deny) p o e
-    → tag_of name ≡ Some (tag_at b p)
-    → HasField fs field_name s
-    → InContent b p q
-    → IsFieldItem field_name s b q
-    → PartAt f b s q (tag_at b p) (stated_end b p)
+      {name field_name : List ℕ} {fs : Fields} {deny : Bool} {s : Form} {p q o e : ℕ}
+      → PartAt f b (struct name fs deny) p o e
+      → tag_of name ≡ Some (tag_at b p)
+      → HasField fs field_name s
+      → InContent b p q
+      → IsFieldItem field_name s b q
+      → PartAt f b s q (tag_at b p) (stated_end b p)
   in_variant :
-    {name : List ℕ} {vs : Variants} {s : Form} {t : TtlvType} {p o e : ℕ}
-    → PartAt f b (enum name vs) p o e
-    → HasType b p t
-    → RuleChooses vs t (wrapped s)
-    → PartAt f b s p o e
+      {name : List ℕ} {vs : Variants} {s : Form} {t : TtlvType} {p o e : ℕ}
+      → PartAt f b (enum name vs) p o e
+      → HasType b p t
+      → RuleChooses vs t (wrapped s)
+      → PartAt f b s p o e
   in_tuple :
-    {name : List ℕ} {vs : Variants} {ss : Forms} {s : Form} {p q o e : ℕ}
-    → PartAt f b (enum name vs) p o e
-    → RuleChooses vs Structure (tuple ss)
-    → HasForm ss s
-    → InContent b p q
-    → PartAt f b s q o (stated_end b p)
+      {name : List ℕ} {vs : Variants} {ss : Forms} {s : Form} {p q o e : ℕ}
+      → PartAt f b (enum name vs) p o e
+      → RuleChooses vs Structure (tuple ss)
+      → HasForm ss s
+      → InContent b p q
+      → PartAt f b s q o (stated_end b p)
 
 -- reading goes into the Structure at p for this struct
 pub record StructRead (f : Form) (b name : List ℕ) (fs : Fields) (deny : Bool) (p : ℕ) : Type 0 where

@@ -1,5 +1,5 @@
 -- What a refusal says, the root's own ones first.
-use Rattle.std.specs.Prelude.{◌≡◌, ℕ, ◌≤◌, ◌⊎◌, List, [], length, Option, Some, None, nat_le, ◌==◌, if◌then◌else◌, codes, Result, Ok, Err, IfErr}
+use Rattle.std.specs.Prelude.{ℕ, ◌≤◌, List, [], length, Option, Some, None, nat_le, ◌==◌, if◌then◌else◌, codes, Result, Ok, Err, IfErr}
 use Rattle.kmip_ttlv_types.specs.declared.typ.TtlvType.{TtlvType}
 use Rattle.kmip_ttlv_types.specs.declared.typ.TtlvType.TheVariants.{Structure}
 use Rattle.kmip_ttlv_types.specs.declared.field.FieldType.TheVariants as fields
@@ -8,9 +8,9 @@ use Rattle.kmip_ttlv_types.specs.Names.{tag_of}
 use Rattle.kmip_ttlv_types.specs.Places.{tag_at, code_at}
 use Rattle.kmip_ttlv_base.specs.declared.error.Error.{Error}
 use Rattle.kmip_ttlv_base.specs.declared.error.MalformedTtlvError.TheVariants as malformeds
-use Rattle.kmip_ttlv_base.specs.Errors.{invalid_tag, other_cause, unexpected_tag, Kind, malformed, mismatch, Location, IsMemory}
+use Rattle.kmip_ttlv_base.specs.Errors.{invalid_tag, other_cause, unexpected_tag, Kind, malformed, mismatch, Location}
 use Rattle.kmip_ttlv_base.specs.Forms.{Form, struct, option, seq, newtype, enum}
-use Rattle.kmip_ttlv_de.specs.Facts.{Facts, NotBefore, MayBeRefusal, cause_of, place_of, code_place, item_place}
+use Rattle.kmip_ttlv_de.specs.Facts.{Facts, NotBefore, MayBeRefusal, place_of, code_place, item_place}
 
 -- a refusal, and where
 pub record Fault : Type 0 where

@@ -18,7 +18,7 @@ pub returns-then-n-w-clause-err : goal.returns-then-n-w-clause-err
 returns-then-n-w-clause-err g c = λ k e lt. leaf_not_length c.args.bytes.now c.args.pos e k c.args.typ c.in-Some.n c.in-Some-fixed_length.w (sort_of c.bad_length.result) lt c.in-Some.ensures.some.0 c.requires.typ_is c.in-Some.ensures.some.1 (search rules) c.if-n-w.true
 
 pub returns-then-n-w-clause-says : goal.returns-then-n-w-clause-says
-returns-then-n-w-clause-says g c = 
+returns-then-n-w-clause-says g c =
     let b = c.args.bytes.now in
     let s = c.args.pos in
     let t = c.args.typ in
@@ -35,7 +35,7 @@ returns-then-not-is_valid-clause-err g c =
     λ k e lt. leaf_invalid c.args.bytes.now c.args.pos e k c.args.typ c.in-Some.n c.in-Some-content_at.content.now (sort_of c.bad_value.result) lt c.in-Some-content_at.ensures.some.1 c.requires.typ_is c.in-Some.ensures.some.1 c.in-Some-content_at.ensures.some.0 (search rules)
 
 pub returns-then-not-is_valid-clause-says : goal.returns-then-not-is_valid-clause-says
-returns-then-not-is_valid-clause-says g c = 
+returns-then-not-is_valid-clause-says g c =
     let b = c.args.bytes.now in
     let s = c.args.pos in
     let t = c.args.typ in

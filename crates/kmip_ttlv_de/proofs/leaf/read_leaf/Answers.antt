@@ -28,7 +28,7 @@ returns-then-not-takes-clause-answers g c =
     leaf_not_type (form_of_leaf c.args.leaf) c.args.bytes.now c.args.pos c.args.end (keeps c.args.kept.now.items) c.in_ok-typ.typ (sort_of c.other_type.result) c.requires.before_end c.in_ok-typ.ensures.ok.0 c.in_ok-typ.ensures.ok.1 other
 
 pub returns-then-not-takes-clause-says : goal.returns-then-not-takes-clause-says
-returns-then-not-takes-clause-says g c = 
+returns-then-not-takes-clause-says g c =
     let b = c.args.bytes.now in
     let s = c.args.pos in
     let t = c.in_ok-typ.typ in

@@ -1,4 +1,4 @@
-use Rattle.std.proofs.Common.{◌≡◌, ◌≢◌, ◌+◌, ◌≤◌, length, inl, inr, refl, subst, sym, ap, ◌∙◌, arith, rules, Some, false, true}
+use Rattle.std.proofs.Common.{◌≡◌, ◌≢◌, ◌+◌, ◌≤◌, length, inr, refl, subst, sym, ap, ◌∙◌, arith, rules, Some, false, true}
 use Rattle.std.proofs.lemmas.Result.{err_from_is_err_and}
 use Rattle.kmip_ttlv_types.specs.Places.{tag_at, length_at}
 use Rattle.kmip_ttlv_base.specs.Values.{view, unit_variant_value}
@@ -33,8 +33,8 @@ returns-then-not-is_number_type-clause-says g c =
     let typed : HasType b s t = record { there = c.requires.there; typ_is = c.requires.typ_is } in
     let other : is_number_type t ≡ false = search rules in
     λ f at chooses.
-        let r : NumberRead f b s t = record { name = c.args.name.now; variants = variants_of c.args.variants.now; owner = c.args.owner; end = c.args.end; part = at; typed = typed; chooses = chooses } in
-        mismatch_says f b s c.args.end 4 t c.other_type.result (unexpected_type Enumeration t) (inr (c.other_type.ensures.cause, c.other_type.ensures.place)) record { item = s; typed = typed; wanted = for_number r other; differs = no_number t other; place = refl }
+    let r : NumberRead f b s t = record { name = c.args.name.now; variants = variants_of c.args.variants.now; owner = c.args.owner; end = c.args.end; part = at; typed = typed; chooses = chooses } in
+    mismatch_says f b s c.args.end 4 t c.other_type.result (unexpected_type Enumeration t) (inr (c.other_type.ensures.cause, c.other_type.ensures.place)) record { item = s; typed = typed; wanted = for_number r other; differs = no_number t other; place = refl }
 
 pub returns-then-n-ne4-clause-answers : goal.returns-then-n-ne4-clause-answers
 returns-then-n-ne4-clause-answers g c =
@@ -50,8 +50,8 @@ returns-then-n-ne4-clause-says g c =
     let number : is_number_type t ≡ true = search rules in
     let wrong : WrongLength b s t 4 n = record { typ_is = c.requires.typ_is; there = c.in-Some.ensures.some.0; wanted = number_length t number; is = c.in-Some.ensures.some.1; differs = λ e. c.if-n-ne4.true (sym e) } in
     λ f at chooses.
-        let r : NumberRead f b s t = record { name = c.args.name.now; variants = variants_of c.args.variants.now; owner = c.args.owner; end = c.args.end; part = at; typed = record { there = c.requires.there; typ_is = c.requires.typ_is }; chooses = chooses } in
-        malformed_says f b s c.args.end 4 t c.bad_number_length.result (malformeds.InvalidLength 4 n t) c.bad_number_length.ensures.cause c.bad_number_length.ensures.place (s, wrong, inr (r, number, refl))
+    let r : NumberRead f b s t = record { name = c.args.name.now; variants = variants_of c.args.variants.now; owner = c.args.owner; end = c.args.end; part = at; typed = record { there = c.requires.there; typ_is = c.requires.typ_is }; chooses = chooses } in
+    malformed_says f b s c.args.end 4 t c.bad_number_length.result (malformeds.InvalidLength 4 n t) c.bad_number_length.ensures.cause c.bad_number_length.ensures.place (s, wrong, inr (r, number, refl))
 
 pub returns-in_err-content-clause-answers : goal.returns-in_err-content-clause-answers
 returns-in_err-content-clause-answers g c =

@@ -383,9 +383,9 @@ read_struct-returns-in-Err-clause-says g t c =
     let name = c.args.name.now in
     let pos = c.args.pos in
     λ f o e lt at.
-        let read = opened_read f name b (fields_of c.args.fields.now) c.args.deny pos c.in_ok-tag.tag n o e s at in
-        let told = c.in-Err.ensures.says f name pos read s.tag_is (opened_inside b pos n s.len_is) (omega arith) in
-        says_widened f b pos e c.in-Err.e c.within.result c.within.ensures (says_within f b pos e n c.in-Err.e lt s.typ_is s.len_is told)
+    let read = opened_read f name b (fields_of c.args.fields.now) c.args.deny pos c.in_ok-tag.tag n o e s at in
+    let told = c.in-Err.ensures.says f name pos read s.tag_is (opened_inside b pos n s.len_is) (omega arith) in
+    says_widened f b pos e c.in-Err.e c.within.result c.within.ensures (says_within f b pos e n c.in-Err.e lt s.typ_is s.len_is told)
 
 pub read_content-returns-in_err-values-clause-says : goal.read_content-returns-in_err-values-clause-says
 read_content-returns-in_err-values-clause-says g t c =
@@ -399,8 +399,8 @@ read_content-returns-in_err-read_rest-clause-says g t c =
     let goes = c.in_ok-values.ensures.answers in
     let next = c.in_ok-values.next in
     rw (p.1, p.2) (λ f name start read tag inside ord.
-        let late = λ (lt : c.args.end < next). last_then b (start + 8) c.args.pos c.in_ok-values.last next c.args.end inside.before (c.in_ok-values.ensures.last ord lt) in
-        says_goes f b c.args.pos next c.args.end c.in_err-read_rest.field-0.0 (search rules) goes (c.in_err-read_rest.ensures.says f name start read tag (inside_then b start c.args.pos next c.args.end inside (whole_goes goes)) late))
+    let late = λ (lt : c.args.end < next). last_then b (start + 8) c.args.pos c.in_ok-values.last next c.args.end inside.before (c.in_ok-values.ensures.last ord lt) in
+    says_goes f b c.args.pos next c.args.end c.in_err-read_rest.field-0.0 (search rules) goes (c.in_err-read_rest.ensures.says f name start read tag (inside_then b start c.args.pos next c.args.end inside (whole_goes goes)) late))
 
 pub read_fields-loop-field-init : goal.read_fields-loop-field-init
 read_fields-loop-field-init g t c = (fields_begin c.args.fields.now c.new-values.result.items c.args.bytes.now c.args.pos c.args.end (keeps c.args.kept.now.items) c.new-values.ensures.items (search rules), λ ord lt. absurd (omega (arith, ord, lt)))
@@ -414,8 +414,8 @@ read_fields-returns-in_err-value-clause-says g t c =
     let next = c.loop-field.next in
     let x = c.field-item.result in
     rw (p.1, p.2) (λ deny f name start read tag inside ord.
-        let late = λ (lt : c.args.end < next). last_then b (start + 8) c.args.pos c.loop-field.last next c.args.end inside.before (c.loop-field.invariant.1 ord lt) in
-        says_goes f b c.args.pos next c.args.end c.in_err-value.field-0.0 (search rules) goes (c.in_err-value.ensures.says fs deny f name start read tag (inside_then b start c.args.pos next c.args.end inside (whole_goes goes)) (field_in c.args.fields.now c.loop-field.field-index x c.loop-field-test.true c.field-item.is) late))
+    let late = λ (lt : c.args.end < next). last_then b (start + 8) c.args.pos c.loop-field.last next c.args.end inside.before (c.loop-field.invariant.1 ord lt) in
+    says_goes f b c.args.pos next c.args.end c.in_err-value.field-0.0 (search rules) goes (c.in_err-value.ensures.says fs deny f name start read tag (inside_then b start c.args.pos next c.args.end inside (whole_goes goes)) (field_in c.args.fields.now c.loop-field.field-index x c.loop-field-test.true c.field-item.is) late))
 
 pub read_field-returns-then-end-pos-clause-says : goal.read_field-returns-then-end-pos-clause-says
 read_field-returns-then-end-pos-clause-says g t c =
@@ -427,8 +427,8 @@ pub read_field-returns-then-pos-end-clause-says : goal.read_field-returns-then-p
 read_field-returns-then-pos-end-clause-says g t c =
     let b = c.args.bytes.now in
     λ fs deny f name start read tag inside has late.
-        let place = ap (λ e. struct_place e c.args.tag) inside.ends ∙ ap (struct_place (stated_end b start)) tag in
-        words_say f b c.args.pos c.args.end c.args.end c.args.tag c.at_end.result _ (omega (arith, c.if-pos-end.true)) c.at_end.ensures (missing_field read has (sym c.if-is_option.ensures) place)
+    let place = ap (λ e. struct_place e c.args.tag) inside.ends ∙ ap (struct_place (stated_end b start)) tag in
+    words_say f b c.args.pos c.args.end c.args.end c.args.tag c.at_end.result _ (omega (arith, c.if-pos-end.true)) c.at_end.ensures (missing_field read has (sym c.if-is_option.ensures) place)
 
 pub read_field-returns-in_err-typ-clause-says : goal.read_field-returns-in_err-typ-clause-says
 read_field-returns-in_err-typ-clause-says g t c =
@@ -464,8 +464,8 @@ read_parts-returns-in_err-value-clause-says g t c =
     let lt : next < c.args.end = omega arith in
     let x = c.shape-item.result in
     rw (p.1, p.2) (λ f start read inside ord.
-        let at = tuple_part f b (forms_of c.args.shapes.now) (form_of x) start next c.args.owner c.args.end read (inside_then b start c.args.pos next c.args.end inside (whole_goes goes)) lt (form_in c.args.shapes.now c.loop-shape.shape-index x c.loop-shape-test.true c.shape-item.is) in
-        says_goes f b c.args.pos next c.args.end c.in_err-value.field-0.0 (search rules) goes (c.in_err-value.ensures.says f at))
+    let at = tuple_part f b (forms_of c.args.shapes.now) (form_of x) start next c.args.owner c.args.end read (inside_then b start c.args.pos next c.args.end inside (whole_goes goes)) lt (form_in c.args.shapes.now c.loop-shape.shape-index x c.loop-shape-test.true c.shape-item.is) in
+    says_goes f b c.args.pos next c.args.end c.in_err-value.field-0.0 (search rules) goes (c.in_err-value.ensures.says f at))
 
 pub read_parts-returns-then-end-next-clause-says : goal.read_parts-returns-then-end-next-clause-says
 read_parts-returns-then-end-next-clause-says g t c =
@@ -473,8 +473,8 @@ read_parts-returns-then-end-next-clause-says g t c =
     let lt = c.if-end-next.true in
     let next = c.loop-shape.next in
     λ f start read inside ord.
-        let l = last_then b (start + 8) c.args.pos c.loop-shape.last next c.args.end inside.before (c.loop-shape.invariant.1 ord lt) in
-        overflow_says f b c.args.pos c.args.end start c.loop-shape.last next c.args.end c.overflow.result (for_tuple read) inside.ends lt c.loop-shape.invariant.0.in_order l c.overflow.ensures.cause c.overflow.ensures.place
+    let l = last_then b (start + 8) c.args.pos c.loop-shape.last next c.args.end inside.before (c.loop-shape.invariant.1 ord lt) in
+    overflow_says f b c.args.pos c.args.end start c.loop-shape.last next c.args.end c.overflow.result (for_tuple read) inside.ends lt c.loop-shape.invariant.0.in_order l c.overflow.ensures.cause c.overflow.ensures.place
 
 pub read_parts-returns-then-next-end-clause-says : goal.read_parts-returns-then-next-end-clause-says
 read_parts-returns-then-next-end-clause-says g t c =
@@ -487,8 +487,8 @@ read_parts-returns-then-end-next-2-clause-says g t c =
     let lt = c.if-end-next-2.true in
     let next = c.loop-shape.next in
     λ f start read inside ord.
-        let l = last_then b (start + 8) c.args.pos c.loop-shape.last next c.args.end inside.before (c.loop-shape.invariant.1 ord lt) in
-        overflow_says f b c.args.pos c.args.end start c.loop-shape.last next c.args.end c.overflow-then-end-next-2.result (for_tuple read) inside.ends lt c.loop-shape.invariant.0.in_order l c.overflow-then-end-next-2.ensures.cause c.overflow-then-end-next-2.ensures.place
+    let l = last_then b (start + 8) c.args.pos c.loop-shape.last next c.args.end inside.before (c.loop-shape.invariant.1 ord lt) in
+    overflow_says f b c.args.pos c.args.end start c.loop-shape.last next c.args.end c.overflow-then-end-next-2.result (for_tuple read) inside.ends lt c.loop-shape.invariant.0.in_order l c.overflow-then-end-next-2.ensures.cause c.overflow-then-end-next-2.ensures.place
 
 pub read_parts-returns-then-next-end-2-clause-says : goal.read_parts-returns-then-next-end-2-clause-says
 read_parts-returns-then-next-end-2-clause-says g t c =
@@ -496,8 +496,8 @@ read_parts-returns-then-next-end-2-clause-says g t c =
     let goes = c.loop-shape.invariant.0 in
     let next = c.loop-shape.next in
     λ f start read inside ord.
-        let content = inside_content b start next c.args.end read.structure (inside_then b start c.args.pos next c.args.end inside (whole_goes goes)) c.if-next-end-2.true in
-        words_say f b c.args.pos c.args.end next c.args.owner c.surplus.result _ goes.in_order c.surplus.ensures (surplus_item read content refl)
+    let content = inside_content b start next c.args.end read.structure (inside_then b start c.args.pos next c.args.end inside (whole_goes goes)) c.if-next-end-2.true in
+    words_say f b c.args.pos c.args.end next c.args.owner c.surplus.result _ goes.in_order c.surplus.ensures (surplus_item read content refl)
 
 pub read_seq-returns-in_err-goes_on-clause-says : goal.read_seq-returns-in_err-goes_on-clause-says
 read_seq-returns-in_err-goes_on-clause-says g t c =
@@ -572,8 +572,8 @@ read_tuple-returns-in_err-values-clause-says g t c =
     let len = c.in-Some.ensures.some.1 in
     let ss = forms_of c.args.shapes.now in
     rw (p.1, p.2) (λ f name vs e lt at chooses.
-        let read : TupleRead f b ss c.args.pos c.args.owner = record { name = name; variants = vs; end = e; part = at; is_chosen = subst (λ x. RuleChooses vs x (tuple ss)) structure chooses; structure = record { typ_is = typ; there = c.in-Some.ensures.some.0 } } in
-        says_within f b c.args.pos e n c.in_err-values.field-0.0 lt typ len (c.in_err-values.ensures.says f c.args.pos read (opened_inside b c.args.pos n len) (omega arith)))
+    let read : TupleRead f b ss c.args.pos c.args.owner = record { name = name; variants = vs; end = e; part = at; is_chosen = subst (λ x. RuleChooses vs x (tuple ss)) structure chooses; structure = record { typ_is = typ; there = c.in-Some.ensures.some.0 } } in
+    says_within f b c.args.pos e n c.in_err-values.field-0.0 lt typ len (c.in_err-values.ensures.says f c.args.pos read (opened_inside b c.args.pos n len) (omega arith)))
 
 pub read_enum-returns-in_err-typ-clause-answers : goal.read_enum-returns-in_err-typ-clause-answers
 read_enum-returns-in_err-typ-clause-answers g t c =

@@ -46,9 +46,9 @@ returns-then-end-next-clause-says g c =
     let b = c.args.bytes.now in
     let lt = c.if-end-next.true in
     λ f s o at whole late.
-        let x = seq_placed at in
-        let l = last_then b (x.start + 8) c.args.first c.args.last c.args.next c.args.end x.content.before (late lt) in
-        overflow_says f b c.args.next c.args.end x.start c.args.last c.args.next c.args.end c.overflow.result x.opens x.ends lt (omega arith) l c.overflow.ensures.cause c.overflow.ensures.place
+    let x = seq_placed at in
+    let l = last_then b (x.start + 8) c.args.first c.args.last c.args.next c.args.end x.content.before (late lt) in
+    overflow_says f b c.args.next c.args.end x.start c.args.last c.args.next c.args.end c.overflow.result x.opens x.ends lt (omega arith) l c.overflow.ensures.cause c.overflow.ensures.place
 
 pub returns-in_err-type_at-clause-says : goal.returns-in_err-type_at-clause-says
 returns-in_err-type_at-clause-says g c =

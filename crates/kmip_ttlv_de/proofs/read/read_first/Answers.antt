@@ -68,9 +68,9 @@ returns-clause-facts g c =
     let n = c.in_ok-tag.n in
     let s = c.in_ok-tag.ensures.ok in
     λ f at.
-        let told = c.in-Err.ensures.says f name 0 (opened_read f name b fs c.args.deny 0 c.in_ok-tag.tag n 0 (stated_end b 0) s at) s.tag_is (opened_inside b 0 n s.len_is) (omega arith) in
-        let all = says_widened f b 8 (8 + n) c.within.result c.turned.result c.turned.ensures (says_widened f b 8 (8 + n) c.in-Err.e c.within.result c.within.ensures told) in
-        refusal_facts (root_fault (struct name fs c.args.deny) b) f b _ (root_named name b named.0 _ named.1 (root_behind _ _ _ (named_fault name b (Some named.0)) b _ c.turned.result (c.in_ok-tag.ensures.root refl named.0 named.1) all.late)) all.facts
+    let told = c.in-Err.ensures.says f name 0 (opened_read f name b fs c.args.deny 0 c.in_ok-tag.tag n 0 (stated_end b 0) s at) s.tag_is (opened_inside b 0 n s.len_is) (omega arith) in
+    let all = says_widened f b 8 (8 + n) c.within.result c.turned.result c.turned.ensures (says_widened f b 8 (8 + n) c.in-Err.e c.within.result c.within.ensures told) in
+    refusal_facts (root_fault (struct name fs c.args.deny) b) f b _ (root_named name b named.0 _ named.1 (root_behind _ _ _ (named_fault name b (Some named.0)) b _ c.turned.result (c.in_ok-tag.ensures.root refl named.0 named.1) all.late)) all.facts
 
 pub returns-clause-whole : goal.returns-clause-whole
 returns-clause-whole g c =

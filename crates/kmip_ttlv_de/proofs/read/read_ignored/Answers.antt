@@ -96,8 +96,8 @@ returns-then-deny-clause-says g c =
     let fs = fields_of c.args.fields.now in
     let other_name : names_tag fs (tag_at b s) ≡ false = search rules in
     λ f name start e lt read tag content.
-        let denies : StructRead f b name fs true start = subst (λ d. StructRead f b name fs d start) c.if-deny.true read in
-        words_say f b s e (s + 4) c.args.tag c.closed-then-deny.result _ (omega arith) c.closed-then-deny.ensures (unknown_field denies content c.in_ok-typ.ensures.ok.0 other_name (ap (struct_place (s + 4)) tag))
+    let denies : StructRead f b name fs true start = subst (λ d. StructRead f b name fs d start) c.if-deny.true read in
+    words_say f b s e (s + 4) c.args.tag c.closed-then-deny.result _ (omega arith) c.closed-then-deny.ensures (unknown_field denies content c.in_ok-typ.ensures.ok.0 other_name (ap (struct_place (s + 4)) tag))
 
 pub returns-in_err-next-clause-says : goal.returns-in_err-next-clause-says
 returns-in_err-next-clause-says g c =
@@ -109,8 +109,8 @@ returns-in_err-next-clause-says g c =
     let other_name : names_tag fs (tag_at b s) ≡ false = search rules in
     let some_field : length c.args.fields.now ≡ 0 → ⊥ = search rules in
     rw (p.1, p.2) (λ f name start e lt read tag content.
-        let leaf : LeafRead f b s t = ignored record { struct_name = name; struct_fields = fs; denies = c.args.deny; start = start; read = read; content = content; some_field = fields_some c.args.fields.now some_field; allowed = c.if-deny.false; other_tag = other_name } in
-        c.in_err-next.ensures.says f e lt (λ w n x. leaf) (λ x. leaf))
+    let leaf : LeafRead f b s t = ignored record { struct_name = name; struct_fields = fs; denies = c.args.deny; start = start; read = read; content = content; some_field = fields_some c.args.fields.now some_field; allowed = c.if-deny.false; other_tag = other_name } in
+    c.in_err-next.ensures.says f e lt (λ w n x. leaf) (λ x. leaf))
 
 pub returns-in_default-clause-says : goal.returns-in_default-clause-says
 returns-in_default-clause-says g c =
