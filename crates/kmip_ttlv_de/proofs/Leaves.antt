@@ -11,7 +11,7 @@ use Rattle.kmip_ttlv_types.specs.declared.typ.TtlvType.{TtlvType}
 use Rattle.kmip_ttlv_types.specs.declared.typ.TtlvType.TheVariants.{BigInteger, Boolean, ByteString, DateTime, Enumeration, Integer, Interval, LongInteger, Structure, TextString}
 use Rattle.kmip_ttlv_de.proofs.Heads.{code_more, length_more, part_more, refused_first}
 use Rattle.kmip_ttlv_types.proofs.PlaceLemmas.{code_one, eight}
-use Rattle.kmip_ttlv_de.specs.Answer.{Refused, Sort}
+use Rattle.kmip_ttlv_de.specs.Answer.{ReadsNothing, Sort}
 use Rattle.kmip_ttlv_de.specs.Keeps.{Keep}
 use Rattle.kmip_ttlv_de.specs.Leaves.{first_type, form_of_leaf}
 use Rattle.kmip_ttlv_de.specs.Reads.{takes}
@@ -32,7 +32,7 @@ short ByteString w content e ne = absurd cc
 short DateTime w content e ne = let eight : 8 ≡ w = cc in ne_eqb (length content) 8 (λ h. ne (h ∙ eight))
 short Interval w content e ne = let four : 4 ≡ w = cc in ne_eqb (length content) 4 (λ h. ne (h ∙ four))
 
-pub leaf_not_length : (b : List ℕ) (p e : ℕ) (k : List Keep) (t : TtlvType) (n w : ℕ) (r : Sort) → p < e → p + 8 ≤ length b → code_at b p ≡ code t → n ≡ length_at b p → fixed_length t ≡ Some w → n ≢ w → Refused any_leaf b p e k r
+pub leaf_not_length : (b : List ℕ) (p e : ℕ) (k : List Keep) (t : TtlvType) (n w : ℕ) (r : Sort) → p < e → p + 8 ≤ length b → code_at b p ≡ code t → n ≡ length_at b p → fixed_length t ≡ Some w → n ≢ w → ReadsNothing any_leaf b p e k r
 leaf_not_length b p e k t n w r lt le typ-is len-is wide ne =
     refused_first any_leaf b p e k r lt (λ after x xs item.
     let typ : x.typ ≡ t = code_one x.typ t (item.typ ∙ code_more b after p (omega arith) ∙ typ-is) in
@@ -41,7 +41,7 @@ leaf_not_length b p e k t n w r lt le typ-is len-is wide ne =
     rw bad refl)
 
 -- content that is no value of its type, with its padding there or not
-pub leaf_invalid : (b : List ℕ) (p e : ℕ) (k : List Keep) (t : TtlvType) (n : ℕ) (content : List ℕ) (r : Sort) → p < e → p + 8 + n ≤ length b → code_at b p ≡ code t → n ≡ length_at b p → content ≡ take n (drop (p + 8) b) → is_valid t content ≡ false → Refused any_leaf b p e k r
+pub leaf_invalid : (b : List ℕ) (p e : ℕ) (k : List Keep) (t : TtlvType) (n : ℕ) (content : List ℕ) (r : Sort) → p < e → p + 8 + n ≤ length b → code_at b p ≡ code t → n ≡ length_at b p → content ≡ take n (drop (p + 8) b) → is_valid t content ≡ false → ReadsNothing any_leaf b p e k r
 leaf_invalid b p e k t n content r lt le typ-is len-is content-is bad =
     refused_first any_leaf b p e k r lt (λ after x xs item.
     let typ : x.typ ≡ t = code_one x.typ t (item.typ ∙ code_more b after p (omega arith) ∙ typ-is) in

@@ -18,7 +18,7 @@ use Rattle.kmip_ttlv_de.proofs.Going.{refused_by}
 use Rattle.kmip_ttlv_de.proofs.Heads.{accepted_leaf, code_more, refused_any, refused_first, refused_leaf}
 use Rattle.kmip_ttlv_de.proofs.Leaves.{leaf_not_length}
 use Rattle.kmip_ttlv_types.proofs.PlaceLemmas.{code_one}
-use Rattle.kmip_ttlv_de.specs.Answer.{Accepted, Refused, Sort}
+use Rattle.kmip_ttlv_de.specs.Answer.{Accepted, ReadsNothing, Sort}
 use Rattle.kmip_ttlv_de.specs.Keeps.{Keep}
 use Rattle.kmip_ttlv_de.specs.Facts.{WrongLength, WrongValue}
 use Rattle.kmip_ttlv_de.specs.Places.{LeafAt, content_at}
@@ -52,7 +52,7 @@ named_nowhere name vs i le h = sym (h ∙ ap (λ l. first_named name (variants_o
 -- ---- an enum by a number, at an item
 
 -- another type
-pub number_not_type : (name : List ℕ) (vs : Variants) (b : List ℕ) (p e : ℕ) (k : List Keep) (t : TtlvType) (r : Sort) → p < e → p + 4 ≤ length b → code_at b p ≡ code t → is_number_type t ≡ false → Refused (read_number name vs) b p e k r
+pub number_not_type : (name : List ℕ) (vs : Variants) (b : List ℕ) (p e : ℕ) (k : List Keep) (t : TtlvType) (r : Sort) → p < e → p + 4 ≤ length b → code_at b p ≡ code t → is_number_type t ≡ false → ReadsNothing (read_number name vs) b p e k r
 number_not_type name vs b p e k t r lt le typ-is not_number =
     refused_first (read_number name vs) b p e k r lt (λ after x xs item.
     let same : x.typ ≡ t = code_one x.typ t (item.typ ∙ code_more b after p le ∙ typ-is) in
@@ -71,7 +71,7 @@ number_no_value name vs k h (x ∷ xs) e =
     ] e
 
 -- another length than four
-pub number_not_length : (name : List ℕ) (vs : Variants) (b : List ℕ) (p e : ℕ) (k : List Keep) (t : TtlvType) (n : ℕ) (r : Sort) → p < e → p + 8 ≤ length b → code_at b p ≡ code t → n ≡ length_at b p → fixed_length t ≡ Some 4 → (n ≡ 4 → ⊥) → Refused (read_number name vs) b p e k r
+pub number_not_length : (name : List ℕ) (vs : Variants) (b : List ℕ) (p e : ℕ) (k : List Keep) (t : TtlvType) (n : ℕ) (r : Sort) → p < e → p + 8 ≤ length b → code_at b p ≡ code t → n ≡ length_at b p → fixed_length t ≡ Some 4 → (n ≡ 4 → ⊥) → ReadsNothing (read_number name vs) b p e k r
 number_not_length name vs b p e k t n r lt le typ-is len-is wide ne =
     refused_by any_leaf (read_number name vs) b p e k k r (number_no_value name vs k k) (leaf_not_length b p e k t n 4 r lt le typ-is len-is wide ne)
 
@@ -83,7 +83,7 @@ no_unit name vname (Some (wrapped s)) differs = refl
 no_unit name vname (Some (tuple ss)) differs = refl
 
 -- no unit of that name
-pub number_not_unit : (name : List ℕ) (vs : Variants) (b : List ℕ) (p e : ℕ) (k : List Keep) (t : TtlvType) (n : ℕ) (content : List ℕ) (q : ℕ) (r : Sort) → p < e → ((i : ℕ) → get_or b i 0 < 256) → LeafAt b p t n content q → unit_of name (number_text content) (first_named (number_text content) vs) ≡ None → Refused (read_number name vs) b p e k r
+pub number_not_unit : (name : List ℕ) (vs : Variants) (b : List ℕ) (p e : ℕ) (k : List Keep) (t : TtlvType) (n : ℕ) (content : List ℕ) (q : ℕ) (r : Sort) → p < e → ((i : ℕ) → get_or b i 0 < 256) → LeafAt b p t n content q → unit_of name (number_text content) (first_named (number_text content) vs) ≡ None → ReadsNothing (read_number name vs) b p e k r
 number_not_unit name vs b p e k t n content q r lt fits l none =
     refused_any (read_number name vs) b p e k r (refused_leaf (read_number name vs) b p e k t n content q lt fits l (λ xs. not_read (is_number_type t && is_valid t content) xs))
   where

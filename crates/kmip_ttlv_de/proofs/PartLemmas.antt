@@ -13,7 +13,7 @@ use Rattle.kmip_ttlv_de.specs.Answer.{Goes}
 use Rattle.kmip_ttlv_de.specs.Facts.{GoesPast}
 use Rattle.kmip_ttlv_de.specs.Keeps.{Keep}
 use Rattle.kmip_ttlv_de.specs.Parts.{HasField, HasForm, first_field, first_form, later_field, later_form, variant_content}
-use Rattle.kmip_ttlv_de.specs.Places.{InContent, IsFieldItem, IsInside, IsItem, LeafAt, StructRead, TupleRead, IsLast, IsStructure, ItemMayBegin, Opens, PartAt, StructAt, WholeItems, first_item, first_of_seq, for_struct, for_tuple, in_field, in_newtype, in_option, in_tuple, in_variant, inner_item, later_of_seq, root, stated_end}
+use Rattle.kmip_ttlv_de.specs.Places.{InContent, IsFieldItem, IsInside, IsItem, StructRead, TupleRead, IsLast, IsStructure, ItemMayBegin, Opens, PartAt, StructAt, WholeItems, first_item, first_of_seq, for_struct, for_tuple, in_field, in_newtype, in_option, in_tuple, in_variant, inner_item, later_of_seq, root, stated_end}
 use Rattle.kmip_ttlv_de.specs.Reading.{Got}
 use Rattle.kmip_ttlv_de.specs.Reads.{is_root}
 
@@ -48,9 +48,6 @@ last_past b p last n e s ends lt l = record {
 -- an item of this type and length
 pub one_item : (b : List ℕ) (p q n : ℕ) (t : TtlvType) → code_at b p ≡ code t → n ≡ length_at b p → q ≡ p + size t n → q ≤ length b → IsItem b p q
 one_item b p q n t typ len next there = record { typ = t; typ_is = typ; next_is = next ∙ ap (λ (m : ℕ). p + size t m) len; there = there }
-
-pub leaf_item : (b : List ℕ) (p n q : ℕ) (t : TtlvType) (content : List ℕ) → LeafAt b p t n content q → IsItem b p q
-leaf_item b p n q t content l = one_item b p q n t l.typ_is l.len_is l.next_is l.there
 
 -- ---- a part stands within a Structure that reading goes into, or is the root
 

@@ -9,7 +9,7 @@ use Rattle.kmip_ttlv_base.specs.declared.error.Error.{Error}
 use Rattle.kmip_ttlv_de.proofs.Going.{struct_accepted}
 use Rattle.kmip_ttlv_types.proofs.PlaceLemmas.{item_at_text}
 use Rattle.kmip_ttlv_de.proofs.Whole.{begins_found, begins_refused}
-use Rattle.kmip_ttlv_de.specs.Answer.{Accepted, Refused, RefusesAs, Sort, early_end, memory, sort_of, sort_of_kind}
+use Rattle.kmip_ttlv_de.specs.Answer.{Accepted, ReadsNothing, NothingBegins, Sort, early_end, memory, sort_of, sort_of_kind}
 use Rattle.kmip_ttlv_de.proofs.FactLemmas.{memory_says}
 use Rattle.kmip_ttlv_de.specs.Facts.{Facts, NotBefore, Says, cause_of, place_of}
 use Rattle.kmip_ttlv_de.specs.RootFacts.{Fault, RefusalFacts, RootFacts, named_fault}
@@ -17,14 +17,14 @@ use Rattle.kmip_ttlv_de.specs.Keeps.{Keep}
 use Rattle.kmip_ttlv_de.specs.Places.{StructAt, stated_end}
 use Rattle.kmip_ttlv_de.specs.Reading.{read_all, read_fields, read_of, read_struct}
 use Rattle.kmip_ttlv_de.specs.Reads.{Begins}
-use Rattle.kmip_ttlv_de.specs.Wholes.{AreWhole, BeginsWhole, more_deep, none_deep}
+use Rattle.kmip_ttlv_de.specs.Wholes.{AreWhole, BeginsWhole, more_split, none_split}
 
 -- bytes that begin with a whole Structure have it at their start
 pub whole_at_start : (b : List ℕ) → BeginsWhole b → AreWhole b 0 (stated_end b 0)
 whole_at_start b w =
     let item : ItemAt b 0 w.item = item_at_text b 0 w.item w.item_text w.after (omega arith) w.parts w.is_text in
     let long : 0 + size w.item.typ (length_at b 0) ≡ stated_end b 0 = ap (λ t. 0 + size t (length_at b 0)) w.is_structure ∙ omega arith in
-    record { items = w.item ∷ []; are = (item, long); deep = more_deep w.deep none_deep }
+    record { items = w.item ∷ []; are = (item, long); split_throughout = more_split w.split_throughout none_split }
 
 pub says_whole : {A : Type 0} (f : Form) (b : List ℕ) (r : Error A) → Says f b 0 (stated_end b 0) r → BeginsWhole b → sort_of r ≡ early_end → ⊥
 says_whole f b r s w e = s.not_early (whole_at_start b w) e
@@ -79,6 +79,6 @@ first_found name fs deny b t n k' vs fits s a =
     let taken = struct_accepted name fs deny (read_fields fs) b 0 (8 + n) t n (8 + n) [] k' vs (omega arith) fits s a refl in
     begins_found name fs deny b (8 + n) k' (struct_value name vs) (omega arith) taken
 
-pub first_refused : (name : List ℕ) (fs : Fields) (deny : Bool) (b : List ℕ) (r : Sort) → ((e : ℕ) → 0 < e → Refused (read_struct name fs deny (read_fields fs)) b 0 e [] r) → RefusesAs (struct name fs deny) b r
+pub first_refused : (name : List ℕ) (fs : Fields) (deny : Bool) (b : List ℕ) (r : Sort) → ((e : ℕ) → 0 < e → ReadsNothing (read_struct name fs deny (read_fields fs)) b 0 e [] r) → NothingBegins (struct name fs deny) b r
 unfolding read_of
 first_refused name fs deny b r h = begins_refused (struct name fs deny) b r (λ e lt. h e lt)

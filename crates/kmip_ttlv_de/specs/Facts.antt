@@ -19,15 +19,19 @@ use Rattle.kmip_ttlv_de.specs.declared.leaf.Leaf.{Leaf}
 use Rattle.kmip_ttlv_de.specs.Leaves.{form_of_leaf, first_type}
 use Rattle.kmip_ttlv_de.specs.Parts.{HasField, RuleChooses, NumberChooses, RuleRefused}
 use Rattle.kmip_ttlv_de.specs.Reads.{has_fields, is_number_type, names_tag, is_option, is_struct, takes, number_text, first_named}
-use Rattle.kmip_ttlv_de.specs.Places.{HasType, InContent, PartAt, StructRead, TupleRead, Opens, ItemMayBegin, content_at, stated_end}
+use Rattle.kmip_ttlv_de.specs.Places.{HasType, InContent, PartAt, StructRead, TupleRead, Opens, ItemMayBegin, WholeItems, content_at, stated_end}
 use Rattle.kmip_ttlv_de.specs.Answer.{early_end, sort_of}
 use Rattle.kmip_ttlv_de.specs.Wholes.{AreWhole}
 
 -- ---- places, their parents left out
 
+-- at an offset, with an item's tag and type
+abbrev pub tagged_place : List ℕ → ℕ → ℕ → TtlvType → Location
+tagged_place b s offset t = record { offset = Some offset; parents = []; tag = Some (tag_at b s); typ = Some t }
+
 -- so far behind an item's first byte
 abbrev pub item_place : List ℕ → ℕ → ℕ → TtlvType → Location
-item_place b s after t = record { offset = Some (s + after); parents = []; tag = Some (tag_at b s); typ = Some t }
+item_place b s after t = tagged_place b s (s + after) t
 
 -- behind an item's type code
 abbrev pub code_place : List ℕ → ℕ → Location
@@ -95,7 +99,10 @@ pub record NumberRead (f : Form) (b : List ℕ) (s : ℕ) (t : TtlvType) : Type 
 
 -- the name that reading wants of an item: a struct's own, or that of a field of another form
 pub data NameWanted (f : Form) (b : List ℕ) (s : ℕ) : List ℕ → Type 0 where
-  of_struct : {name : List ℕ} {fs : Fields} {deny : Bool} {o e : ℕ} → PartAt f b (struct name fs deny) s o e → NameWanted f b s name
+  of_struct :
+      {name : List ℕ} {fs : Fields} {deny : Bool} {o e : ℕ}
+      → PartAt f b (struct name fs deny) s o e
+      → NameWanted f b s name
   of_field :
       {name field_name : List ℕ} {fs : Fields} {deny : Bool} {p : ℕ} {form : Form}
       → StructRead f b name fs deny p
@@ -248,18 +255,21 @@ pub record TypeFacts (f : Form) (b : List ℕ) (l : Location) (expected actual :
   pub differs : expected ≢ actual
   pub place : l ≡ item_place b item 4 actual
 
--- what is refused in words, each within the innermost struct around
+-- What is refused in words, each within the innermost struct around. Where a field or a part of a tuple is missing,
+-- whole items fill the Structure.
 pub data WordFacts (f : Form) (b : List ℕ) (l : Location) : List ℕ → Type 0 where
   missing_field :
       {name field_name : List ℕ} {fs : Fields} {deny : Bool} {p : ℕ} {form : Form}
       → StructRead f b name fs deny p
       → HasField fs field_name form
       → is_option form ≡ false
+      → WholeItems b (p + 8) (stated_end b p)
       → l ≡ struct_place (stated_end b p) (tag_at b p)
       → WordFacts f b l (codes "missing field")
   missing_part :
       {forms : Forms} {p o : ℕ}
       → TupleRead f b forms p o
+      → WholeItems b (p + 8) (stated_end b p)
       → l ≡ struct_place (stated_end b p) o
       → WordFacts f b l (codes "too few items")
   surplus_item :

@@ -9,7 +9,10 @@ use Rattle.kmip_ttlv_de.specs.Rules.{choice, chosen, by_value, choice_refused}
 -- one of the fields has this name and form
 pub data HasField : Fields → List ℕ → Form → Type 0 where
   first_field : {name : List ℕ} {s : Form} {fs : Fields} → HasField (field name s fs) name s
-  later_field : {name other : List ℕ} {s t : Form} {fs : Fields} → HasField fs name s → HasField (field other t fs) name s
+  later_field :
+      {name other : List ℕ} {s t : Form} {fs : Fields}
+      → HasField fs name s
+      → HasField (field other t fs) name s
 
 -- this is one of the forms
 pub data HasForm : Forms → Form → Type 0 where

@@ -66,8 +66,8 @@ abbrev pub RootFacts : {X A : Type 0} → Option Fault → List ℕ → Result X
 RootFacts None b r = IsBehind b r
 RootFacts (Some fault) b r = IsFault fault r
 
--- what reading by a form answers: the root's refusal exactly where it is due; else any refusal says what stands
--- behind the first item's header
+-- What a refusal says: the root's own refusal comes exactly where it is due, and no value then. Else any refusal says
+-- what stands in the bytes, and stands behind the first item's header.
 abbrev pub RefusalFacts : {X A : Type 0} → Option Fault → Form → List ℕ → Result X (Error A) → Type 0
 RefusalFacts None f b r = IsBehind b r × IfErr r (λ e. Facts f b e)
 RefusalFacts (Some fault) f b r = IsFault fault r

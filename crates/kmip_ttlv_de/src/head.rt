@@ -31,7 +31,10 @@ pub fn type_at<A: Allocator>(bytes: &[u8], pos: usize) -> Result<TtlvType, A>
     ensures ok { IfOk result (λ t. (pos + 4 ≤ length bytes.now) × (code_at bytes.now pos ≡ code t)) }
     ensures err { IfErr result (λ r. ((sort_of r ≡ early_end) × (length bytes.now < pos + 4)) ⊎ ((pos + 4 ≤ length bytes.now) × (type_of (code_at bytes.now pos) ≡ None))) }
     ensures fault { IfErr result (λ r. pos + 4 ≤ length bytes.now → (cause_of r ≡ malformed (InvalidTypeFault (code_at bytes.now pos))) × (place_of r ≡ code_place bytes.now pos)) }
-    ensures says { IfErr result (λ r. (f : Form) (e : ℕ) → pos < e → ItemMayBegin f bytes.now pos → Says f bytes.now pos e r) }
+    ensures says { IfErr result (λ r. (f : Form) (e : ℕ)
+        → pos < e
+        → ItemMayBegin f bytes.now pos
+        → Says f bytes.now pos e r) }
 {
     if bytes.len() - pos < 4 {
         return Err(early());

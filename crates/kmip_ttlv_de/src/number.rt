@@ -86,7 +86,11 @@ fn named_unit<A: Allocator + Copy>(
     ensures name { IfOk result (λ name. name.now ≡ text.now) }
     ensures ok { IfOk result (λ _. first_named text.now (variants_of variants.now) ≡ Some unit) }
     ensures err { IfErr result (λ _. first_named text.now (variants_of variants.now) ≢ Some unit) }
-    ensures says { IfErr result (λ r. (f : Form) (name : List ℕ) (e : ℕ) → PartAt f bytes.now (enum name (variants_of variants.now)) pos owner e → NumberChooses (variants_of variants.now) typ → text.now ≡ number_text (content_at bytes.now pos) → Says f bytes.now pos e r) }
+    ensures says { IfErr result (λ r. (f : Form) (name : List ℕ) (e : ℕ)
+        → PartAt f bytes.now (enum name (variants_of variants.now)) pos owner e
+        → NumberChooses (variants_of variants.now) typ
+        → text.now ≡ number_text (content_at bytes.now pos)
+        → Says f bytes.now pos e r) }
 {
     let Some(variant) = first_named(text, variants) else {
         return Err(unknown_variant(alloc, bytes, pos, owner));
@@ -118,7 +122,10 @@ pub fn read_number<A: Allocator + Copy>(
     requires typ_is { code_at bytes.now pos ≡ code typ }
     ensures answers { Answers view (read_number name.now (variants_of variants.now)) bytes.now pos end (keeps kept.old.items) (keeps kept.new.items) result }
     ensures further { IfOk result (λ r. pos + 8 ≤ r.1) }
-    ensures says { IfErr result (λ r. (f : Form) → PartAt f bytes.now (enum name.now (variants_of variants.now)) pos owner end → NumberChooses (variants_of variants.now) typ → Says f bytes.now pos end r) }
+    ensures says { IfErr result (λ r. (f : Form)
+        → PartAt f bytes.now (enum name.now (variants_of variants.now)) pos owner end
+        → NumberChooses (variants_of variants.now) typ
+        → Says f bytes.now pos end r) }
     ensures item { IfOk result (λ r. IsItem bytes.now pos r.1) }
 {
     if !is_number_type(typ) {

@@ -9,7 +9,7 @@ ghost use Rattle.kmip_ttlv_base.specs.declared.error.MalformedTtlvError.TheVaria
 ghost use Rattle.kmip_ttlv_de.specs.Answer.{sort_of, early_end};
 ghost use Rattle.kmip_ttlv_de.specs.Places.{HasType};
 ghost use Rattle.kmip_ttlv_de.specs.Rules.{mismatch_of};
-ghost use Rattle.kmip_ttlv_de.specs.Facts.{item_place, code_place, struct_place, Facts, MayBeRefusal, Widened, cause_of, place_of};
+ghost use Rattle.kmip_ttlv_de.specs.Facts.{tagged_place, item_place, code_place, struct_place, Facts, MayBeRefusal, Widened, cause_of, place_of};
 ghost use Rattle.kmip_ttlv_de.specs.RootFacts.{Fault, at_first, no_struct_fault, leaf_fault};
 
 use crate::head::tag_at;
@@ -277,7 +277,7 @@ pub fn no_fields<A: Allocator>(bytes: &[u8], pos: usize, typ: TtlvType) -> Error
 /// The item that begins at `last` was read, and it ends at `next`, past the end.
 pub fn overflow<A: Allocator>(bytes: &[u8], last: usize, next: usize, end: usize) -> Error<A>
     ensures cause { cause_of result ≡ malformed (OverflowFault record { 0 = end }) }
-    ensures place { (t : TtlvType) → HasType bytes.now last t → place_of result ≡ record { offset = Some next; parents = []; tag = Some (tag_at bytes.now last); typ = Some t } }
+    ensures place { (t : TtlvType) → HasType bytes.now last t → place_of result ≡ tagged_place bytes.now last next t }
 {
     let is_there = bytes.len() >= 4 && last <= bytes.len() - 4;
     let tag = if is_there {

@@ -24,7 +24,7 @@ use Rattle.kmip_ttlv_de.specs.Answer.{sort_of}
 use Rattle.kmip_ttlv_de.specs.Facts.{for_tuple as wanted_tuple, missing_field, missing_part, of_field, ruled_unit, struct_place, surplus_item}
 use Rattle.kmip_ttlv_de.specs.Parts.{RuleChooses}
 use Rattle.kmip_ttlv_de.specs.Keeps.{keeps}
-use Rattle.kmip_ttlv_de.specs.Places.{HasType, IsFieldItem, IsLast, TupleRead, first_of_seq, for_struct, for_tuple, in_newtype, in_option, in_variant, inner_item, later_of_seq, stated_end}
+use Rattle.kmip_ttlv_de.specs.Places.{HasType, IsFieldItem, IsLast, TupleRead, WholeItems, first_of_seq, for_struct, for_tuple, in_newtype, in_option, in_variant, inner_item, later_of_seq, stated_end}
 use Rattle.kmip_ttlv_de.specs.Reading.{got, mapped, read_content, read_enum, read_field, read_fields, read_forms, read_of, read_seq, read_struct, read_tuple, read_used, read_variant, ◌>>=◌}
 use Rattle.kmip_ttlv_de.specs.Reads.{is_option, is_struct, names}
 use Rattle.kmip_ttlv_de.specs.Rules.{by_value, choice, chosen}
@@ -428,7 +428,8 @@ read_field-returns-then-pos-end-clause-says g t c =
     let b = c.args.bytes.now in
     λ fs deny f name start read tag inside has late.
     let place = ap (λ e. struct_place e c.args.tag) inside.ends ∙ ap (struct_place (stated_end b start)) tag in
-    words_say f b c.args.pos c.args.end c.args.end c.args.tag c.at_end.result _ (omega (arith, c.if-pos-end.true)) c.at_end.ensures (missing_field read has (sym c.if-is_option.ensures) place)
+    let whole : WholeItems b (start + 8) (stated_end b start) = subst (WholeItems b (start + 8)) (c.if-pos-end.true ∙ inside.ends) inside.before in
+    words_say f b c.args.pos c.args.end c.args.end c.args.tag c.at_end.result _ (omega (arith, c.if-pos-end.true)) c.at_end.ensures (missing_field read has (sym c.if-is_option.ensures) whole place)
 
 pub read_field-returns-in_err-typ-clause-says : goal.read_field-returns-in_err-typ-clause-says
 read_field-returns-in_err-typ-clause-says g t c =
@@ -479,7 +480,10 @@ read_parts-returns-then-end-next-clause-says g t c =
 pub read_parts-returns-then-next-end-clause-says : goal.read_parts-returns-then-next-end-clause-says
 read_parts-returns-then-next-end-clause-says g t c =
     let b = c.args.bytes.now in
-    λ f start read inside ord. words_say f b c.args.pos c.args.end c.args.end c.args.owner c.at_end.result _ ord c.at_end.ensures (missing_part read (ap (λ e. struct_place e c.args.owner) inside.ends))
+    λ f start read inside ord.
+    let before = (inside_then b start c.args.pos c.loop-shape.next c.args.end inside (whole_goes c.loop-shape.invariant.0)).before in
+    let whole : WholeItems b (start + 8) (stated_end b start) = subst (WholeItems b (start + 8)) (c.if-next-end.true ∙ inside.ends) before in
+    words_say f b c.args.pos c.args.end c.args.end c.args.owner c.at_end.result _ ord c.at_end.ensures (missing_part read whole (ap (λ e. struct_place e c.args.owner) inside.ends))
 
 pub read_parts-returns-then-end-next-2-clause-says : goal.read_parts-returns-then-end-next-2-clause-says
 read_parts-returns-then-end-next-2-clause-says g t c =
