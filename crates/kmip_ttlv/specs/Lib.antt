@@ -29,7 +29,9 @@ pub use Rattle.kmip_ttlv_de.specs.Rules
 pub use Rattle.kmip_ttlv_de.specs.Reads
 pub use Rattle.kmip_ttlv_de.specs.Reading
 pub use Rattle.kmip_ttlv_de.specs.Places as ReadPlaces
+pub use Rattle.kmip_ttlv_de.specs.Parts
 pub use Rattle.kmip_ttlv_de.specs.Facts
+pub use Rattle.kmip_ttlv_de.specs.RootFacts
 pub use Rattle.kmip_ttlv_de.specs.Answer as ReadAnswers
 pub use Rattle.kmip_ttlv_util.specs.Outlines
 pub use Rattle.kmip_ttlv_util.specs.Traces

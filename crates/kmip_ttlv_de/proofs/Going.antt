@@ -21,7 +21,7 @@ use Rattle.kmip_ttlv_de.proofs.Front.{join_more, join_nil, seq_front, with_front
 use Rattle.kmip_ttlv_de.proofs.Heads.{accepted_leaf, code_more, first_of_items, goes_item, item_more, length_more, refused_any, refused_first, tag_more}
 use Rattle.kmip_ttlv_types.proofs.PlaceLemmas.{code_one, item_one, items_at_splits, items_in_order, raw_with, splits_items_at}
 use Rattle.kmip_ttlv_de.proofs.ReadLemmas.{option_no_struct, reads_read_of, reads_shorter, split_of_splits, splits_split_of}
-use Rattle.kmip_ttlv_de.specs.Answer.{Accepted, Answers, Goes, Refused, Sort, early_end, memory, other, sort_of}
+use Rattle.kmip_ttlv_de.specs.Answer.{Accepted, Answers, Goes, ReadsNothing, Sort, early_end, memory, other, sort_of}
 use Rattle.kmip_ttlv_de.specs.Keeps.{Keep}
 use Rattle.kmip_ttlv_de.specs.Places.{LeafAt, StructAt}
 use Rattle.kmip_ttlv_de.specs.Reading.{FieldsReader, Got, Reader, ended, got, read_all, read_choice, read_content, read_enum, read_field, read_fields, read_forms, read_number, read_of, read_seq, read_struct, read_tuple, read_used, read_variant, rest_of, run_of, split_of, used_up, ◌>>=◌}
@@ -49,12 +49,12 @@ goes_then r s t b p q m e k k' k'' f g =
       left = λ after zs items. let y = f.left after zs items in let z = g.left after y.0 y.2 in (z.0, y.1 ∙ z.1, z.2);
     }
 
-goes_refused_as : {A : Type 0} (r s : Reads' A) (b : List ℕ) (p q e : ℕ) (k k' : List Keep) (f : Sort) → Goes r s b p e k k' q → Refused s b q e k' f → Refused r b p e k f
+goes_refused_as : {A : Type 0} (r s : Reads' A) (b : List ℕ) (p q e : ℕ) (k k' : List Keep) (f : Sort) → Goes r s b p e k k' q → ReadsNothing s b q e k' f → ReadsNothing r b p e k f
 goes_refused_as r s b p q e k k' memory g h = tt
 goes_refused_as r s b p q e k k' early_end g h = λ zs items. let y = g.left [] zs (rw append-nil items) in y.1 ∙ h y.0 (rw append-nil at y.2)
 goes_refused_as r s b p q e k k' other g h = λ after zs items. let y = g.left after zs items in y.1 ∙ h after y.0 y.2
 
-pub goes_refused : {A : Type 0} (r s : Reads' A) (b : List ℕ) (p q e : ℕ) (k k' : List Keep) (f : Sort) → Goes r s b p e k k' q → Refused s b q e k' f → Refused r b p e k f
+pub goes_refused : {A : Type 0} (r s : Reads' A) (b : List ℕ) (p q e : ℕ) (k k' : List Keep) (f : Sort) → Goes r s b p e k k' q → ReadsNothing s b q e k' f → ReadsNothing r b p e k f
 goes_refused r s b p q e k k' f g h = goes_refused_as r s b p q e k k' f g h
 
 pub goes_map : {A B : Type 0} (f : Option (Got A) → Option (Got B)) (r s : Reads' A) (b : List ℕ) (p e : ℕ) (k k' : List Keep) (q : ℕ) → Goes r s b p e k k' q → Goes (λ h zs. f (r h zs)) (λ h zs. f (s h zs)) b p e k k' q
@@ -64,15 +64,15 @@ pub goes_as : {A : Type 0} (r s t : Reads' A) (b : List ℕ) (p e : ℕ) (k k' :
 goes_as r s t b p e k k' q same g = record { in_order = g.in_order; within = g.within; taken = g.taken; are_taken = g.are_taken; left = λ after zs items. let y = g.left after zs items in (y.0, y.1 ∙ same k' y.0, y.2) }
 
 -- a refusal of what is done in another way
-pub refused_by : {A B : Type 0} (r : Reads' A) (s : Reads' B) (b : List ℕ) (p e : ℕ) (k h : List Keep) (f : Sort) → ((zs : List Raw) → r k zs ≡ None → s h zs ≡ None) → Refused r b p e k f → Refused s b p e h f
+pub refused_by : {A B : Type 0} (r : Reads' A) (s : Reads' B) (b : List ℕ) (p e : ℕ) (k h : List Keep) (f : Sort) → ((zs : List Raw) → r k zs ≡ None → s h zs ≡ None) → ReadsNothing r b p e k f → ReadsNothing s b p e h f
 refused_by r s b p e k h f to g = by_sort f g
   where
-    by_sort : (f : Sort) → Refused r b p e k f → Refused s b p e h f
+    by_sort : (f : Sort) → ReadsNothing r b p e k f → ReadsNothing s b p e h f
     by_sort memory g = tt
     by_sort early_end g = λ zs items. to zs (g zs items)
     by_sort other g = λ after zs items. to zs (g after zs items)
 
-pub refused_map : {A B : Type 0} (f : Option (Got A) → Option (Got B)) (r : Reads' A) (b : List ℕ) (p e : ℕ) (k : List Keep) (d : Sort) → f None ≡ None → Refused r b p e k d → Refused (λ h zs. f (r h zs)) b p e k d
+pub refused_map : {A B : Type 0} (f : Option (Got A) → Option (Got B)) (r : Reads' A) (b : List ℕ) (p e : ℕ) (k : List Keep) (d : Sort) → f None ≡ None → ReadsNothing r b p e k d → ReadsNothing (λ h zs. f (r h zs)) b p e k d
 refused_map f r b p e k d nothing g = refused_by r (λ h zs. f (r h zs)) b p e k k d (λ zs is. ap f is ∙ nothing) g
 
 -- ---- the fields, one after the other
@@ -105,7 +105,7 @@ fields_step r fs i f ds d b p q m e k k' k'' lt is g a =
     (goes_then r (λ h ys. field_then (views ds) rest (one h ys)) (λ h ys. field_then (views ds) rest (got (view d) h ys)) b p q m e k k' k'' so_far step)
 
 pub fields_refused : {A : Type 0} (r : Reads' Values) (fs : List (FieldShape A)) (i : ℕ) (f : FieldShape A) (ds : List (Data A)) (x : Sort) (b : List ℕ) (p q e : ℕ) (k k' : List Keep) → i < length fs → f ≡ get_or fs i f
-    → Goes r (fields_left ds i fs) b p e k k' q → Refused (read_field f.name.now (form_of f.shape) (read_of (form_of f.shape))) b q e k' x → Refused r b p e k x
+    → Goes r (fields_left ds i fs) b p e k k' q → ReadsNothing (read_field f.name.now (form_of f.shape) (read_of (form_of f.shape))) b q e k' x → ReadsNothing r b p e k x
 fields_refused r fs i f ds x b p q e k k' lt is g h =
     let rest = fields_of (drop (i + 1) fs) in
     let one = read_field f.name.now (form_of f.shape) (read_of (form_of f.shape)) in
@@ -166,13 +166,13 @@ struct_none name fs deny read w p n k x xs item len h =
         let parts : drop (p + 8) w ≡ x.content ++ drop (length_at w p) (drop (p + 8) w) = sym (take-append-drop (length_at w p) (drop (p + 8) w)) ∙ ap (λ (c : List ℕ). c ++ drop (length_at w p) (drop (p + 8) w)) (sym item.content) in
         items_at_splits w (p + 8) (p + 8 + n) zs (drop (length_at w p) (drop (p + 8) w)) x.content (omega (arith, item.there)) parts (omega (arith, item.len, len)) s
 
-pub struct_refused : (name : List ℕ) (fs : Fields) (deny : Bool) (read : FieldsReader) (b : List ℕ) (p e n : ℕ) (k : List Keep) (r : Sort) → p < e → p + 8 ≤ length b → n ≡ length_at b p → Refused (read_all fs deny read) b (p + 8) (p + 8 + n) k r → Refused (read_struct name fs deny read) b p e k r
+pub struct_refused : (name : List ℕ) (fs : Fields) (deny : Bool) (read : FieldsReader) (b : List ℕ) (p e n : ℕ) (k : List Keep) (r : Sort) → p < e → p + 8 ≤ length b → n ≡ length_at b p → ReadsNothing (read_all fs deny read) b (p + 8) (p + 8 + n) k r → ReadsNothing (read_struct name fs deny read) b p e k r
 struct_refused name fs deny read b p e n k r lt le len h = by_sort r h
   where
     here : (w : List ℕ) (zs : List Raw) → n ≡ length_at w p → ItemsAt w p e zs → ((ys : List Raw) → ItemsAt w (p + 8) (p + 8 + n) ys → read_all fs deny read k ys ≡ None) → read_struct name fs deny read k zs ≡ None
     here w zs l items nothing = let f = first_of_items w p e zs lt items in ap (read_struct name fs deny read k) f.are ∙ struct_none name fs deny read w p n k f.item f.others f.at l (λ ys i. struct_end_all name fs deny f.others (read k ys) ∙ ap (λ o. o >>= λ vs. got (struct_value name vs.value) vs.kept f.others) (nothing ys i))
 
-    by_sort : (r : Sort) → Refused (read_all fs deny read) b (p + 8) (p + 8 + n) k r → Refused (read_struct name fs deny read) b p e k r
+    by_sort : (r : Sort) → ReadsNothing (read_all fs deny read) b (p + 8) (p + 8 + n) k r → ReadsNothing (read_struct name fs deny read) b p e k r
     by_sort memory g = tt
     by_sort early_end g = λ zs items. here b zs len items g
     by_sort other g = λ after zs items. here (b ++ after) zs (len ∙ sym (length_more b after p le)) items (g after)
@@ -180,7 +180,7 @@ struct_refused name fs deny read b p e n k r lt le len h = by_sort r h
 -- ---- what follows the fields
 
 -- the fields, then the rest
-pub all_refused : (fs : Fields) (deny : Bool) (read : FieldsReader) (b : List ℕ) (p q e : ℕ) (k k' : List Keep) (vs : Values) (r : Sort) → Accepted read b p e k k' vs q → Refused (rest_of fs deny) b q e k' r → Refused (read_all fs deny read) b p e k r
+pub all_refused : (fs : Fields) (deny : Bool) (read : FieldsReader) (b : List ℕ) (p q e : ℕ) (k k' : List Keep) (vs : Values) (r : Sort) → Accepted read b p e k k' vs q → ReadsNothing (rest_of fs deny) b q e k' r → ReadsNothing (read_all fs deny read) b p e k r
 all_refused fs deny read b p q e k k' vs r a h =
     let after_fields = goes_map (λ o. o >>= ended fs deny) read (got vs) b p e k k' q a in
     goes_refused (read_all fs deny read) (λ h zs. got vs h zs >>= ended fs deny) b p q e k k' r after_fields (refused_map (λ o. o >>= λ u. got vs u.kept u.rest) (rest_of fs deny) b q e k' r refl h)
@@ -190,7 +190,7 @@ all_accepted fs deny read b p q e k k' vs a h =
     let after_fields = goes_map (λ o. o >>= ended fs deny) read (got vs) b p e k k' q a in
     goes_then (read_all fs deny read) (λ h zs. got vs h zs >>= ended fs deny) (got vs) b p q e e k k' k' after_fields (goes_map (λ o. o >>= λ u. got vs u.kept u.rest) (rest_of fs deny) (got tt) b q e k' k' e h)
 
-pub all_fields_refused : (fs : Fields) (deny : Bool) (read : FieldsReader) (b : List ℕ) (p e : ℕ) (k : List Keep) (r : Sort) → Refused read b p e k r → Refused (read_all fs deny read) b p e k r
+pub all_fields_refused : (fs : Fields) (deny : Bool) (read : FieldsReader) (b : List ℕ) (p e : ℕ) (k : List Keep) (r : Sort) → ReadsNothing read b p e k r → ReadsNothing (read_all fs deny read) b p e k r
 all_fields_refused fs deny read b p e k r h = refused_map (λ o. o >>= ended fs deny) read b p e k r refl h
 
 -- the end
@@ -199,7 +199,7 @@ rest_done fs deny b p e k le same =
     record { in_order = omega arith; within = omega arith; taken = []; are_taken = same; left = λ after zs items. let nil = items_none (b ++ after) p e zs (omega (arith, length-append b after)) (omega arith) items in (zs, ap (rest_of fs deny k) nil ∙ ap (got tt k) (sym nil), subst (λ q. ItemsAt (b ++ after) q e zs) same items) }
 
 -- an item that may not follow
-pub rest_refused : (fs : Fields) (deny : Bool) (b : List ℕ) (p e : ℕ) (k : List Keep) (r : Sort) → p < e → ((after : List ℕ) (x : Raw) → ItemAt (b ++ after) p x → may_ignore fs deny x ≡ false) → Refused (rest_of fs deny) b p e k r
+pub rest_refused : (fs : Fields) (deny : Bool) (b : List ℕ) (p e : ℕ) (k : List Keep) (r : Sort) → p < e → ((after : List ℕ) (x : Raw) → ItemAt (b ++ after) p x → may_ignore fs deny x ≡ false) → ReadsNothing (rest_of fs deny) b p e k r
 rest_refused fs deny b p e k r lt bad = refused_first (rest_of fs deny) b p e k r lt (λ after x xs item. rw (bad after x item) refl)
 
 -- an item that is ignored
@@ -257,10 +257,10 @@ names_not_at name b after p e zs lt le bad items =
     ap (names name) f.are ∙ names_not name f.item f.others (tag_at b p) bad (f.at.tag ∙ tag_more b after p le)
 
 -- a reader that does as another from these bytes on
-pub refused_via : {A B : Type 0} (r : Reads' A) (s : Reads' B) (b : List ℕ) (p e : ℕ) (k h : List Keep) (f : Sort) → ((after : List ℕ) (zs : List Raw) → ItemsAt (b ++ after) p e zs → r k zs ≡ None → s h zs ≡ None) → Refused r b p e k f → Refused s b p e h f
+pub refused_via : {A B : Type 0} (r : Reads' A) (s : Reads' B) (b : List ℕ) (p e : ℕ) (k h : List Keep) (f : Sort) → ((after : List ℕ) (zs : List Raw) → ItemsAt (b ++ after) p e zs → r k zs ≡ None → s h zs ≡ None) → ReadsNothing r b p e k f → ReadsNothing s b p e h f
 refused_via r s b p e k h f to g = by_sort f g
   where
-    by_sort : (f : Sort) → Refused r b p e k f → Refused s b p e h f
+    by_sort : (f : Sort) → ReadsNothing r b p e k f → ReadsNothing s b p e h f
     by_sort memory g = tt
     by_sort early_end g = λ zs items. to [] zs (rw append-nil items) (g zs items)
     by_sort other g = λ after zs items. to after zs items (g after zs items)
@@ -275,13 +275,13 @@ goes_none name s b p e k le o n = record { in_order = omega arith; within = le; 
 pub names_end : (name : List ℕ) (b after : List ℕ) (p e : ℕ) (zs : List Raw) → p ≡ e → p ≤ length b → ItemsAt (b ++ after) p e zs → zs ≡ []
 names_end name b after p e zs same le items = items_none (b ++ after) p e zs (omega (arith, length-append b after)) (omega (arith, same)) items
 
-pub field_not_named : (name : List ℕ) (s : Form) (read : Reader) (b : List ℕ) (p e : ℕ) (k : List Keep) (r : Sort) → p < e → p + 4 ≤ length b → is_struct s ≡ false → is_option s ≡ false → (tag_of name ≡ Some (tag_at b p) → ⊥) → Refused (read_field name s read) b p e k r
+pub field_not_named : (name : List ℕ) (s : Form) (read : Reader) (b : List ℕ) (p e : ℕ) (k : List Keep) (r : Sort) → p < e → p + 4 ≤ length b → is_struct s ≡ false → is_option s ≡ false → (tag_of name ≡ Some (tag_at b p) → ⊥) → ReadsNothing (read_field name s read) b p e k r
 field_not_named name s read b p e k r lt le st op bad = refused_any (read_field name s read) b p e k r (λ after zs items. let n = names_not_at name b after p e zs lt le bad items in rw (st, n, op) refl)
 
 -- the same refusal, or want of memory in its place
-pub refused_widened : {A : Type 0} (read : Reads' A) (b : List ℕ) (p e : ℕ) (k : List Keep) (x y : Sort) → (y ≡ memory) ⊎ (y ≡ x) → Refused read b p e k x → Refused read b p e k y
-refused_widened read b p e k x y (inl m) h = subst (λ f. Refused read b p e k f) (sym m) tt
-refused_widened read b p e k x y (inr m) h = subst (λ f. Refused read b p e k f) (sym m) h
+pub refused_widened : {A : Type 0} (read : Reads' A) (b : List ℕ) (p e : ℕ) (k : List Keep) (x y : Sort) → (y ≡ memory) ⊎ (y ≡ x) → ReadsNothing read b p e k x → ReadsNothing read b p e k y
+refused_widened read b p e k x y (inl m) h = subst (λ f. ReadsNothing read b p e k f) (sym m) tt
+refused_widened read b p e k x y (inr m) h = subst (λ f. ReadsNothing read b p e k f) (sym m) h
 
 -- ---- a sequence
 
@@ -333,7 +333,7 @@ seq_step r s h ds d b p q m e k k' k'' like g a =
           (z.0, y.1 ∙ ap (seq_front (views ds)) (run_step s h k' k'' y.0 z.0 (view d) (like after y.0 y.2) z.1) ∙ seq_front_more ds d (run_of (read_of s) h (length z.0) k'' z.0), z.2);
     }
 
-pub seq_refused : {A : Type 0} (r : Reads' Value) (s : Form) (h : Raw) (ds : List (Data A)) (x : Sort) (b : List ℕ) (p q e : ℕ) (k k' : List Keep) → ((after : List ℕ) (zs : List Raw) → ItemsAt (b ++ after) q e zs → is_like h zs ≡ true) → Goes r (seq_left ds h s) b p e k k' q → Refused (read_of s) b q e k' x → Refused r b p e k x
+pub seq_refused : {A : Type 0} (r : Reads' Value) (s : Form) (h : Raw) (ds : List (Data A)) (x : Sort) (b : List ℕ) (p q e : ℕ) (k k' : List Keep) → ((after : List ℕ) (zs : List Raw) → ItemsAt (b ++ after) q e zs → is_like h zs ≡ true) → Goes r (seq_left ds h s) b p e k k' q → ReadsNothing (read_of s) b q e k' x → ReadsNothing r b p e k x
 unfolding run_of
 seq_refused r s h ds x b p q e k k' like g a =
     goes_refused r (seq_left ds h s) b p q e k k' x g (refused_via (read_of s) (seq_left ds h s) b q e k' k' x (λ after zs items none_read. stops (length zs) zs (like after zs items) none_read) a)
@@ -375,7 +375,7 @@ pub first_taken : (b : List ℕ) (p q : ℕ) (xs : List Raw) → p < q → Items
 first_taken b p q [] lt items = absurd (omega (arith, items))
 first_taken b p q (x ∷ xs) lt items = (x, items.0)
 
-pub not_there : {A : Type 0} (r : Reads' A) (b : List ℕ) (p e : ℕ) (k : List Keep) (f : Sort) → Refused (got {A = Unit {0}} tt) b p e [] f → Refused r b p e k f
+pub not_there : {A : Type 0} (r : Reads' A) (b : List ℕ) (p e : ℕ) (k : List Keep) (f : Sort) → ReadsNothing (got {A = Unit {0}} tt) b p e [] f → ReadsNothing r b p e k f
 not_there r b p e k f g = refused_via (got {A = Unit {0}} tt) r b p e [] k f (λ after zs items h. absurd cc) g
 
 pub like_at : (h : Raw) (b after : List ℕ) (first p e : ℕ) (zs : List Raw) → ItemAt b first h → p < e → p + 4 ≤ length b → ItemsAt (b ++ after) p e zs → is_like h zs ≡ (eqb (tag_at b p) (tag_at b first) && eqb (code_at b p) (code_at b first))
@@ -411,13 +411,13 @@ tuple_none read w p n k x xs item len h =
       ] refl
     ]
 
-pub tuple_refused : (read : FieldsReader) (b : List ℕ) (p e n : ℕ) (k : List Keep) (r : Sort) → p < e → p + 8 ≤ length b → n ≡ length_at b p → Refused (read_used read) b (p + 8) (p + 8 + n) k r → Refused (read_tuple read) b p e k r
+pub tuple_refused : (read : FieldsReader) (b : List ℕ) (p e n : ℕ) (k : List Keep) (r : Sort) → p < e → p + 8 ≤ length b → n ≡ length_at b p → ReadsNothing (read_used read) b (p + 8) (p + 8 + n) k r → ReadsNothing (read_tuple read) b p e k r
 tuple_refused read b p e n k r lt le len h = by_sort r h
   where
     here : (w : List ℕ) (zs : List Raw) → n ≡ length_at w p → ItemsAt w p e zs → ((ys : List Raw) → ItemsAt w (p + 8) (p + 8 + n) ys → read_used read k ys ≡ None) → read_tuple read k zs ≡ None
     here w zs l items nothing = let f = first_of_items w p e zs lt items in ap (read_tuple read k) f.are ∙ tuple_none read w p n k f.item f.others f.at l nothing
 
-    by_sort : (r : Sort) → Refused (read_used read) b (p + 8) (p + 8 + n) k r → Refused (read_tuple read) b p e k r
+    by_sort : (r : Sort) → ReadsNothing (read_used read) b (p + 8) (p + 8 + n) k r → ReadsNothing (read_tuple read) b p e k r
     by_sort memory g = tt
     by_sort early_end g = λ zs items. here b zs len items g
     by_sort other g = λ after zs items. here (b ++ after) zs (len ∙ sym (length_more b after p le)) items (g after)
@@ -462,7 +462,7 @@ forms_step r ss i s ds d b p q m e k k' k'' lt is g a =
     (goes_then r (λ h ys. form_then (views ds) rest (one h ys)) (λ h ys. form_then (views ds) rest (got (view d) h ys)) b p q m e k k' k'' so_far step)
 
 pub forms_refused : {A : Type 0} (r : Reads' Values) (ss : List (Shape A)) (i : ℕ) (s : Shape A) (ds : List (Data A)) (x : Sort) (b : List ℕ) (p q e : ℕ) (k k' : List Keep) → i < length ss → s ≡ get_or ss i s
-    → Goes r (forms_left ds i ss) b p e k k' q → Refused (read_of (form_of s)) b q e k' x → Refused r b p e k x
+    → Goes r (forms_left ds i ss) b p e k k' q → ReadsNothing (read_of (form_of s)) b q e k' x → ReadsNothing r b p e k x
 forms_refused r ss i s ds x b p q e k k' lt is g h =
     let rest = drop (i + 1) ss in
     let one = read_of (form_of s) in
@@ -486,7 +486,7 @@ forms_done r ss i ds b p q e k k' le same g = record {
 }
 
 -- items are left behind the last shape
-pub forms_surplus : {A : Type 0} (r : Reads' Values) (ss : List (Shape A)) (i : ℕ) (ds : List (Data A)) (x : Sort) (b : List ℕ) (p q e : ℕ) (k k' : List Keep) → length ss ≤ i → (q ≡ e → ⊥) → Goes r (forms_left ds i ss) b p e k k' q → Refused r b p e k x
+pub forms_surplus : {A : Type 0} (r : Reads' Values) (ss : List (Shape A)) (i : ℕ) (ds : List (Data A)) (x : Sort) (b : List ℕ) (p q e : ℕ) (k k' : List Keep) → length ss ≤ i → (q ≡ e → ⊥) → Goes r (forms_left ds i ss) b p e k k' q → ReadsNothing r b p e k x
 forms_surplus r ss i ds x b p q e k k' le ne g =
     goes_refused r (forms_left ds i ss) b p q e k k' x g (refused_any (forms_left ds i ss) b q e k' x (λ after zs items. forms_last ds ss i le k' zs ∙ some_left after zs items))
   where
@@ -496,7 +496,7 @@ forms_surplus r ss i ds x b p q e k k' le ne g =
 
 -- a shape without an item
 pub forms_few : {A : Type 0} (r : Reads' Values) (ss : List (Shape A)) (i : ℕ) (s : Shape A) (ds : List (Data A)) (x : Sort) (b : List ℕ) (p q e : ℕ) (k k' : List Keep) → i < length ss → s ≡ get_or ss i s → q ≡ e
-    → Goes r (forms_left ds i ss) b p e k k' q → Refused r b p e k x
+    → Goes r (forms_left ds i ss) b p e k k' q → ReadsNothing r b p e k x
 forms_few r ss i s ds x b p q e k k' lt is same g =
     forms_refused r ss i s ds x b p q e k k' lt is g (refused_any (read_of (form_of s)) b q e k' x (λ after zs items. ap (read_of (form_of s) k') (items_none (b ++ after) q e zs (omega (arith, g.within, length-append b after)) (omega arith) items) ∙ read_nil (form_of s) k'))
 
@@ -515,7 +515,7 @@ choice_at name b after p e zs t vs k read lt le typ items =
     let same : f.item.typ ≡ t = code_one f.item.typ t (f.at.typ ∙ code_more b after p le ∙ typ) in
     ap (read_enum name vs read k) f.are ∙ ap (λ y. read_choice (choice vs k y) read (read_number name vs) k (f.item ∷ f.others)) same ∙ ap (read_choice (choice vs k t) read (read_number name vs) k) (sym f.are)
 
-pub enum_refused : (name : List ℕ) (vs : Variants) (read : ℕ → Reader) (b : List ℕ) (p e : ℕ) (k : List Keep) (t : TtlvType) (m : Mismatch) (r : Sort) → p < e → p + 4 ≤ length b → code_at b p ≡ code t → choice vs k t ≡ choice_refused m → Refused (read_enum name vs read) b p e k r
+pub enum_refused : (name : List ℕ) (vs : Variants) (read : ℕ → Reader) (b : List ℕ) (p e : ℕ) (k : List Keep) (t : TtlvType) (m : Mismatch) (r : Sort) → p < e → p + 4 ≤ length b → code_at b p ≡ code t → choice vs k t ≡ choice_refused m → ReadsNothing (read_enum name vs read) b p e k r
 enum_refused name vs read b p e k t m r lt le typ c = refused_any (read_enum name vs read) b p e k r (λ after zs items. choice_at name b after p e zs t vs k read lt le typ items ∙ ap (λ y. read_choice y read (read_number name vs) k zs) c)
 
 -- by a number
@@ -541,7 +541,7 @@ plain_type ByteString ne = refl
 plain_type DateTime ne = refl
 plain_type Interval ne = refl
 
-pub tuple_not_type : (read : FieldsReader) (b : List ℕ) (p e : ℕ) (k : List Keep) (t : TtlvType) (r : Sort) → p < e → p + 4 ≤ length b → code_at b p ≡ code t → (t ≡ Structure → ⊥) → Refused (read_tuple read) b p e k r
+pub tuple_not_type : (read : FieldsReader) (b : List ℕ) (p e : ℕ) (k : List Keep) (t : TtlvType) (r : Sort) → p < e → p + 4 ≤ length b → code_at b p ≡ code t → (t ≡ Structure → ⊥) → ReadsNothing (read_tuple read) b p e k r
 tuple_not_type read b p e k t r lt le typ ne = refused_first (read_tuple read) b p e k r lt (λ after x xs item.
     let same : x.typ ≡ t = code_one x.typ t (item.typ ∙ code_more b after p le ∙ typ) in
     let plain = plain_type x.typ (λ h. ne (sym same ∙ h)) in
@@ -572,7 +572,7 @@ fields_begin fs ds b p e k nil le =
     let r = read_fields (fields_of fs) in
     goes_as r r (fields_left ds 0 fs) b p e k k p (λ h ys. rw nil (front_nil (read_fields (fields_of fs) h ys))) (goes_nowhere r b p e k le)
 
-pub struct_not_type : (name : List ℕ) (fs : Fields) (deny : Bool) (read : FieldsReader) (b : List ℕ) (p e : ℕ) (k : List Keep) (t : TtlvType) (r : Sort) → p < e → p + 4 ≤ length b → code_at b p ≡ code t → is_structure t ≡ false → Refused (read_struct name fs deny read) b p e k r
+pub struct_not_type : (name : List ℕ) (fs : Fields) (deny : Bool) (read : FieldsReader) (b : List ℕ) (p e : ℕ) (k : List Keep) (t : TtlvType) (r : Sort) → p < e → p + 4 ≤ length b → code_at b p ≡ code t → is_structure t ≡ false → ReadsNothing (read_struct name fs deny read) b p e k r
 struct_not_type name fs deny read b p e k t r lt le typ no_struct = refused_first (read_struct name fs deny read) b p e k r lt (λ after x xs item.
     let same : x.typ ≡ t = code_one x.typ t (item.typ ∙ code_more b after p le ∙ typ) in
     let plain : is_structure x.typ ≡ false = ap is_structure same ∙ no_struct in

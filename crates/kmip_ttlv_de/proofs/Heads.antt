@@ -11,7 +11,7 @@ use Rattle.kmip_ttlv_types.specs.declared.typ.TtlvType.{TtlvType}
 use Rattle.kmip_ttlv_base.specs.Forms.{Form}
 use Rattle.kmip_ttlv_base.specs.Values.{Value}
 use Rattle.kmip_ttlv_types.proofs.PlaceLemmas.{code_one, item_one, plain_bytes, raw_with, type_of-code}
-use Rattle.kmip_ttlv_de.specs.Answer.{Accepted, Goes, Refused, Sort, early_end, memory, other}
+use Rattle.kmip_ttlv_de.specs.Answer.{Accepted, Goes, ReadsNothing, Sort, early_end, memory, other}
 use Rattle.kmip_ttlv_de.specs.Keeps.{Keep, keep_of, keeps}
 use Rattle.kmip_ttlv_de.specs.Places.{LeafAt}
 use Rattle.kmip_ttlv_de.specs.Reading.{Got, any_leaf, got, read_leaf}
@@ -70,22 +70,22 @@ first_of_items w p e (x ∷ xs) lt items = record { item = x; others = xs; are =
 -- ---- refusals
 
 -- whatever follows, nothing is read: any refusal says no more
-pub refused_sort : {A : Type 0} (read : List Keep → List Raw → Option (Got A)) (b : List ℕ) (p e : ℕ) (k : List Keep) (r : Sort) → ((after : List ℕ) (zs : List Raw) → ItemsAt (b ++ after) p e zs → read k zs ≡ None) → Refused read b p e k r
+pub refused_sort : {A : Type 0} (read : List Keep → List Raw → Option (Got A)) (b : List ℕ) (p e : ℕ) (k : List Keep) (r : Sort) → ((after : List ℕ) (zs : List Raw) → ItemsAt (b ++ after) p e zs → read k zs ≡ None) → ReadsNothing read b p e k r
 refused_sort read b p e k memory h = tt
 refused_sort read b p e k early_end h = λ zs items. h [] zs (rw append-nil items)
 refused_sort read b p e k other h = h
 
-pub refused_any : {A : Type 0} (read : List Keep → List Raw → Option (Got A)) (b : List ℕ) (p e : ℕ) (k : List Keep) (r : Sort) → ((after : List ℕ) (zs : List Raw) → ItemsAt (b ++ after) p e zs → read k zs ≡ None) → Refused read b p e k r
+pub refused_any : {A : Type 0} (read : List Keep → List Raw → Option (Got A)) (b : List ℕ) (p e : ℕ) (k : List Keep) (r : Sort) → ((after : List ℕ) (zs : List Raw) → ItemsAt (b ++ after) p e zs → read k zs ≡ None) → ReadsNothing read b p e k r
 refused_any read b p e k r h = refused_sort read b p e k r h
 
 -- no first item is read from
-pub refused_first : {A : Type 0} (read : List Keep → List Raw → Option (Got A)) (b : List ℕ) (p e : ℕ) (k : List Keep) (r : Sort) → p < e → ((after : List ℕ) (x : Raw) (xs : List Raw) → ItemAt (b ++ after) p x → read k (x ∷ xs) ≡ None) → Refused read b p e k r
+pub refused_first : {A : Type 0} (read : List Keep → List Raw → Option (Got A)) (b : List ℕ) (p e : ℕ) (k : List Keep) (r : Sort) → p < e → ((after : List ℕ) (x : Raw) (xs : List Raw) → ItemAt (b ++ after) p x → read k (x ∷ xs) ≡ None) → ReadsNothing read b p e k r
 refused_first read b p e k r lt h =
     refused_any read b p e k r (λ after zs items. let f = first_of_items (b ++ after) p e zs lt items in rw f.are (h after f.item f.others f.at))
 
 -- the first item isn't there
-pub refused_end : {A : Type 0} (read : List Keep → List Raw → Option (Got A)) (b : List ℕ) (p e : ℕ) (k : List Keep) (r : Sort) → r ≡ early_end → p < e → ((x : Raw) → ItemAt b p x → ⊥) → Refused read b p e k r
-refused_end read b p e k r early lt h = subst (λ y. Refused read b p e k y) (sym early) (λ zs items. let f = first_of_items b p e zs lt items in absurd (h f.item f.at))
+pub refused_end : {A : Type 0} (read : List Keep → List Raw → Option (Got A)) (b : List ℕ) (p e : ℕ) (k : List Keep) (r : Sort) → r ≡ early_end → p < e → ((x : Raw) → ItemAt b p x → ⊥) → ReadsNothing read b p e k r
+refused_end read b p e k r early lt h = subst (λ y. ReadsNothing read b p e k y) (sym early) (λ zs items. let f = first_of_items b p e zs lt items in absurd (h f.item f.at))
 
 -- ---- one item read
 
@@ -134,7 +134,7 @@ pub leaf_reads : (s : Form) (tag : ℕ) (t : TtlvType) (content : List ℕ) → 
 leaf_reads s tag t content ok good k xs = rw (ok, good) refl
 
 -- of another type
-pub leaf_not_type : (s : Form) (b : List ℕ) (p e : ℕ) (k : List Keep) (t : TtlvType) (r : Sort) → p < e → p + 4 ≤ length b → code_at b p ≡ code t → takes s t ≡ false → Refused (read_leaf s) b p e k r
+pub leaf_not_type : (s : Form) (b : List ℕ) (p e : ℕ) (k : List Keep) (t : TtlvType) (r : Sort) → p < e → p + 4 ≤ length b → code_at b p ≡ code t → takes s t ≡ false → ReadsNothing (read_leaf s) b p e k r
 leaf_not_type s b p e k t r lt le typ-is not_taken =
     refused_first (read_leaf s) b p e k r lt (λ after x xs item.
     let same : x.typ ≡ t = code_one x.typ t (item.typ ∙ code_more b after p le ∙ typ-is) in
@@ -151,7 +151,7 @@ leaf_no_value s k h (x ∷ xs) e =
     ] e
 
 -- no type
-pub refused_type : {A : Type 0} (read : List Keep → List Raw → Option (Got A)) (b : List ℕ) (p e : ℕ) (k : List Keep) (r : Sort) → p < e → ((r ≡ early_end) × (length b < p + 4)) ⊎ ((p + 4 ≤ length b) × (type_of (code_at b p) ≡ None)) → Refused read b p e k r
+pub refused_type : {A : Type 0} (read : List Keep → List Raw → Option (Got A)) (b : List ℕ) (p e : ℕ) (k : List Keep) (r : Sort) → p < e → ((r ≡ early_end) × (length b < p + 4)) ⊎ ((p + 4 ≤ length b) × (type_of (code_at b p) ≡ None)) → ReadsNothing read b p e k r
 refused_type read b p e k r lt (inl h) = refused_end read b p e k r h.0 lt (λ x item. omega (arith, h.1, item.there))
 refused_type read b p e k r lt (inr h) = refused_first read b p e k r lt (λ after x xs item. let bad : type_of (code x.typ) ≡ None = ap type_of (item.typ ∙ code_more b after p h.0) ∙ h.1 in let good = type_of-code x.typ in cc)
 

@@ -1,5 +1,5 @@
 -- Items that are ignored after the last field.
-use Rattle.std.proofs.Common.{◌≡◌, ◌≢◌, ℕ, ◌+◌, ◌<◌, ◌≤◌, Bool, true, false, cond, not, ◌&&◌, ◌||◌, List, [], ◌∷◌, ◌++◌, length, get_or, take, drop, None, refl, sym, ap, subst, ◌∙◌, arith}
+use Rattle.std.proofs.Common.{◌≡◌, ◌≢◌, ℕ, ◌+◌, ◌<◌, ◌≤◌, Bool, true, false, cond, not, ◌&&◌, ◌||◌, List, [], ◌∷◌, ◌++◌, length, get_or, take, drop, None, refl, sym, ap, subst, ◌∙◌, arith, ◌==◌, rules}
 use Rattle.kmip_ttlv_types.specs.ItemTypes.{code, is_structure}
 use Rattle.kmip_ttlv_types.specs.Items.{Raw}
 use Rattle.kmip_ttlv_types.specs.Leaves.{is_valid}
@@ -11,7 +11,7 @@ use Rattle.kmip_ttlv_base.specs.declared.shape.FieldShape.{FieldShape}
 use Rattle.kmip_ttlv_de.proofs.Going.{refused_via, rest_ignored, rest_refused}
 use Rattle.kmip_ttlv_de.proofs.Heads.{code_more, first_of_items, item_of_leaf, refused_end, tag_more}
 use Rattle.kmip_ttlv_types.proofs.PlaceLemmas.{code_one, raw_with}
-use Rattle.kmip_ttlv_de.specs.Answer.{Goes, Refused, Sort, early_end}
+use Rattle.kmip_ttlv_de.specs.Answer.{Goes, ReadsNothing, Sort, early_end}
 use Rattle.kmip_ttlv_de.specs.Keeps.{Keep}
 use Rattle.kmip_ttlv_de.specs.Places.{LeafAt}
 use Rattle.kmip_ttlv_de.specs.Reading.{any_leaf, got, rest_of}
@@ -40,15 +40,15 @@ not_denied : (a : Bool) → (a && false) ≡ false
 not_denied true = refl
 not_denied false = refl
 
-pub refused_empty : (fs : Fields) (deny : Bool) (b : List ℕ) (p e : ℕ) (k : List Keep) (r : Sort) → p < e → has_fields fs ≡ false → Refused (rest_of fs deny) b p e k r
+pub refused_empty : (fs : Fields) (deny : Bool) (b : List ℕ) (p e : ℕ) (k : List Keep) (r : Sort) → p < e → has_fields fs ≡ false → ReadsNothing (rest_of fs deny) b p e k r
 refused_empty fs deny b p e k r lt h = rest_refused fs deny b p e k r lt (λ after x item. rw h refl)
 
-pub refused_named : (fs : Fields) (deny : Bool) (b : List ℕ) (p e : ℕ) (k : List Keep) (r : Sort) → p < e → p + 4 ≤ length b → names_tag fs (tag_at b p) ≡ true → Refused (rest_of fs deny) b p e k r
+pub refused_named : (fs : Fields) (deny : Bool) (b : List ℕ) (p e : ℕ) (k : List Keep) (r : Sort) → p < e → p + 4 ≤ length b → names_tag fs (tag_at b p) ≡ true → ReadsNothing (rest_of fs deny) b p e k r
 refused_named fs deny b p e k r lt le h = rest_refused fs deny b p e k r lt (λ after x item.
     let named : names_tag fs x.tag ≡ true = ap (names_tag fs) (item.tag ∙ tag_more b after p le) ∙ h in
     rw named (not_last (has_fields fs) (not deny)))
 
-pub refused_denied : (fs : Fields) (deny : Bool) (b : List ℕ) (p e : ℕ) (k : List Keep) (r : Sort) → p < e → deny ≡ true → Refused (rest_of fs deny) b p e k r
+pub refused_denied : (fs : Fields) (deny : Bool) (b : List ℕ) (p e : ℕ) (k : List Keep) (r : Sort) → p < e → deny ≡ true → ReadsNothing (rest_of fs deny) b p e k r
 refused_denied fs deny b p e k r lt h = rest_refused fs deny b p e k r lt (λ after x item. rw h (not_denied (has_fields fs)))
 
 no_structure : (t : TtlvType) → t ≢ Structure → is_structure t ≡ false
@@ -63,7 +63,7 @@ no_structure ByteString ne = refl
 no_structure DateTime ne = refl
 no_structure Interval ne = refl
 
-pub refused_invalid : (fs : Fields) (deny : Bool) (b : List ℕ) (p e : ℕ) (k : List Keep) (r : Sort) (t : TtlvType) → p < e → p + 4 ≤ length b → code_at b p ≡ code t → t ≢ Structure → Refused any_leaf b p e k r → Refused (rest_of fs deny) b p e k r
+pub refused_invalid : (fs : Fields) (deny : Bool) (b : List ℕ) (p e : ℕ) (k : List Keep) (r : Sort) (t : TtlvType) → p < e → p + 4 ≤ length b → code_at b p ≡ code t → t ≢ Structure → ReadsNothing any_leaf b p e k r → ReadsNothing (rest_of fs deny) b p e k r
 refused_invalid fs deny b p e k r t lt le typ ne h =
     refused_via any_leaf (rest_of fs deny) b p e k k r (λ after zs items none.
     let f = first_of_items (b ++ after) p e zs lt items in
@@ -90,10 +90,10 @@ either_valid true b e = refl
 either_valid false b e = e
 
 -- the rest of an item isn't there
-pub refused_short : (fs : Fields) (deny : Bool) (b : List ℕ) (p e : ℕ) (k : List Keep) (r : Sort) → r ≡ early_end → p < e → length b < p + 8 → Refused (rest_of fs deny) b p e k r
+pub refused_short : (fs : Fields) (deny : Bool) (b : List ℕ) (p e : ℕ) (k : List Keep) (r : Sort) → r ≡ early_end → p < e → length b < p + 8 → ReadsNothing (rest_of fs deny) b p e k r
 refused_short fs deny b p e k r early lt short = refused_end (rest_of fs deny) b p e k r early lt (λ x item. omega (arith, short, item.there))
 
-pub refused_cut : (fs : Fields) (deny : Bool) (b : List ℕ) (p e : ℕ) (k : List Keep) (r : Sort) (t : TtlvType) (n : ℕ) → r ≡ early_end → p < e → code_at b p ≡ code t → n ≡ length_at b p → length b < p + size t n → Refused (rest_of fs deny) b p e k r
+pub refused_cut : (fs : Fields) (deny : Bool) (b : List ℕ) (p e : ℕ) (k : List Keep) (r : Sort) (t : TtlvType) (n : ℕ) → r ≡ early_end → p < e → code_at b p ≡ code t → n ≡ length_at b p → length b < p + size t n → ReadsNothing (rest_of fs deny) b p e k r
 refused_cut fs deny b p e k r t n early lt typ len short = refused_end (rest_of fs deny) b p e k r early lt (λ x item.
     let same : x.typ ≡ t = code_one x.typ t (item.typ ∙ typ) in
     let there : p + size t n ≤ length b = rw len (subst (λ y. p + size y (length_at b p) ≤ length b) same item.there) in
@@ -101,3 +101,7 @@ refused_cut fs deny b p e k r t n early lt typ len short = refused_end (rest_of 
 
 pub structure_leaf : (b : List ℕ) (p : ℕ) (t : TtlvType) (n q : ℕ) → t ≡ Structure → code_at b p ≡ code t → n ≡ length_at b p → q ≡ p + size t n → q ≤ length b → LeafAt b p Structure n (take n (drop (p + 8) b)) q
 structure_leaf b p t n q same typ len next le = record { typ_is = typ ∙ ap code same; len_is = len; content_is = refl; next_is = next ∙ ap (λ y. p + size y n) same; there = le }
+
+-- a length that is equal to 0 by the test
+pub empty_length : (n : ℕ) → true ≡ (n == 0) → n ≡ 0
+empty_length n e = search rules

@@ -11,6 +11,7 @@ pub mod Giving
 pub mod NumberLemmas
 pub mod Cuts
 pub mod RuleLemmas
+pub mod PartLemmas
 pub mod SayLemmas
 pub mod RootLemmas
 pub mod MessageLemmas

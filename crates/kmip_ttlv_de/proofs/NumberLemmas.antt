@@ -1,9 +1,10 @@
 -- The text of a number, and the variant that it names.
-use Rattle.std.proofs.Common.{◌≡◌, ◌≢◌, ℕ, ◌+◌, ◌<◌, ◌≤◌, ◌/◌, ◌%◌, Bool, true, false, cond, List, [], ◌∷◌, ◌++◌, length, get_or, drop, Option, Some, None, refl, sym, ap, ◌∙◌, append_assoc, ◌&&◌}
+use Rattle.std.proofs.Common.{◌≡◌, ◌≢◌, ℕ, ◌+◌, ◌<◌, ◌≤◌, ◌/◌, ◌%◌, Bool, true, false, cond, List, [], ◌∷◌, ◌++◌, length, get_or, take, drop, eqb, Option, Some, None, refl, sym, ap, ◌∙◌, append_assoc, ◌&&◌, arith}
 use Rattle.std.specs.List.{flat_map}
 use Rattle.std.specs.Str.{bytes_eq}
 use Rattle.std.specs.Fmt.{digit_glyph}
-use Rattle.std.proofs.lemmas.List.{drop_more, drop_all, append-nil}
+use Rattle.std.proofs.lemmas.Bool.{eq-eqb}
+use Rattle.std.proofs.lemmas.List.{drop_more, drop_all, append-nil, length-drop, length-take-le}
 use Rattle.kmip_ttlv_types.specs.ItemTypes.{code, fixed_length}
 use Rattle.kmip_ttlv_types.specs.Items.{Raw}
 use Rattle.kmip_ttlv_types.specs.Leaves.{is_valid}
@@ -17,9 +18,10 @@ use Rattle.kmip_ttlv_de.proofs.Going.{refused_by}
 use Rattle.kmip_ttlv_de.proofs.Heads.{accepted_leaf, code_more, refused_any, refused_first, refused_leaf}
 use Rattle.kmip_ttlv_de.proofs.Leaves.{leaf_not_length}
 use Rattle.kmip_ttlv_types.proofs.PlaceLemmas.{code_one}
-use Rattle.kmip_ttlv_de.specs.Answer.{Accepted, Refused, Sort}
+use Rattle.kmip_ttlv_de.specs.Answer.{Accepted, ReadsNothing, Sort}
 use Rattle.kmip_ttlv_de.specs.Keeps.{Keep}
-use Rattle.kmip_ttlv_de.specs.Places.{LeafAt}
+use Rattle.kmip_ttlv_de.specs.Facts.{WrongLength, WrongValue}
+use Rattle.kmip_ttlv_de.specs.Places.{LeafAt, content_at}
 use Rattle.kmip_ttlv_de.specs.Reading.{Got, any_leaf, got, read_number, unit_of, ◌>>=◌}
 use Rattle.kmip_ttlv_de.specs.Reads.{byte_digits, first_named, is_number_type, number_text}
 
@@ -50,7 +52,7 @@ named_nowhere name vs i le h = sym (h ∙ ap (λ l. first_named name (variants_o
 -- ---- an enum by a number, at an item
 
 -- another type
-pub number_not_type : (name : List ℕ) (vs : Variants) (b : List ℕ) (p e : ℕ) (k : List Keep) (t : TtlvType) (r : Sort) → p < e → p + 4 ≤ length b → code_at b p ≡ code t → is_number_type t ≡ false → Refused (read_number name vs) b p e k r
+pub number_not_type : (name : List ℕ) (vs : Variants) (b : List ℕ) (p e : ℕ) (k : List Keep) (t : TtlvType) (r : Sort) → p < e → p + 4 ≤ length b → code_at b p ≡ code t → is_number_type t ≡ false → ReadsNothing (read_number name vs) b p e k r
 number_not_type name vs b p e k t r lt le typ-is not_number =
     refused_first (read_number name vs) b p e k r lt (λ after x xs item.
     let same : x.typ ≡ t = code_one x.typ t (item.typ ∙ code_more b after p le ∙ typ-is) in
@@ -69,7 +71,7 @@ number_no_value name vs k h (x ∷ xs) e =
     ] e
 
 -- another length than four
-pub number_not_length : (name : List ℕ) (vs : Variants) (b : List ℕ) (p e : ℕ) (k : List Keep) (t : TtlvType) (n : ℕ) (r : Sort) → p < e → p + 8 ≤ length b → code_at b p ≡ code t → n ≡ length_at b p → fixed_length t ≡ Some 4 → (n ≡ 4 → ⊥) → Refused (read_number name vs) b p e k r
+pub number_not_length : (name : List ℕ) (vs : Variants) (b : List ℕ) (p e : ℕ) (k : List Keep) (t : TtlvType) (n : ℕ) (r : Sort) → p < e → p + 8 ≤ length b → code_at b p ≡ code t → n ≡ length_at b p → fixed_length t ≡ Some 4 → (n ≡ 4 → ⊥) → ReadsNothing (read_number name vs) b p e k r
 number_not_length name vs b p e k t n r lt le typ-is len-is wide ne =
     refused_by any_leaf (read_number name vs) b p e k k r (number_no_value name vs k k) (leaf_not_length b p e k t n 4 r lt le typ-is len-is wide ne)
 
@@ -81,7 +83,7 @@ no_unit name vname (Some (wrapped s)) differs = refl
 no_unit name vname (Some (tuple ss)) differs = refl
 
 -- no unit of that name
-pub number_not_unit : (name : List ℕ) (vs : Variants) (b : List ℕ) (p e : ℕ) (k : List Keep) (t : TtlvType) (n : ℕ) (content : List ℕ) (q : ℕ) (r : Sort) → p < e → ((i : ℕ) → get_or b i 0 < 256) → LeafAt b p t n content q → unit_of name (number_text content) (first_named (number_text content) vs) ≡ None → Refused (read_number name vs) b p e k r
+pub number_not_unit : (name : List ℕ) (vs : Variants) (b : List ℕ) (p e : ℕ) (k : List Keep) (t : TtlvType) (n : ℕ) (content : List ℕ) (q : ℕ) (r : Sort) → p < e → ((i : ℕ) → get_or b i 0 < 256) → LeafAt b p t n content q → unit_of name (number_text content) (first_named (number_text content) vs) ≡ None → ReadsNothing (read_number name vs) b p e k r
 number_not_unit name vs b p e k t n content q r lt fits l none =
     refused_any (read_number name vs) b p e k r (refused_leaf (read_number name vs) b p e k t n content q lt fits l (λ xs. not_read (is_number_type t && is_valid t content) xs))
   where
@@ -105,3 +107,36 @@ number_length TextString e = absurd cc
 number_length ByteString e = absurd cc
 number_length DateTime e = absurd cc
 number_length Interval e = absurd cc
+
+-- the type that is wanted of a number
+pub no_number : (t : TtlvType) → is_number_type t ≡ false → Enumeration ≢ t
+no_number t other same = absurd (let number : is_number_type t ≡ true = ap is_number_type (sym same) in cc)
+
+-- four bytes are the length of a number
+pub number_long : (b : List ℕ) (s : ℕ) (t : TtlvType) (w n : ℕ) → is_number_type t ≡ true → (s + 8 ≤ length b → length_at b s ≡ 4) → WrongLength b s t w n → ⊥
+number_long b s t w n number four x =
+    let wide : Some w ≡ Some 4 = sym x.wanted ∙ number_length t number in
+    let is_four : w ≡ 4 = cc in
+    x.differs (is_four ∙ sym (x.is ∙ four x.there))
+
+-- and make one
+pub number_valid : (b : List ℕ) (s : ℕ) (t : TtlvType) → is_number_type t ≡ true → (s + 8 ≤ length b → length_at b s ≡ 4) → WrongValue b s t → ⊥
+number_valid b s t number four x =
+    let len : length (content_at b s) ≡ 4 = taken_length b s (length_at b s) x.there ∙ four (omega (arith, x.there)) in
+    let good : is_valid t (content_at b s) ≡ true = by_type t number (eq-eqb (length (content_at b s)) 4 len) in
+    let bad = x.invalid in cc
+  where
+    taken_length : (b : List ℕ) (s n : ℕ) → s + 8 + n ≤ length b → length (take n (drop (s + 8) b)) ≡ n
+    taken_length b s n le = length-take-le n (drop (s + 8) b) (omega (arith, le, length-drop (s + 8) b))
+
+    by_type : (t : TtlvType) → is_number_type t ≡ true → eqb (length (content_at b s)) 4 ≡ true → is_valid t (content_at b s) ≡ true
+    by_type Integer e h = h
+    by_type Enumeration e h = h
+    by_type Structure e h = absurd cc
+    by_type LongInteger e h = absurd cc
+    by_type BigInteger e h = absurd cc
+    by_type Boolean e h = absurd cc
+    by_type TextString e h = absurd cc
+    by_type ByteString e h = absurd cc
+    by_type DateTime e h = absurd cc
+    by_type Interval e h = absurd cc

@@ -12,7 +12,7 @@ use Rattle.kmip_ttlv_de.proofs.Going.{items_none}
 use Rattle.kmip_ttlv_de.proofs.Heads.{first_of_items, refused_any}
 use Rattle.kmip_ttlv_types.proofs.PlaceLemmas.{item_at_text, item_one, text_at_item}
 use Rattle.kmip_ttlv_de.proofs.ReadLemmas.{read_of_reads, reads_read_of}
-use Rattle.kmip_ttlv_de.specs.Answer.{Accepted, Refused, RefusesAs, Sort, early_end, memory, other}
+use Rattle.kmip_ttlv_de.specs.Answer.{Accepted, ReadsNothing, NothingBegins, Sort, early_end, memory, other}
 use Rattle.kmip_ttlv_de.specs.Keeps.{Keep}
 use Rattle.kmip_ttlv_de.specs.Reading.{Got, got, read_of}
 use Rattle.kmip_ttlv_de.specs.Reads.{Begins, Reads, is_root, leaf, structure, wrap, wrap_some}
@@ -53,7 +53,7 @@ begins_none s w v none_read g =
     let yes = read_of_reads g.reads in
     absurd (apart (sym no ∙ yes))
 
-pub begins_refused : (s : Form) (b : List ℕ) (r : Sort) → ((e : ℕ) → 0 < e → Refused (read_of s) b 0 e [] r) → RefusesAs s b r
+pub begins_refused : (s : Form) (b : List ℕ) (r : Sort) → ((e : ℕ) → 0 < e → ReadsNothing (read_of s) b 0 e [] r) → NothingBegins s b r
 begins_refused s b memory h = tt
 begins_refused s b early_end h = λ v. begins_none s b v (λ e zs lt items. h e lt zs items)
 begins_refused s b other h = λ after v. begins_none s (b ++ after) v (λ e zs lt items. h e lt after zs items)
@@ -70,7 +70,7 @@ begins_one s b v w g h =
     values_same : (k k' : List Keep) → got v k [] ≡ got w k' [] → v ≡ w
     values_same k k' e = let pairs : ◌≡◌ {A = Got Value} record { value = v; kept = k; rest = [] } record { value = w; kept = k'; rest = [] } = cc in ap (λ (y : Got Value). y.value) pairs
 
-pub no_name : (name : List ℕ) (fs : Fields) (deny : Bool) (b : List ℕ) (r : Sort) → tag_of name ≡ None → RefusesAs (struct name fs deny) b r
+pub no_name : (name : List ℕ) (fs : Fields) (deny : Bool) (b : List ℕ) (r : Sort) → tag_of name ≡ None → NothingBegins (struct name fs deny) b r
 unfolding read_of
 no_name name fs deny b r e = begins_refused (struct name fs deny) b r (λ m lt. refused_any (read_of (struct name fs deny)) b 0 m [] r (λ after zs items. nothing zs))
   where
@@ -79,15 +79,15 @@ no_name name fs deny b r e = begins_refused (struct name fs deny) b r (λ m lt. 
     nothing (x ∷ xs) = rw e refl
 
 -- what is no root
-pub refuses_no_root : (s : Form) (b : List ℕ) (r : Sort) → is_root s ≡ false → RefusesAs s b r
+pub refuses_no_root : (s : Form) (b : List ℕ) (r : Sort) → is_root s ≡ false → NothingBegins s b r
 refuses_no_root s b memory e = tt
 refuses_no_root s b early_end e = λ v g. absurd (let r = g.root in cc)
 refuses_no_root s b other e = λ after v g. absurd (let r = g.root in cc)
 
 -- the same refusal, or want of memory in its place
-pub refuses_widened : (s : Form) (b : List ℕ) (x y : Sort) → (y ≡ memory) ⊎ (y ≡ x) → RefusesAs s b x → RefusesAs s b y
-refuses_widened s b x y (inl m) h = subst (λ t. RefusesAs s b t) (sym m) tt
-refuses_widened s b x y (inr m) h = subst (λ t. RefusesAs s b t) (sym m) h
+pub refuses_widened : (s : Form) (b : List ℕ) (x y : Sort) → (y ≡ memory) ⊎ (y ≡ x) → NothingBegins s b x → NothingBegins s b y
+refuses_widened s b x y (inl m) h = subst (λ t. NothingBegins s b t) (sym m) tt
+refuses_widened s b x y (inr m) h = subst (λ t. NothingBegins s b t) (sym m) h
 
 -- ---- options and newtypes around a root
 
@@ -111,12 +111,12 @@ begins_in_option s b v g = let r = option_reads g.reads in (r.0, record { root =
 begins_in_newtype : (name : List ℕ) (s : Form) (b : List ℕ) (v : Value) → Begins (newtype name s) b v → (w : Value) × Begins s b w
 begins_in_newtype name s b v g = let r = newtype_reads g.reads in (r.0, record { root = g.root; item = g.item; item_text = g.item_text; after = g.after; kept = g.kept; is_text = g.is_text; is_structure = g.is_structure; parts = g.parts; reads = r.1 })
 
-pub refuses_option : (s : Form) (b : List ℕ) (r : Sort) → RefusesAs s b r → RefusesAs (option s) b r
+pub refuses_option : (s : Form) (b : List ℕ) (r : Sort) → NothingBegins s b r → NothingBegins (option s) b r
 refuses_option s b memory h = tt
 refuses_option s b early_end h = λ v g. let w = begins_in_option s b v g in h w.0 w.1
 refuses_option s b other h = λ after v g. let w = begins_in_option s (b ++ after) v g in h after w.0 w.1
 
-pub refuses_newtype : (name : List ℕ) (s : Form) (b : List ℕ) (r : Sort) → RefusesAs s b r → RefusesAs (newtype name s) b r
+pub refuses_newtype : (name : List ℕ) (s : Form) (b : List ℕ) (r : Sort) → NothingBegins s b r → NothingBegins (newtype name s) b r
 refuses_newtype name s b memory h = tt
 refuses_newtype name s b early_end h = λ v g. let w = begins_in_newtype name s b v g in h w.0 w.1
 refuses_newtype name s b other h = λ after v g. let w = begins_in_newtype name s (b ++ after) v g in h after w.0 w.1

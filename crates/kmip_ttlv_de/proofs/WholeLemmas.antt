@@ -1,23 +1,24 @@
 -- Early ends don't come where structures are split.
-use Rattle.std.proofs.Common.{◌≡◌, ℕ, ◌+◌, ◌<◌, ◌≤◌, Bool, true, List, [], ◌∷◌, ◌++◌, length, Option, None, sym, ap, subst, ◌∙◌, arith}
+use Rattle.std.proofs.Common.{◌≡◌, ℕ, ◌+◌, ◌<◌, ◌≤◌, true, List, [], ◌∷◌, ◌++◌, length, Option, None, sym, ap, subst, ◌∙◌, arith}
 use Rattle.std.proofs.lemmas.List.{append-nil}
 use Rattle.kmip_ttlv_types.specs.ItemTypes.{code, is_structure}
 use Rattle.kmip_ttlv_types.specs.Items.{Raw}
 use Rattle.kmip_ttlv_types.specs.Places.{ItemAt, ItemsAt, code_at, length_at, size}
 use Rattle.kmip_ttlv_types.specs.declared.typ.TtlvType.{TtlvType}
 use Rattle.kmip_ttlv_types.specs.declared.typ.TtlvType.TheVariants.{Structure}
+use Rattle.kmip_ttlv_base.specs.Forms.{Form}
 use Rattle.kmip_ttlv_base.specs.declared.error.Error.{Error}
 use Rattle.kmip_ttlv_de.proofs.Going.{content_items, items_then}
 use Rattle.kmip_ttlv_types.proofs.PlaceLemmas.{code_one, items_one}
 use Rattle.kmip_ttlv_de.specs.Answer.{Goes}
-use Rattle.kmip_ttlv_de.specs.Facts.{Cause, Facts, NotBefore, Says, place_of}
+use Rattle.kmip_ttlv_de.specs.Facts.{Facts, NotBefore, Says, place_of}
 use Rattle.kmip_ttlv_de.specs.Keeps.{Keep}
 use Rattle.kmip_ttlv_de.specs.Reading.{Got}
-use Rattle.kmip_ttlv_de.specs.Wholes.{AllDeep, AreWhole, Deep, leaf_item, more_deep, split_item}
+use Rattle.kmip_ttlv_de.specs.Wholes.{AllSplitThroughout, AreWhole, SplitThroughout, leaf_item, more_split, split_item}
 
-deep_suffix : (xs ys : List Raw) → AllDeep (xs ++ ys) → AllDeep ys
-deep_suffix [] ys d = d
-deep_suffix (x ∷ xs) ys (more_deep h d) = deep_suffix xs ys d
+split_suffix : (xs ys : List Raw) → AllSplitThroughout (xs ++ ys) → AllSplitThroughout ys
+split_suffix [] ys d = d
+split_suffix (x ∷ xs) ys (more_split h d) = split_suffix xs ys d
 
 -- what a reader leaves is whole
 pub whole_rest : {A : Type 0} (r s : List Keep → List Raw → Option (Got A)) (b : List ℕ) (p e : ℕ) (k k' : List Keep) (q : ℕ) → p ≤ length b → Goes r s b p e k k' q → AreWhole b p e → AreWhole b q e
@@ -25,28 +26,28 @@ whole_rest r s b p e k k' q le g w =
     let y = g.left [] w.items (rw append-nil w.are) in
     let rest : ItemsAt b q e y.0 = rw append-nil at y.2 in
     let same : w.items ≡ g.taken ++ y.0 = items_one b p e w.items (g.taken ++ y.0) le w.are (items_then b p q e g.taken y.0 g.are_taken rest) in
-    record { items = y.0; are = rest; deep = deep_suffix g.taken y.0 (subst (λ (l : List Raw). AllDeep l) same w.deep) }
+    record { items = y.0; are = rest; split_throughout = split_suffix g.taken y.0 (subst (λ (l : List Raw). AllSplitThroughout l) same w.split_throughout) }
 
 pub record FirstWhole (b : List ℕ) (p : ℕ) : Type 0 where
   pub item : Raw
   pub at : ItemAt b p item
-  pub deep : Deep item
+  pub split_throughout : SplitThroughout item
 
 -- an item is there
 pub whole_first : (b : List ℕ) (p e : ℕ) → p < e → AreWhole b p e → FirstWhole b p
-whole_first b p e lt w = by_items w.items w.are w.deep
+whole_first b p e lt w = by_items w.items w.are w.split_throughout
   where
-    by_items : (xs : List Raw) → ItemsAt b p e xs → AllDeep xs → FirstWhole b p
+    by_items : (xs : List Raw) → ItemsAt b p e xs → AllSplitThroughout xs → FirstWhole b p
     by_items [] items d = absurd (omega (arith, items))
-    by_items (x ∷ xs) items (more_deep h d) = record { item = x; at = items.0; deep = h }
+    by_items (x ∷ xs) items (more_split h d) = record { item = x; at = items.0; split_throughout = h }
 
 -- and so its content
 pub whole_inside : (b : List ℕ) (p e n : ℕ) → p < e → code_at b p ≡ code Structure → n ≡ length_at b p → AreWhole b p e → AreWhole b (p + 8) (p + 8 + n)
-whole_inside b p e n lt typ len w = let f = whole_first b p e lt w in by_item f.item f.at f.deep
+whole_inside b p e n lt typ len w = let f = whole_first b p e lt w in by_item f.item f.at f.split_throughout
   where
-    by_item : (x : Raw) → ItemAt b p x → Deep x → AreWhole b (p + 8) (p + 8 + n)
+    by_item : (x : Raw) → ItemAt b p x → SplitThroughout x → AreWhole b (p + 8) (p + 8 + n)
     by_item x at (leaf_item plain) = let same : x.typ ≡ Structure = code_one x.typ Structure (at.typ ∙ typ) in let bad : is_structure x.typ ≡ true = ap is_structure same in absurd cc
-    by_item x at (split_item {zs = zs} t z d) = record { items = zs; are = content_items b p n x zs at len z; deep = d }
+    by_item x at (split_item {zs = zs} t z d) = record { items = zs; are = content_items b p n x zs at len z; split_throughout = d }
 
 -- its bytes are there
 pub whole_there : (b : List ℕ) (p e : ℕ) (t : TtlvType) → p < e → code_at b p ≡ code t → AreWhole b p e → p + size t (length_at b p) ≤ length b
@@ -57,8 +58,8 @@ whole_there b p e t lt typ w =
 
 -- ---- so an early end is refused nowhere
 
-pub early_says : {A : Type 0} (h : Cause → Bool) (b : List ℕ) (p e : ℕ) (r : Error A) → Facts h b r → (place_of r).offset ≡ None → (AreWhole b p e → ⊥) → Says h b p e r
-early_says h b p e r facts none never = record { facts = facts; late = subst (λ o. NotBefore p o) (sym none) tt; not_early = λ w s. never w }
+pub early_says : {A : Type 0} (f : Form) (b : List ℕ) (p e : ℕ) (r : Error A) → Facts f b r → (place_of r).offset ≡ None → (AreWhole b p e → ⊥) → Says f b p e r
+early_says f b p e r facts none never = record { facts = facts; late = subst (λ o. NotBefore p o) (sym none) tt; not_early = λ w s. never w }
 
 -- the header is cut
 pub early_header : (b : List ℕ) (p e : ℕ) → p < e → length b < p + 8 → AreWhole b p e → ⊥

@@ -29,10 +29,10 @@ sort_of e = sort_of_kind (view_of_kind (kind_of e))
 
 -- Nothing is read from any items that the bytes may be, from p to e.
 -- After an early end: that these bytes may be. After another refusal: that any bytes may be which begin with these.
-abbrev pub Refused : {V : Type 0} → (List Keep → List Raw → Option (Got V)) → List ℕ → ℕ → ℕ → List Keep → Sort → Type 0
-Refused read bytes p e k memory = Unit {0}
-Refused read bytes p e k early_end = (zs : List Raw) → ItemsAt bytes p e zs → read k zs ≡ None
-Refused read bytes p e k other = (after : List ℕ) (zs : List Raw) → ItemsAt (bytes ++ after) p e zs → read k zs ≡ None
+abbrev pub ReadsNothing : {V : Type 0} → (List Keep → List Raw → Option (Got V)) → List ℕ → ℕ → ℕ → List Keep → Sort → Type 0
+ReadsNothing read bytes p e k memory = Unit {0}
+ReadsNothing read bytes p e k early_end = (zs : List Raw) → ItemsAt bytes p e zs → read k zs ≡ None
+ReadsNothing read bytes p e k other = (after : List ℕ) (zs : List Raw) → ItemsAt (bytes ++ after) p e zs → read k zs ≡ None
 
 -- From p to q some items were taken. Whatever items the bytes may be, from p to e,
 -- reading them goes on as another reader does from those that are left, from q to e.
@@ -50,37 +50,37 @@ Accepted read bytes p e k k' v q = Goes read (got v) bytes p e k k' q
 -- the answer is a value and the place behind it, as the reader gives them; or a refusal, and the reader gives none
 abbrev pub Answers : {V X A : Type 0} → (X → V) → (List Keep → List Raw → Option (Got V)) → List ℕ → ℕ → ℕ → List Keep → List Keep → Result (X × ℕ) (Error A) → Type 0
 Answers view read bytes p e k k' (Ok r) = Accepted read bytes p e k k' (view r.0) r.1
-Answers view read bytes p e k k' (Err r) = Refused read bytes p e k (sort_of r)
+Answers view read bytes p e k k' (Err r) = ReadsNothing read bytes p e k (sort_of r)
 
 -- the same of all items up to the end, where they are used up
 abbrev pub AnswersAll : {V X A : Type 0} → (X → V) → (List Keep → List Raw → Option (Got V)) → List ℕ → ℕ → ℕ → List Keep → List Keep → Result X (Error A) → Type 0
 AnswersAll view read bytes p e k k' (Ok x) = Accepted read bytes p e k k' (view x) e
-AnswersAll view read bytes p e k k' (Err r) = Refused read bytes p e k (sort_of r)
+AnswersAll view read bytes p e k k' (Err r) = ReadsNothing read bytes p e k (sort_of r)
 
 -- the same with a further number
 abbrev pub Answers3 : {V X A : Type 0} → (X → V) → (List Keep → List Raw → Option (Got V)) → List ℕ → ℕ → ℕ → List Keep → List Keep → Result (X × ℕ × ℕ) (Error A) → Type 0
 Answers3 view read bytes p e k k' (Ok r) = Accepted read bytes p e k k' (view r.0) r.1
-Answers3 view read bytes p e k k' (Err r) = Refused read bytes p e k (sort_of r)
+Answers3 view read bytes p e k k' (Err r) = ReadsNothing read bytes p e k (sort_of r)
 
 -- an item is ignored, up to q
 abbrev pub Ignores : {A : Type 0} → Fields → Bool → List ℕ → ℕ → ℕ → List Keep → Result ℕ (Error A) → Type 0
 Ignores fs deny bytes p e k (Ok q) = (p + 8 ≤ q) × Goes (rest_of fs deny) (rest_of fs deny) bytes p e k k q
-Ignores fs deny bytes p e k (Err r) = Refused (rest_of fs deny) bytes p e k (sort_of r)
+Ignores fs deny bytes p e k (Err r) = ReadsNothing (rest_of fs deny) bytes p e k (sort_of r)
 
 -- whether the first of the items from p on is like this one; or no items are there
 abbrev pub GoesOn : {A : Type 0} → Raw → List ℕ → ℕ → ℕ → Result Bool (Error A) → Type 0
 GoesOn h bytes p e (Ok b) = (b ≡ true → p < e) × ((after : List ℕ) (zs : List Raw) → ItemsAt (bytes ++ after) p e zs → is_like h zs ≡ b)
-GoesOn h bytes p e (Err r) = Refused (got {A = Unit {0}} tt) bytes p e [] (sort_of r)
+GoesOn h bytes p e (Err r) = ReadsNothing (got {A = Unit {0}} tt) bytes p e [] (sort_of r)
 
 -- no value is read from the bytes; but for an early end, none whatever bytes follow
-abbrev pub RefusesAs : Form → List ℕ → Sort → Type 0
-RefusesAs s bytes memory = Unit {0}
-RefusesAs s bytes early_end = (v : Value) → Begins s bytes v → ⊥
-RefusesAs s bytes other = (after : List ℕ) (v : Value) → Begins s (bytes ++ after) v → ⊥
+abbrev pub NothingBegins : Form → List ℕ → Sort → Type 0
+NothingBegins s bytes memory = Unit {0}
+NothingBegins s bytes early_end = (v : Value) → Begins s bytes v → ⊥
+NothingBegins s bytes other = (after : List ℕ) (v : Value) → Begins s (bytes ++ after) v → ⊥
 
 -- no value is read from bytes that are refused so
-abbrev pub Refuses : {A : Type 0} → Form → List ℕ → Error A → Type 0
-Refuses s bytes r = RefusesAs s bytes (sort_of r)
+abbrev pub RefusalStands : {A : Type 0} → Form → List ℕ → Error A → Type 0
+RefusalStands s bytes r = NothingBegins s bytes (sort_of r)
 
 -- the index of the chosen variant; none, where a number chooses; or the choice is refused
 abbrev pub Chooses : {A : Type 0} → Choice → Result (Option ℕ) (Error A) → Type 0

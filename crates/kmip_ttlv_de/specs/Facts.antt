@@ -1,184 +1,342 @@
 -- What a refusal on reading says of the bytes and of the form.
-use Rattle.std.specs.Prelude.{◌≡◌, ◌≢◌, ℕ, ◌+◌, ◌<◌, ◌≤◌, ◌⊎◌, Bool, true, false, ◌&&◌, ◌||◌, not, List, [], length, take, drop, Option, Some, None, is_none, nat_le, ◌==◌, if◌then◌else◌, codes, Result, Ok, Err}
-use Rattle.std.specs.Str.{bytes_eq}
+use Rattle.std.specs.Prelude.{◌≡◌, ◌≢◌, ℕ, ◌+◌, ◌<◌, ◌≤◌, ◌⊎◌, Bool, true, false, List, [], length, Option, Some, None, codes}
 use Rattle.std.specs.declared.io.ErrorKind.TheVariants as io_kinds
 use Rattle.kmip_ttlv_types.specs.declared.typ.TtlvType.{TtlvType}
-use Rattle.kmip_ttlv_types.specs.declared.typ.TtlvType.TheVariants.{Structure}
+use Rattle.kmip_ttlv_types.specs.declared.typ.TtlvType.TheVariants.{Structure, Enumeration}
 use Rattle.kmip_ttlv_types.specs.declared.field.FieldType.{FieldType}
 use Rattle.kmip_ttlv_types.specs.declared.field.FieldType.TheVariants as fields
 use Rattle.kmip_ttlv_types.specs.ItemTypes.{code, type_of, fixed_length, is_structure}
 use Rattle.kmip_ttlv_types.specs.Leaves.{is_valid}
 use Rattle.kmip_ttlv_types.specs.Names.{tag_of}
 use Rattle.kmip_ttlv_types.specs.Primitives.{CanHaveLength}
-use Rattle.kmip_ttlv_types.specs.Places.{tag_at, code_at, length_at}
+use Rattle.kmip_ttlv_types.specs.Places.{tag_at, code_at, length_at, size}
 use Rattle.kmip_ttlv_base.specs.declared.error.Error.{Error}
 use Rattle.kmip_ttlv_base.specs.declared.error.MalformedTtlvError.{MalformedTtlvError}
 use Rattle.kmip_ttlv_base.specs.declared.error.MalformedTtlvError.TheVariants as malformeds
 use Rattle.kmip_ttlv_base.specs.Errors.{Mismatch, invalid_variant, invalid_rule, invalid_tag, missing_identifier, other_cause, unexpected_tag, unexpected_type, unsupported_rust_type, Kind, io_error, exceeds_limit, malformed, mismatch, out_of_memory, length_overflow, Location, unknown, kind_of, view_of_kind, location_of, view_of_location, IsMemory}
-use Rattle.kmip_ttlv_base.specs.Forms.{Form, struct, option, seq, newtype, enum, Fields, no_fields, field}
-use Rattle.kmip_ttlv_de.specs.Reads.{has_fields, is_number_type, names_tag}
-use Rattle.kmip_ttlv_de.specs.Places.{Reached, IsEnd}
+use Rattle.kmip_ttlv_base.specs.Forms.{Form, struct, enum, Fields, Variants, unit, wrapped, tuple, Forms}
+use Rattle.kmip_ttlv_de.specs.declared.leaf.Leaf.{Leaf}
+use Rattle.kmip_ttlv_de.specs.Leaves.{form_of_leaf, first_type}
+use Rattle.kmip_ttlv_de.specs.Parts.{HasField, RuleChooses, NumberChooses, RuleRefused}
+use Rattle.kmip_ttlv_de.specs.Reads.{has_fields, is_number_type, names_tag, is_option, is_struct, takes, number_text, first_named}
+use Rattle.kmip_ttlv_de.specs.Places.{HasType, InContent, PartAt, StructRead, TupleRead, Opens, ItemMayBegin, WholeItems, content_at, stated_end}
 use Rattle.kmip_ttlv_de.specs.Answer.{early_end, sort_of}
 use Rattle.kmip_ttlv_de.specs.Wholes.{AreWhole}
 
--- what a form may have that makes reading refuse
-pub data Cause : Type 0 where
-  bad_name : (name : List ℕ) → Cause
-  empty_struct : Cause
-  closed_to : (tag : ℕ) → Cause
-  any_enum : Cause
+-- ---- places, their parents left out
 
--- this name, which is no tag
-abbrev pub is_bad_name : List ℕ → List ℕ → Bool
-is_bad_name name n = bytes_eq name n && is_none (tag_of n)
+-- at an offset, with an item's tag and type
+abbrev pub tagged_place : List ℕ → ℕ → ℕ → TtlvType → Location
+tagged_place b s offset t = record { offset = Some offset; parents = []; tag = Some (tag_at b s); typ = Some t }
 
--- a name, of a struct or of a field, is no tag
-abbrev pub name_has : List ℕ → Cause → Bool
-name_has name (bad_name n) = is_bad_name name n
-name_has name empty_struct = false
-name_has name (closed_to t) = false
-name_has name any_enum = false
-
--- a struct has no fields, or no item of this tag may follow them
-abbrev pub rest_has : Fields → Bool → Cause → Bool
-rest_has fs deny (bad_name n) = false
-rest_has fs deny empty_struct = not (has_fields fs)
-rest_has fs deny (closed_to t) = deny || names_tag fs t
-rest_has fs deny any_enum = false
-
--- whether the form has such a cause anywhere; an enum stands for each of them
-abbrev mutual
-  pub has : Form → Cause → Bool
-  has (struct name fs deny) c = name_has name c || (rest_has fs deny c || has_in fs c)
-  has (option s) c = has s c
-  has (seq s) c = has s c
-  has (newtype name s) c = has s c
-  has (enum name vs) c = true
-  has _ c = false
-
-  -- whether a field of these, or its form, has such a cause
-  pub has_in : Fields → Cause → Bool
-  has_in no_fields c = false
-  has_in (field name s fs) c = name_has name c || (has s c || has_in fs c)
-
--- what a struct has but for its own name
-abbrev pub content_has : Fields → Bool → Cause → Bool
-content_has fs deny c = rest_has fs deny c || has_in fs c
-
--- what an enum may have
-abbrev pub enum_has : Cause → Bool
-enum_has c = true
-
--- the offset is so far behind an item's first byte, and tag and type are the item's
-pub record At (b : List ℕ) (s : ℕ) (t : TtlvType) (after : ℕ) (l : Location) : Type 0 where
-  pub reached : Reached b s
-  pub there : s + 4 ≤ length b
-  pub typ_is : code_at b s ≡ code t
-  pub offset : l.offset ≡ Some (s + after)
-  pub tag : l.tag ≡ Some (tag_at b s)
-  pub typ : l.typ ≡ Some t
-
--- so far behind an item's first byte, no parents known yet
+-- so far behind an item's first byte
 abbrev pub item_place : List ℕ → ℕ → ℕ → TtlvType → Location
-item_place b s after t = record { offset = Some (s + after); parents = []; tag = Some (tag_at b s); typ = Some t }
+item_place b s after t = tagged_place b s (s + after) t
 
--- behind an item's type code, no parents known yet
+-- behind an item's type code
 abbrev pub code_place : List ℕ → ℕ → Location
 code_place b s = record { offset = Some (s + 3); parents = []; tag = Some (tag_at b s); typ = None }
 
--- at an item's type code
-pub record AtCode (b : List ℕ) (s : ℕ) (l : Location) : Type 0 where
-  pub reached : Reached b s
-  pub there : s + 4 ≤ length b
-  pub offset : l.offset ≡ Some (s + 3)
-  pub tag : l.tag ≡ Some (tag_at b s)
-  pub typ : l.typ ≡ None
+-- at an offset, in a struct of this tag
+abbrev pub struct_place : ℕ → ℕ → Location
+struct_place offset tag = record { offset = Some offset; parents = []; tag = Some tag; typ = Some Structure }
 
--- an item's length is another than its type's: behind the length, or behind the type of a number that an enum reads
-pub record BadLength (has_cause : Cause → Bool) (b : List ℕ) (e a : ℕ) (t : TtlvType) (s : ℕ) (l : Location) : Type 0 where
-  pub place : At b s t 8 l ⊎ ((has_cause any_enum ≡ true) × (is_number_type t ≡ true) × At b s t 4 l)
+-- the same place, its parents left out
+abbrev pub without_parents : Location → Location
+without_parents l = record { offset = l.offset; parents = []; tag = l.tag; typ = l.typ }
+
+-- ---- items that can't be read as the form wants
+
+-- an item with another length than its type's
+pub record WrongLength (b : List ℕ) (s : ℕ) (t : TtlvType) (expected actual : ℕ) : Type 0 where
+  pub typ_is : code_at b s ≡ code t
   pub there : s + 8 ≤ length b
-  pub wanted : fixed_length t ≡ Some e
-  pub is : a ≡ length_at b s
-  pub differs : e ≢ a
+  pub wanted : fixed_length t ≡ Some expected
+  pub is : actual ≡ length_at b s
+  pub differs : expected ≢ actual
 
--- a leaf's content is no value of its type, though its length is one that the type has: behind the content
-pub record BadValue (b : List ℕ) (t : TtlvType) (s : ℕ) (l : Location) : Type 0 where
-  pub place : At b s t (8 + length_at b s) l
+-- a leaf whose content is no value of its type, though its length is one that the type has
+pub record WrongValue (b : List ℕ) (s : ℕ) (t : TtlvType) : Type 0 where
+  pub typ_is : code_at b s ≡ code t
   pub there : s + 8 + length_at b s ≤ length b
   pub leaf : is_structure t ≡ false
   pub long : CanHaveLength t (length_at b s)
-  pub invalid : is_valid t (take (length_at b s) (drop (s + 8) b)) ≡ false
+  pub invalid : is_valid t (content_at b s) ≡ false
 
--- at an item, so far behind its first byte, within the nearest struct
-pub record Within (b : List ℕ) (s after : ℕ) (l : Location) : Type 0 where
-  pub reached : Reached b s
-  pub there : s ≤ length b
-  pub offset : l.offset ≡ Some (s + after)
-  pub typ : l.typ ≡ Some Structure
+-- an item of the Structure at p goes past the end that this one states
+pub record GoesPast (b : List ℕ) (p s : ℕ) (t : TtlvType) : Type 0 where
+  pub content : InContent b p s
+  pub typ_is : code_at b s ≡ code t
+  pub there : s + size t (length_at b s) ≤ length b
+  pub past : stated_end b p < s + size t (length_at b s)
 
--- at the end of a Structure
-pub record AtEnd (b : List ℕ) (l : Location) : Type 0 where
+-- an item that may be ignored behind the fields of a struct
+pub record MayBeIgnored (f : Form) (b : List ℕ) (s : ℕ) : Type 0 where
+  pub struct_name : List ℕ
+  pub struct_fields : Fields
+  pub denies : Bool
+  pub start : ℕ
+  pub read : StructRead f b struct_name struct_fields denies start
+  pub content : InContent b start s
+  pub some_field : has_fields struct_fields ≡ true
+  pub allowed : denies ≡ false
+  pub other_tag : names_tag struct_fields (tag_at b s) ≡ false
+
+-- a leaf of this type is read by the form of one, or ignored
+pub data LeafRead (f : Form) (b : List ℕ) (s : ℕ) (t : TtlvType) : Type 0 where
+  by_form : {leaf : Form} {o e : ℕ} → PartAt f b leaf s o e → takes leaf t ≡ true → LeafRead f b s t
+  ignored : MayBeIgnored f b s → LeafRead f b s t
+
+-- an enum is read by the number that the item is, or by that of another type
+pub record NumberRead (f : Form) (b : List ℕ) (s : ℕ) (t : TtlvType) : Type 0 where
+  pub name : List ℕ
+  pub variants : Variants
+  pub owner : ℕ
   pub end : ℕ
-  pub is_end : IsEnd b end
-  pub offset : l.offset ≡ Some end
-  pub typ : l.typ ≡ Some Structure
+  pub part : PartAt f b (enum name variants) s owner end
+  pub typed : HasType b s t
+  pub chooses : NumberChooses variants t
 
--- past the end of a Structure
-pub record Past (b : List ℕ) (e : ℕ) (l : Location) : Type 0 where
-  pub is_end : IsEnd b e
-  pub place : ℕ
-  pub offset : l.offset ≡ Some place
-  pub past : e < place
+-- the name that reading wants of an item: a struct's own, or that of a field of another form
+pub data NameWanted (f : Form) (b : List ℕ) (s : ℕ) : List ℕ → Type 0 where
+  of_struct :
+      {name : List ℕ} {fs : Fields} {deny : Bool} {o e : ℕ}
+      → PartAt f b (struct name fs deny) s o e
+      → NameWanted f b s name
+  of_field :
+      {name field_name : List ℕ} {fs : Fields} {deny : Bool} {p : ℕ} {form : Form}
+      → StructRead f b name fs deny p
+      → HasField fs field_name form
+      → is_struct form ≡ false
+      → InContent b p s
+      → NameWanted f b s field_name
 
--- a variant doesn't take an item: a unit that a rule chose, behind the type; content that a number chose, behind the padded number
-pub data UnexpectedField (b : List ℕ) (s : ℕ) (t : TtlvType) (l : Location) : FieldType → FieldType → Type 0 where
-  ruled_unit : At b s t 4 l → UnexpectedField b s t l fields.Length fields.Tag
-  numbered_form : is_number_type t ≡ true → At b s t 16 l → UnexpectedField b s t l fields.Tag fields.LengthAndValue
-  numbered_tuple : is_number_type t ≡ true → At b s t 16 l → UnexpectedField b s t l fields.Tag fields.Length
+-- a Structure is wanted: for a struct of this tag, or for a tuple that a rule chose
+pub data StructureWanted (f : Form) (b : List ℕ) (s : ℕ) (t : TtlvType) : Type 0 where
+  for_struct :
+      {name : List ℕ} {fs : Fields} {deny : Bool} {o e : ℕ}
+      → PartAt f b (struct name fs deny) s o e
+      → tag_of name ≡ Some (tag_at b s)
+      → StructureWanted f b s t
+  for_tuple :
+      {name : List ℕ} {vs : Variants} {ss : Forms} {o e : ℕ}
+      → PartAt f b (enum name vs) s o e
+      → RuleChooses vs t (tuple ss)
+      → StructureWanted f b s t
+
+-- a type is wanted, and not that of the item: the one of a leaf's form, or a number's where one chooses a variant
+pub data TypeWanted (f : Form) (b : List ℕ) (s : ℕ) (t : TtlvType) : TtlvType → Type 0 where
+  for_leaf :
+      (leaf : Leaf) {o e : ℕ}
+      → PartAt f b (form_of_leaf leaf) s o e
+      → takes (form_of_leaf leaf) t ≡ false
+      → TypeWanted f b s t (first_type leaf)
+  for_number : NumberRead f b s t → is_number_type t ≡ false → TypeWanted f b s t Enumeration
+
+-- ---- what each refusal says, at a place
+
+-- the code of no type
+pub record CodeFacts (f : Form) (b : List ℕ) (l : Location) (c : ℕ) : Type 0 where
+  pub item : ℕ
+  pub reached : ItemMayBegin f b item
+  pub there : item + 4 ≤ length b
+  pub is : c ≡ code_at b item
+  pub none : type_of c ≡ None
+  pub place : l ≡ code_place b item
+
+-- a length: behind it, or behind the type of a number that an enum reads
+abbrev pub LengthPlace : Form → List ℕ → ℕ → TtlvType → Location → Type 0
+LengthPlace f b s t l =
+    (LeafRead f b s t × (l ≡ item_place b s 8 t))
+    ⊎ (NumberRead f b s t × (is_number_type t ≡ true) × (l ≡ item_place b s 4 t))
+
+-- a leaf's content: behind it
+pub record ValueFacts (f : Form) (b : List ℕ) (l : Location) (t : TtlvType) : Type 0 where
+  pub item : ℕ
+  pub wrong : WrongValue b item t
+  pub read : LeafRead f b item t
+  pub place : l ≡ item_place b item (8 + length_at b item) t
+
+-- an item that goes past the end of a Structure that reading goes into: behind the item
+pub record OverflowFacts (f : Form) (b : List ℕ) (l : Location) (end : ℕ) : Type 0 where
+  pub structure : ℕ
+  pub opens : Opens f b structure
+  pub end_is : end ≡ stated_end b structure
+  pub item : ℕ
+  pub typ : TtlvType
+  pub goes_past : GoesPast b structure item typ
+  pub place : l ≡ item_place b item (size typ (length_at b item)) typ
+
+-- A variant doesn't take an item: a unit that a rule chose, behind the type; content that a number chose, behind the
+-- padded number.
+pub data FieldFacts (f : Form) (b : List ℕ) (l : Location) : FieldType → FieldType → Type 0 where
+  ruled_unit :
+      {name : List ℕ} {vs : Variants} {s o e : ℕ} {t : TtlvType}
+      → PartAt f b (enum name vs) s o e
+      → HasType b s t
+      → RuleChooses vs t unit
+      → l ≡ item_place b s 4 t
+      → FieldFacts f b l fields.Length fields.Tag
+  numbered_form :
+      {s : ℕ} {t : TtlvType} {form : Form}
+      → (r : NumberRead f b s t)
+      → is_number_type t ≡ true
+      → first_named (number_text (content_at b s)) r.variants ≡ Some (wrapped form)
+      → l ≡ item_place b s 16 t
+      → FieldFacts f b l fields.Tag fields.LengthAndValue
+  numbered_tuple :
+      {s : ℕ} {t : TtlvType} {forms : Forms}
+      → (r : NumberRead f b s t)
+      → is_number_type t ≡ true
+      → first_named (number_text (content_at b s)) r.variants ≡ Some (tuple forms)
+      → l ≡ item_place b s 16 t
+      → FieldFacts f b l fields.Tag fields.Length
+
+-- a leaf where a Structure is wanted: behind the type
+pub record StructureFacts (f : Form) (b : List ℕ) (l : Location) (t : TtlvType) : Type 0 where
+  pub item : ℕ
+  pub typed : HasType b item t
+  pub wanted : StructureWanted f b item t
+  pub place : l ≡ item_place b item 4 t
+
+-- an enum's rule that is refused: behind the type
+pub record RuleFacts (f : Form) (b : List ℕ) (l : Location) (m : Mismatch) : Type 0 where
+  pub item : ℕ
+  pub typ : TtlvType
+  pub typed : HasType b item typ
+  pub name : List ℕ
+  pub variants : Variants
+  pub owner : ℕ
+  pub end : ℕ
+  pub part : PartAt f b (enum name variants) item owner end
+  pub refused : RuleRefused variants typ m
+  pub place : l ≡ item_place b item 4 typ
+
+-- a name that is no tag: behind the type
+pub record NameFacts (f : Form) (b : List ℕ) (l : Location) (name : List ℕ) : Type 0 where
+  pub item : ℕ
+  pub typ : TtlvType
+  pub typed : HasType b item typ
+  pub wanted : NameWanted f b item name
+  pub none : tag_of name ≡ None
+  pub place : l ≡ item_place b item 4 typ
+
+-- an item in a struct without fields: behind the type
+pub record NoFieldFacts (f : Form) (b : List ℕ) (l : Location) : Type 0 where
+  pub item : ℕ
+  pub typ : TtlvType
+  pub typed : HasType b item typ
+  pub struct_name : List ℕ
+  pub struct_fields : Fields
+  pub denies : Bool
+  pub start : ℕ
+  pub read : StructRead f b struct_name struct_fields denies start
+  pub content : InContent b start item
+  pub none : has_fields struct_fields ≡ false
+  pub place : l ≡ item_place b item 4 typ
+
+-- an item of another tag than that of the name that is wanted: behind the type
+pub record TagFacts (f : Form) (b : List ℕ) (l : Location) (expected actual : ℕ) : Type 0 where
+  pub item : ℕ
+  pub typ : TtlvType
+  pub typed : HasType b item typ
+  pub name : List ℕ
+  pub wanted : NameWanted f b item name
+  pub is : tag_of name ≡ Some expected
+  pub stands : actual ≡ tag_at b item
+  pub differs : expected ≢ actual
+  pub place : l ≡ item_place b item 4 typ
+
+-- an item of another type than the one that is wanted: behind the type
+pub record TypeFacts (f : Form) (b : List ℕ) (l : Location) (expected actual : TtlvType) : Type 0 where
+  pub item : ℕ
+  pub typed : HasType b item actual
+  pub wanted : TypeWanted f b item actual expected
+  pub differs : expected ≢ actual
+  pub place : l ≡ item_place b item 4 actual
+
+-- What is refused in words, each within the innermost struct around. Where a field or a part of a tuple is missing,
+-- whole items fill the Structure.
+pub data WordFacts (f : Form) (b : List ℕ) (l : Location) : List ℕ → Type 0 where
+  missing_field :
+      {name field_name : List ℕ} {fs : Fields} {deny : Bool} {p : ℕ} {form : Form}
+      → StructRead f b name fs deny p
+      → HasField fs field_name form
+      → is_option form ≡ false
+      → WholeItems b (p + 8) (stated_end b p)
+      → l ≡ struct_place (stated_end b p) (tag_at b p)
+      → WordFacts f b l (codes "missing field")
+  missing_part :
+      {forms : Forms} {p o : ℕ}
+      → TupleRead f b forms p o
+      → WholeItems b (p + 8) (stated_end b p)
+      → l ≡ struct_place (stated_end b p) o
+      → WordFacts f b l (codes "too few items")
+  surplus_item :
+      {forms : Forms} {p s o : ℕ}
+      → TupleRead f b forms p o
+      → InContent b p s
+      → l ≡ struct_place s o
+      → WordFacts f b l (codes "too many items")
+  field_again :
+      {name : List ℕ} {fs : Fields} {deny : Bool} {p s : ℕ}
+      → StructRead f b name fs deny p
+      → InContent b p s
+      → s + 4 ≤ length b
+      → names_tag fs (tag_at b s) ≡ true
+      → l ≡ struct_place (s + 4) (tag_at b p)
+      → WordFacts f b l (codes "duplicate field")
+  unknown_field :
+      {name : List ℕ} {fs : Fields} {p s : ℕ}
+      → StructRead f b name fs true p
+      → InContent b p s
+      → s + 4 ≤ length b
+      → names_tag fs (tag_at b s) ≡ false
+      → l ≡ struct_place (s + 4) (tag_at b p)
+      → WordFacts f b l (codes "unknown field")
+  unknown_variant :
+      {s : ℕ} {t : TtlvType}
+      → (r : NumberRead f b s t)
+      → is_number_type t ≡ true
+      → first_named (number_text (content_at b s)) r.variants ≡ None
+      → s + 16 ≤ length b
+      → l ≡ struct_place (s + 16) r.owner
+      → WordFacts f b l (codes "unknown variant")
+
+-- ---- by the kind
 
 -- what stands in the bytes that are refused as malformed, and its place
-abbrev pub MalformedFacts : (Cause → Bool) → List ℕ → Location → MalformedTtlvError → Type 0
-MalformedFacts h b l (malformeds.InvalidType c) = (type_of c ≡ None) × ((s : ℕ) × (c ≡ code_at b s) × AtCode b s l)
-MalformedFacts h b l (malformeds.InvalidLength e a t) = (s : ℕ) × BadLength h b e a t s l
-MalformedFacts h b l (malformeds.InvalidValue t) = (s : ℕ) × BadValue b t s l
-MalformedFacts h b l (malformeds.Overflow e) = Past b e.0 l
-MalformedFacts h b l (malformeds.UnexpectedTtlvField e a) = (h any_enum ≡ true) × ((s : ℕ) × (t : TtlvType) × UnexpectedField b s t l e a)
-MalformedFacts h b l (malformeds.UnexpectedType e a) = (e ≡ Structure) × (e ≢ a) × ((s : ℕ) × At b s a 4 l)
-MalformedFacts h b l (malformeds.UnsupportedType c) = ⊥
-MalformedFacts h b l malformeds.UnknownStructureLength = ⊥
-
--- the words for an item that a tuple leaves
-abbrev pub surplus_words : List ℕ
-surplus_words = codes "too many items"
-
--- the words for a number that names no variant
-abbrev pub unknown_variant_words : List ℕ
-unknown_variant_words = codes "unknown variant"
-
--- what an enum refuses in words: at an item that a tuple leaves, or behind a padded number that names no variant
-abbrev pub EnumWords : List ℕ → ℕ → Location → List ℕ → Type 0
-EnumWords b s l n = ((n ≡ surplus_words) × Within b s 0 l) ⊎ ((n ≡ unknown_variant_words) × Within b s 16 l)
+abbrev pub MalformedFacts : Form → List ℕ → Location → MalformedTtlvError → Type 0
+MalformedFacts f b l (malformeds.InvalidType c) = CodeFacts f b l c
+MalformedFacts f b l (malformeds.InvalidLength e a t) = (s : ℕ) × WrongLength b s t e a × LengthPlace f b s t l
+MalformedFacts f b l (malformeds.InvalidValue t) = ValueFacts f b l t
+MalformedFacts f b l (malformeds.Overflow e) = OverflowFacts f b l e.0
+MalformedFacts f b l (malformeds.UnexpectedTtlvField e a) = FieldFacts f b l e a
+MalformedFacts f b l (malformeds.UnexpectedType e a) = (e ≡ Structure) × (e ≢ a) × StructureFacts f b l a
+MalformedFacts f b l (malformeds.UnsupportedType c) = ⊥
+MalformedFacts f b l malformeds.UnknownStructureLength = ⊥
 
 -- what doesn't agree with the form, and its place
-abbrev pub MismatchFacts : (Cause → Bool) → List ℕ → Location → Mismatch → Type 0
-MismatchFacts h b l (invalid_variant n) = ⊥
-MismatchFacts h b l (invalid_rule n) = (h any_enum ≡ true) × ((s : ℕ) × (t : TtlvType) × At b s t 4 l)
-MismatchFacts h b l (invalid_tag n) = (h (bad_name n) ≡ true) × ((s : ℕ) × (t : TtlvType) × At b s t 4 l)
-MismatchFacts h b l missing_identifier = (h empty_struct ≡ true) × ((s : ℕ) × (t : TtlvType) × At b s t 4 l)
-MismatchFacts h b l (other_cause n) = AtEnd b l ⊎ (((s : ℕ) × (s + 4 ≤ length b) × (h (closed_to (tag_at b s)) ≡ true) × Within b s 4 l) ⊎ ((h any_enum ≡ true) × ((s : ℕ) × EnumWords b s l n)))
-MismatchFacts h b l (unexpected_tag e a) = (e ≢ a) × ((s : ℕ) × (a ≡ tag_at b s) × ((t : TtlvType) × At b s t 4 l))
-MismatchFacts h b l (unexpected_type e a) = (e ≢ a) × ((s : ℕ) × At b s a 4 l)
-MismatchFacts h b l (unsupported_rust_type n) = ⊥
+abbrev pub MismatchFacts : Form → List ℕ → Location → Mismatch → Type 0
+MismatchFacts f b l (invalid_variant n) = ⊥
+MismatchFacts f b l (invalid_rule n) = RuleFacts f b l (invalid_rule n)
+MismatchFacts f b l (invalid_tag n) = NameFacts f b l n ⊎ RuleFacts f b l (invalid_tag n)
+MismatchFacts f b l missing_identifier = NoFieldFacts f b l
+MismatchFacts f b l (other_cause n) = WordFacts f b l n
+MismatchFacts f b l (unexpected_tag e a) = TagFacts f b l e a
+MismatchFacts f b l (unexpected_type e a) = TypeFacts f b l e a
+MismatchFacts f b l (unsupported_rust_type n) = ⊥
 
 -- what a refusal of this kind, at this place, says of the bytes and of the form
-abbrev pub KindFacts : (Cause → Bool) → List ℕ → Location → Kind → Type 0
-KindFacts h b l (io_error k) = (k ≡ io_kinds.UnexpectedEof) × (l ≡ unknown)
-KindFacts h b l (exceeds_limit n) = ⊥
-KindFacts h b l (malformed m) = MalformedFacts h b l m
-KindFacts h b l (mismatch m) = MismatchFacts h b l m
-KindFacts h b l out_of_memory = (l ≡ unknown)
-KindFacts h b l length_overflow = ⊥
+abbrev pub KindFacts : Form → List ℕ → Location → Kind → Type 0
+KindFacts f b l (io_error k) = (k ≡ io_kinds.UnexpectedEof) × (l ≡ unknown)
+KindFacts f b l (exceeds_limit n) = ⊥
+KindFacts f b l (malformed m) = MalformedFacts f b (without_parents l) m
+KindFacts f b l (mismatch m) = MismatchFacts f b (without_parents l) m
+KindFacts f b l out_of_memory = l ≡ unknown
+KindFacts f b l length_overflow = ⊥
+
+-- ---- refusals
 
 -- the place of a refusal
 abbrev pub place_of : {A : Type 0} → Error A → Location
@@ -189,85 +347,28 @@ abbrev pub cause_of : {A : Type 0} → Error A → Kind
 cause_of e = view_of_kind (kind_of e)
 
 -- what a refusal says of the bytes and of the form
-abbrev pub Facts : {A : Type 0} → (Cause → Bool) → List ℕ → Error A → Type 0
-Facts h b e = KindFacts h b (place_of e) (cause_of e)
+abbrev pub Facts : {A : Type 0} → Form → List ℕ → Error A → Type 0
+Facts f b e = KindFacts f b (place_of e) (cause_of e)
 
 -- a place that is known isn't before this one
 abbrev pub NotBefore : ℕ → Option ℕ → Type 0
 NotBefore low None = Unit {0}
 NotBefore low (Some o) = low ≤ o
 
--- what a refusal at a place says, where it isn't for want of bytes
-pub record Told {A : Type 0} (h : Cause → Bool) (b : List ℕ) (low : ℕ) (e : Error A) : Type 0 where
-  pub facts : Facts h b e
-  pub late : NotBefore low (place_of e).offset
-  pub not_early : sort_of e ≡ early_end → ⊥
-
 -- what a refusal says of the items from one place to another
-pub record Says {A : Type 0} (h : Cause → Bool) (b : List ℕ) (low end : ℕ) (e : Error A) : Type 0 where
-  pub facts : Facts h b e
+pub record Says {A : Type 0} (f : Form) (b : List ℕ) (low end : ℕ) (e : Error A) : Type 0 where
+  pub facts : Facts f b e
   pub late : NotBefore low (place_of e).offset
   pub not_early : AreWhole b low end → sort_of e ≡ early_end → ⊥
+
+-- the refusal is of this kind, at this place
+abbrev pub IsRefusal : {A : Type 0} → Kind → Location → Error A → Type 0
+IsRefusal k l e = (cause_of e ≡ k) × (place_of e ≡ l)
+
+-- the same, or want of memory
+abbrev pub MayBeRefusal : {A : Type 0} → Kind → Location → Error A → Type 0
+MayBeRefusal k l e = IsMemory e ⊎ IsRefusal k l e
 
 -- the same but for its parents, or want of memory
 abbrev pub Widened : {A : Type 0} → Error A → Error A → Type 0
 Widened e r = IsMemory r ⊎ ((cause_of r ≡ cause_of e) × ((place_of r).offset ≡ (place_of e).offset) × ((place_of r).tag ≡ (place_of e).tag) × ((place_of r).typ ≡ (place_of e).typ) × ((place_of e).offset ≡ None → place_of r ≡ place_of e))
-
--- a refusal, and where
-pub record Fault : Type 0 where
-  pub kind : Kind
-  pub place : Location
-
--- at the first byte
-abbrev pub at_first : Location
-at_first = record { offset = Some 0; parents = []; tag = None; typ = None }
-
--- the first item's type, by its code, is none; or its tag is another; or it is no Structure
-abbrev pub header_fault : ℕ → List ℕ → Option TtlvType → Option Fault
-header_fault tag b None = Some record { kind = malformed (malformeds.InvalidType (code_at b 0)); place = code_place b 0 }
-header_fault tag b (Some t) =
-    if tag == tag_at b 0
-    then (if is_structure t then None else Some record { kind = malformed (malformeds.UnexpectedType Structure t); place = item_place b 0 4 t })
-    else Some record { kind = mismatch (unexpected_tag tag (tag_at b 0)); place = item_place b 0 4 t }
-
--- a name that is no tag, or else what the first eight bytes have
-abbrev pub named_fault : List ℕ → List ℕ → Option ℕ → Option Fault
-named_fault name b None = Some record { kind = mismatch (invalid_tag name); place = at_first }
-named_fault name b (Some tag) = if nat_le 8 (length b) then header_fault tag b (type_of (code_at b 0)) else None
-
--- the root is a sequence or an enum
-abbrev pub no_struct_fault : Option Fault
-no_struct_fault = Some record { kind = mismatch (other_cause (codes "no struct")); place = at_first }
-
--- the root is a leaf
-abbrev pub leaf_fault : Option Fault
-leaf_fault = Some record { kind = malformed (malformeds.UnexpectedTtlvField fields.Tag fields.LengthAndValue); place = at_first }
-
--- the refusal that a root's form and the first eight bytes bring about
-abbrev pub root_fault : Form → List ℕ → Option Fault
-root_fault (struct name fs deny) b = named_fault name b (tag_of name)
-root_fault (option s) b = root_fault s b
-root_fault (newtype name s) b = root_fault s b
-root_fault (seq s) b = no_struct_fault
-root_fault (enum name vs) b = no_struct_fault
-root_fault _ b = leaf_fault
-
--- this refusal, or want of memory
-abbrev pub IsFault : {X A : Type 0} → Fault → Result X (Error A) → Type 0
-IsFault f (Ok x) = ⊥
-IsFault f (Err e) = IsMemory e ⊎ ((cause_of e ≡ f.kind) × (place_of e ≡ f.place))
-
--- nothing stands against the root: what is refused with a place stands behind the first item's header
-abbrev pub IsBehind : {X A : Type 0} → List ℕ → Result X (Error A) → Type 0
-IsBehind b (Ok x) = Unit {0}
-IsBehind b (Err e) = 8 ≤ length b → NotBefore 8 (place_of e).offset
-
--- the root's refusal comes exactly where it is due
-abbrev pub RootFacts : {X A : Type 0} → Option Fault → List ℕ → Result X (Error A) → Type 0
-RootFacts None b r = IsBehind b r
-RootFacts (Some f) b r = IsFault f r
-
--- without a refusal of the root, the facts
-abbrev pub FactsBut : {A : Type 0} → Option Fault → (Cause → Bool) → List ℕ → Error A → Type 0
-FactsBut None h b e = Facts h b e
-FactsBut (Some f) h b e = Unit {0}

@@ -1,10 +1,12 @@
 pub mod Keeps
 pub mod Rules
+pub mod Parts
 pub mod Reads
 pub mod Reading
 pub mod Places
+pub mod Leaves
 pub mod Answer
 pub mod Wholes
 pub mod Facts
-pub mod Leaves
+pub mod RootFacts
 pub mod Messages

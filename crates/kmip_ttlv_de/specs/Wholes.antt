@@ -7,20 +7,20 @@ use Rattle.kmip_ttlv_types.specs.Places.{ItemsAt}
 
 mutual
   -- a leaf, valid or not, or a Structure whose content is split into such items
-  pub data Deep : Raw → Type 0 where
-    leaf_item : {x : Raw} → is_structure x.typ ≡ false → Deep x
-    split_item : {x : Raw} {zs : List Raw} → x.typ ≡ Structure → Splits zs x.content → AllDeep zs → Deep x
+  pub data SplitThroughout : Raw → Type 0 where
+    leaf_item : {x : Raw} → is_structure x.typ ≡ false → SplitThroughout x
+    split_item : {x : Raw} {zs : List Raw} → x.typ ≡ Structure → Splits zs x.content → AllSplitThroughout zs → SplitThroughout x
 
   -- each of them is such an item
-  pub data AllDeep : List Raw → Type 0 where
-    none_deep : AllDeep []
-    more_deep : {x : Raw} {xs : List Raw} → Deep x → AllDeep xs → AllDeep (x ∷ xs)
+  pub data AllSplitThroughout : List Raw → Type 0 where
+    none_split : AllSplitThroughout []
+    more_split : {x : Raw} {xs : List Raw} → SplitThroughout x → AllSplitThroughout xs → AllSplitThroughout (x ∷ xs)
 
 -- from one place to another stand such items
 pub record AreWhole (bytes : List ℕ) (p e : ℕ) : Type 0 where
   pub items : List Raw
   pub are : ItemsAt bytes p e items
-  pub deep : AllDeep items
+  pub split_throughout : AllSplitThroughout items
 
 -- the bytes begin with such a Structure
 pub record BeginsWhole (bytes : List ℕ) : Type 0 where
@@ -30,4 +30,4 @@ pub record BeginsWhole (bytes : List ℕ) : Type 0 where
   pub is_text : IsTextOf item item_text
   pub is_structure : item.typ ≡ Structure
   pub parts : bytes ≡ item_text ++ after
-  pub deep : Deep item
+  pub split_throughout : SplitThroughout item

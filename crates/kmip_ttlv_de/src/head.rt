@@ -5,9 +5,10 @@ ghost use Rattle.kmip_ttlv_types.specs.ItemTypes.{code, type_of, padding, is_str
 ghost use Rattle.kmip_ttlv_types.specs.Places.{tag_at, code_at, length_at, size};
 ghost use Rattle.kmip_ttlv_base.specs.Errors.{malformed};
 ghost use Rattle.kmip_ttlv_base.specs.declared.error.MalformedTtlvError.TheVariants.{InvalidType as InvalidTypeFault};
-ghost use Rattle.kmip_ttlv_de.specs.Places.{Reached};
+ghost use Rattle.kmip_ttlv_base.specs.Forms.{Form};
+ghost use Rattle.kmip_ttlv_de.specs.Places.{ItemMayBegin};
 ghost use Rattle.kmip_ttlv_de.specs.Answer.{sort_of, early_end};
-ghost use Rattle.kmip_ttlv_de.specs.Facts.{Cause, Says, cause_of, place_of, code_place};
+ghost use Rattle.kmip_ttlv_de.specs.Facts.{Says, cause_of, place_of, code_place};
 
 use crate::refuse::{bad_code, early};
 use kmip_ttlv_base::error::Result;
@@ -30,7 +31,10 @@ pub fn type_at<A: Allocator>(bytes: &[u8], pos: usize) -> Result<TtlvType, A>
     ensures ok { IfOk result (λ t. (pos + 4 ≤ length bytes.now) × (code_at bytes.now pos ≡ code t)) }
     ensures err { IfErr result (λ r. ((sort_of r ≡ early_end) × (length bytes.now < pos + 4)) ⊎ ((pos + 4 ≤ length bytes.now) × (type_of (code_at bytes.now pos) ≡ None))) }
     ensures fault { IfErr result (λ r. pos + 4 ≤ length bytes.now → (cause_of r ≡ malformed (InvalidTypeFault (code_at bytes.now pos))) × (place_of r ≡ code_place bytes.now pos)) }
-    ensures says { IfErr result (λ r. (h : Cause → Bool) (e : ℕ) → pos < e → Reached bytes.now pos → Says h bytes.now pos e r) }
+    ensures says { IfErr result (λ r. (f : Form) (e : ℕ)
+        → pos < e
+        → ItemMayBegin f bytes.now pos
+        → Says f bytes.now pos e r) }
 {
     if bytes.len() - pos < 4 {
         return Err(early());

@@ -7,13 +7,14 @@ ghost use Rattle.kmip_ttlv_types.specs.Places.{tag_at, code_at, length_at};
 ghost use Rattle.kmip_ttlv_types.specs.Items.{Raw};
 ghost use Rattle.kmip_ttlv_base.specs.Values.{view};
 ghost use Rattle.kmip_ttlv_base.specs.Errors.{IsMemory};
-ghost use Rattle.kmip_ttlv_de.specs.Places.{LeafAt, Reached};
+ghost use Rattle.kmip_ttlv_base.specs.Forms.{Form};
+ghost use Rattle.kmip_ttlv_de.specs.Places.{LeafAt, IsItem, PartAt};
 ghost use Rattle.kmip_ttlv_de.specs.Keeps.{Keep, keeps};
 ghost use Rattle.kmip_ttlv_de.specs.Reads.{takes, leaf_value, with_leaf, byte_digits, number_text};
 ghost use Rattle.kmip_ttlv_de.specs.Reading.{any_leaf, read_leaf};
 ghost use Rattle.kmip_ttlv_de.specs.Leaves.{form_of_leaf, first_type};
-ghost use Rattle.kmip_ttlv_de.specs.Answer.{Answers, Refused, sort_of};
-ghost use Rattle.kmip_ttlv_de.specs.Facts.{Cause, Says};
+ghost use Rattle.kmip_ttlv_de.specs.Answer.{Answers, ReadsNothing, sort_of};
+ghost use Rattle.kmip_ttlv_de.specs.Facts.{Says, WrongLength, WrongValue, LeafRead};
 
 use crate::head::{content_at, end_of, length_at, tag_at, type_at};
 use crate::keep::Kept;
@@ -116,8 +117,12 @@ pub fn leaf_at<A: Allocator>(bytes: &[u8], pos: usize, typ: TtlvType) -> Result<
     requires typ_is { code_at bytes.now pos ≡ code typ }
     requires leaf { typ ≢ TtlvType.Structure }
     ensures ok { IfOk result (λ r. LeafAt bytes.now pos typ (length_at bytes.now pos) r.0.now r.1 × (is_valid typ r.0.now ≡ true)) }
-    ensures err { IfErr result (λ r. (k : List Keep) (e : ℕ) → pos < e → Refused any_leaf bytes.now pos e k (sort_of r)) }
-    ensures says { IfErr result (λ r. (h : Cause → Bool) (e : ℕ) → pos < e → Reached bytes.now pos → Says h bytes.now pos e r) }
+    ensures err { IfErr result (λ r. (k : List Keep) (e : ℕ) → pos < e → ReadsNothing any_leaf bytes.now pos e k (sort_of r)) }
+    ensures says { IfErr result (λ r. (f : Form) (e : ℕ)
+        → pos < e
+        → ((w n : ℕ) → WrongLength bytes.now pos typ w n → LeafRead f bytes.now pos typ)
+        → (WrongValue bytes.now pos typ → LeafRead f bytes.now pos typ)
+        → Says f bytes.now pos e r) }
 {
     let Some(n) = length_at(bytes, pos) else {
         return Err(early());
@@ -207,7 +212,10 @@ pub fn read_leaf<A: Allocator + Copy>(
     requires inside { pos ≤ length bytes.now }
     ensures answers { Answers view (read_leaf (form_of_leaf leaf)) bytes.now pos end (keeps kept.old.items) (keeps kept.new.items) result }
     ensures further { IfOk result (λ r. pos + 8 ≤ r.1) }
-    ensures says { IfErr result (λ r. (h : Cause → Bool) → Reached bytes.now pos → Says h bytes.now pos end r) }
+    ensures says { IfErr result (λ r. (f : Form) (o : ℕ)
+        → PartAt f bytes.now (form_of_leaf leaf) pos o end
+        → Says f bytes.now pos end r) }
+    ensures item { IfOk result (λ r. IsItem bytes.now pos r.1) }
 {
     let typ = type_at(bytes, pos)?;
     if !leaf.takes(typ) {

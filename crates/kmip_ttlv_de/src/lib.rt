@@ -13,10 +13,10 @@ ghost use Rattle.kmip_ttlv_types.specs.Items.{Raw, Splits};
 ghost use Rattle.kmip_ttlv_de.specs.Keeps.{Keep};
 ghost use Rattle.kmip_ttlv_de.specs.Reads.{Reads, Begins};
 ghost use Rattle.kmip_ttlv_de.specs.Reading.{got, read_of};
-ghost use Rattle.kmip_ttlv_de.specs.Answer.{Refuses, early_end, sort_of};
+ghost use Rattle.kmip_ttlv_de.specs.Answer.{RefusalStands, early_end, sort_of};
 ghost use Rattle.kmip_ttlv_de.specs.Wholes.{BeginsWhole};
 ghost use Rattle.kmip_ttlv_de.specs.Messages.{outer, four_bytes, long_four, one_integer, one_integer_value, may_lack_first, lacks_first_value, chosen_by_first, chosen_by_first_value, integers};
-ghost use Rattle.kmip_ttlv_de.specs.Facts.{has, root_fault, RootFacts, FactsBut};
+ghost use Rattle.kmip_ttlv_de.specs.RootFacts.{root_fault, RefusalFacts};
 
 mod head;
 mod keep;
@@ -66,11 +66,10 @@ pub fn from_slice<T: Deserialize<A>, A: Allocator + Copy>(alloc: A, bytes: &[u8]
     // What is answered is the value for data with which the bytes begin.
     ensures found { IfOk result (λ x. (v : Value) × Begins T.form bytes.now v × T.is_value v x) }
     // Bytes that are refused begin with no data; but for an early end, whatever bytes follow.
-    ensures refused { IfErr result (λ e. Refuses T.form bytes.now e) }
-    // A root that is no struct, or has another name, tag or type, is refused first.
-    ensures root { RootFacts (root_fault T.form bytes.now) bytes.now result }
-    // Any other refusal names what stands in the bytes, and its place.
-    ensures facts { IfErr result (λ e. FactsBut (root_fault T.form bytes.now) (has T.form) bytes.now e) }
+    ensures refused { IfErr result (λ e. RefusalStands T.form bytes.now e) }
+    // A root that is no struct, or has another name, tag or type, is refused for that, exactly where it is due. Any
+    // other refusal names what stands in the bytes, its place, and the part of the form that can't read it.
+    ensures facts { RefusalFacts (root_fault T.form bytes.now) T.form bytes.now result }
     // A Structure that is split into items at every depth is never refused as ending too early.
     ensures whole { IfErr result (λ e. BeginsWhole bytes.now → sort_of e ≡ early_end → ⊥) }
 {

@@ -5,13 +5,14 @@ ghost use Rattle.std.specs.Fmt.{digit_glyph};
 ghost use Rattle.kmip_ttlv_types.specs.ItemTypes.{code};
 ghost use Rattle.kmip_ttlv_types.specs.Places.{code_at};
 ghost use Rattle.kmip_ttlv_base.specs.Values.{view};
-ghost use Rattle.kmip_ttlv_base.specs.Forms.{unit, variants_of, content_of};
-ghost use Rattle.kmip_ttlv_de.specs.Places.{Reached};
+ghost use Rattle.kmip_ttlv_base.specs.Forms.{Form, enum, unit, variants_of, content_of};
+ghost use Rattle.kmip_ttlv_de.specs.Places.{IsItem, PartAt, content_at};
+ghost use Rattle.kmip_ttlv_de.specs.Parts.{NumberChooses};
 ghost use Rattle.kmip_ttlv_de.specs.Keeps.{keeps};
 ghost use Rattle.kmip_ttlv_de.specs.Reads.{is_number_type, byte_digits, number_text, first_named};
 ghost use Rattle.kmip_ttlv_de.specs.Reading.{read_number};
 ghost use Rattle.kmip_ttlv_de.specs.Answer.{Answers};
-ghost use Rattle.kmip_ttlv_de.specs.Facts.{Says, Told, enum_has};
+ghost use Rattle.kmip_ttlv_de.specs.Facts.{Says};
 
 use crate::head::{length_at, tag_at};
 use crate::keep::Kept;
@@ -85,7 +86,11 @@ fn named_unit<A: Allocator + Copy>(
     ensures name { IfOk result (λ name. name.now ≡ text.now) }
     ensures ok { IfOk result (λ _. first_named text.now (variants_of variants.now) ≡ Some unit) }
     ensures err { IfErr result (λ _. first_named text.now (variants_of variants.now) ≢ Some unit) }
-    ensures told { IfErr result (λ r. Reached bytes.now pos → Told enum_has bytes.now pos r) }
+    ensures says { IfErr result (λ r. (f : Form) (name : List ℕ) (e : ℕ)
+        → PartAt f bytes.now (enum name (variants_of variants.now)) pos owner e
+        → NumberChooses (variants_of variants.now) typ
+        → text.now ≡ number_text (content_at bytes.now pos)
+        → Says f bytes.now pos e r) }
 {
     let Some(variant) = first_named(text, variants) else {
         return Err(unknown_variant(alloc, bytes, pos, owner));
@@ -117,7 +122,11 @@ pub fn read_number<A: Allocator + Copy>(
     requires typ_is { code_at bytes.now pos ≡ code typ }
     ensures answers { Answers view (read_number name.now (variants_of variants.now)) bytes.now pos end (keeps kept.old.items) (keeps kept.new.items) result }
     ensures further { IfOk result (λ r. pos + 8 ≤ r.1) }
-    ensures says { IfErr result (λ r. Reached bytes.now pos → Says enum_has bytes.now pos end r) }
+    ensures says { IfErr result (λ r. (f : Form)
+        → PartAt f bytes.now (enum name.now (variants_of variants.now)) pos owner end
+        → NumberChooses (variants_of variants.now) typ
+        → Says f bytes.now pos end r) }
+    ensures item { IfOk result (λ r. IsItem bytes.now pos r.1) }
 {
     if !is_number_type(typ) {
         return Err(other_type(bytes, pos, TtlvType::Enumeration, typ));

@@ -9,14 +9,16 @@ ghost use Rattle.kmip_ttlv_types.specs.Items.{Raw};
 ghost use Rattle.kmip_ttlv_types.specs.Names.{tag_of};
 ghost use Rattle.kmip_ttlv_types.specs.Places.{ItemAt, tag_at, code_at, length_at};
 ghost use Rattle.kmip_ttlv_base.specs.Values.{Value, view, views, struct_value, seq_value};
-ghost use Rattle.kmip_ttlv_base.specs.Forms.{Form, Fields, struct, no_fields, field, form_of, fields_of, variants_of, content_of, forms_of};
-ghost use Rattle.kmip_ttlv_de.specs.Places.{Reached, IsEnd, StructAt};
+ghost use Rattle.kmip_ttlv_base.specs.Forms.{Form, Fields, Variants, struct, seq, enum, tuple, form_of, fields_of, variants_of, content_of, forms_of};
+ghost use Rattle.kmip_ttlv_de.specs.Parts.{HasField, RuleChooses};
+ghost use Rattle.kmip_ttlv_de.specs.Places.{IsItem, IsLast, WholeItems, InContent, IsInside, PartAt, StructRead, TupleRead, StructAt, stated_end};
 ghost use Rattle.kmip_ttlv_de.specs.Keeps.{Keep, keeps};
 ghost use Rattle.kmip_ttlv_de.specs.Rules.{choice};
-ghost use Rattle.kmip_ttlv_de.specs.Reads.{is_option, is_struct, names_tag, Begins};
+ghost use Rattle.kmip_ttlv_de.specs.Reads.{is_option, is_root, is_struct, names_tag, Begins};
 ghost use Rattle.kmip_ttlv_de.specs.Reading.{FieldsReader, read_of, read_fields, read_all, rest_of, read_field, read_struct, read_seq, read_enum, read_variant, read_content, read_tuple, read_used, read_forms};
-ghost use Rattle.kmip_ttlv_de.specs.Answer.{Chooses, Answers, AnswersAll, Answers3, Ignores, GoesOn, Refused, Refuses, early_end, sort_of};
-ghost use Rattle.kmip_ttlv_de.specs.Facts.{Cause, bad_name, has, has_in, name_has, rest_has, content_has, enum_has, Told, Says, root_fault, named_fault, RootFacts, FactsBut};
+ghost use Rattle.kmip_ttlv_de.specs.Answer.{Chooses, Answers, AnswersAll, Answers3, Ignores, GoesOn, ReadsNothing, RefusalStands, early_end, sort_of};
+ghost use Rattle.kmip_ttlv_de.specs.Facts.{NameWanted, Says};
+ghost use Rattle.kmip_ttlv_de.specs.RootFacts.{root_fault, named_fault, RootFacts, RefusalFacts};
 ghost use Rattle.kmip_ttlv_de.specs.Wholes.{BeginsWhole};
 
 use crate::head::{end_of, is_structure, length_at, tag_at, type_at};
@@ -79,7 +81,10 @@ fn read_shape<A: Allocator + Copy>(
     requires inside { pos ≤ length bytes.now }
     ensures answers { Answers view (read_of (form_of shape.now)) bytes.now pos end (keeps kept.old.items) (keeps kept.new.items) result }
     ensures further { IfOk result (λ r. pos + 8 ≤ r.1) }
-    ensures says { IfErr result (λ r. Reached bytes.now pos → IsEnd bytes.now end → Says (has (form_of shape.now)) bytes.now pos end r) }
+    ensures says { IfErr result (λ r. (f : Form)
+        → PartAt f bytes.now (form_of shape.now) pos owner end
+        → Says f bytes.now pos end r) }
+    ensures item { IfOk result (λ r. end < r.1 → IsItem bytes.now pos r.1) }
 {
     match shape {
         Shape::I32 => read_leaf(alloc, Leaf::I32, bytes, pos, end, kept),
@@ -128,8 +133,11 @@ fn open_struct<A: Allocator + Copy>(
 ) -> Result<(TtlvTag, u32), A>
     requires inside { pos ≤ length bytes.now }
     ensures ok { IfOk result (λ r. StructAt name.now bytes.now pos r.0 r.1) }
-    ensures err { IfErr result (λ r. (fs : Fields) (deny : Bool) (read : FieldsReader) (k : List Keep) (e : ℕ) → pos < e → Refused (read_struct name.now fs deny read) bytes.now pos e k (sort_of r)) }
-    ensures says { IfErr result (λ r. (e : ℕ) → pos < e → Reached bytes.now pos → Says (name_has name.now) bytes.now pos e r) }
+    ensures err { IfErr result (λ r. (fs : Fields) (deny : Bool) (read : FieldsReader) (k : List Keep) (e : ℕ) → pos < e → ReadsNothing (read_struct name.now fs deny read) bytes.now pos e k (sort_of r)) }
+    ensures says { IfErr result (λ r. (f : Form) (fs : Fields) (deny : Bool) (o e : ℕ)
+        → pos < e
+        → PartAt f bytes.now (struct name.now fs deny) pos o e
+        → Says f bytes.now pos e r) }
     ensures root { pos ≡ 0 → (t : ℕ) → tag_of name.now ≡ Some t → RootFacts (named_fault name.now bytes.now (Some t)) bytes.now result }
 {
     let typ = type_at(bytes, pos)?;
@@ -163,7 +171,11 @@ fn read_struct<A: Allocator + Copy>(
     requires inside { pos ≤ length bytes.now }
     ensures answers { (e : ℕ) → pos < e → Answers (λ v. struct_value name.now (views v.items)) (read_struct name.now (fields_of fields.now) deny (read_fields (fields_of fields.now))) bytes.now pos e (keeps kept.old.items) (keeps kept.new.items) result }
     ensures further { IfOk result (λ r. pos + 8 ≤ r.1) }
-    ensures says { IfErr result (λ r. (e : ℕ) → pos < e → Reached bytes.now pos → Says (has (struct name.now (fields_of fields.now) deny)) bytes.now pos e r) }
+    ensures says { IfErr result (λ r. (f : Form) (o e : ℕ)
+        → pos < e
+        → PartAt f bytes.now (struct name.now (fields_of fields.now) deny) pos o e
+        → Says f bytes.now pos e r) }
+    ensures item { IfOk result (λ r. IsItem bytes.now pos r.1) }
 {
     let (tag, n) = open_struct(alloc, name, bytes, pos)?;
     let start = pos + 8;
@@ -189,7 +201,12 @@ fn read_content<A: Allocator + Copy>(
 ) -> Result<Vec<Data<A>, A>, A>
     requires inside { pos ≤ length bytes.now }
     ensures answers { AnswersAll (λ v. views v.items) (read_all (fields_of fields.now) deny (read_fields (fields_of fields.now))) bytes.now pos end (keeps kept.old.items) (keeps kept.new.items) result }
-    ensures says { IfErr result (λ r. Reached bytes.now pos → IsEnd bytes.now end → Says (content_has (fields_of fields.now) deny) bytes.now pos end r) }
+    ensures says { IfErr result (λ r. (f : Form) (name : List ℕ) (p : ℕ)
+        → StructRead f bytes.now name (fields_of fields.now) deny p
+        → tag ≡ tag_at bytes.now p
+        → IsInside bytes.now p pos end
+        → pos ≤ end
+        → Says f bytes.now pos end r) }
 {
     let (values, next, last) = read_fields(alloc, tag, fields, bytes, pos, end, kept)?;
     read_rest(alloc, tag, fields, deny, bytes, last, next, end)?;
@@ -210,7 +227,13 @@ fn read_fields<A: Allocator + Copy>(
 ) -> Result<(Vec<Data<A>, A>, usize, usize), A>
     requires inside { pos ≤ length bytes.now }
     ensures answers { Answers3 (λ v. views v.items) (read_fields (fields_of fields.now)) bytes.now pos end (keeps kept.old.items) (keeps kept.new.items) result }
-    ensures says { IfErr result (λ r. Reached bytes.now pos → IsEnd bytes.now end → Says (has_in (fields_of fields.now)) bytes.now pos end r) }
+    ensures says { IfErr result (λ r. (deny : Bool) (f : Form) (name : List ℕ) (p : ℕ)
+        → StructRead f bytes.now name (fields_of fields.now) deny p
+        → tag ≡ tag_at bytes.now p
+        → IsInside bytes.now p pos end
+        → pos ≤ end
+        → Says f bytes.now pos end r) }
+    ensures last { IfOk result (λ r. pos ≤ end → end < r.1 → IsLast bytes.now pos r.2 r.1 end) }
 {
     let mut values = Vec::new(alloc);
     let mut next = pos;
@@ -248,7 +271,12 @@ fn read_rest<A: Allocator + Copy>(
 ) -> Result<(), A>
     requires inside { pos ≤ length bytes.now }
     ensures answers { (k : List Keep) → AnswersAll (λ u. tt) (rest_of (fields_of fields.now) deny) bytes.now pos end k k result }
-    ensures says { IfErr result (λ r. Reached bytes.now pos → IsEnd bytes.now end → Says (rest_has (fields_of fields.now) deny) bytes.now pos end r) }
+    ensures says { IfErr result (λ r. (f : Form) (name : List ℕ) (p : ℕ)
+        → StructRead f bytes.now name (fields_of fields.now) deny p
+        → tag ≡ tag_at bytes.now p
+        → IsInside bytes.now p pos end
+        → (end < pos → IsLast bytes.now (p + 8) last pos end)
+        → Says f bytes.now pos end r) }
 {
     let mut last = last;
     let mut next = pos;
@@ -275,7 +303,13 @@ fn read_ignored<A: Allocator + Copy>(
 ) -> Result<usize, A>
     requires inside { pos ≤ length bytes.now }
     ensures answers { (k : List Keep) (e : ℕ) → pos < e → Ignores (fields_of fields.now) deny bytes.now pos e k result }
-    ensures says { IfErr result (λ r. (e : ℕ) → pos < e → Reached bytes.now pos → Says (rest_has (fields_of fields.now) deny) bytes.now pos e r) }
+    ensures says { IfErr result (λ r. (f : Form) (name : List ℕ) (p e : ℕ)
+        → pos < e
+        → StructRead f bytes.now name (fields_of fields.now) deny p
+        → tag ≡ tag_at bytes.now p
+        → InContent bytes.now p pos
+        → Says f bytes.now pos e r) }
+    ensures item { IfOk result (λ q. IsItem bytes.now pos q) }
 {
     let typ = type_at(bytes, pos)?;
     if fields.is_empty() {
@@ -316,7 +350,14 @@ fn read_field<A: Allocator + Copy>(
 ) -> Result<(Data<A>, usize), A>
     requires inside { pos ≤ length bytes.now }
     ensures answers { Answers view (read_field name.now (form_of shape.now) (read_of (form_of shape.now))) bytes.now pos end (keeps kept.old.items) (keeps kept.new.items) result }
-    ensures says { IfErr result (λ r. Reached bytes.now pos → IsEnd bytes.now end → Says (has_in (field name.now (form_of shape.now) no_fields)) bytes.now pos end r) }
+    ensures says { IfErr result (λ r. (fs : Fields) (deny : Bool) (f : Form) (struct_name : List ℕ) (p : ℕ)
+        → StructRead f bytes.now struct_name fs deny p
+        → tag ≡ tag_at bytes.now p
+        → IsInside bytes.now p pos end
+        → HasField fs name.now (form_of shape.now)
+        → (end < pos → IsLast bytes.now (p + 8) last pos end)
+        → Says f bytes.now pos end r) }
+    ensures item { IfOk result (λ r. end < r.1 → (pos < end) × IsItem bytes.now pos r.1) }
 {
     if end < pos {
         return Err(overflow(bytes, last, pos, end));
@@ -350,7 +391,7 @@ fn wrong_tag<A: Allocator + Copy>(
     requires there { pos + 4 ≤ length bytes.now }
     requires typ_is { code_at bytes.now pos ≡ code typ }
     requires differs { tag_of name.now ≢ Some (tag_at bytes.now pos) }
-    ensures { Reached bytes.now pos → Told (name_has name.now) bytes.now pos result }
+    ensures { (f : Form) (e : ℕ) → NameWanted f bytes.now pos name.now → Says f bytes.now pos e result }
 {
     match TtlvTag::from_name(name) {
         Some(number) => other_tag(bytes, pos, typ, number),
@@ -374,7 +415,10 @@ fn read_seq<A: Allocator + Copy>(
     requires inside { pos ≤ length bytes.now }
     ensures answers { Answers (λ v. seq_value (views v.items)) (read_seq (read_of (form_of shape.now))) bytes.now pos end (keeps kept.old.items) (keeps kept.new.items) result }
     ensures further { IfOk result (λ r. pos + 8 ≤ r.1) }
-    ensures says { IfErr result (λ r. Reached bytes.now pos → IsEnd bytes.now end → Says (has (form_of shape.now)) bytes.now pos end r) }
+    ensures says { IfErr result (λ r. (f : Form)
+        → PartAt f bytes.now (seq (form_of shape.now)) pos owner end
+        → Says f bytes.now pos end r) }
+    ensures inside { IfOk result (λ r. r.1 ≤ end) }
 {
     let mut values = Vec::new(alloc);
     let (first, after) = read_shape(alloc, owner, shape, bytes, pos, end, kept)?;
@@ -401,7 +445,16 @@ fn goes_on<A: Allocator>(
     requires first_inside { first + 4 ≤ length bytes.now }
     requires inside { next ≤ length bytes.now }
     ensures answers { (h : Raw) → ItemAt bytes.now first h → GoesOn h bytes.now next end result }
-    ensures says { IfErr result (λ r. (h : Cause → Bool) → Reached bytes.now next → IsEnd bytes.now end → Says h bytes.now next end r) }
+    ensures says { IfErr result (λ r. (f : Form) (s : Form) (o : ℕ)
+        → PartAt f bytes.now (seq s) first o end
+        → WholeItems bytes.now first next
+        → (end < next → IsLast bytes.now first last next end)
+        → Says f bytes.now next end r) }
+    ensures inside { IfOk result (λ more. next ≤ end) }
+    ensures alike { IfOk result (λ more. more ≡ true
+        → (next < end)
+        × (tag_at bytes.now next ≡ tag_at bytes.now first)
+        × (code_at bytes.now next ≡ code_at bytes.now first)) }
 {
     if end < next {
         return Err(overflow(bytes, last, next, end));
@@ -432,7 +485,9 @@ fn chosen<A: Allocator + Copy>(
     requires typ_is { code_at bytes.now pos ≡ code typ }
     ensures answers { Chooses (choice (variants_of variants.now) (keeps kept.now) typ) result }
     ensures inside { IfOk result (λ o. IfSome o (λ i. i < length variants.now)) }
-    ensures told { IfErr result (λ r. Reached bytes.now pos → Told enum_has bytes.now pos r) }
+    ensures says { IfErr result (λ r. (f : Form) (name : List ℕ) (o e : ℕ)
+        → PartAt f bytes.now (enum name (variants_of variants.now)) pos o e
+        → Says f bytes.now pos e r) }
 {
     match choose(variants, kept, typ) {
         Ok(choice) => Ok(choice),
@@ -457,7 +512,10 @@ fn read_enum<A: Allocator + Copy>(
     requires inside { pos ≤ length bytes.now }
     ensures answers { Answers view (read_enum name.now (variants_of variants.now) (read_variant name.now (variants_of variants.now))) bytes.now pos end (keeps kept.old.items) (keeps kept.new.items) result }
     ensures further { IfOk result (λ r. pos + 8 ≤ r.1) }
-    ensures says { IfErr result (λ r. Reached bytes.now pos → IsEnd bytes.now end → Says enum_has bytes.now pos end r) }
+    ensures says { IfErr result (λ r. (f : Form)
+        → PartAt f bytes.now (enum name.now (variants_of variants.now)) pos owner end
+        → Says f bytes.now pos end r) }
+    ensures item { IfOk result (λ r. end < r.1 → IsItem bytes.now pos r.1) }
 {
     let typ = type_at(bytes, pos)?;
     match chosen(alloc, variants, kept, typ, bytes, pos)? {
@@ -497,7 +555,11 @@ fn read_variant<A: Allocator + Copy>(
     requires typ_is { code_at bytes.now pos ≡ code typ }
     ensures answers { Answers view (read_content name.now variant.now (content_of content.now)) bytes.now pos end (keeps kept.old.items) (keeps kept.new.items) result }
     ensures further { IfOk result (λ r. pos + 8 ≤ r.1) }
-    ensures says { IfErr result (λ r. Reached bytes.now pos → IsEnd bytes.now end → Says enum_has bytes.now pos end r) }
+    ensures says { IfErr result (λ r. (f : Form) (vs : Variants)
+        → PartAt f bytes.now (enum name.now vs) pos owner end
+        → RuleChooses vs typ (content_of content.now)
+        → Says f bytes.now pos end r) }
+    ensures item { IfOk result (λ r. end < r.1 → IsItem bytes.now pos r.1) }
 {
     match content {
         VariantContent::Unit => Err(chosen_unit(bytes, pos, typ)),
@@ -539,7 +601,12 @@ fn read_tuple<A: Allocator + Copy>(
     requires typ_is { code_at bytes.now pos ≡ code typ }
     ensures answers { (e : ℕ) → pos < e → Answers (λ v. views v.items) (read_tuple (read_forms (forms_of shapes.now))) bytes.now pos e (keeps kept.old.items) (keeps kept.new.items) result }
     ensures further { IfOk result (λ r. pos + 8 ≤ r.1) }
-    ensures says { IfErr result (λ r. (e : ℕ) → pos < e → Reached bytes.now pos → Says enum_has bytes.now pos e r) }
+    ensures says { IfErr result (λ r. (f : Form) (name : List ℕ) (vs : Variants) (e : ℕ)
+        → pos < e
+        → PartAt f bytes.now (enum name vs) pos owner e
+        → RuleChooses vs typ (tuple (forms_of shapes.now))
+        → Says f bytes.now pos e r) }
+    ensures item { IfOk result (λ r. IsItem bytes.now pos r.1) }
 {
     if !is_structure(typ) {
         return Err(no_structure(bytes, pos, typ));
@@ -567,7 +634,11 @@ fn read_parts<A: Allocator + Copy>(
 ) -> Result<Vec<Data<A>, A>, A>
     requires inside { pos ≤ length bytes.now }
     ensures answers { AnswersAll (λ v. views v.items) (read_used (read_forms (forms_of shapes.now))) bytes.now pos end (keeps kept.old.items) (keeps kept.new.items) result }
-    ensures says { IfErr result (λ r. Reached bytes.now pos → IsEnd bytes.now end → Says enum_has bytes.now pos end r) }
+    ensures says { IfErr result (λ r. (f : Form) (p : ℕ)
+        → TupleRead f bytes.now (forms_of shapes.now) p owner
+        → IsInside bytes.now p pos end
+        → pos ≤ end
+        → Says f bytes.now pos end r) }
 {
     let mut values = Vec::new(alloc);
     let mut next = pos;
@@ -604,9 +675,10 @@ fn read_first<A: Allocator + Copy>(
 ) -> Result<Vec<Data<A>, A>, A>
     requires named { (t : ℕ) × (tag_of name.now ≡ Some t) }
     ensures found { IfOk result (λ v. Begins (struct name.now (fields_of fields.now) deny) bytes.now (struct_value name.now (views v.items))) }
-    ensures refused { IfErr result (λ e. Refuses (struct name.now (fields_of fields.now) deny) bytes.now e) }
-    ensures root { RootFacts (root_fault (struct name.now (fields_of fields.now) deny) bytes.now) bytes.now result }
-    ensures facts { IfErr result (λ e. FactsBut (root_fault (struct name.now (fields_of fields.now) deny) bytes.now) (has (struct name.now (fields_of fields.now) deny)) bytes.now e) }
+    ensures refused { IfErr result (λ e. RefusalStands (struct name.now (fields_of fields.now) deny) bytes.now e) }
+    ensures facts { (f : Form)
+        → PartAt f bytes.now (struct name.now (fields_of fields.now) deny) 0 0 (stated_end bytes.now 0)
+        → RefusalFacts (root_fault (struct name.now (fields_of fields.now) deny) bytes.now) f bytes.now result }
     ensures whole { IfErr result (λ e. BeginsWhole bytes.now → sort_of e ≡ early_end → ⊥) }
 {
     let (tag, n) = open_struct(alloc, name, bytes, 0)?;
@@ -627,9 +699,10 @@ pub fn read_root<A: Allocator + Copy>(
     bytes: &[u8],
 ) -> Result<Data<A>, A>
     ensures found { IfOk result (λ d. Begins (form_of shape.now) bytes.now (view d)) }
-    ensures refused { IfErr result (λ e. Refuses (form_of shape.now) bytes.now e) }
-    ensures root { RootFacts (root_fault (form_of shape.now) bytes.now) bytes.now result }
-    ensures facts { IfErr result (λ e. FactsBut (root_fault (form_of shape.now) bytes.now) (has (form_of shape.now)) bytes.now e) }
+    ensures refused { IfErr result (λ e. RefusalStands (form_of shape.now) bytes.now e) }
+    ensures facts { (f : Form)
+        → (is_root (form_of shape.now) ≡ true → PartAt f bytes.now (form_of shape.now) 0 0 (stated_end bytes.now 0))
+        → RefusalFacts (root_fault (form_of shape.now) bytes.now) f bytes.now result }
     ensures whole { IfErr result (λ e. BeginsWhole bytes.now → sort_of e ≡ early_end → ⊥) }
 {
     match shape {

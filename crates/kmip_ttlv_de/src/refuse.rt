@@ -1,18 +1,16 @@
 //! Refusals: each is made by one function, with what it names and its place.
 
-ghost use Rattle.std.specs.Prelude.{◌≡◌, ◌≢◌, ℕ, Bool, ◌+◌, ◌^◌, ◌<◌, ◌≤◌, ◌⊎◌, List, [], ◌∷◌, length, take, drop, Some, None, true, false};
-ghost use Rattle.kmip_ttlv_types.specs.ItemTypes.{code, type_of, fixed_length, is_structure};
-ghost use Rattle.kmip_ttlv_types.specs.Leaves.{is_valid};
-ghost use Rattle.kmip_ttlv_types.specs.declared.field.FieldType.TheVariants.{Length, LengthAndValue};
-ghost use Rattle.kmip_ttlv_types.specs.Primitives.{CanHaveLength};
-ghost use Rattle.kmip_ttlv_types.specs.Names.{tag_of};
+ghost use Rattle.std.specs.Prelude.{◌≡◌, ℕ, ◌+◌, ◌^◌, ◌<◌, ◌≤◌, ◌⊎◌, List, [], length, Some, None, codes};
+ghost use Rattle.kmip_ttlv_types.specs.declared.field.FieldType.TheVariants.{Length, Tag};
 ghost use Rattle.kmip_ttlv_types.specs.Places.{tag_at, code_at, length_at};
-ghost use Rattle.kmip_ttlv_base.specs.Errors.{malformed, mismatch, invalid_tag, unexpected_tag, IsMemory, view_of_location};
-ghost use Rattle.kmip_ttlv_base.specs.declared.error.MalformedTtlvError.TheVariants.{InvalidType as InvalidTypeFault, InvalidLength as InvalidLengthFault, UnexpectedTtlvField as UnexpectedFieldFault, UnexpectedType as UnexpectedTypeFault};
-ghost use Rattle.kmip_ttlv_de.specs.Places.{Reached, IsEnd};
+ghost use Rattle.kmip_ttlv_base.specs.Errors.{malformed, mismatch, invalid_tag, missing_identifier, other_cause, unexpected_tag, unexpected_type, IsMemory, view_of_location};
+ghost use Rattle.kmip_ttlv_base.specs.Forms.{Form};
+ghost use Rattle.kmip_ttlv_base.specs.declared.error.MalformedTtlvError.TheVariants.{InvalidType as InvalidTypeFault, InvalidLength as InvalidLengthFault, InvalidValue as InvalidValueFault, Overflow as OverflowFault, UnexpectedTtlvField as UnexpectedFieldFault, UnexpectedType as UnexpectedTypeFault};
 ghost use Rattle.kmip_ttlv_de.specs.Answer.{sort_of, early_end};
-ghost use Rattle.kmip_ttlv_de.specs.Reads.{is_number_type};
-ghost use Rattle.kmip_ttlv_de.specs.Facts.{Cause, bad_name, empty_struct, closed_to, any_enum, item_place, code_place, at_first, Facts, Told, Widened, cause_of, place_of, Fault, IsFault, no_struct_fault, leaf_fault};
+ghost use Rattle.kmip_ttlv_de.specs.Places.{HasType};
+ghost use Rattle.kmip_ttlv_de.specs.Rules.{mismatch_of};
+ghost use Rattle.kmip_ttlv_de.specs.Facts.{tagged_place, item_place, code_place, struct_place, Facts, MayBeRefusal, Widened, cause_of, place_of};
+ghost use Rattle.kmip_ttlv_de.specs.RootFacts.{Fault, at_first, no_struct_fault, leaf_fault};
 
 use crate::head::tag_at;
 use crate::rules::RuleError;
@@ -24,7 +22,7 @@ use std::io;
 /// The bytes end too early.
 pub fn early<A: Allocator>() -> Error<A>
     ensures sort { sort_of result ≡ early_end }
-    ensures facts { (h : Cause → Bool) (b : List ℕ) → Facts h b result }
+    ensures facts { (f : Form) (b : List ℕ) → Facts f b result }
     ensures place { (place_of result).offset ≡ None }
 {
     Error::new(
@@ -49,7 +47,7 @@ fn at<A: Allocator>(bytes: &[u8], pos: usize, typ: TtlvType, after: usize) -> Er
 
 // At an offset, in a struct of this tag.
 fn in_struct<A: Allocator>(offset: usize, tag: TtlvTag) -> ErrorLocation<A>
-    ensures { view_of_location result ≡ record { offset = Some offset; parents = []; tag = Some tag; typ = Some TtlvType.Structure } }
+    ensures { view_of_location result ≡ struct_place offset tag }
 {
     ErrorLocation::at(
         Some(ByteOffset(offset as u64)),
@@ -62,8 +60,6 @@ fn in_struct<A: Allocator>(offset: usize, tag: TtlvTag) -> ErrorLocation<A>
 /// The code of no type.
 pub fn bad_code<A: Allocator>(bytes: &[u8], pos: usize) -> Error<A>
     requires there { pos + 4 ≤ length bytes.now }
-    requires none { type_of (code_at bytes.now pos) ≡ None }
-    ensures told { (h : Cause → Bool) → Reached bytes.now pos → Told h bytes.now pos result }
     ensures cause { cause_of result ≡ malformed (InvalidTypeFault (code_at bytes.now pos)) }
     ensures place { place_of result ≡ code_place bytes.now pos }
 {
@@ -111,11 +107,8 @@ pub fn bad_length<A: Allocator>(
     actual: u32,
 ) -> Error<A>
     requires there { pos + 8 ≤ length bytes.now }
-    requires typ_is { code_at bytes.now pos ≡ code typ }
-    requires wanted { fixed_length typ ≡ Some expected }
-    requires is { actual ≡ length_at bytes.now pos }
-    requires differs { expected ≢ actual }
-    ensures told { (h : Cause → Bool) → Reached bytes.now pos → Told h bytes.now pos result }
+    ensures cause { cause_of result ≡ malformed (InvalidLengthFault expected actual typ) }
+    ensures place { place_of result ≡ item_place bytes.now pos 8 typ }
 {
     other_length(bytes, pos, typ, expected, actual, 8)
 }
@@ -129,12 +122,7 @@ pub fn bad_number_length<A: Allocator>(
     actual: u32,
 ) -> Error<A>
     requires there { pos + 8 ≤ length bytes.now }
-    requires typ_is { code_at bytes.now pos ≡ code typ }
-    requires wanted { fixed_length typ ≡ Some expected }
-    requires is { actual ≡ length_at bytes.now pos }
-    requires differs { expected ≢ actual }
-    requires number { is_number_type typ ≡ true }
-    ensures told { (h : Cause → Bool) → h any_enum ≡ true → Reached bytes.now pos → Told h bytes.now pos result }
+    ensures cause { cause_of result ≡ malformed (InvalidLengthFault expected actual typ) }
     ensures place { place_of result ≡ item_place bytes.now pos 4 typ }
 {
     other_length(bytes, pos, typ, expected, actual, 4)
@@ -143,12 +131,8 @@ pub fn bad_number_length<A: Allocator>(
 /// Content that is no value of this type.
 pub fn bad_value<A: Allocator>(bytes: &[u8], pos: usize, typ: TtlvType, n: u32) -> Error<A>
     requires there { pos + 8 + n ≤ length bytes.now }
-    requires typ_is { code_at bytes.now pos ≡ code typ }
-    requires is { n ≡ length_at bytes.now pos }
-    requires leaf { is_structure typ ≡ false }
-    requires long { CanHaveLength typ n }
-    requires invalid { is_valid typ (take n (drop (pos + 8) bytes.now)) ≡ false }
-    ensures told { (h : Cause → Bool) → Reached bytes.now pos → Told h bytes.now pos result }
+    ensures cause { cause_of result ≡ malformed (InvalidValueFault typ) }
+    ensures place { place_of result ≡ item_place bytes.now pos (8 + n) typ }
 {
     Error::new(
         ErrorKind::MalformedTtlv(MalformedTtlvError::InvalidValue { typ }),
@@ -159,9 +143,6 @@ pub fn bad_value<A: Allocator>(bytes: &[u8], pos: usize, typ: TtlvType, n: u32) 
 /// An item that has to be a Structure.
 pub fn no_structure<A: Allocator>(bytes: &[u8], pos: usize, typ: TtlvType) -> Error<A>
     requires there { pos + 4 ≤ length bytes.now }
-    requires typ_is { code_at bytes.now pos ≡ code typ }
-    requires differs { TtlvType.Structure ≢ typ }
-    ensures told { (h : Cause → Bool) → Reached bytes.now pos → Told h bytes.now pos result }
     ensures cause { cause_of result ≡ malformed (UnexpectedTypeFault TtlvType.Structure typ) }
     ensures place { place_of result ≡ item_place bytes.now pos 4 typ }
 {
@@ -182,9 +163,8 @@ pub fn other_type<A: Allocator>(
     typ: TtlvType,
 ) -> Error<A>
     requires there { pos + 4 ≤ length bytes.now }
-    requires typ_is { code_at bytes.now pos ≡ code typ }
-    requires differs { expected ≢ typ }
-    ensures told { (h : Cause → Bool) → Reached bytes.now pos → Told h bytes.now pos result }
+    ensures cause { cause_of result ≡ mismatch (unexpected_type expected typ) }
+    ensures place { place_of result ≡ item_place bytes.now pos 4 typ }
 {
     Error::new(
         ErrorKind::SerdeError(SerdeError::UnexpectedType {
@@ -203,9 +183,6 @@ pub fn other_tag<A: Allocator>(
     expected: TtlvTag,
 ) -> Error<A>
     requires there { pos + 4 ≤ length bytes.now }
-    requires typ_is { code_at bytes.now pos ≡ code typ }
-    requires differs { expected ≢ tag_at bytes.now pos }
-    ensures told { (h : Cause → Bool) → Reached bytes.now pos → Told h bytes.now pos result }
     ensures cause { cause_of result ≡ mismatch (unexpected_tag expected (tag_at bytes.now pos)) }
     ensures place { place_of result ≡ item_place bytes.now pos 4 typ }
 {
@@ -227,8 +204,7 @@ pub fn no_tag<A: Allocator + Copy>(
     name: &str,
 ) -> Error<A>
     requires there { pos + 4 ≤ length bytes.now }
-    requires typ_is { code_at bytes.now pos ≡ code typ }
-    ensures told { (h : Cause → Bool) → h (bad_name name.now) ≡ true → Reached bytes.now pos → Told h bytes.now pos result }
+    ensures { MayBeRefusal (mismatch (invalid_tag name.now)) (item_place bytes.now pos 4 typ) result }
 {
     match String::from_str(alloc, name) {
         Ok(name) => Error::new(
@@ -289,8 +265,8 @@ pub fn root_leaf<A: Allocator>() -> Error<A>
 /// An item in a struct without fields.
 pub fn no_fields<A: Allocator>(bytes: &[u8], pos: usize, typ: TtlvType) -> Error<A>
     requires there { pos + 4 ≤ length bytes.now }
-    requires typ_is { code_at bytes.now pos ≡ code typ }
-    ensures told { (h : Cause → Bool) → h empty_struct ≡ true → Reached bytes.now pos → Told h bytes.now pos result }
+    ensures cause { cause_of result ≡ mismatch missing_identifier }
+    ensures place { place_of result ≡ item_place bytes.now pos 4 typ }
 {
     Error::new(
         ErrorKind::SerdeError(SerdeError::MissingIdentifier),
@@ -300,8 +276,8 @@ pub fn no_fields<A: Allocator>(bytes: &[u8], pos: usize, typ: TtlvType) -> Error
 
 /// The item that begins at `last` was read, and it ends at `next`, past the end.
 pub fn overflow<A: Allocator>(bytes: &[u8], last: usize, next: usize, end: usize) -> Error<A>
-    requires past { end < next }
-    ensures told { (h : Cause → Bool) → IsEnd bytes.now end → Told h bytes.now next result }
+    ensures cause { cause_of result ≡ malformed (OverflowFault record { 0 = end }) }
+    ensures place { (t : TtlvType) → HasType bytes.now last t → place_of result ≡ tagged_place bytes.now last next t }
 {
     let is_there = bytes.len() >= 4 && last <= bytes.len() - 4;
     let tag = if is_there {
@@ -330,7 +306,7 @@ pub fn at_end<A: Allocator + Copy>(
     tag: TtlvTag,
     text: &str,
 ) -> Error<A>
-    ensures told { (h : Cause → Bool) → IsEnd bytes.now end → Told h bytes.now end result }
+    ensures { MayBeRefusal (mismatch (other_cause text.now)) (struct_place end tag) result }
 {
     match String::from_str(alloc, text) {
         Ok(text) => Error::new(
@@ -350,7 +326,7 @@ pub fn closed<A: Allocator + Copy>(
     text: &str,
 ) -> Error<A>
     requires there { pos + 4 ≤ length bytes.now }
-    ensures told { (h : Cause → Bool) → h (closed_to (tag_at bytes.now pos)) ≡ true → Reached bytes.now pos → Told h bytes.now pos result }
+    ensures { MayBeRefusal (mismatch (other_cause text.now)) (struct_place (pos + 4) tag) result }
 {
     match String::from_str(alloc, text) {
         Ok(text) => Error::new(
@@ -364,7 +340,7 @@ pub fn closed<A: Allocator + Copy>(
 /// An item too many for a tuple, in the struct of this tag.
 pub fn surplus<A: Allocator + Copy>(alloc: A, bytes: &[u8], pos: usize, tag: TtlvTag) -> Error<A>
     requires there { pos ≤ length bytes.now }
-    ensures told { (h : Cause → Bool) → h any_enum ≡ true → Reached bytes.now pos → Told h bytes.now pos result }
+    ensures { MayBeRefusal (mismatch (other_cause (codes "too many items"))) (struct_place pos tag) result }
 {
     match String::from_str(alloc, "too many items") {
         Ok(text) => Error::new(
@@ -383,7 +359,7 @@ pub fn unknown_variant<A: Allocator + Copy>(
     tag: TtlvTag,
 ) -> Error<A>
     requires there { pos + 16 ≤ length bytes.now }
-    ensures told { (h : Cause → Bool) → h any_enum ≡ true → Reached bytes.now pos → Told h bytes.now pos result }
+    ensures { MayBeRefusal (mismatch (other_cause (codes "unknown variant"))) (struct_place (pos + 16) tag) result }
 {
     match String::from_str(alloc, "unknown variant") {
         Ok(text) => Error::new(
@@ -397,8 +373,8 @@ pub fn unknown_variant<A: Allocator + Copy>(
 /// A unit variant that a rule chose.
 pub fn chosen_unit<A: Allocator>(bytes: &[u8], pos: usize, typ: TtlvType) -> Error<A>
     requires there { pos + 4 ≤ length bytes.now }
-    requires typ_is { code_at bytes.now pos ≡ code typ }
-    ensures told { (h : Cause → Bool) → h any_enum ≡ true → Reached bytes.now pos → Told h bytes.now pos result }
+    ensures cause { cause_of result ≡ malformed (UnexpectedFieldFault Length Tag) }
+    ensures place { place_of result ≡ item_place bytes.now pos 4 typ }
 {
     other_field(FieldType::Length, FieldType::Tag, at(bytes, pos, typ, 4))
 }
@@ -411,10 +387,8 @@ pub fn named_content<A: Allocator>(
     actual: FieldType,
 ) -> Error<A>
     requires there { pos + 16 ≤ length bytes.now }
-    requires typ_is { code_at bytes.now pos ≡ code typ }
-    requires number { is_number_type typ ≡ true }
-    requires field { (actual ≡ LengthAndValue) ⊎ (actual ≡ Length) }
-    ensures told { (h : Cause → Bool) → h any_enum ≡ true → Reached bytes.now pos → Told h bytes.now pos result }
+    ensures cause { cause_of result ≡ malformed (UnexpectedFieldFault Tag actual) }
+    ensures place { place_of result ≡ item_place bytes.now pos 16 typ }
 {
     other_field(FieldType::Tag, actual, at(bytes, pos, typ, 16))
 }
@@ -428,8 +402,7 @@ pub fn refused_rule<'n, A: Allocator + Copy>(
     rule: RuleError<'n>,
 ) -> Error<A>
     requires there { pos + 4 ≤ length bytes.now }
-    requires typ_is { code_at bytes.now pos ≡ code typ }
-    ensures told { (h : Cause → Bool) → h any_enum ≡ true → ((n : List ℕ) → h (bad_name n) ≡ true) → Reached bytes.now pos → Told h bytes.now pos result }
+    ensures { MayBeRefusal (mismatch (mismatch_of rule.entry)) (item_place bytes.now pos 4 typ) result }
 {
     let (text, is_tag) = match rule {
         RuleError::InvalidVariantMatcherSyntax(name) => (name, false),

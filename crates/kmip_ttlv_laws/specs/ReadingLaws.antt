@@ -11,7 +11,7 @@ use Rattle.kmip_ttlv_ser.specs.declared.held.Held.{Held}
 use Rattle.kmip_ttlv_ser.specs.declared.held.Held.TheVariants.{Nothing, Plain}
 use Rattle.kmip_ttlv_ser.specs.WriteAnswers.{IsWrittenAs}
 use Rattle.kmip_ttlv_ser.specs.WrittenItems.{items, take_tag}
-use Rattle.kmip_ttlv_de.specs.Answer.{RefusesAs, other}
+use Rattle.kmip_ttlv_de.specs.Answer.{NothingBegins, other}
 use Rattle.kmip_ttlv_de.specs.Keeps.{Keep}
 use Rattle.kmip_ttlv_de.specs.Reads.{Reads, Begins, is_root, with_leaf}
 use Rattle.kmip_ttlv_laws.specs.Contents.{ContainsItems}
@@ -29,7 +29,7 @@ MessageAlone = (s : Form) (bytes after : List ℕ) (v : Value) → 8 + length_at
 
 -- a message without its last bytes begins with no value, and is refused for no cause but an early end or want of memory
 abbrev pub CutMessages : Type 0
-CutMessages = (s : Form) (x : Raw) (front back : List ℕ) (v : Value) → IsTextOf x (front ++ back) → 0 < length back → Begins s (front ++ back) v → ((w : Value) → Begins s front w → ⊥) × (RefusesAs s front other → ⊥)
+CutMessages = (s : Form) (x : Raw) (front back : List ℕ) (v : Value) → IsTextOf x (front ++ back) → 0 < length back → Begins s (front ++ back) v → ((w : Value) → Begins s front w → ⊥) × (NothingBegins s front other → ⊥)
 
 -- at most one tree has the same text
 abbrev pub OneTree : Type 0

@@ -1,21 +1,26 @@
-use Rattle.std.proofs.Common.{◌≡◌, refl, sym, arith, rules, false}
+use Rattle.std.proofs.Common.{◌≡◌, refl, sym, ap, inr, ◌∙◌, arith, rules, false}
 use Rattle.std.proofs.lemmas.Result.{err_from_is_err_and}
 use Rattle.kmip_ttlv_types.specs.Places.{tag_at, length_at}
 use Rattle.kmip_ttlv_de.specs.Keeps.{keeps}
 use Rattle.kmip_ttlv_de.specs.Reads.{takes, leaf_value, with_leaf}
 use Rattle.kmip_ttlv_de.specs.Reading.{any_leaf, read_leaf}
-use Rattle.kmip_ttlv_de.specs.Leaves.{form_of_leaf}
+use Rattle.kmip_ttlv_de.specs.Leaves.{first_type, form_of_leaf}
 use Rattle.kmip_ttlv_de.specs.Answer.{sort_of}
 use Rattle.kmip_ttlv_types.proofs.PlaceLemmas.{raw_with}
 use Rattle.kmip_ttlv_de.proofs.Heads.{accepted_leaf, leaf_reads, leaf_not_type, leaf_no_value}
 use Rattle.kmip_ttlv_de.proofs.Going.{refused_by}
-use Rattle.kmip_ttlv_de.proofs.FactLemmas.{told_says}
+use Rattle.kmip_ttlv_base.specs.Errors.{mismatch, unexpected_type}
+use Rattle.kmip_ttlv_de.proofs.PartLemmas.{part_reached}
+use Rattle.kmip_ttlv_de.proofs.SayLemmas.{mismatch_says}
+use Rattle.kmip_ttlv_de.proofs.Leaves.{first_taken_type}
+use Rattle.kmip_ttlv_de.specs.Facts.{by_form, cause_of, for_leaf}
+use Rattle.kmip_ttlv_de.specs.Places.{HasType}
 use Rattle.kmip_ttlv_de.proofs.leaf.read_leaf.Goals as goal
 
 pub returns-in_err-typ-clause-says : goal.returns-in_err-typ-clause-says
 returns-in_err-typ-clause-says g c =
     let p = err_from_is_err_and c.from_residual.result c.from_residual.ensures.1 in
-    rw (p.1, p.2) (λ h r. c.in_err-typ.ensures.says h c.args.end c.requires.before_end r)
+    rw (p.1, p.2) (λ f o at. c.in_err-typ.ensures.says f c.args.end c.requires.before_end (part_reached at))
 
 pub returns-then-not-takes-clause-answers : goal.returns-then-not-takes-clause-answers
 returns-then-not-takes-clause-answers g c =
@@ -23,7 +28,15 @@ returns-then-not-takes-clause-answers g c =
     leaf_not_type (form_of_leaf c.args.leaf) c.args.bytes.now c.args.pos c.args.end (keeps c.args.kept.now.items) c.in_ok-typ.typ (sort_of c.other_type.result) c.requires.before_end c.in_ok-typ.ensures.ok.0 c.in_ok-typ.ensures.ok.1 other
 
 pub returns-then-not-takes-clause-says : goal.returns-then-not-takes-clause-says
-returns-then-not-takes-clause-says g c = λ h r. told_says h c.args.bytes.now c.args.pos c.args.pos c.args.end c.other_type.result (omega arith) (c.other_type.ensures.told h r)
+returns-then-not-takes-clause-says g c =
+    let b = c.args.bytes.now in
+    let s = c.args.pos in
+    let t = c.in_ok-typ.typ in
+    let other : takes (form_of_leaf c.args.leaf) t ≡ false = search rules in
+    let typed : HasType b s t = record { there = c.in_ok-typ.ensures.ok.0; typ_is = c.in_ok-typ.ensures.ok.1 } in
+    let wanted = first_type c.args.leaf in
+    let cause : cause_of c.other_type.result ≡ mismatch (unexpected_type wanted t) = c.other_type.ensures.cause ∙ ap (λ x. mismatch (unexpected_type x t)) c.first_type.ensures in
+    λ f o at. mismatch_says f b s c.args.end 4 t c.other_type.result (unexpected_type wanted t) (inr (cause, c.other_type.ensures.place)) record { item = s; typed = typed; wanted = for_leaf c.args.leaf at other; differs = first_taken_type c.args.leaf t other; place = refl }
 
 pub returns-in_err-content-clause-answers : goal.returns-in_err-content-clause-answers
 returns-in_err-content-clause-answers g c =
@@ -34,7 +47,7 @@ returns-in_err-content-clause-answers g c =
 pub returns-in_err-content-clause-says : goal.returns-in_err-content-clause-says
 returns-in_err-content-clause-says g c =
     let p = err_from_is_err_and c.from_residual-in_err-content.result c.from_residual-in_err-content.ensures.1 in
-    rw (p.1, p.2) (λ h r. c.in_err-content.ensures.says h c.args.end c.requires.before_end r)
+    rw (p.1, p.2) (λ f o at. c.in_err-content.ensures.says f c.args.end c.requires.before_end (λ w n x. by_form at (search rules)) (λ x. by_form at (search rules)))
 
 pub returns-clause-answers : goal.returns-clause-answers
 returns-clause-answers g c =

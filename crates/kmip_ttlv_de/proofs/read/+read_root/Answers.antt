@@ -1,13 +1,15 @@
 use Rattle.std.proofs.Common.{◌≡◌, refl, ap, rules}
 use Rattle.std.proofs.lemmas.Result.{err_from_is_err_and}
 use Rattle.kmip_ttlv_de.proofs.read.+read_root.Goals as goal
-use Rattle.kmip_ttlv_base.specs.Forms.{form_of}
+use Rattle.kmip_ttlv_base.specs.Forms.{fields_of, form_of, struct}
 use Rattle.kmip_ttlv_base.specs.Values.{view}
-use Rattle.kmip_ttlv_de.proofs.RootLemmas.{fault_not_early}
+use Rattle.kmip_ttlv_de.proofs.RootLemmas.{fault_not_early, refusal_err, refusal_ok}
 use Rattle.kmip_ttlv_base.proofs.Views.{view-Newtype, view-Some, view-Struct}
 use Rattle.kmip_ttlv_base.proofs.Shapes.{form_of-Struct}
 use Rattle.kmip_ttlv_de.proofs.Whole.{begins_newtype, begins_some, refuses_newtype, refuses_option}
 use Rattle.kmip_ttlv_de.specs.Answer.{sort_of}
+use Rattle.kmip_ttlv_de.specs.Places.{in_newtype, in_option}
+use Rattle.kmip_ttlv_de.specs.RootFacts.{root_fault}
 
 pub returns-in_err-data-in-Option-clause-refused : goal.returns-in_err-data-in-Option-clause-refused
 returns-in_err-data-in-Option-clause-refused g t c =
@@ -24,10 +26,50 @@ returns-in_err-fields-in-Struct-clause-refused g t c =
     let p = err_from_is_err_and c.from_residual-in_err-fields-in-Struct.result c.from_residual-in_err-fields-in-Struct.ensures.1 in
     rw (p.1, p.2, c.in-Struct.is, form_of-Struct c.in-Struct.name c.in-Struct.fields c.in-Struct.deny_unknown) (rw c.deref-in-Struct.ensures.value at c.in_err-fields-in-Struct.ensures.refused)
 
+pub returns-in_err-data-in-Option-clause-facts : goal.returns-in_err-data-in-Option-clause-facts
+returns-in_err-data-in-Option-clause-facts g t c =
+    let p = err_from_is_err_and c.from_residual.result c.from_residual.ensures.1 in
+    let b = c.args.bytes.now in
+    let s = form_of c.in-Option.inner.value in
+    let told = rw c.deref.ensures at c.in_err-data-in-Option.ensures.facts in
+    rw (p.1, p.2, c.in-Option.is) (λ f at. refusal_err _ _ _ (root_fault s b) f b c.in_err-data-in-Option.field-0.0 (told f (λ r. in_option (at r))))
+
+pub returns-in_err-data-in-Newtype-clause-facts : goal.returns-in_err-data-in-Newtype-clause-facts
+returns-in_err-data-in-Newtype-clause-facts g t c =
+    let p = err_from_is_err_and c.from_residual-in_err-data-in-Newtype.result c.from_residual-in_err-data-in-Newtype.ensures.1 in
+    let b = c.args.bytes.now in
+    let s = form_of c.in-Newtype.inner.value in
+    let told = rw c.deref-in-Newtype.ensures at c.in_err-data-in-Newtype.ensures.facts in
+    rw (p.1, p.2, c.in-Newtype.is) (λ f at. refusal_err _ _ _ (root_fault s b) f b c.in_err-data-in-Newtype.field-0.0 (told f (λ r. in_newtype (at r))))
+
 pub returns-in_err-fields-in-Struct-clause-facts : goal.returns-in_err-fields-in-Struct-clause-facts
 returns-in_err-fields-in-Struct-clause-facts g t c =
     let p = err_from_is_err_and c.from_residual-in_err-fields-in-Struct.result c.from_residual-in_err-fields-in-Struct.ensures.1 in
-    rw (p.1, p.2, c.in-Struct.is, form_of-Struct c.in-Struct.name c.in-Struct.fields c.in-Struct.deny_unknown) (rw c.deref-in-Struct.ensures.value at c.in_err-fields-in-Struct.ensures.facts)
+    let b = c.args.bytes.now in
+    let s = struct c.in-Struct.name.now (fields_of c.in-Struct.fields.items) c.in-Struct.deny_unknown in
+    let told = rw c.deref-in-Struct.ensures.value at c.in_err-fields-in-Struct.ensures.facts in
+    rw (p.1, p.2, c.in-Struct.is, form_of-Struct c.in-Struct.name c.in-Struct.fields c.in-Struct.deny_unknown) (λ f at. refusal_err _ _ _ (root_fault s b) f b c.in_err-fields-in-Struct.field-0.0 (told f (at refl)))
+
+pub returns-in_ok-new-in-Option-clause-facts : goal.returns-in_ok-new-in-Option-clause-facts
+returns-in_ok-new-in-Option-clause-facts g t c =
+    let b = c.args.bytes.now in
+    let s = form_of c.in-Option.inner.value in
+    let told = rw c.deref.ensures at c.in_ok-data-in-Option.ensures.facts in
+    rw c.in-Option.is (λ f at. refusal_ok _ _ _ (root_fault s b) f b _ _ (told f (λ r. in_option (at r))))
+
+pub returns-in_ok-inner-in-Newtype-clause-facts : goal.returns-in_ok-inner-in-Newtype-clause-facts
+returns-in_ok-inner-in-Newtype-clause-facts g t c =
+    let b = c.args.bytes.now in
+    let s = form_of c.in-Newtype.inner.value in
+    let told = rw c.deref-in-Newtype.ensures at c.in_ok-data-in-Newtype.ensures.facts in
+    rw c.in-Newtype.is (λ f at. refusal_ok _ _ _ (root_fault s b) f b _ _ (told f (λ r. in_newtype (at r))))
+
+pub returns-in_ok-fields-in-Struct-clause-facts : goal.returns-in_ok-fields-in-Struct-clause-facts
+returns-in_ok-fields-in-Struct-clause-facts g t c =
+    let b = c.args.bytes.now in
+    let s = struct c.in-Struct.name.now (fields_of c.in-Struct.fields.items) c.in-Struct.deny_unknown in
+    let told = rw c.deref-in-Struct.ensures.value at c.in_ok-fields-in-Struct.ensures.facts in
+    rw (c.in-Struct.is, form_of-Struct c.in-Struct.name c.in-Struct.fields c.in-Struct.deny_unknown) (λ f at. refusal_ok _ _ _ (root_fault s b) f b _ _ (told f (at refl)))
 
 pub returns-in_ok-new-in-Option-clause-found : goal.returns-in_ok-new-in-Option-clause-found
 returns-in_ok-new-in-Option-clause-found g t c =

@@ -1,8 +1,10 @@
-use Rattle.std.proofs.Common.{rules, ◌≡◌, ◌<◌, ap, ◌∙◌, arith, []}
+use Rattle.std.proofs.Common.{rules, ◌≡◌, ◌+◌, ◌<◌, ap, ◌∙◌, arith, []}
 use Rattle.std.proofs.lemmas.Result.{err_from_is_err_and}
 use Rattle.kmip_ttlv_de.proofs.read.goes_on.Goals as goal
 use Rattle.kmip_ttlv_types.specs.Places.{code_at, tag_at}
-use Rattle.kmip_ttlv_de.proofs.FactLemmas.{told_says}
+use Rattle.kmip_ttlv_de.proofs.PartLemmas.{last_then, placed_then, seq_placed}
+use Rattle.kmip_ttlv_de.proofs.SayLemmas.{overflow_says}
+use Rattle.kmip_ttlv_de.specs.Places.{inner_item}
 use Rattle.kmip_ttlv_de.proofs.Going.{both_true, first_false, like_at, names_end, past_end, second_false}
 use Rattle.kmip_ttlv_de.proofs.Heads.{refused_any, refused_type}
 use Rattle.kmip_ttlv_de.specs.Answer.{sort_of}
@@ -40,10 +42,16 @@ returns-clause-answers g c =
     λ h item. (λ e. lt, λ after zs items. like_at h c.args.bytes.now after c.args.first c.args.next c.args.end zs item lt c.in_ok-type_at.ensures.ok.0 items ∙ both_true (tag_at c.args.bytes.now c.args.next) (tag_at c.args.bytes.now c.args.first) (code_at c.args.bytes.now c.args.next) (code_at c.args.bytes.now c.args.first) tags c.if-bytes-next.false)
 
 pub returns-then-end-next-clause-says : goal.returns-then-end-next-clause-says
-returns-then-end-next-clause-says g c = λ h r z. told_says h c.args.bytes.now c.args.next c.args.next c.args.end c.overflow.result (omega arith) (c.overflow.ensures.told h z)
+returns-then-end-next-clause-says g c =
+    let b = c.args.bytes.now in
+    let lt = c.if-end-next.true in
+    λ f s o at whole late.
+    let x = seq_placed at in
+    let l = last_then b (x.start + 8) c.args.first c.args.last c.args.next c.args.end x.content.before (late lt) in
+    overflow_says f b c.args.next c.args.end x.start c.args.last c.args.next c.args.end c.overflow.result x.opens x.ends lt (omega arith) l c.overflow.ensures.cause c.overflow.ensures.place
 
 pub returns-in_err-type_at-clause-says : goal.returns-in_err-type_at-clause-says
 returns-in_err-type_at-clause-says g c =
     let p = err_from_is_err_and c.from_residual.result c.from_residual.ensures.1 in
     let lt : c.args.next < c.args.end = omega arith in
-    rw (p.1, p.2) (λ h r z. c.in_err-type_at.ensures.says h c.args.end lt r)
+    rw (p.1, p.2) (λ f s o at whole late. let x = placed_then f c.args.bytes.now c.args.first c.args.next c.args.end (seq_placed at) whole lt in c.in_err-type_at.ensures.says f c.args.end lt (inner_item x.opens x.content))

@@ -1,19 +1,19 @@
-use Rattle.std.proofs.Common.{◌≡◌, ◌≢◌, ap, refl, arith, length, rules, true, false, ◌+◌, take, drop, not}
+use Rattle.std.proofs.Common.{◌≡◌, ◌≢◌, ap, inr, refl, subst, arith, length, rules, true, false, ◌+◌, take, drop}
 use Rattle.std.proofs.lemmas.Result.{err_from_is_err_and}
 use Rattle.kmip_ttlv_de.proofs.read.read_ignored.Goals as goal
 use Rattle.kmip_ttlv_types.specs.ItemTypes.{is_structure}
 use Rattle.kmip_ttlv_types.specs.Places.{length_at, tag_at}
 use Rattle.kmip_ttlv_types.specs.declared.typ.TtlvType.TheVariants.{Structure}
 use Rattle.kmip_ttlv_base.specs.Forms.{fields_of}
-use Rattle.kmip_ttlv_de.proofs.FactLemmas.{told_says}
+use Rattle.kmip_ttlv_base.specs.Errors.{missing_identifier}
 use Rattle.kmip_ttlv_de.proofs.Heads.{refused_type}
-use Rattle.kmip_ttlv_de.proofs.Ignoring.{either_valid, fields_none, fields_some, ignored_leaf, refused_cut, refused_denied, refused_empty, refused_invalid, refused_named, refused_short, structure_leaf}
+use Rattle.kmip_ttlv_de.proofs.Ignoring.{either_valid, empty_length, fields_none, fields_some, ignored_leaf, refused_cut, refused_denied, refused_empty, refused_invalid, refused_named, refused_short, structure_leaf}
 use Rattle.kmip_ttlv_de.proofs.ReadLemmas.{is_structure_is}
-use Rattle.kmip_ttlv_de.proofs.SayLemmas.{not_structure, or_left, or_right}
+use Rattle.kmip_ttlv_de.proofs.SayLemmas.{mismatch_says, not_structure, words_say}
 use Rattle.kmip_ttlv_de.proofs.WholeLemmas.{early_header, early_item, early_says}
 use Rattle.kmip_ttlv_de.specs.Answer.{sort_of}
-use Rattle.kmip_ttlv_de.specs.Facts.{rest_has}
-use Rattle.kmip_ttlv_de.specs.Places.{LeafAt}
+use Rattle.kmip_ttlv_de.specs.Facts.{LeafRead, field_again, ignored, struct_place, unknown_field}
+use Rattle.kmip_ttlv_de.specs.Places.{HasType, LeafAt, StructRead, for_struct, inner_item}
 use Rattle.kmip_ttlv_de.specs.Reading.{rest_of}
 use Rattle.kmip_ttlv_de.specs.Reads.{names_tag}
 
@@ -24,7 +24,7 @@ returns-in_err-typ-clause-answers g c =
 
 pub returns-then-is_empty-clause-answers : goal.returns-then-is_empty-clause-answers
 returns-then-is_empty-clause-answers g c =
-    let none : length c.args.fields.now ≡ 0 = search rules in
+    let none : length c.args.fields.now ≡ 0 = empty_length (length c.args.fields.now) c.if-is_empty.ensures in
     λ k e lt. refused_empty (fields_of c.args.fields.now) c.args.deny c.args.bytes.now c.args.pos e k (sort_of c.no_fields.result) lt (fields_none c.args.fields.now none)
 
 pub returns-then-is_field-clause-answers : goal.returns-then-is_field-clause-answers
@@ -70,41 +70,55 @@ returns-in-Some-end_of-clause-answers g c =
 pub returns-in_err-typ-clause-says : goal.returns-in_err-typ-clause-says
 returns-in_err-typ-clause-says g c =
     let p = err_from_is_err_and c.from_residual.result c.from_residual.ensures.1 in
-    rw (p.1, p.2) (λ e lt r. c.in_err-typ.ensures.says (rest_has (fields_of c.args.fields.now) c.args.deny) e lt r)
+    rw (p.1, p.2) (λ f name start e lt read tag content. c.in_err-typ.ensures.says f e lt (inner_item (for_struct read) content))
 
 pub returns-then-is_empty-clause-says : goal.returns-then-is_empty-clause-says
 returns-then-is_empty-clause-says g c =
-    let h = rest_has (fields_of c.args.fields.now) c.args.deny in
-    let none : length c.args.fields.now ≡ 0 = search rules in
-    λ e lt r. told_says h c.args.bytes.now c.args.pos c.args.pos e c.no_fields.result (omega arith) (c.no_fields.ensures.told h (ap not (fields_none c.args.fields.now none)) r)
+    let b = c.args.bytes.now in
+    let s = c.args.pos in
+    let t = c.in_ok-typ.typ in
+    let fs = fields_of c.args.fields.now in
+    let none : length c.args.fields.now ≡ 0 = empty_length (length c.args.fields.now) c.if-is_empty.ensures in
+    let typed : HasType b s t = record { there = c.in_ok-typ.ensures.ok.0; typ_is = c.in_ok-typ.ensures.ok.1 } in
+    λ f name start e lt read tag content. mismatch_says f b s e 4 t c.no_fields.result missing_identifier (inr (c.no_fields.ensures.cause, c.no_fields.ensures.place)) record { item = s; typ = t; typed = typed; struct_name = name; struct_fields = fs; denies = c.args.deny; start = start; read = read; content = content; none = fields_none c.args.fields.now none; place = refl }
 
 pub returns-then-is_field-clause-says : goal.returns-then-is_field-clause-says
 returns-then-is_field-clause-says g c =
-    let fs = fields_of c.args.fields.now in
-    let h = rest_has fs c.args.deny in
-    let named : names_tag fs (tag_at c.args.bytes.now c.args.pos) ≡ true = search rules in
-    λ e lt r. told_says h c.args.bytes.now c.args.pos c.args.pos e c.closed.result (omega arith) (c.closed.ensures.told h (or_right c.args.deny (names_tag fs (tag_at c.args.bytes.now c.args.pos)) named) r)
+    let b = c.args.bytes.now in
+    let s = c.args.pos in
+    let named : names_tag (fields_of c.args.fields.now) (tag_at b s) ≡ true = search rules in
+    λ f name start e lt read tag content. words_say f b s e (s + 4) c.args.tag c.closed.result _ (omega arith) c.closed.ensures (field_again read content c.in_ok-typ.ensures.ok.0 named (ap (struct_place (s + 4)) tag))
 
 pub returns-then-deny-clause-says : goal.returns-then-deny-clause-says
 returns-then-deny-clause-says g c =
+    let b = c.args.bytes.now in
+    let s = c.args.pos in
     let fs = fields_of c.args.fields.now in
-    let h = rest_has fs c.args.deny in
-    λ e lt r. told_says h c.args.bytes.now c.args.pos c.args.pos e c.closed-then-deny.result (omega arith) (c.closed-then-deny.ensures.told h (or_left c.args.deny (names_tag fs (tag_at c.args.bytes.now c.args.pos)) c.if-deny.true) r)
+    let other_name : names_tag fs (tag_at b s) ≡ false = search rules in
+    λ f name start e lt read tag content.
+    let denies : StructRead f b name fs true start = subst (λ d. StructRead f b name fs d start) c.if-deny.true read in
+    words_say f b s e (s + 4) c.args.tag c.closed-then-deny.result _ (omega arith) c.closed-then-deny.ensures (unknown_field denies content c.in_ok-typ.ensures.ok.0 other_name (ap (struct_place (s + 4)) tag))
 
 pub returns-in_err-next-clause-says : goal.returns-in_err-next-clause-says
 returns-in_err-next-clause-says g c =
     let p = err_from_is_err_and c.from_residual-in_err-next.result c.from_residual-in_err-next.ensures.1 in
-    rw (p.1, p.2) (λ e lt r. c.in_err-next.ensures.says (rest_has (fields_of c.args.fields.now) c.args.deny) e lt r)
+    let b = c.args.bytes.now in
+    let s = c.args.pos in
+    let fs = fields_of c.args.fields.now in
+    let t = c.in_ok-typ.typ in
+    let other_name : names_tag fs (tag_at b s) ≡ false = search rules in
+    let some_field : length c.args.fields.now ≡ 0 → ⊥ = search rules in
+    rw (p.1, p.2) (λ f name start e lt read tag content.
+    let leaf : LeafRead f b s t = ignored record { struct_name = name; struct_fields = fs; denies = c.args.deny; start = start; read = read; content = content; some_field = fields_some c.args.fields.now some_field; allowed = c.if-deny.false; other_tag = other_name } in
+    c.in_err-next.ensures.says f e lt (λ w n x. leaf) (λ x. leaf))
 
 pub returns-in_default-clause-says : goal.returns-in_default-clause-says
 returns-in_default-clause-says g c =
-    let h = rest_has (fields_of c.args.fields.now) c.args.deny in
-    λ e lt r. early_says h c.args.bytes.now c.args.pos e c.early.result (c.early.ensures.facts h c.args.bytes.now) c.early.ensures.place (early_header c.args.bytes.now c.args.pos e lt c.in_default.ensures.none)
+    λ f name start e lt read tag content. early_says f c.args.bytes.now c.args.pos e c.early.result (c.early.ensures.facts f c.args.bytes.now) c.early.ensures.place (early_header c.args.bytes.now c.args.pos e lt c.in_default.ensures.none)
 
 pub returns-in-None-clause-says : goal.returns-in-None-clause-says
 returns-in-None-clause-says g c =
-    let h = rest_has (fields_of c.args.fields.now) c.args.deny in
-    λ e lt r. early_says h c.args.bytes.now c.args.pos e c.early-in-None.result (c.early-in-None.ensures.facts h c.args.bytes.now) c.early-in-None.ensures.place (early_item c.args.bytes.now c.args.pos e c.in_ok-typ.typ c.in-Some.n lt c.in_ok-typ.ensures.ok.1 c.in-Some.ensures.some.1 c.in-None.ensures.none)
+    λ f name start e lt read tag content. early_says f c.args.bytes.now c.args.pos e c.early-in-None.result (c.early-in-None.ensures.facts f c.args.bytes.now) c.early-in-None.ensures.place (early_item c.args.bytes.now c.args.pos e c.in_ok-typ.typ c.in-Some.n lt c.in_ok-typ.ensures.ok.1 c.in-Some.ensures.some.1 c.in-None.ensures.none)
 
 pub leaf_at-requires-clause-leaf : goal.leaf_at-requires-clause-leaf
 leaf_at-requires-clause-leaf g c = not_structure c.in_ok-typ.typ (search rules)
