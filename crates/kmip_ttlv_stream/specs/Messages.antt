@@ -67,7 +67,7 @@ pub record IsIoFault {A : Type 0} (fault : IoFault) (e : Error A) : Type 0 where
 -- memory was refused; or the stream ended within the next n bytes, or reading it failed, which it can
 pub data LackCause {A : Type 0} (can_fail : Bool) (old : Option (List ℕ)) (n : ℕ) (e : Error A) : Type 0 where
   no_memory : IsMemory e → LackCause can_fail old n e
-  no_bytes : {fault : IoFault} → IsIoFault fault e → Lacks can_fail old n fault → LackCause can_fail old n e
+  no_bytes : (fault : IoFault) → IsIoFault fault e → Lacks can_fail old n fault → LackCause can_fail old n e
 
 -- n bytes are due, and did not come: at most so many were taken
 pub record LacksBytes {A : Type 0} (can_fail : Bool) (old new : Option (List ℕ)) (n : ℕ) (e : Error A) : Type 0 where
@@ -100,8 +100,8 @@ pub record ComesOver {A : Type 0} (limit : Option ℕ) (old new : Option (List �
 -- why there is no message: its header does not come; it is larger than the limit; its body does not come
 pub data Stops {A : Type 0} (can_fail : Bool) (limit : Option ℕ) (old new kept : Option (List ℕ)) (e : Error A) : Type 0 where
   in_header : LacksBytes can_fail old new 8 e → Stops can_fail limit old new kept e
-  over_limit : {head : List ℕ} → ComesOver limit old new head e → IsKept kept head → Stops can_fail limit old new kept e
-  in_body : {head : List ℕ} {mid : Option (List ℕ)} {n : ℕ} → Consumes old mid head → length head ≡ 8 → HasSize limit head (8 + n) → LacksBytes can_fail mid new n e → Stops can_fail limit old new kept e
+  over_limit : (head : List ℕ) → ComesOver limit old new head e → IsKept kept head → Stops can_fail limit old new kept e
+  in_body : (head : List ℕ) (mid : Option (List ℕ)) (n : ℕ) → Consumes old mid head → length head ≡ 8 → HasSize limit head (8 + n) → LacksBytes can_fail mid new n e → Stops can_fail limit old new kept e
 
 -- a message was taken, and is kept where there is a buffer; this is answered of its bytes
 pub record Gives {T A : Type 0} (answers : List ℕ → Result T (Error A) → Type 0) (limit : Option ℕ) (old new kept : Option (List ℕ)) (r : Result T (Error A)) : Type 0 where
