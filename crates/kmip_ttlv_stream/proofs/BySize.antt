@@ -1,15 +1,15 @@
 -- A refusal by size comes of a message's size alone.
-use Rattle.std.proofs.Common.{◌≡◌, ℕ, Bool, true, false, List, ◌==◌, ◌⊎◌, inl, inr, Option, None, Some, Result, Ok, Err, sym, ap, ◌∙◌, subst, length, refl}
+use Rattle.std.proofs.Common.{◌≡◌, ℕ, Bool, true, false, List, ◌==◌, inl, inr, Option, None, Some, Result, Ok, Err, sym, ap, ◌∙◌, subst, length}
 use Rattle.std.specs.Prelude.{IfErr, nat_le, if◌then◌else◌}
 use Rattle.kmip_ttlv_types.specs.declared.typ.TtlvType.{TtlvType}
 use Rattle.kmip_ttlv_types.specs.ItemTypes.{type_of, is_structure}
 use Rattle.kmip_ttlv_types.specs.Names.{tag_of}
 use Rattle.kmip_ttlv_types.specs.Places.{tag_at, code_at}
 use Rattle.kmip_ttlv_base.specs.declared.error.Error.{Error}
-use Rattle.kmip_ttlv_base.specs.Errors.{Kind, exceeds_limit, out_of_memory, io_error, kind_of, view_of_kind, IsMemory}
+use Rattle.kmip_ttlv_base.specs.Errors.{Kind, exceeds_limit, kind_of, view_of_kind}
 use Rattle.kmip_ttlv_base.specs.Values.{Value}
 use Rattle.kmip_ttlv_base.specs.Forms.{Form, struct, option, seq, newtype, enum}
-use Rattle.kmip_ttlv_de.specs.Facts.{Fault, Cause, has, root_fault, named_fault, header_fault, RootFacts, FactsBut, KindFacts, Facts, place_of}
+use Rattle.kmip_ttlv_de.specs.Facts.{Fault, Cause, has, root_fault, named_fault, header_fault, RootFacts, FactsBut, KindFacts, place_of}
 use Rattle.kmip_ttlv_stream.specs.Messages.{Answered, message_size, LackCause, no_memory, no_bytes, Stops, in_header, over_limit, in_body, Ends, IsBySize}
 
 -- no refusal by size

@@ -1,5 +1,5 @@
 -- Where the bytes are known and reading them can't fail, what comes is determined.
-use Rattle.std.proofs.Common.{◌≡◌, ℕ, ◌+◌, ◌<◌, ◌≤◌, Bool, true, false, List, [], ◌++◌, ◌⊎◌, inl, inr, Option, None, Some, Result, Ok, Err, sym, ap, ◌∙◌, subst, length, take, drop, refl, arith, length-append, drop_at, take_all, le_refl}
+use Rattle.std.proofs.Common.{◌≡◌, ℕ, ◌+◌, ◌<◌, ◌≤◌, Bool, false, List, [], ◌++◌, ◌⊎◌, inl, inr, Option, None, Some, Result, Ok, Err, sym, ap, ◌∙◌, subst, length, take, drop, refl, arith, length-append, drop_at, take_all}
 use Rattle.std.proofs.lemmas.List.{take-append-le}
 use Rattle.std.specs.IoError.{error_kind}
 use Rattle.std.specs.declared.io.Error.{Error as IoFault}
@@ -7,11 +7,11 @@ use Rattle.std.specs.declared.io.ErrorKind.TheVariants.{UnexpectedEof}
 use Rattle.std.specs.Io.KnownBytes.{Consumes}
 use Rattle.kmip_ttlv_types.specs.declared.typ.TtlvType.{TtlvType}
 use Rattle.kmip_ttlv_types.specs.ItemTypes.{type_of}
-use Rattle.kmip_ttlv_types.specs.Places.{tag_at, code_at}
-use Rattle.kmip_ttlv_types.specs.Streams.{IsShort, Lacks}
+use Rattle.kmip_ttlv_types.specs.Places.{code_at}
+use Rattle.kmip_ttlv_types.specs.Streams.{IsShort}
 use Rattle.kmip_ttlv_base.specs.declared.error.Error.{Error}
 use Rattle.kmip_ttlv_base.specs.Errors.{Location, unknown, io_error, exceeds_limit, kind_of, view_of_kind, location_of, view_of_location, IsMemory}
-use Rattle.kmip_ttlv_stream.specs.Messages.{message_size, Forbids, HasSize, behind_header, IsOver, IsIoFault, LackCause, no_memory, no_bytes, LacksBytes, Comes, IsKept, ComesOver, Stops, in_header, over_limit, in_body, Gives, Ends, OrMemory, TakesFirst, end_fault, size_fault, Exactly}
+use Rattle.kmip_ttlv_stream.specs.Messages.{message_size, Forbids, HasSize, behind_header, IsIoFault, LackCause, no_memory, no_bytes, IsKept, ComesOver, Stops, in_header, over_limit, in_body, Gives, Ends, OrMemory, TakesFirst, Exactly}
 use Rattle.kmip_ttlv_stream.proofs.Fronts.{SameHeader, same_header, SameHeader-sym, HasSize-along, HasSize-least, HasSize-one, HasSize-allowed}
 
 -- what was taken, and what is left
@@ -32,11 +32,13 @@ parts_header bytes taken new p long = subst (λ (l : List ℕ). SameHeader l tak
 
 takes_first : (bytes taken : List ℕ) (n : ℕ) (new kept : Option (List ℕ)) → Parts bytes taken new → length taken ≡ n → IsKept kept taken → TakesFirst bytes n new kept × (take n bytes ≡ taken)
 takes_first bytes taken n new kept p long k =
-    let front : take n bytes ≡ taken = ap (take n) p.parts ∙ take-append-le n taken p.left (omega arith) ∙ take_all n taken (omega arith) in
-    (record {
-      left = p.is_left ∙ ap Some (sym (ap (drop n) p.parts ∙ drop_at taken p.left n long));
-      is_kept = subst (IsKept kept) (sym front) k;
-    }, front)
+    let front : take n bytes ≡ taken = ap (take n) p.parts ∙ take-append-le n taken p.left (omega arith) ∙ take_all n taken (omega arith) in (
+      record {
+        left = p.is_left ∙ ap Some (sym (ap (drop n) p.parts ∙ drop_at taken p.left n long));
+        is_kept = subst (IsKept kept) (sym front) k;
+      },
+      front,
+    )
 
 or_not : {T A : Type 0} (r : Result T (Error A)) (P : Type 0) → P → OrMemory r P
 or_not (Ok x) P h = h
@@ -81,15 +83,15 @@ header_exact : {T A : Type 0} (answers : List ℕ → Result T (Error A) → Typ
     → LackCause false (Some bytes) 8 e → Exactly answers limit bytes new kept (Err e)
 header_exact answers limit bytes new kept e cause =
     elim (lack_of (Some bytes) 8 e cause) [
-      inl want ↦ memory_exact answers limit bytes new kept e want
-    | inr w ↦
-        let short : length bytes < 8 = w.3 in
-        record {
-          in_header = λ low. ends_early w.0 e w.1 w.2;
-          over_limit = λ there t is over. absurd (omega arith);
-          in_body = λ there n due low. absurd (omega arith);
-          whole = λ there n due enough. absurd (omega arith);
-        }
+      | inl want ↦ memory_exact answers limit bytes new kept e want
+      | inr w ↦
+          let short : length bytes < 8 = w.3 in
+          record {
+            in_header = λ low. ends_early w.0 e w.1 w.2;
+            over_limit = λ there t is over. absurd (omega arith);
+            in_body = λ there n due low. absurd (omega arith);
+            whole = λ there n due enough. absurd (omega arith);
+          }
     ]
 
 over_place : (bytes head : List ℕ) (u t : TtlvType) → SameHeader bytes head → u ≡ t → behind_header head u ≡ behind_header bytes t
@@ -123,15 +125,15 @@ body_exact answers limit bytes new kept head mid n e taken eight size cause =
     let same = parts_header bytes head mid p (omega arith) in
     let all : HasSize limit bytes (8 + n) = HasSize-along limit head bytes _ (SameHeader-sym bytes head same) size in
     elim (lack_of mid n e cause) [
-      inl want ↦ memory_exact answers limit bytes new kept e want
-    | inr w ↦
-        let short : length p.left < n = subst (λ (o : Option (List ℕ)). IsShort o n) p.is_left w.3 in
-        record {
-          in_header = λ low. absurd (omega arith);
-          over_limit = λ there t is over. absurd (HasSize-allowed limit bytes t _ is all over);
-          in_body = λ there m due low. ends_early w.0 e w.1 w.2;
-          whole = λ there m due enough. let one : 8 + n ≡ m = HasSize-one limit bytes _ m all due in absurd (omega arith);
-        }
+      | inl want ↦ memory_exact answers limit bytes new kept e want
+      | inr w ↦
+          let short : length p.left < n = subst (λ (o : Option (List ℕ)). IsShort o n) p.is_left w.3 in
+          record {
+            in_header = λ low. absurd (omega arith);
+            over_limit = λ there t is over. absurd (HasSize-allowed limit bytes t _ is all over);
+            in_body = λ there m due low. ends_early w.0 e w.1 w.2;
+            whole = λ there m due enough. let one : 8 + n ≡ m = HasSize-one limit bytes _ m all due in absurd (omega arith);
+          }
     ]
 
 stops_exact : {T A : Type 0} (answers : List ℕ → Result T (Error A) → Type 0) (limit : Option ℕ) (bytes : List ℕ) (new kept : Option (List ℕ)) (e : Error A)

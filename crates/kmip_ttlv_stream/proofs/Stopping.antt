@@ -1,9 +1,8 @@
 -- Why there is no message, and what is answered of one.
-use Rattle.std.proofs.Common.{◌≡◌, ℕ, ◌+◌, ◌-◌, ◌<◌, ◌≤◌, Bool, true, false, List, [], length, Option, None, Some, Result, Ok, Err, sym, ap, ◌∙◌, subst, arith, refl, inl, inr}
+use Rattle.std.proofs.Common.{◌≡◌, ℕ, ◌+◌, ◌-◌, ◌≤◌, Bool, true, false, List, [], Option, None, Some, Result, Ok, Err, sym, subst, arith, refl, inl, inr}
 use Rattle.std.specs.Prelude.{if◌then◌else◌}
-use Rattle.std.specs.Io.KnownBytes.{Consumes}
 use Rattle.kmip_ttlv_base.specs.declared.error.Error.{Error}
-use Rattle.kmip_ttlv_stream.specs.Messages.{HasSize, IsOver, LacksBytes, IsFilled, Comes, ComesOver, Stops, in_header, over_limit, in_body, Gives, Ends}
+use Rattle.kmip_ttlv_stream.specs.Messages.{HasSize, IsOver, LacksBytes, IsFilled, Comes, Stops, in_header, over_limit, in_body, Gives, Ends}
 use Rattle.kmip_ttlv_stream.proofs.Fronts.{HasSize-least, header_came, comes_whole}
 
 -- the header did not come

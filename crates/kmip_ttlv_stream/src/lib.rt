@@ -12,7 +12,6 @@ mod config;
 mod take;
 
 pub use crate::config::Config;
-
 use crate::take::take_message;
 use kmip_ttlv_base::error::Result;
 use kmip_ttlv_base::shape::Deserialize;

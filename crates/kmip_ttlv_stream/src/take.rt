@@ -101,10 +101,7 @@ fn io_fault<A: Allocator>(fault: io::Error) -> Error<A>
 }
 
 // `more` zeros behind the bytes.
-fn grow<A: Allocator>(
-    bytes: &mut Vec<u8, A>,
-    more: usize,
-) -> std::result::Result<(), AllocError>
+fn grow<A: Allocator>(bytes: &mut Vec<u8, A>, more: usize) -> std::result::Result<(), AllocError>
     requires { vec_len bytes.old + more < 2 ^ 64 }
     ensures len { OnOk result (vec_len bytes.new ≡ vec_len bytes.old + more) }
     ensures front { OnOk result (take (vec_len bytes.old) bytes.new.items ≡ bytes.old.items) }

@@ -1,6 +1,5 @@
-use Rattle.std.proofs.Common.{◌≡◌, ◌-◌, vec_len, arith, refl}
+use Rattle.std.proofs.Common.{◌≡◌, ◌-◌, vec_len, arith}
 use Rattle.std.proofs.lemmas.Result.{err_from_is_err_and, on_ok_weaker, IfErr-weaker}
-use Rattle.kmip_ttlv_stream.specs.Messages.{IsFilled, Comes}
 use Rattle.kmip_ttlv_stream.proofs.Stopping.{stops_in_header, stops_over, message_comes, stops_in_body}
 use Rattle.kmip_ttlv_stream.proofs.take.take_message.Goals as goal
 

@@ -1,6 +1,5 @@
-use Rattle.std.proofs.Common.{◌≡◌, drop, length, arith, length-drop, inl}
+use Rattle.std.proofs.Common.{◌≡◌, drop, length, arith, length-drop}
 use Rattle.std.proofs.lemmas.Grind.{common_steps}
-use Rattle.kmip_ttlv_stream.specs.Messages.{no_bytes}
 use Rattle.kmip_ttlv_stream.proofs.Filling.{lacks_at_end, lacks_by_fault}
 use Rattle.kmip_ttlv_stream.proofs.take.take_piece.Goals as goal
 
