@@ -44,20 +44,24 @@ root_other (seq s) b = tt
 root_other (enum name vs) b = tt
 root_other _ b = tt
 
-facts_other : (T : Type 0) {A : Type 0} (o : Option Fault) (h : Cause → Bool) (b : List ℕ) (e : Error A) (n : ℕ) → NoFaultBySize o → RootFacts {X = T} o b (Err e) → FactsBut o h b e
+facts_other : (T : Type 0) {A : Type 0} (o : Option Fault) (h : Cause → Bool) (b : List ℕ) (e : Error A) (n : ℕ)
+    → NoFaultBySize o → RootFacts {X = T} o b (Err e) → FactsBut o h b e
     → view_of_kind (kind_of e) ≡ exceeds_limit n → ⊥
 facts_other T None h b e n other root facts is = subst (KindFacts h b (place_of e)) is facts
 facts_other T (Some f) h b e n other (inl want) facts is = cc (ap view_of_kind want.kind)
 facts_other T (Some f) h b e n other (inr due) facts is = not_by_size f.kind n other (sym due.0 ∙ is)
 
-answered_other : {T A : Type 0} (s : Form) (is_value : Value → T → Type 0) (b : List ℕ) (e : Error A) (n : ℕ) → Answered s is_value b (Err e) → view_of_kind (kind_of e) ≡ exceeds_limit n → ⊥
+answered_other : {T A : Type 0} (s : Form) (is_value : Value → T → Type 0) (b : List ℕ) (e : Error A) (n : ℕ)
+    → Answered s is_value b (Err e) → view_of_kind (kind_of e) ≡ exceeds_limit n → ⊥
 answered_other s is_value b e n a is = facts_other _ (root_fault s b) (has s) b e n (root_other s b) a.root a.facts is
 
-lack_other : {A : Type 0} (can_fail : Bool) (old : Option (List ℕ)) (m : ℕ) (e : Error A) (n : ℕ) → LackCause can_fail old m e → view_of_kind (kind_of e) ≡ exceeds_limit n → ⊥
+lack_other : {A : Type 0} (can_fail : Bool) (old : Option (List ℕ)) (m : ℕ) (e : Error A) (n : ℕ)
+    → LackCause can_fail old m e → view_of_kind (kind_of e) ≡ exceeds_limit n → ⊥
 lack_other can_fail old m e n (no_memory want) is = cc (ap view_of_kind want.kind)
 lack_other can_fail old m e n (no_bytes fault io lacks) is = cc (ap view_of_kind io.kind)
 
-stops_by_size : {A : Type 0} (can_fail : Bool) (limit : Option ℕ) (old new kept : Option (List ℕ)) (e : Error A) → Stops can_fail limit old new kept e → IsBySize limit old new e
+stops_by_size : {A : Type 0} (can_fail : Bool) (limit : Option ℕ) (old new kept : Option (List ℕ)) (e : Error A)
+    → Stops can_fail limit old new kept e → IsBySize limit old new e
 stops_by_size can_fail limit old new kept e (in_header lacks) n is = absurd (lack_other can_fail old 8 e n lacks.cause is)
 stops_by_size can_fail limit old new kept e (over_limit head comes k) n is =
     let says : view_of_kind (kind_of e) ≡ exceeds_limit (message_size head) = ap view_of_kind comes.over.kind in (head, comes, cc)

@@ -24,13 +24,16 @@ parts_of : (bytes taken : List ℕ) (new : Option (List ℕ)) → Consumes (Some
 parts_of bytes taken None h = absurd h
 parts_of bytes taken (Some left) h = record { left = left; is_left = refl; parts = h }
 
-parts_length : (bytes taken : List ℕ) (new : Option (List ℕ)) (p : Parts bytes taken new) → length bytes ≡ length taken + length p.left
+parts_length : (bytes taken : List ℕ) (new : Option (List ℕ)) (p : Parts bytes taken new)
+    → length bytes ≡ length taken + length p.left
 parts_length bytes taken new p = ap (λ (l : List ℕ). length l) p.parts ∙ length-append taken p.left
 
-parts_header : (bytes taken : List ℕ) (new : Option (List ℕ)) → Parts bytes taken new → 8 ≤ length taken → SameHeader bytes taken
+parts_header : (bytes taken : List ℕ) (new : Option (List ℕ)) → Parts bytes taken new → 8 ≤ length taken
+    → SameHeader bytes taken
 parts_header bytes taken new p long = subst (λ (l : List ℕ). SameHeader l taken) (sym p.parts) (same_header taken p.left long)
 
-takes_first : (bytes taken : List ℕ) (n : ℕ) (new kept : Option (List ℕ)) → Parts bytes taken new → length taken ≡ n → IsKept kept taken → TakesFirst bytes n new kept × (take n bytes ≡ taken)
+takes_first : (bytes taken : List ℕ) (n : ℕ) (new kept : Option (List ℕ)) → Parts bytes taken new → length taken ≡ n
+    → IsKept kept taken → TakesFirst bytes n new kept × (take n bytes ≡ taken)
 takes_first bytes taken n new kept p long k =
     let front : take n bytes ≡ taken = ap (take n) p.parts ∙ take-append-le n taken p.left (omega arith) ∙ take_all n taken (omega arith) in (
       record {
@@ -71,10 +74,12 @@ memory_exact answers limit bytes new kept e want = record {
 }
 
 -- an early end as a fault
-ends_early : {A : Type 0} (fault : IoFault) (e : Error A) → IsIoFault fault e → error_kind fault ≡ UnexpectedEof → IsMemory e ⊎ ((view_of_kind (kind_of e) ≡ io_error UnexpectedEof) × (view_of_location (location_of e) ≡ unknown))
+ends_early : {A : Type 0} (fault : IoFault) (e : Error A) → IsIoFault fault e → error_kind fault ≡ UnexpectedEof
+    → IsMemory e ⊎ ((view_of_kind (kind_of e) ≡ io_error UnexpectedEof) × (view_of_location (location_of e) ≡ unknown))
 ends_early fault e io eof = inr (ap view_of_kind io.kind ∙ ap io_error eof, io.place)
 
-lack_of : {A : Type 0} (a : Option (List ℕ)) (n : ℕ) (e : Error A) → LackCause false a n e → IsMemory e ⊎ ((fault : IoFault) × IsIoFault fault e × (error_kind fault ≡ UnexpectedEof) × IsShort a n)
+lack_of : {A : Type 0} (a : Option (List ℕ)) (n : ℕ) (e : Error A) → LackCause false a n e
+    → IsMemory e ⊎ ((fault : IoFault) × IsIoFault fault e × (error_kind fault ≡ UnexpectedEof) × IsShort a n)
 lack_of a n e (no_memory want) = inl want
 lack_of a n e (no_bytes fault io (inl fails)) = absurd (cc)
 lack_of a n e (no_bytes fault io (inr short)) = inr (fault, io, short.0, short.1)
@@ -94,7 +99,8 @@ header_exact answers limit bytes new kept e cause =
           }
     ]
 
-over_place : (bytes head : List ℕ) (u t : TtlvType) → SameHeader bytes head → u ≡ t → behind_header head u ≡ behind_header bytes t
+over_place : (bytes head : List ℕ) (u t : TtlvType) → SameHeader bytes head → u ≡ t
+    → behind_header head u ≡ behind_header bytes t
 over_place bytes head u t same one =
     ap (λ v. behind_header head v) one ∙ ap (λ (n : ℕ). let l : Location = record { offset = Some 8; parents = []; tag = Some n; typ = Some t } in l) (sym same.tag)
 
@@ -118,7 +124,8 @@ over_exact answers limit bytes new kept head e comes k =
     }
 
 body_exact : {T A : Type 0} (answers : List ℕ → Result T (Error A) → Type 0) (limit : Option ℕ) (bytes : List ℕ) (new kept : Option (List ℕ)) (head : List ℕ) (mid : Option (List ℕ)) (n : ℕ) (e : Error A)
-    → Consumes (Some bytes) mid head → length head ≡ 8 → HasSize limit head (8 + n) → LackCause false mid n e → Exactly answers limit bytes new kept (Err e)
+    → Consumes (Some bytes) mid head → length head ≡ 8 → HasSize limit head (8 + n) → LackCause false mid n e
+    → Exactly answers limit bytes new kept (Err e)
 body_exact answers limit bytes new kept head mid n e taken eight size cause =
     let p = parts_of bytes head mid taken in
     let long : length bytes ≡ length head + length p.left = parts_length bytes head mid p in
@@ -150,6 +157,7 @@ ends_exact answers limit bytes new kept (Err e) (inr stops) = stops_exact answer
 
 -- what is answered of known bytes from a source that can't fail
 pub exact : {T A : Type 0} (answers : List ℕ → Result T (Error A) → Type 0) (can_fail : Bool) (limit : Option ℕ) (old new kept : Option (List ℕ)) (r : Result T (Error A))
-    → Ends answers can_fail limit old new kept r → can_fail ≡ false → (bytes : List ℕ) → old ≡ Some bytes → Exactly answers limit bytes new kept r
+    → Ends answers can_fail limit old new kept r → can_fail ≡ false → (bytes : List ℕ) → old ≡ Some bytes
+    → Exactly answers limit bytes new kept r
 exact answers can_fail limit old new kept r ends off bytes there =
     ends_exact answers limit bytes new kept r (subst (λ (o : Option (List ℕ)). Ends answers false limit o new kept r) there (subst (λ (b : Bool). Ends answers b limit old new kept r) off ends))

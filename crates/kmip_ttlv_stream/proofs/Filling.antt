@@ -14,7 +14,8 @@ pub IsFilled-none : (a : Option (List ℕ)) (xs : List ℕ) (n : ℕ) → length
 IsFilled-none a xs n long = record { came = []; consumes = Consumes-nil a; parts = sym (append-nil xs); long = long }
 
 -- one piece, and then another
-pub IsFilled-then : (a b c : Option (List ℕ)) (xs ys zs : List ℕ) (m n : ℕ) → IsFilled a b xs ys m → IsFilled b c ys zs n → IsFilled a c xs zs n
+pub IsFilled-then : (a b c : Option (List ℕ)) (xs ys zs : List ℕ) (m n : ℕ) → IsFilled a b xs ys m
+    → IsFilled b c ys zs n → IsFilled a c xs zs n
 IsFilled-then a b c xs ys zs m n f g = record {
   came = f.came ++ g.came;
   consumes = Consumes-trans a b c _ _ f.consumes g.consumes;
@@ -23,12 +24,14 @@ IsFilled-then a b c xs ys zs m n f g = record {
 }
 
 -- how many bytes came
-pub IsFilled-length : (a b : Option (List ℕ)) (xs ys : List ℕ) (n : ℕ) → (f : IsFilled a b xs ys n) → length xs + length f.came ≡ n
+pub IsFilled-length : (a b : Option (List ℕ)) (xs ys : List ℕ) (n : ℕ) → (f : IsFilled a b xs ys n)
+    → length xs + length f.came ≡ n
 IsFilled-length a b xs ys n f = sym (length-append xs f.came) ∙ sym (ap (λ (l : List ℕ). length l) f.parts) ∙ f.long
 
 -- a piece that ended too early
 pub lacks_at_end : {A : Type 0} (can_fail : Bool) (a b : Option (List ℕ)) (buf : List ℕ) (n : ℕ) (fault : IoFault) (e : Error A) → length buf ≡ n → 0 < n
-    → IsIoFault fault e → error_kind fault ≡ UnexpectedEof → IsShort a (length buf) × ConsumesUpTo a b (length buf) → LacksBytes can_fail a b n e
+    → IsIoFault fault e → error_kind fault ≡ UnexpectedEof → IsShort a (length buf) × ConsumesUpTo a b (length buf)
+    → LacksBytes can_fail a b n e
 lacks_at_end can_fail a b buf n fault e long due is eof (short, upto) = record {
   due = due;
   within = subst (ConsumesUpTo a b) long upto;
@@ -45,7 +48,8 @@ lacks_by_fault can_fail a b buf n fault e long due is (fails, upto) = record {
 }
 
 lacks_cause_after : {A : Type 0} (can_fail : Bool) (a b : Option (List ℕ)) (bs : List ℕ) (m n : ℕ) (e : Error A)
-    → ((fault : IoFault) → Lacks can_fail b m fault → Lacks can_fail a n fault) → LackCause can_fail b m e → LackCause can_fail a n e
+    → ((fault : IoFault) → Lacks can_fail b m fault → Lacks can_fail a n fault) → LackCause can_fail b m e
+    → LackCause can_fail a n e
 lacks_cause_after can_fail a b bs m n e more (no_memory want) = no_memory want
 lacks_cause_after can_fail a b bs m n e more (no_bytes fault is lacks) = no_bytes fault is (more fault lacks)
 

@@ -34,7 +34,8 @@ same_header head rest long =
     }
 
 -- what is taken is as long for the whole as for its header
-pub HasSize-along : (limit : Option ℕ) (xs ys : List ℕ) (n : ℕ) → SameHeader xs ys → HasSize limit xs n → HasSize limit ys n
+pub HasSize-along : (limit : Option ℕ) (xs ys : List ℕ) (n : ℕ) → SameHeader xs ys → HasSize limit xs n
+    → HasSize limit ys n
 HasSize-along limit xs ys n same h =
     subst (λ (c : ℕ). IsTakenUpTo (type_of c) limit (message_size ys) n) same.code (subst (λ (s : ℕ). IsTakenUpTo (type_of (code_at xs 0)) limit s n) same.size h)
 
@@ -49,7 +50,8 @@ taken_least (Some t) limit k n h = omega (arith, h.1)
 pub HasSize-least : (limit : Option ℕ) (xs : List ℕ) (n : ℕ) → HasSize limit xs n → 8 ≤ n
 HasSize-least limit xs n h = taken_least (type_of (code_at xs 0)) limit (length_at xs 0) n h
 
-taken_one : (o : Option TtlvType) (limit : Option ℕ) (size m n : ℕ) → IsTakenUpTo o limit size m → IsTakenUpTo o limit size n → m ≡ n
+taken_one : (o : Option TtlvType) (limit : Option ℕ) (size m n : ℕ) → IsTakenUpTo o limit size m
+    → IsTakenUpTo o limit size n → m ≡ n
 taken_one None limit size m n h k = h ∙ sym k
 taken_one (Some t) limit size m n h k = h.1 ∙ sym k.1
 
@@ -61,16 +63,19 @@ allowed_forbidden : (limit : Option ℕ) (size : ℕ) → Allows limit size → 
 allowed_forbidden None size a f = f
 allowed_forbidden (Some most) size a f = omega (arith, a, f)
 
-taken_allowed : (o : Option TtlvType) (t : TtlvType) (limit : Option ℕ) (size n : ℕ) → o ≡ Some t → IsTakenUpTo o limit size n → Forbids limit size → ⊥
+taken_allowed : (o : Option TtlvType) (t : TtlvType) (limit : Option ℕ) (size n : ℕ) → o ≡ Some t
+    → IsTakenUpTo o limit size n → Forbids limit size → ⊥
 taken_allowed None t limit size n is h f = cc
 taken_allowed (Some u) t limit size n is h f = allowed_forbidden limit size h.0 f
 
 -- what is taken of a type's item is within the limit
-pub HasSize-allowed : (limit : Option ℕ) (xs : List ℕ) (t : TtlvType) (n : ℕ) → type_of (code_at xs 0) ≡ Some t → HasSize limit xs n → Forbids limit (message_size xs) → ⊥
+pub HasSize-allowed : (limit : Option ℕ) (xs : List ℕ) (t : TtlvType) (n : ℕ) → type_of (code_at xs 0) ≡ Some t
+    → HasSize limit xs n → Forbids limit (message_size xs) → ⊥
 HasSize-allowed limit xs t n is h f = taken_allowed (type_of (code_at xs 0)) t limit (message_size xs) n is h f
 
 -- a header, and behind it the body that it states
-pub comes_whole : (limit : Option ℕ) (a b c : Option (List ℕ)) (head message : List ℕ) (n : ℕ) → Consumes a b head → length head ≡ 8 → HasSize limit head n
+pub comes_whole : (limit : Option ℕ) (a b c : Option (List ℕ)) (head message : List ℕ) (n : ℕ) → Consumes a b head
+    → length head ≡ 8 → HasSize limit head n
     → IsFilled b c head message n → Comes limit a c message
 comes_whole limit a b c head message n taken long size f = record {
   consumes = subst (Consumes a c) (sym f.parts) (Consumes-trans a b c _ _ taken f.consumes);
@@ -80,5 +85,6 @@ comes_whole limit a b c head message n taken long size f = record {
 }
 
 -- what an empty buffer was filled with
-pub header_came : (a b : Option (List ℕ)) (had head : List ℕ) (n : ℕ) → had ≡ [] → IsFilled a b had head n → Consumes a b head
+pub header_came : (a b : Option (List ℕ)) (had head : List ℕ) (n : ℕ) → had ≡ [] → IsFilled a b had head n
+    → Consumes a b head
 header_came a b had head n none f = subst (Consumes a b) (sym (f.parts ∙ ap (λ l. l ++ f.came) none)) f.consumes

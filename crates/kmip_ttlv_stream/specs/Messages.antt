@@ -18,7 +18,8 @@ use Rattle.kmip_ttlv_de.specs.Wholes.{BeginsWhole}
 use Rattle.kmip_ttlv_de.specs.Facts.{has, root_fault, RootFacts, FactsBut, Fault, IsFault}
 
 -- what `from_slice` answers of these bytes
-pub record Answered {T A : Type 0} (s : Form) (is_value : Value → T → Type 0) (bytes : List ℕ) (r : Result T (Error A)) : Type 0 where
+pub record Answered {T A : Type 0} (s : Form) (is_value : Value → T → Type 0) (bytes : List ℕ) (r : Result T (Error A))
+    : Type 0 where
   pub found : IfOk r (λ x. (v : Value) × Begins s bytes v × is_value v x)
   pub refused : IfErr r (λ e. Refuses s bytes e)
   pub root : RootFacts (root_fault s bytes) bytes r
@@ -38,7 +39,8 @@ abbrev pub Forbids : Option ℕ → ℕ → Type 0
 Forbids None n = ⊥
 Forbids (Some most) n = most < n
 
--- n bytes are taken of a message of this type and size: the header alone where the type is none, else all, if no limit is below
+-- n bytes are taken of a message of this type and size: the header alone where the type is none,
+-- or else all of it, which no limit forbids
 abbrev pub IsTakenUpTo : Option TtlvType → Option ℕ → ℕ → ℕ → Type 0
 IsTakenUpTo None limit size n = n ≡ 8
 IsTakenUpTo (Some t) limit size n = Allows limit size × (n ≡ size)
@@ -65,12 +67,14 @@ pub record IsIoFault {A : Type 0} (fault : IoFault) (e : Error A) : Type 0 where
   pub place : view_of_location (location_of e) ≡ unknown
 
 -- memory was refused; or the stream ended within the next n bytes, or reading it failed, which it can
-pub data LackCause {A : Type 0} (can_fail : Bool) (old : Option (List ℕ)) (n : ℕ) (e : Error A) : Type 0 where
+pub data LackCause {A : Type 0} (can_fail : Bool) (old : Option (List ℕ)) (n : ℕ) (e : Error A)
+    : Type 0 where
   no_memory : IsMemory e → LackCause can_fail old n e
   no_bytes : (fault : IoFault) → IsIoFault fault e → Lacks can_fail old n fault → LackCause can_fail old n e
 
 -- n bytes are due, and did not come: at most so many were taken
-pub record LacksBytes {A : Type 0} (can_fail : Bool) (old new : Option (List ℕ)) (n : ℕ) (e : Error A) : Type 0 where
+pub record LacksBytes {A : Type 0} (can_fail : Bool) (old new : Option (List ℕ)) (n : ℕ) (e : Error A)
+    : Type 0 where
   pub due : 0 < n
   pub within : ConsumesUpTo old new n
   pub cause : LackCause can_fail old n e
@@ -92,32 +96,39 @@ abbrev pub IsKept : Option (List ℕ) → List ℕ → Type 0
 IsKept kept bytes = IfSome kept (λ b. b ≡ bytes)
 
 -- a header was taken, of a message that is larger than the limit
-pub record ComesOver {A : Type 0} (limit : Option ℕ) (old new : Option (List ℕ)) (head : List ℕ) (e : Error A) : Type 0 where
+pub record ComesOver {A : Type 0} (limit : Option ℕ) (old new : Option (List ℕ)) (head : List ℕ) (e : Error A)
+    : Type 0 where
   pub consumes : Consumes old new head
   pub length_is : length head ≡ 8
   pub over : IsOver limit head e
 
 -- why there is no message: its header does not come; it is larger than the limit; its body does not come
-pub data Stops {A : Type 0} (can_fail : Bool) (limit : Option ℕ) (old new kept : Option (List ℕ)) (e : Error A) : Type 0 where
+pub data Stops {A : Type 0} (can_fail : Bool) (limit : Option ℕ) (old new kept : Option (List ℕ)) (e : Error A)
+    : Type 0 where
   in_header : LacksBytes can_fail old new 8 e → Stops can_fail limit old new kept e
   over_limit : (head : List ℕ) → ComesOver limit old new head e → IsKept kept head → Stops can_fail limit old new kept e
-  in_body : (head : List ℕ) (mid : Option (List ℕ)) (n : ℕ) → Consumes old mid head → length head ≡ 8 → HasSize limit head (8 + n) → LacksBytes can_fail mid new n e → Stops can_fail limit old new kept e
+  in_body : (head : List ℕ) (mid : Option (List ℕ)) (n : ℕ) → Consumes old mid head → length head ≡ 8
+      → HasSize limit head (8 + n) → LacksBytes can_fail mid new n e → Stops can_fail limit old new kept e
 
 -- a message was taken, and is kept where there is a buffer; this is answered of its bytes
-pub record Gives {T A : Type 0} (answers : List ℕ → Result T (Error A) → Type 0) (limit : Option ℕ) (old new kept : Option (List ℕ)) (r : Result T (Error A)) : Type 0 where
+pub record Gives {T A : Type 0} (answers : List ℕ → Result T (Error A) → Type 0) (limit : Option ℕ)
+    (old new kept : Option (List ℕ)) (r : Result T (Error A)) : Type 0 where
   pub message : List ℕ
   pub comes : Comes limit old new message
   pub is_kept : IsKept kept message
   pub answer : answers message r
 
 -- a message was taken, and its bytes are answered; or there is none
-abbrev pub Ends : {T A : Type 0} → (List ℕ → Result T (Error A) → Type 0) → Bool → Option ℕ → (old new kept : Option (List ℕ)) → Result T (Error A) → Type 0
+abbrev pub Ends : {T A : Type 0} → (List ℕ → Result T (Error A) → Type 0) → Bool → Option ℕ
+    → (old new kept : Option (List ℕ)) → Result T (Error A) → Type 0
 Ends answers can_fail limit old new kept (Ok x) = Gives answers limit old new kept (Ok x)
-Ends answers can_fail limit old new kept (Err e) = Gives answers limit old new kept (Err e) ⊎ Stops can_fail limit old new kept e
+Ends answers can_fail limit old new kept (Err e) =
+    Gives answers limit old new kept (Err e) ⊎ Stops can_fail limit old new kept e
 
 -- where this is a refusal by size, a header was taken that states this size, above the limit
 abbrev pub IsBySize : {A : Type 0} → Option ℕ → (old new : Option (List ℕ)) → Error A → Type 0
-IsBySize limit old new e = (n : ℕ) → view_of_kind (kind_of e) ≡ exceeds_limit n → (head : List ℕ) × ComesOver limit old new head e × (n ≡ message_size head)
+IsBySize limit old new e = (n : ℕ) → view_of_kind (kind_of e) ≡ exceeds_limit n
+    → (head : List ℕ) × ComesOver limit old new head e × (n ≡ message_size head)
 
 -- want of memory; or else this
 abbrev pub OrMemory : {T A : Type 0} → Result T (Error A) → Type 0 → Type 0
@@ -137,13 +148,17 @@ end_fault = record { kind = io_error UnexpectedEof; place = unknown }
 abbrev pub size_fault : List ℕ → TtlvType → Fault
 size_fault bytes t = record { kind = exceeds_limit (message_size bytes); place = behind_header bytes t }
 
--- what reading a message from these bytes comes to, by what they begin with; in place of each answer, want of memory may come
-pub record Exactly {T A : Type 0} (answers : List ℕ → Result T (Error A) → Type 0) (limit : Option ℕ) (bytes : List ℕ) (new kept : Option (List ℕ)) (r : Result T (Error A)) : Type 0 where
+-- what reading a message from these bytes comes to, by what they begin with; in place of each answer,
+-- want of memory may come
+pub record Exactly {T A : Type 0} (answers : List ℕ → Result T (Error A) → Type 0) (limit : Option ℕ) (bytes : List ℕ)
+    (new kept : Option (List ℕ)) (r : Result T (Error A)) : Type 0 where
   -- a header that is cut
   pub in_header : length bytes < 8 → IsFault end_fault r
   -- a size above the limit
-  pub over_limit : 8 ≤ length bytes → (t : TtlvType) → type_of (code_at bytes 0) ≡ Some t → Forbids limit (message_size bytes) → IsFault (size_fault bytes t) r × OrMemory r (TakesFirst bytes 8 new kept)
+  pub over_limit : 8 ≤ length bytes → (t : TtlvType) → type_of (code_at bytes 0) ≡ Some t
+      → Forbids limit (message_size bytes) → IsFault (size_fault bytes t) r × OrMemory r (TakesFirst bytes 8 new kept)
   -- a body that is cut
   pub in_body : 8 ≤ length bytes → (n : ℕ) → HasSize limit bytes n → length bytes < n → IsFault end_fault r
   -- a message, or a header whose code is that of no type
-  pub whole : 8 ≤ length bytes → (n : ℕ) → HasSize limit bytes n → n ≤ length bytes → OrMemory r (TakesFirst bytes n new kept × answers (take n bytes) r)
+  pub whole : 8 ≤ length bytes → (n : ℕ) → HasSize limit bytes n → n ≤ length bytes
+      → OrMemory r (TakesFirst bytes n new kept × answers (take n bytes) r)

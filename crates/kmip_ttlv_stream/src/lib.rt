@@ -41,11 +41,14 @@ pub fn from_reader<T: Deserialize<A>, S: Source, A: Allocator + Copy>(
     config: &mut Config<A>,
 ) -> Result<T, A>
     // What is taken from the stream, and what is answered.
-    ensures ends { Ends (Answered T.form T.is_value) S.can_fail (settings_of config.old).limit (S.left reader.old) (S.left reader.new) (settings_of config.new).kept result }
+    ensures ends { Ends (Answered T.form T.is_value) S.can_fail (settings_of config.old).limit
+        (S.left reader.old) (S.left reader.new) (settings_of config.new).kept result }
     // A refusal by size comes only of a message that is larger than the limit.
     ensures limit { IfErr result (IsBySize (settings_of config.old).limit (S.left reader.old) (S.left reader.new)) }
     // The same by cases, where the stream's bytes are known and reading them can't fail.
-    ensures exact { S.can_fail ≡ false → (bytes : List ℕ) → S.left reader.old ≡ Some bytes → Exactly (Answered T.form T.is_value) (settings_of config.old).limit bytes (S.left reader.new) (settings_of config.new).kept result }
+    ensures exact { S.can_fail ≡ false → (bytes : List ℕ) → S.left reader.old ≡ Some bytes
+        → Exactly (Answered T.form T.is_value) (settings_of config.old).limit bytes
+        (S.left reader.new) (settings_of config.new).kept result }
     // The limit stays, and there is a buffer afterwards exactly where there was one.
     ensures config { KeepsSettings (settings_of config.old) (settings_of config.new) }
 {
