@@ -53,7 +53,8 @@ facts_other T (Some f) h b e n other (inr due) facts is = not_by_size f.kind n o
 
 answered_other : {T A : Type 0} (s : Form) (is_value : Value → T → Type 0) (b : List ℕ) (e : Error A) (n : ℕ)
     → Answered s is_value b (Err e) → view_of_kind (kind_of e) ≡ exceeds_limit n → ⊥
-answered_other s is_value b e n a is = facts_other _ (root_fault s b) (has s) b e n (root_other s b) a.root a.facts is
+answered_other s is_value b e n a is =
+    facts_other _ (root_fault s b) (has s) b e n (root_other s b) a.root a.facts is
 
 lack_other : {A : Type 0} (can_fail : Bool) (old : Option (List ℕ)) (m : ℕ) (e : Error A) (n : ℕ)
     → LackCause can_fail old m e → view_of_kind (kind_of e) ≡ exceeds_limit n → ⊥
@@ -62,14 +63,20 @@ lack_other can_fail old m e n (no_bytes fault io lacks) is = cc (ap view_of_kind
 
 stops_by_size : {A : Type 0} (can_fail : Bool) (limit : Option ℕ) (old new kept : Option (List ℕ)) (e : Error A)
     → Stops can_fail limit old new kept e → IsBySize limit old new e
-stops_by_size can_fail limit old new kept e (in_header lacks) n is = absurd (lack_other can_fail old 8 e n lacks.cause is)
+stops_by_size can_fail limit old new kept e (in_header lacks) n is =
+    absurd (lack_other can_fail old 8 e n lacks.cause is)
 stops_by_size can_fail limit old new kept e (over_limit head comes k) n is =
-    let says : view_of_kind (kind_of e) ≡ exceeds_limit (message_size head) = ap view_of_kind comes.over.kind in (head, comes, cc)
-stops_by_size can_fail limit old new kept e (in_body head mid m taken long size lacks) n is = absurd (lack_other can_fail mid m e n lacks.cause is)
+    let says : view_of_kind (kind_of e) ≡ exceeds_limit (message_size head) =
+    ap view_of_kind comes.over.kind in (head, comes, cc)
+stops_by_size can_fail limit old new kept e (in_body head mid m taken long size lacks) n is =
+    absurd (lack_other can_fail mid m e n lacks.cause is)
 
 -- a refusal by size comes only of a message that is larger than the limit
-pub by_size : {T A : Type 0} (s : Form) (is_value : Value → T → Type 0) (can_fail : Bool) (limit : Option ℕ) (old new kept : Option (List ℕ)) (r : Result T (Error A))
+pub by_size : {T A : Type 0} (s : Form) (is_value : Value → T → Type 0) (can_fail : Bool) (limit : Option ℕ)
+    (old new kept : Option (List ℕ)) (r : Result T (Error A))
     → Ends (Answered s is_value) can_fail limit old new kept r → IfErr r (IsBySize limit old new)
 by_size s is_value can_fail limit old new kept (Ok x) ends = tt
-by_size s is_value can_fail limit old new kept (Err e) (inl gives) = λ n is. absurd (answered_other s is_value gives.message e n gives.answer is)
-by_size s is_value can_fail limit old new kept (Err e) (inr stops) = stops_by_size can_fail limit old new kept e stops
+by_size s is_value can_fail limit old new kept (Err e) (inl gives) =
+    λ n is. absurd (answered_other s is_value gives.message e n gives.answer is)
+by_size s is_value can_fail limit old new kept (Err e) (inr stops) =
+    stops_by_size can_fail limit old new kept e stops

@@ -30,12 +30,14 @@ parts_length bytes taken new p = ap (λ (l : List ℕ). length l) p.parts ∙ le
 
 parts_header : (bytes taken : List ℕ) (new : Option (List ℕ)) → Parts bytes taken new → 8 ≤ length taken
     → SameHeader bytes taken
-parts_header bytes taken new p long = subst (λ (l : List ℕ). SameHeader l taken) (sym p.parts) (same_header taken p.left long)
+parts_header bytes taken new p long =
+    subst (λ (l : List ℕ). SameHeader l taken) (sym p.parts) (same_header taken p.left long)
 
 takes_first : (bytes taken : List ℕ) (n : ℕ) (new kept : Option (List ℕ)) → Parts bytes taken new → length taken ≡ n
     → IsKept kept taken → TakesFirst bytes n new kept × (take n bytes ≡ taken)
 takes_first bytes taken n new kept p long k =
-    let front : take n bytes ≡ taken = ap (take n) p.parts ∙ take-append-le n taken p.left (omega arith) ∙ take_all n taken (omega arith) in (
+    let front : take n bytes ≡ taken =
+    ap (take n) p.parts ∙ take-append-le n taken p.left (omega arith) ∙ take_all n taken (omega arith) in (
       record {
         left = p.is_left ∙ ap Some (sym (ap (drop n) p.parts ∙ drop_at taken p.left n long));
         is_kept = subst (IsKept kept) (sym front) k;
@@ -47,24 +49,29 @@ or_not : {T A : Type 0} (r : Result T (Error A)) (P : Type 0) → P → OrMemory
 or_not (Ok x) P h = h
 or_not (Err e) P h = inr h
 
-gives_exact : {T A : Type 0} (answers : List ℕ → Result T (Error A) → Type 0) (limit : Option ℕ) (bytes : List ℕ) (new kept : Option (List ℕ)) (r : Result T (Error A))
+gives_exact : {T A : Type 0} (answers : List ℕ → Result T (Error A) → Type 0) (limit : Option ℕ) (bytes : List ℕ)
+    (new kept : Option (List ℕ)) (r : Result T (Error A))
     → Gives answers limit (Some bytes) new kept r → Exactly answers limit bytes new kept r
 gives_exact answers limit bytes new kept r g =
     let p = parts_of bytes g.message new g.comes.consumes in
     let long : length bytes ≡ length g.message + length p.left = parts_length bytes g.message new p in
     let least : 8 ≤ length g.message = HasSize-least limit g.message (length g.message) g.comes.size in
-    let size : HasSize limit bytes (length g.message) = HasSize-along limit g.message bytes _ (SameHeader-sym bytes g.message (parts_header bytes g.message new p least)) g.comes.size in
+    let size : HasSize limit bytes (length g.message) =
+    HasSize-along limit g.message bytes _ (SameHeader-sym bytes g.message
+    (parts_header bytes g.message new p least)) g.comes.size in
     record {
       in_header = λ low. absurd (omega arith);
       over_limit = λ there t is over. absurd (HasSize-allowed limit bytes t _ is size over);
-      in_body = λ there n due low. let same : length g.message ≡ n = HasSize-one limit bytes _ n size due in absurd (omega arith);
+      in_body = λ there n due low. let same : length g.message ≡ n =
+          HasSize-one limit bytes _ n size due in absurd (omega arith);
       whole = λ there n due enough.
           let same : length g.message ≡ n = HasSize-one limit bytes _ n size due in
           let first = takes_first bytes g.message n new kept p same g.is_kept in
           or_not r _ (first.0, subst (λ (l : List ℕ). answers l r) (sym first.1) g.answer);
     }
 
-memory_exact : {T A : Type 0} (answers : List ℕ → Result T (Error A) → Type 0) (limit : Option ℕ) (bytes : List ℕ) (new kept : Option (List ℕ)) (e : Error A)
+memory_exact : {T A : Type 0} (answers : List ℕ → Result T (Error A) → Type 0) (limit : Option ℕ) (bytes : List ℕ)
+    (new kept : Option (List ℕ)) (e : Error A)
     → IsMemory e → Exactly answers limit bytes new kept (Err e)
 memory_exact answers limit bytes new kept e want = record {
   in_header = λ low. inl want;
@@ -75,7 +82,8 @@ memory_exact answers limit bytes new kept e want = record {
 
 -- an early end as a fault
 ends_early : {A : Type 0} (fault : IoFault) (e : Error A) → IsIoFault fault e → error_kind fault ≡ UnexpectedEof
-    → IsMemory e ⊎ ((view_of_kind (kind_of e) ≡ io_error UnexpectedEof) × (view_of_location (location_of e) ≡ unknown))
+    → IsMemory e ⊎ ((view_of_kind (kind_of e) ≡ io_error UnexpectedEof)
+    × (view_of_location (location_of e) ≡ unknown))
 ends_early fault e io eof = inr (ap view_of_kind io.kind ∙ ap io_error eof, io.place)
 
 lack_of : {A : Type 0} (a : Option (List ℕ)) (n : ℕ) (e : Error A) → LackCause false a n e
@@ -84,7 +92,8 @@ lack_of a n e (no_memory want) = inl want
 lack_of a n e (no_bytes fault io (inl fails)) = absurd (cc)
 lack_of a n e (no_bytes fault io (inr short)) = inr (fault, io, short.0, short.1)
 
-header_exact : {T A : Type 0} (answers : List ℕ → Result T (Error A) → Type 0) (limit : Option ℕ) (bytes : List ℕ) (new kept : Option (List ℕ)) (e : Error A)
+header_exact : {T A : Type 0} (answers : List ℕ → Result T (Error A) → Type 0) (limit : Option ℕ) (bytes : List ℕ)
+    (new kept : Option (List ℕ)) (e : Error A)
     → LackCause false (Some bytes) 8 e → Exactly answers limit bytes new kept (Err e)
 header_exact answers limit bytes new kept e cause =
     elim (lack_of (Some bytes) 8 e cause) [
@@ -102,9 +111,11 @@ header_exact answers limit bytes new kept e cause =
 over_place : (bytes head : List ℕ) (u t : TtlvType) → SameHeader bytes head → u ≡ t
     → behind_header head u ≡ behind_header bytes t
 over_place bytes head u t same one =
-    ap (λ v. behind_header head v) one ∙ ap (λ (n : ℕ). let l : Location = record { offset = Some 8; parents = []; tag = Some n; typ = Some t } in l) (sym same.tag)
+    ap (λ v. behind_header head v) one ∙ ap (λ (n : ℕ). let l : Location = record
+    { offset = Some 8; parents = []; tag = Some n; typ = Some t } in l) (sym same.tag)
 
-over_exact : {T A : Type 0} (answers : List ℕ → Result T (Error A) → Type 0) (limit : Option ℕ) (bytes : List ℕ) (new kept : Option (List ℕ)) (head : List ℕ) (e : Error A)
+over_exact : {T A : Type 0} (answers : List ℕ → Result T (Error A) → Type 0) (limit : Option ℕ) (bytes : List ℕ)
+    (new kept : Option (List ℕ)) (head : List ℕ) (e : Error A)
     → ComesOver limit (Some bytes) new head e → IsKept kept head → Exactly answers limit bytes new kept (Err e)
 over_exact answers limit bytes new kept head e comes k =
     let p = parts_of bytes head new comes.consumes in
@@ -117,13 +128,20 @@ over_exact answers limit bytes new kept head e comes k =
     record {
       in_header = λ low. absurd (omega arith);
       over_limit = λ there t is h.
-          let one : comes.over.typ ≡ t = cc in
-          (inr (ap view_of_kind comes.over.kind ∙ ap exceeds_limit (sym same.size), comes.over.place ∙ over_place bytes head comes.over.typ t same one), inr first.0);
+          let one : comes.over.typ ≡ t = cc in (
+            inr (
+              ap view_of_kind comes.over.kind ∙ ap exceeds_limit (sym same.size),
+              comes.over.place
+                  ∙ over_place bytes head comes.over.typ t same one,
+            ),
+            inr first.0,
+          );
       in_body = λ there n due low. absurd (HasSize-allowed limit bytes comes.over.typ n typ due over);
       whole = λ there n due enough. absurd (HasSize-allowed limit bytes comes.over.typ n typ due over);
     }
 
-body_exact : {T A : Type 0} (answers : List ℕ → Result T (Error A) → Type 0) (limit : Option ℕ) (bytes : List ℕ) (new kept : Option (List ℕ)) (head : List ℕ) (mid : Option (List ℕ)) (n : ℕ) (e : Error A)
+body_exact : {T A : Type 0} (answers : List ℕ → Result T (Error A) → Type 0) (limit : Option ℕ) (bytes : List ℕ)
+    (new kept : Option (List ℕ)) (head : List ℕ) (mid : Option (List ℕ)) (n : ℕ) (e : Error A)
     → Consumes (Some bytes) mid head → length head ≡ 8 → HasSize limit head (8 + n) → LackCause false mid n e
     → Exactly answers limit bytes new kept (Err e)
 body_exact answers limit bytes new kept head mid n e taken eight size cause =
@@ -139,25 +157,33 @@ body_exact answers limit bytes new kept head mid n e taken eight size cause =
             in_header = λ low. absurd (omega arith);
             over_limit = λ there t is over. absurd (HasSize-allowed limit bytes t _ is all over);
             in_body = λ there m due low. ends_early w.0 e w.1 w.2;
-            whole = λ there m due enough. let one : 8 + n ≡ m = HasSize-one limit bytes _ m all due in absurd (omega arith);
+            whole = λ there m due enough. let one : 8 + n ≡ m =
+                HasSize-one limit bytes _ m all due in absurd (omega arith);
           }
     ]
 
-stops_exact : {T A : Type 0} (answers : List ℕ → Result T (Error A) → Type 0) (limit : Option ℕ) (bytes : List ℕ) (new kept : Option (List ℕ)) (e : Error A)
+stops_exact : {T A : Type 0} (answers : List ℕ → Result T (Error A) → Type 0) (limit : Option ℕ) (bytes : List ℕ)
+    (new kept : Option (List ℕ)) (e : Error A)
     → Stops false limit (Some bytes) new kept e → Exactly answers limit bytes new kept (Err e)
-stops_exact answers limit bytes new kept e (in_header lacks) = header_exact answers limit bytes new kept e lacks.cause
-stops_exact answers limit bytes new kept e (over_limit head comes k) = over_exact answers limit bytes new kept head e comes k
-stops_exact answers limit bytes new kept e (in_body head mid n taken long size lacks) = body_exact answers limit bytes new kept head mid n e taken long size lacks.cause
+stops_exact answers limit bytes new kept e (in_header lacks) =
+    header_exact answers limit bytes new kept e lacks.cause
+stops_exact answers limit bytes new kept e (over_limit head comes k) =
+    over_exact answers limit bytes new kept head e comes k
+stops_exact answers limit bytes new kept e (in_body head mid n taken long size lacks) =
+    body_exact answers limit bytes new kept head mid n e taken long size lacks.cause
 
-ends_exact : {T A : Type 0} (answers : List ℕ → Result T (Error A) → Type 0) (limit : Option ℕ) (bytes : List ℕ) (new kept : Option (List ℕ)) (r : Result T (Error A))
+ends_exact : {T A : Type 0} (answers : List ℕ → Result T (Error A) → Type 0) (limit : Option ℕ) (bytes : List ℕ)
+    (new kept : Option (List ℕ)) (r : Result T (Error A))
     → Ends answers false limit (Some bytes) new kept r → Exactly answers limit bytes new kept r
 ends_exact answers limit bytes new kept (Ok x) gives = gives_exact answers limit bytes new kept (Ok x) gives
 ends_exact answers limit bytes new kept (Err e) (inl gives) = gives_exact answers limit bytes new kept (Err e) gives
 ends_exact answers limit bytes new kept (Err e) (inr stops) = stops_exact answers limit bytes new kept e stops
 
 -- what is answered of known bytes from a source that can't fail
-pub exact : {T A : Type 0} (answers : List ℕ → Result T (Error A) → Type 0) (can_fail : Bool) (limit : Option ℕ) (old new kept : Option (List ℕ)) (r : Result T (Error A))
+pub exact : {T A : Type 0} (answers : List ℕ → Result T (Error A) → Type 0) (can_fail : Bool) (limit : Option ℕ)
+    (old new kept : Option (List ℕ)) (r : Result T (Error A))
     → Ends answers can_fail limit old new kept r → can_fail ≡ false → (bytes : List ℕ) → old ≡ Some bytes
     → Exactly answers limit bytes new kept r
 exact answers can_fail limit old new kept r ends off bytes there =
-    ends_exact answers limit bytes new kept r (subst (λ (o : Option (List ℕ)). Ends answers false limit o new kept r) there (subst (λ (b : Bool). Ends answers b limit old new kept r) off ends))
+    ends_exact answers limit bytes new kept r (subst (λ (o : Option (List ℕ)). Ends answers false limit o new kept r)
+    there (subst (λ (b : Bool). Ends answers b limit old new kept r) off ends))

@@ -29,7 +29,8 @@ pub IsFilled-length : (a b : Option (List ℕ)) (xs ys : List ℕ) (n : ℕ) →
 IsFilled-length a b xs ys n f = sym (length-append xs f.came) ∙ sym (ap (λ (l : List ℕ). length l) f.parts) ∙ f.long
 
 -- a piece that ended too early
-pub lacks_at_end : {A : Type 0} (can_fail : Bool) (a b : Option (List ℕ)) (buf : List ℕ) (n : ℕ) (fault : IoFault) (e : Error A) → length buf ≡ n → 0 < n
+pub lacks_at_end : {A : Type 0} (can_fail : Bool) (a b : Option (List ℕ)) (buf : List ℕ) (n : ℕ) (fault : IoFault)
+    (e : Error A) → length buf ≡ n → 0 < n
     → IsIoFault fault e → error_kind fault ≡ UnexpectedEof → IsShort a (length buf) × ConsumesUpTo a b (length buf)
     → LacksBytes can_fail a b n e
 lacks_at_end can_fail a b buf n fault e long due is eof (short, upto) = record {
@@ -39,7 +40,8 @@ lacks_at_end can_fail a b buf n fault e long due is eof (short, upto) = record {
 }
 
 -- a piece at which reading failed
-pub lacks_by_fault : {A : Type 0} (can_fail : Bool) (a b : Option (List ℕ)) (buf : List ℕ) (n : ℕ) (fault : IoFault) (e : Error A) → length buf ≡ n → 0 < n
+pub lacks_by_fault : {A : Type 0} (can_fail : Bool) (a b : Option (List ℕ)) (buf : List ℕ) (n : ℕ) (fault : IoFault)
+    (e : Error A) → length buf ≡ n → 0 < n
     → IsIoFault fault e → IsTrue can_fail × ConsumesUpTo a b (length buf) → LacksBytes can_fail a b n e
 lacks_by_fault can_fail a b buf n fault e long due is (fails, upto) = record {
   due = due;
@@ -54,12 +56,18 @@ lacks_cause_after can_fail a b bs m n e more (no_memory want) = no_memory want
 lacks_cause_after can_fail a b bs m n e more (no_bytes fault is lacks) = no_bytes fault is (more fault lacks)
 
 -- bytes that did not come behind those that came
-pub lacks_after : {A : Type 0} (can_fail : Bool) (a b c : Option (List ℕ)) (xs ys : List ℕ) (k m n : ℕ) (e : Error A) → IsFilled a b xs ys k
+pub lacks_after : {A : Type 0} (can_fail : Bool) (a b c : Option (List ℕ)) (xs ys : List ℕ) (k m n : ℕ) (e : Error A)
+    → IsFilled a b xs ys k
     → LacksBytes can_fail b c m e → k + m ≤ length xs + n → LacksBytes can_fail a c n e
 lacks_after can_fail a b c xs ys k m n e f lacks low =
     let long = IsFilled-length a b xs ys k f in
     let within : length f.came + m ≤ n = omega arith in
-    let more : (fault : _) → Lacks can_fail b m fault → Lacks can_fail a n fault = λ fault l. elim l [ inl fails ↦ inl fails | inr h ↦ inr (h.0, IsShort-after a b f.came m n f.consumes h.1 within) ] in
+    let more : (fault : _) → Lacks can_fail b m fault → Lacks can_fail a n fault =
+    λ fault l. elim l [
+      | inl fails ↦ inl fails
+      | inr h ↦ inr
+          (h.0, IsShort-after a b f.came m n f.consumes h.1 within)
+    ] in
     record {
       due = omega (arith, lacks.due);
       within = ConsumesUpTo-after a b c f.came m n f.consumes lacks.within within;

@@ -19,7 +19,8 @@ read_front head rest k long low = get_or-append head rest 0 k (omega arith)
 
 pub same_header : (head rest : List ℕ) → 8 ≤ length head → SameHeader (head ++ rest) head
 same_header head rest long =
-    let at : (k : ℕ) → k < 8 → get_or (head ++ rest) k 0 ≡ get_or head k 0 = λ k low. read_front head rest k long low in
+    let at : (k : ℕ) → k < 8 → get_or (head ++ rest) k 0 ≡ get_or head k 0 =
+    λ k low. read_front head rest k long low in
     let e0 = at 0 (omega arith) in
     let e1 = at 1 (omega arith) in
     let e2 = at 2 (omega arith) in
@@ -37,7 +38,8 @@ same_header head rest long =
 pub HasSize-along : (limit : Option ℕ) (xs ys : List ℕ) (n : ℕ) → SameHeader xs ys → HasSize limit xs n
     → HasSize limit ys n
 HasSize-along limit xs ys n same h =
-    subst (λ (c : ℕ). IsTakenUpTo (type_of c) limit (message_size ys) n) same.code (subst (λ (s : ℕ). IsTakenUpTo (type_of (code_at xs 0)) limit s n) same.size h)
+    subst (λ (c : ℕ). IsTakenUpTo (type_of c) limit (message_size ys) n) same.code
+    (subst (λ (s : ℕ). IsTakenUpTo (type_of (code_at xs 0)) limit s n) same.size h)
 
 pub SameHeader-sym : (xs ys : List ℕ) → SameHeader xs ys → SameHeader ys xs
 SameHeader-sym xs ys same = record { tag = sym same.tag; code = sym same.code; size = sym same.size }
@@ -80,8 +82,10 @@ pub comes_whole : (limit : Option ℕ) (a b c : Option (List ℕ)) (head message
 comes_whole limit a b c head message n taken long size f = record {
   consumes = subst (Consumes a c) (sym f.parts) (Consumes-trans a b c _ _ taken f.consumes);
   size =
-      let same : SameHeader message head = subst (λ (l : List ℕ). SameHeader l head) (sym f.parts) (same_header head f.came (omega arith)) in
-      subst (HasSize limit message) (sym f.long) (HasSize-along limit head message n (SameHeader-sym message head same) size);
+      let same : SameHeader message head =
+      subst (λ (l : List ℕ). SameHeader l head) (sym f.parts) (same_header head f.came (omega arith)) in
+      subst (HasSize limit message) (sym f.long) (HasSize-along limit head message n
+      (SameHeader-sym message head same) size);
 }
 
 -- what an empty buffer was filled with

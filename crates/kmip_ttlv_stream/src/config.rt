@@ -84,7 +84,8 @@ impl<A: Allocator> Config<A> {
 impl<A: Allocator + Copy> Config<A> {
     /// The same limit, and an empty buffer where there is one. Takes no memory.
     pub fn clone(&self) -> Config<A>
-        ensures { settings_of result ≡ record { limit = (settings_of self.now).limit; kept = option_map (λ _. []) (settings_of self.now).kept } }
+        ensures { settings_of result
+            ≡ record { limit = (settings_of self.now).limit; kept = option_map (λ _. []) (settings_of self.now).kept } }
     {
         Config {
             limit: self.limit,

@@ -66,7 +66,8 @@ fn read_message<T: Deserialize<A>, S: Source, A: Allocator + Copy>(
     limit: Option<u32>,
     bytes: &mut Vec<u8, A>,
 ) -> Result<T, A>
-    ensures { Ends (Answered T.form T.is_value) S.can_fail limit (S.left reader.old) (S.left reader.new) (Some bytes.new.items) result }
+    ensures { Ends (Answered T.form T.is_value) S.can_fail limit (S.left reader.old) (S.left reader.new)
+        (Some bytes.new.items) result }
 {
     take_message(reader, limit, bytes)?;
     from_slice(alloc, bytes.as_slice())

@@ -64,7 +64,8 @@ fn take_up_to<S: Source, A: Allocator>(
 ) -> Result<(), A>
     requires { vec_len bytes.old ≤ end }
     ensures ok { OnOk result (IsFilled (S.left reader.old) (S.left reader.new) bytes.old.items bytes.new.items end) }
-    ensures err { IfErr result (LacksBytes S.can_fail (S.left reader.old) (S.left reader.new) (end - vec_len bytes.old)) }
+    ensures err { IfErr result (LacksBytes S.can_fail (S.left reader.old) (S.left reader.new)
+        (end - vec_len bytes.old)) }
 {
     while bytes.len() < end {
         let more = (end - bytes.len()).min(PIECE);
@@ -81,7 +82,8 @@ fn take_piece<S: Source, A: Allocator>(
 ) -> Result<(), A>
     requires some { 0 < more }
     requires fits { vec_len bytes.old + more < 2 ^ 64 }
-    ensures ok { OnOk result (IsFilled (S.left reader.old) (S.left reader.new) bytes.old.items bytes.new.items (vec_len bytes.old + more)) }
+    ensures ok { OnOk result (IsFilled (S.left reader.old) (S.left reader.new) bytes.old.items bytes.new.items
+        (vec_len bytes.old + more)) }
     ensures err { IfErr result (LacksBytes S.can_fail (S.left reader.old) (S.left reader.new) more) }
 {
     let at = bytes.len();

@@ -12,4 +12,10 @@ pub returns : goal.returns
 returns g c =
     let answer = c.from_slice.ensures in
     ends_with _ _ _ _ _ _ _ _ c.in_ok-take_message.ensures.ok c.as_slice.ensures.value
-    record { found = answer.found; refused = answer.refused; root = answer.root; facts = answer.facts; whole = answer.whole }
+    record {
+      found = answer.found;
+      refused = answer.refused;
+      root = answer.root;
+      facts = answer.facts;
+      whole = answer.whole;
+    }
