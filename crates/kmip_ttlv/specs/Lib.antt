@@ -31,6 +31,8 @@ pub use Rattle.kmip_ttlv_de.specs.Reading
 pub use Rattle.kmip_ttlv_de.specs.Places as ReadPlaces
 pub use Rattle.kmip_ttlv_de.specs.Facts
 pub use Rattle.kmip_ttlv_de.specs.Answer as ReadAnswers
+pub use Rattle.kmip_ttlv_stream.specs.Settings
+pub use Rattle.kmip_ttlv_stream.specs.Messages as StreamMessages
 pub use Rattle.kmip_ttlv_util.specs.Outlines
 pub use Rattle.kmip_ttlv_util.specs.Traces
 pub use Rattle.kmip_ttlv_util.specs.Diagnostics

@@ -22,8 +22,9 @@ fn is_read_or_failed(alloc: Global, kind: ErrorKind, count: usize) -> Result<boo
     let mut config = Config::new(alloc).with_read_buf();
     let found = from_reader::<Single, _, _>(alloc, &mut reader, &mut config);
     if count < stream.len() && kind != ErrorKind::Interrupted {
-        return Ok(is_wanted(&found, Wanted::Fault(kind))
-            && reader.bytes == &stream.as_slice()[count..]);
+        return Ok(
+            is_wanted(&found, Wanted::Fault(kind)) && reader.bytes == &stream.as_slice()[count..],
+        );
     }
     Ok(is_wanted(&found, Wanted::Number(3)) && reader.bytes.is_empty())
 }
@@ -32,7 +33,10 @@ fn is_read_or_failed(alloc: Global, kind: ErrorKind, count: usize) -> Result<boo
 fn each_read_fails(rt: HostRuntime) -> Result<(), Fail> {
     for kind in [ErrorKind::BrokenPipe, ErrorKind::Interrupted] {
         for count in 0..=24usize {
-            assert!(rt; is_read_or_failed(rt.alloc(), kind, count)?, "{kind:?} at {count}");
+            assert!(rt;
+                is_read_or_failed(rt.alloc(), kind, count)?,
+                "{kind:?} at {count}"
+            );
         }
     }
     Ok(())

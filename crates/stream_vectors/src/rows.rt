@@ -107,10 +107,12 @@ fn is_read_slowly(alloc: Global, row: &Row) -> Result<bool, Fail> {
     let mut reader = slow(stream.as_slice());
     let found = from_reader::<Single, _, _>(alloc, &mut reader, &mut config);
     let kept = hex::decode(alloc, row.kept.unwrap_or(""))?;
-    Ok(is_wanted(&found, row.wanted)
-        && reader.bytes == left.as_slice()
-        && (row.kept.is_none() || is_kept(&config, kept.as_slice()))
-        && is_cloned(&config, row))
+    Ok(
+        is_wanted(&found, row.wanted)
+            && reader.bytes == left.as_slice()
+            && (row.kept.is_none() || is_kept(&config, kept.as_slice()))
+            && is_cloned(&config, row),
+    )
 }
 
 // Whether the row's answer comes from memory, by settings without a buffer.
@@ -138,6 +140,9 @@ fn rows_are_read(rt: HostRuntime) -> Result<(), Fail> {
 fn settings_are_shown_without_bytes(rt: HostRuntime) -> Result<(), Fail> {
     let config = Config::new(rt.alloc()).with_max_bytes(24).with_read_buf();
     let text = format!(in rt.alloc(); "{config:?}")?;
-    assert_eq!(rt; text.as_str(), "Config { max_bytes: Some(24), has_buf: true }");
+    assert_eq!(rt;
+        text.as_str(),
+        "Config { max_bytes: Some(24), has_buf: true }"
+    );
     Ok(())
 }

@@ -117,8 +117,7 @@ fn is_refusal<A: Allocator>(error: &Error<A>, wanted: Wanted) -> bool {
                 && is_at(place, 8, 0xAAAAAA, Some(TtlvType::Structure), 0)
         }
         ErrorKind::MalformedTtlv(MalformedTtlvError::InvalidType(code)) => {
-            matches!(wanted, Wanted::NoType(c) if c == *code)
-                && is_at(place, 3, 0xAAAAAA, None, 0)
+            matches!(wanted, Wanted::NoType(c) if c == *code) && is_at(place, 3, 0xAAAAAA, None, 0)
         }
         ErrorKind::SerdeError(SerdeError::UnexpectedTag { expected, actual }) => {
             matches!(wanted, Wanted::OtherTag)
