@@ -33,6 +33,8 @@ pub use Rattle.kmip_ttlv_de.specs.Parts
 pub use Rattle.kmip_ttlv_de.specs.Facts
 pub use Rattle.kmip_ttlv_de.specs.RootFacts
 pub use Rattle.kmip_ttlv_de.specs.Answer as ReadAnswers
+pub use Rattle.kmip_ttlv_stream.specs.Settings
+pub use Rattle.kmip_ttlv_stream.specs.Messages as StreamMessages
 pub use Rattle.kmip_ttlv_util.specs.Outlines
 pub use Rattle.kmip_ttlv_util.specs.Traces
 pub use Rattle.kmip_ttlv_util.specs.Diagnostics

@@ -8,11 +8,13 @@
 //! which form a shape is, stand in proofs/Views and proofs/Shapes of `kmip_ttlv_base`.
 #![tactic(auto)]
 
+pub mod de;
+
 pub use kmip_ttlv_base::{error, shape, types};
-pub use kmip_ttlv_de as de;
 pub use kmip_ttlv_de::from_slice;
 pub use kmip_ttlv_laws as laws;
 pub use kmip_ttlv_ser as ser;
 pub use kmip_ttlv_ser::{to_vec, to_writer};
+pub use kmip_ttlv_stream::{Config, from_reader};
 pub use kmip_ttlv_util as util;
 pub use kmip_ttlv_util::PrettyPrinter;

@@ -1,0 +1,189 @@
+-- Where the bytes are known and reading them can't fail, what comes is determined.
+use Rattle.std.proofs.Common.{◌≡◌, ℕ, ◌+◌, ◌<◌, ◌≤◌, Bool, false, List, [], ◌++◌, ◌⊎◌, inl, inr, Option, None, Some, Result, Ok, Err, sym, ap, ◌∙◌, subst, length, take, drop, refl, arith, length-append, drop_at, take_all}
+use Rattle.std.proofs.lemmas.List.{take-append-le}
+use Rattle.std.specs.IoError.{error_kind}
+use Rattle.std.specs.declared.io.Error.{Error as IoFault}
+use Rattle.std.specs.declared.io.ErrorKind.TheVariants.{UnexpectedEof}
+use Rattle.std.specs.Io.KnownBytes.{Consumes}
+use Rattle.kmip_ttlv_types.specs.declared.typ.TtlvType.{TtlvType}
+use Rattle.kmip_ttlv_types.specs.ItemTypes.{type_of}
+use Rattle.kmip_ttlv_types.specs.Places.{code_at}
+use Rattle.kmip_ttlv_types.specs.Streams.{IsShort}
+use Rattle.kmip_ttlv_base.specs.declared.error.Error.{Error}
+use Rattle.kmip_ttlv_base.specs.Errors.{Location, unknown, io_error, exceeds_limit, kind_of, view_of_kind, location_of, view_of_location, IsMemory}
+use Rattle.kmip_ttlv_stream.specs.Messages.{message_size, Forbids, HasSize, behind_header, IsIoFault, LackCause, no_memory, no_bytes, IsKept, ComesOver, Stops, in_header, over_limit, in_body, Gives, Ends, OrMemory, TakesFirst, Exactly}
+use Rattle.kmip_ttlv_stream.proofs.Fronts.{SameHeader, same_header, SameHeader-sym, HasSize-along, HasSize-least, HasSize-one, HasSize-allowed}
+
+-- what was taken, and what is left
+record Parts (bytes taken : List ℕ) (new : Option (List ℕ)) : Type 0 where
+  left : List ℕ
+  is_left : new ≡ Some left
+  parts : bytes ≡ taken ++ left
+
+parts_of : (bytes taken : List ℕ) (new : Option (List ℕ)) → Consumes (Some bytes) new taken → Parts bytes taken new
+parts_of bytes taken None h = absurd h
+parts_of bytes taken (Some left) h = record { left = left; is_left = refl; parts = h }
+
+parts_length : (bytes taken : List ℕ) (new : Option (List ℕ)) (p : Parts bytes taken new)
+    → length bytes ≡ length taken + length p.left
+parts_length bytes taken new p = ap (λ (l : List ℕ). length l) p.parts ∙ length-append taken p.left
+
+parts_header : (bytes taken : List ℕ) (new : Option (List ℕ)) → Parts bytes taken new → 8 ≤ length taken
+    → SameHeader bytes taken
+parts_header bytes taken new p long =
+    subst (λ (l : List ℕ). SameHeader l taken) (sym p.parts) (same_header taken p.left long)
+
+takes_first : (bytes taken : List ℕ) (n : ℕ) (new kept : Option (List ℕ)) → Parts bytes taken new → length taken ≡ n
+    → IsKept kept taken → TakesFirst bytes n new kept × (take n bytes ≡ taken)
+takes_first bytes taken n new kept p long k =
+    let front : take n bytes ≡ taken =
+    ap (take n) p.parts ∙ take-append-le n taken p.left (omega arith) ∙ take_all n taken (omega arith) in (
+      record {
+        left = p.is_left ∙ ap Some (sym (ap (drop n) p.parts ∙ drop_at taken p.left n long));
+        is_kept = subst (IsKept kept) (sym front) k;
+      },
+      front,
+    )
+
+or_not : {T A : Type 0} (r : Result T (Error A)) (P : Type 0) → P → OrMemory r P
+or_not (Ok x) P h = h
+or_not (Err e) P h = inr h
+
+gives_exact : {T A : Type 0} (answers : List ℕ → Result T (Error A) → Type 0) (limit : Option ℕ) (bytes : List ℕ)
+    (new kept : Option (List ℕ)) (r : Result T (Error A))
+    → Gives answers limit (Some bytes) new kept r → Exactly answers limit bytes new kept r
+gives_exact answers limit bytes new kept r g =
+    let p = parts_of bytes g.message new g.comes.consumes in
+    let long : length bytes ≡ length g.message + length p.left = parts_length bytes g.message new p in
+    let least : 8 ≤ length g.message = HasSize-least limit g.message (length g.message) g.comes.size in
+    let size : HasSize limit bytes (length g.message) =
+    HasSize-along limit g.message bytes _ (SameHeader-sym bytes g.message
+    (parts_header bytes g.message new p least)) g.comes.size in
+    record {
+      in_header = λ low. absurd (omega arith);
+      over_limit = λ there t is over. absurd (HasSize-allowed limit bytes t _ is size over);
+      in_body = λ there n due low. let same : length g.message ≡ n =
+          HasSize-one limit bytes _ n size due in absurd (omega arith);
+      whole = λ there n due enough.
+          let same : length g.message ≡ n = HasSize-one limit bytes _ n size due in
+          let first = takes_first bytes g.message n new kept p same g.is_kept in
+          or_not r _ (first.0, subst (λ (l : List ℕ). answers l r) (sym first.1) g.answer);
+    }
+
+memory_exact : {T A : Type 0} (answers : List ℕ → Result T (Error A) → Type 0) (limit : Option ℕ) (bytes : List ℕ)
+    (new kept : Option (List ℕ)) (e : Error A)
+    → IsMemory e → Exactly answers limit bytes new kept (Err e)
+memory_exact answers limit bytes new kept e want = record {
+  in_header = λ low. inl want;
+  over_limit = λ there t is over. (inl want, inl want);
+  in_body = λ there n due low. inl want;
+  whole = λ there n due enough. inl want;
+}
+
+-- an early end as a fault
+ends_early : {A : Type 0} (fault : IoFault) (e : Error A) → IsIoFault fault e → error_kind fault ≡ UnexpectedEof
+    → IsMemory e ⊎ ((view_of_kind (kind_of e) ≡ io_error UnexpectedEof)
+    × (view_of_location (location_of e) ≡ unknown))
+ends_early fault e io eof = inr (ap view_of_kind io.kind ∙ ap io_error eof, io.place)
+
+lack_of : {A : Type 0} (a : Option (List ℕ)) (n : ℕ) (e : Error A) → LackCause false a n e
+    → IsMemory e ⊎ ((fault : IoFault) × IsIoFault fault e × (error_kind fault ≡ UnexpectedEof) × IsShort a n)
+lack_of a n e (no_memory want) = inl want
+lack_of a n e (no_bytes fault io (inl fails)) = absurd (cc)
+lack_of a n e (no_bytes fault io (inr short)) = inr (fault, io, short.0, short.1)
+
+header_exact : {T A : Type 0} (answers : List ℕ → Result T (Error A) → Type 0) (limit : Option ℕ) (bytes : List ℕ)
+    (new kept : Option (List ℕ)) (e : Error A)
+    → LackCause false (Some bytes) 8 e → Exactly answers limit bytes new kept (Err e)
+header_exact answers limit bytes new kept e cause =
+    elim (lack_of (Some bytes) 8 e cause) [
+      | inl want ↦ memory_exact answers limit bytes new kept e want
+      | inr w ↦
+          let short : length bytes < 8 = w.3 in
+          record {
+            in_header = λ low. ends_early w.0 e w.1 w.2;
+            over_limit = λ there t is over. absurd (omega arith);
+            in_body = λ there n due low. absurd (omega arith);
+            whole = λ there n due enough. absurd (omega arith);
+          }
+    ]
+
+over_place : (bytes head : List ℕ) (u t : TtlvType) → SameHeader bytes head → u ≡ t
+    → behind_header head u ≡ behind_header bytes t
+over_place bytes head u t same one =
+    ap (λ v. behind_header head v) one ∙ ap (λ (n : ℕ). let l : Location = record
+    { offset = Some 8; parents = []; tag = Some n; typ = Some t } in l) (sym same.tag)
+
+over_exact : {T A : Type 0} (answers : List ℕ → Result T (Error A) → Type 0) (limit : Option ℕ) (bytes : List ℕ)
+    (new kept : Option (List ℕ)) (head : List ℕ) (e : Error A)
+    → ComesOver limit (Some bytes) new head e → IsKept kept head → Exactly answers limit bytes new kept (Err e)
+over_exact answers limit bytes new kept head e comes k =
+    let p = parts_of bytes head new comes.consumes in
+    let eight : length head ≡ 8 = comes.length_is in
+    let long : length bytes ≡ length head + length p.left = parts_length bytes head new p in
+    let same = parts_header bytes head new p (omega arith) in
+    let typ : type_of (code_at bytes 0) ≡ Some comes.over.typ = ap type_of same.code ∙ comes.over.is_typ in
+    let over : Forbids limit (message_size bytes) = subst (Forbids limit) (sym same.size) comes.over.over in
+    let first = takes_first bytes head 8 new kept p eight k in
+    record {
+      in_header = λ low. absurd (omega arith);
+      over_limit = λ there t is h.
+          let one : comes.over.typ ≡ t = cc in (
+            inr (
+              ap view_of_kind comes.over.kind ∙ ap exceeds_limit (sym same.size),
+              comes.over.place
+                  ∙ over_place bytes head comes.over.typ t same one,
+            ),
+            inr first.0,
+          );
+      in_body = λ there n due low. absurd (HasSize-allowed limit bytes comes.over.typ n typ due over);
+      whole = λ there n due enough. absurd (HasSize-allowed limit bytes comes.over.typ n typ due over);
+    }
+
+body_exact : {T A : Type 0} (answers : List ℕ → Result T (Error A) → Type 0) (limit : Option ℕ) (bytes : List ℕ)
+    (new kept : Option (List ℕ)) (head : List ℕ) (mid : Option (List ℕ)) (n : ℕ) (e : Error A)
+    → Consumes (Some bytes) mid head → length head ≡ 8 → HasSize limit head (8 + n) → LackCause false mid n e
+    → Exactly answers limit bytes new kept (Err e)
+body_exact answers limit bytes new kept head mid n e taken eight size cause =
+    let p = parts_of bytes head mid taken in
+    let long : length bytes ≡ length head + length p.left = parts_length bytes head mid p in
+    let same = parts_header bytes head mid p (omega arith) in
+    let all : HasSize limit bytes (8 + n) = HasSize-along limit head bytes _ (SameHeader-sym bytes head same) size in
+    elim (lack_of mid n e cause) [
+      | inl want ↦ memory_exact answers limit bytes new kept e want
+      | inr w ↦
+          let short : length p.left < n = subst (λ (o : Option (List ℕ)). IsShort o n) p.is_left w.3 in
+          record {
+            in_header = λ low. absurd (omega arith);
+            over_limit = λ there t is over. absurd (HasSize-allowed limit bytes t _ is all over);
+            in_body = λ there m due low. ends_early w.0 e w.1 w.2;
+            whole = λ there m due enough. let one : 8 + n ≡ m =
+                HasSize-one limit bytes _ m all due in absurd (omega arith);
+          }
+    ]
+
+stops_exact : {T A : Type 0} (answers : List ℕ → Result T (Error A) → Type 0) (limit : Option ℕ) (bytes : List ℕ)
+    (new kept : Option (List ℕ)) (e : Error A)
+    → Stops false limit (Some bytes) new kept e → Exactly answers limit bytes new kept (Err e)
+stops_exact answers limit bytes new kept e (in_header lacks) =
+    header_exact answers limit bytes new kept e lacks.cause
+stops_exact answers limit bytes new kept e (over_limit head comes k) =
+    over_exact answers limit bytes new kept head e comes k
+stops_exact answers limit bytes new kept e (in_body head mid n taken long size lacks) =
+    body_exact answers limit bytes new kept head mid n e taken long size lacks.cause
+
+ends_exact : {T A : Type 0} (answers : List ℕ → Result T (Error A) → Type 0) (limit : Option ℕ) (bytes : List ℕ)
+    (new kept : Option (List ℕ)) (r : Result T (Error A))
+    → Ends answers false limit (Some bytes) new kept r → Exactly answers limit bytes new kept r
+ends_exact answers limit bytes new kept (Ok x) gives = gives_exact answers limit bytes new kept (Ok x) gives
+ends_exact answers limit bytes new kept (Err e) (inl gives) = gives_exact answers limit bytes new kept (Err e) gives
+ends_exact answers limit bytes new kept (Err e) (inr stops) = stops_exact answers limit bytes new kept e stops
+
+-- what is answered of known bytes from a source that can't fail
+pub exact : {T A : Type 0} (answers : List ℕ → Result T (Error A) → Type 0) (can_fail : Bool) (limit : Option ℕ)
+    (old new kept : Option (List ℕ)) (r : Result T (Error A))
+    → Ends answers can_fail limit old new kept r → can_fail ≡ false → (bytes : List ℕ) → old ≡ Some bytes
+    → Exactly answers limit bytes new kept r
+exact answers can_fail limit old new kept r ends off bytes there =
+    ends_exact answers limit bytes new kept r (subst (λ (o : Option (List ℕ)). Ends answers false limit o new kept r)
+    there (subst (λ (b : Bool). Ends answers b limit old new kept r) off ends))

@@ -1,0 +1,94 @@
+-- A header, and the message that begins with it.
+use Rattle.std.proofs.Common.{◌≡◌, ℕ, ◌+◌, ◌<◌, ◌≤◌, List, [], ◌++◌, length, get_or, Option, None, Some, sym, ap, ◌∙◌, subst, arith}
+use Rattle.std.proofs.Math.ListN.{get_or-append}
+use Rattle.std.specs.Io.KnownBytes.{Consumes}
+use Rattle.std.proofs.KnownBytes.{Consumes-trans}
+use Rattle.kmip_ttlv_types.specs.declared.typ.TtlvType.{TtlvType}
+use Rattle.kmip_ttlv_types.specs.ItemTypes.{type_of}
+use Rattle.kmip_ttlv_types.specs.Places.{tag_at, code_at, length_at}
+use Rattle.kmip_ttlv_stream.specs.Messages.{message_size, Allows, Forbids, IsTakenUpTo, HasSize, IsFilled, Comes}
+
+-- the fields of the header are those of the whole
+pub record SameHeader (xs ys : List ℕ) : Type 0 where
+  pub tag : tag_at xs 0 ≡ tag_at ys 0
+  pub code : code_at xs 0 ≡ code_at ys 0
+  pub size : message_size xs ≡ message_size ys
+
+read_front : (head rest : List ℕ) (k : ℕ) → 8 ≤ length head → k < 8 → get_or (head ++ rest) k 0 ≡ get_or head k 0
+read_front head rest k long low = get_or-append head rest 0 k (omega arith)
+
+pub same_header : (head rest : List ℕ) → 8 ≤ length head → SameHeader (head ++ rest) head
+same_header head rest long =
+    let at : (k : ℕ) → k < 8 → get_or (head ++ rest) k 0 ≡ get_or head k 0 =
+    λ k low. read_front head rest k long low in
+    let e0 = at 0 (omega arith) in
+    let e1 = at 1 (omega arith) in
+    let e2 = at 2 (omega arith) in
+    let e4 = at 4 (omega arith) in
+    let e5 = at 5 (omega arith) in
+    let e6 = at 6 (omega arith) in
+    let e7 = at 7 (omega arith) in
+    record {
+      tag = cc;
+      code = at 3 (omega arith);
+      size = cc;
+    }
+
+-- what is taken is as long for the whole as for its header
+pub HasSize-along : (limit : Option ℕ) (xs ys : List ℕ) (n : ℕ) → SameHeader xs ys → HasSize limit xs n
+    → HasSize limit ys n
+HasSize-along limit xs ys n same h =
+    subst (λ (c : ℕ). IsTakenUpTo (type_of c) limit (message_size ys) n) same.code
+    (subst (λ (s : ℕ). IsTakenUpTo (type_of (code_at xs 0)) limit s n) same.size h)
+
+pub SameHeader-sym : (xs ys : List ℕ) → SameHeader xs ys → SameHeader ys xs
+SameHeader-sym xs ys same = record { tag = sym same.tag; code = sym same.code; size = sym same.size }
+
+taken_least : (o : Option TtlvType) (limit : Option ℕ) (k n : ℕ) → IsTakenUpTo o limit (8 + k) n → 8 ≤ n
+taken_least None limit k n h = omega (arith, h)
+taken_least (Some t) limit k n h = omega (arith, h.1)
+
+-- at least the header is taken
+pub HasSize-least : (limit : Option ℕ) (xs : List ℕ) (n : ℕ) → HasSize limit xs n → 8 ≤ n
+HasSize-least limit xs n h = taken_least (type_of (code_at xs 0)) limit (length_at xs 0) n h
+
+taken_one : (o : Option TtlvType) (limit : Option ℕ) (size m n : ℕ) → IsTakenUpTo o limit size m
+    → IsTakenUpTo o limit size n → m ≡ n
+taken_one None limit size m n h k = h ∙ sym k
+taken_one (Some t) limit size m n h k = h.1 ∙ sym k.1
+
+-- one length is taken
+pub HasSize-one : (limit : Option ℕ) (xs : List ℕ) (m n : ℕ) → HasSize limit xs m → HasSize limit xs n → m ≡ n
+HasSize-one limit xs m n h k = taken_one (type_of (code_at xs 0)) limit (message_size xs) m n h k
+
+allowed_forbidden : (limit : Option ℕ) (size : ℕ) → Allows limit size → Forbids limit size → ⊥
+allowed_forbidden None size a f = f
+allowed_forbidden (Some most) size a f = omega (arith, a, f)
+
+taken_allowed : (o : Option TtlvType) (t : TtlvType) (limit : Option ℕ) (size n : ℕ) → o ≡ Some t
+    → IsTakenUpTo o limit size n → Forbids limit size → ⊥
+taken_allowed None t limit size n is h f = cc
+taken_allowed (Some u) t limit size n is h f = allowed_forbidden limit size h.0 f
+
+-- what is taken of a type's item is within the limit
+pub HasSize-allowed : (limit : Option ℕ) (xs : List ℕ) (t : TtlvType) (n : ℕ) → type_of (code_at xs 0) ≡ Some t
+    → HasSize limit xs n → Forbids limit (message_size xs) → ⊥
+HasSize-allowed limit xs t n is h f = taken_allowed (type_of (code_at xs 0)) t limit (message_size xs) n is h f
+
+-- a header, and behind it the body that it states
+pub comes_whole : (limit : Option ℕ) (a b c : Option (List ℕ)) (head message : List ℕ) (n : ℕ) → Consumes a b head
+    → length head ≡ 8 → HasSize limit head n
+    → IsFilled b c head message n → Comes limit a c message
+comes_whole limit a b c head message n taken long size f = record {
+  consumes = subst (Consumes a c) (sym f.parts) (Consumes-trans a b c _ _ taken f.consumes);
+  size =
+      let same : SameHeader message head =
+      subst (λ (l : List ℕ). SameHeader l head) (sym f.parts) (same_header head f.came (omega arith)) in
+      subst (HasSize limit message) (sym f.long) (HasSize-along limit head message n
+      (SameHeader-sym message head same) size);
+}
+
+-- what an empty buffer was filled with
+pub header_came : (a b : Option (List ℕ)) (had head : List ℕ) (n : ℕ) → had ≡ [] → IsFilled a b had head n
+    → Consumes a b head
+header_came a b had head n none f = subst (Consumes a b) (sym (f.parts ∙ ap (λ l. l ++ f.came) none)) f.consumes

@@ -1,0 +1,5 @@
+pub mod Filling
+pub mod Fronts
+pub mod BySize
+pub mod Exact
+pub mod Stopping

@@ -1,0 +1,104 @@
+-- Why there is no message, and what is answered of one.
+use Rattle.std.proofs.Common.{◌≡◌, ℕ, ◌+◌, ◌-◌, ◌≤◌, Bool, true, false, List, [], Option, None, Some, Result, Ok, Err, sym, subst, arith, refl, inl, inr}
+use Rattle.std.specs.Prelude.{if◌then◌else◌}
+use Rattle.kmip_ttlv_base.specs.declared.error.Error.{Error}
+use Rattle.kmip_ttlv_stream.specs.Messages.{HasSize, IsOver, LacksBytes, IsFilled, Comes, Stops, in_header, over_limit, in_body, Gives, Ends}
+use Rattle.kmip_ttlv_stream.proofs.Fronts.{HasSize-least, header_came, comes_whole}
+
+-- the header did not come
+pub stops_in_header : {A : Type 0} (can_fail : Bool) (limit : Option ℕ) (old new kept : Option (List ℕ)) (n : ℕ)
+    (e : Error A) → n ≡ 8 → LacksBytes can_fail old new n e
+    → Stops can_fail limit old new kept e
+stops_in_header can_fail limit old new kept n e long lacks =
+    in_header (subst (λ (k : ℕ). LacksBytes can_fail old new k e) long lacks)
+
+-- the message is larger than the limit
+pub stops_over : {A : Type 0} (can_fail : Bool) (limit : Option ℕ) (old new : Option (List ℕ))
+    (had head seen : List ℕ) (e : Error A) → had ≡ [] → IsFilled old new had head 8
+    → seen ≡ head → IsOver limit seen e → Stops can_fail limit old new (Some head) e
+stops_over can_fail limit old new had head seen e none f same over =
+    over_limit head record {
+      consumes = header_came old new had head 8 none f;
+      length_is = f.long;
+      over = subst
+          (λ (l : List ℕ). IsOver limit l e) same over;
+    } refl
+
+-- the message came
+pub message_comes : (limit : Option ℕ) (old mid new : Option (List ℕ)) (had head seen message : List ℕ) (n : ℕ)
+    → had ≡ [] → IsFilled old mid had head 8 → seen ≡ head
+    → HasSize limit seen n → IsFilled mid new head message n → Comes limit old new message
+message_comes limit old mid new had head seen message n none f same size more =
+    comes_whole limit old mid new head message n (header_came old mid had head 8 none f) f.long
+    (subst (λ (l : List ℕ). HasSize limit l n) same size) more
+
+-- the body did not come
+pub stops_in_body : {A : Type 0} (can_fail : Bool) (limit : Option ℕ) (old mid new kept : Option (List ℕ))
+    (had head seen : List ℕ) (n k : ℕ) (e : Error A) → had ≡ [] → IsFilled old mid had head 8
+    → seen ≡ head → HasSize limit seen n → k ≡ 8 → LacksBytes can_fail mid new (n - k) e
+    → Stops can_fail limit old new kept e
+stops_in_body can_fail limit old mid new kept had head seen n k e none f same size eight lacks =
+    let least : 8 ≤ n = HasSize-least limit seen n size in
+    let long : n ≡ 8 + (n - k) = omega arith in
+    in_body head mid (n - k) (header_came old mid had head 8 none f) f.long
+    (subst (HasSize limit head) long (subst (λ (l : List ℕ). HasSize limit l n) same size)) lacks
+
+-- what is answered of a message that came
+pub ends_with : {T A : Type 0} (answers : List ℕ → Result T (Error A) → Type 0) (can_fail : Bool) (limit : Option ℕ)
+    (old new : Option (List ℕ)) (message seen : List ℕ) (r : Result T (Error A))
+    → Comes limit old new message → seen ≡ message → answers seen r
+    → Ends answers can_fail limit old new (Some message) r
+ends_with answers can_fail limit old new message seen (Ok x) comes same answer =
+    record {
+      message = message;
+      comes = comes;
+      is_kept = refl;
+      answer = subst (λ (l : List ℕ). answers l (Ok x)) same
+          answer;
+    }
+ends_with answers can_fail limit old new message seen (Err e) comes same answer =
+    inl record {
+      message = message;
+      comes = comes;
+      is_kept = refl;
+      answer = subst (λ (l : List ℕ). answers l (Err e))
+          same answer;
+    }
+
+-- the buffer that is kept
+pub ends_kept : {T A : Type 0} (answers : List ℕ → Result T (Error A) → Type 0) (can_fail : Bool) (limit : Option ℕ)
+    (old new : Option (List ℕ)) (bytes : List ℕ) (keeps : Bool) (r : Result T (Error A))
+    → keeps ≡ true → Ends answers can_fail limit old new (Some bytes) r
+    → Ends answers can_fail limit old new (if keeps then Some bytes else None) r
+ends_kept answers can_fail limit old new bytes keeps r is ends =
+    subst (λ (b : Bool). Ends answers can_fail limit old new (if b then Some bytes else None) r) (sym is) ends
+
+not_kept_stops : {A : Type 0} (can_fail : Bool) (limit : Option ℕ) (old new kept : Option (List ℕ)) (e : Error A)
+    → Stops can_fail limit old new kept e → Stops can_fail limit old new None e
+not_kept_stops can_fail limit old new kept e (in_header lacks) = in_header lacks
+not_kept_stops can_fail limit old new kept e (over_limit head comes k) = over_limit head comes tt
+not_kept_stops can_fail limit old new kept e (in_body head mid n taken long size lacks) =
+    in_body head mid n taken long size lacks
+
+not_kept_gives : {T A : Type 0} (answers : List ℕ → Result T (Error A) → Type 0) (limit : Option ℕ)
+    (old new kept : Option (List ℕ)) (r : Result T (Error A)) → Gives answers limit old new kept r
+    → Gives answers limit old new None r
+not_kept_gives answers limit old new kept r g =
+    record { message = g.message; comes = g.comes; is_kept = tt; answer = g.answer }
+
+not_kept : {T A : Type 0} (answers : List ℕ → Result T (Error A) → Type 0) (can_fail : Bool) (limit : Option ℕ)
+    (old new kept : Option (List ℕ)) (r : Result T (Error A))
+    → Ends answers can_fail limit old new kept r → Ends answers can_fail limit old new None r
+not_kept answers can_fail limit old new kept (Ok x) g = not_kept_gives answers limit old new kept (Ok x) g
+not_kept answers can_fail limit old new kept (Err e) (inl g) =
+    inl (not_kept_gives answers limit old new kept (Err e) g)
+not_kept answers can_fail limit old new kept (Err e) (inr s) = inr (not_kept_stops can_fail limit old new kept e s)
+
+-- no buffer is kept
+pub ends_not_kept : {T A : Type 0} (answers : List ℕ → Result T (Error A) → Type 0) (can_fail : Bool)
+    (limit : Option ℕ) (old new : Option (List ℕ)) (bytes own : List ℕ) (keeps : Bool) (r : Result T (Error A))
+    → keeps ≡ false → Ends answers can_fail limit old new (Some own) r
+    → Ends answers can_fail limit old new (if keeps then Some bytes else None) r
+ends_not_kept answers can_fail limit old new bytes own keeps r is ends =
+    subst (λ (b : Bool). Ends answers can_fail limit old new (if b then Some bytes else None) r) (sym is)
+    (not_kept answers can_fail limit old new (Some own) r ends)

@@ -1,0 +1,163 @@
+-- Messages at the front of a stream: which bytes are taken, and what is answered.
+use Rattle.std.specs.Prelude.{◌≡◌, ℕ, ◌+◌, ◌<◌, ◌≤◌, ◌⊎◌, Bool, List, [], ◌++◌, length, take, drop, Option, Some, None, IfSome, IfErr, IfOk, Result, Ok, Err}
+use Rattle.std.specs.Io.KnownBytes.{Consumes}
+use Rattle.std.specs.declared.io.Error.{Error as IoFault}
+use Rattle.std.specs.declared.io.ErrorKind.TheVariants.{UnexpectedEof}
+use Rattle.kmip_ttlv_types.specs.declared.typ.TtlvType.{TtlvType}
+use Rattle.kmip_ttlv_types.specs.ItemTypes.{type_of}
+use Rattle.kmip_ttlv_types.specs.Places.{tag_at, code_at, length_at}
+use Rattle.kmip_ttlv_types.specs.Streams.{ConsumesUpTo, Lacks}
+use Rattle.kmip_ttlv_base.specs.declared.error.Error.{Error}
+use Rattle.kmip_ttlv_base.specs.declared.error.ErrorKind.TheVariants as kinds
+use Rattle.kmip_ttlv_base.specs.Errors.{Location, unknown, io_error, exceeds_limit, kind_of, view_of_kind, location_of, view_of_location, IsMemory}
+use Rattle.kmip_ttlv_base.specs.Values.{Value}
+use Rattle.kmip_ttlv_base.specs.Forms.{Form}
+use Rattle.kmip_ttlv_de.specs.Reads.{Begins}
+use Rattle.kmip_ttlv_de.specs.Answer.{RefusalStands, early_end, sort_of}
+use Rattle.kmip_ttlv_de.specs.Wholes.{BeginsWhole}
+use Rattle.kmip_ttlv_de.specs.RootFacts.{root_fault, RefusalFacts, Fault, IsFault}
+
+-- what `from_slice` answers of these bytes
+pub record Answered {T A : Type 0} (s : Form) (is_value : Value → T → Type 0) (bytes : List ℕ) (r : Result T (Error A))
+    : Type 0 where
+  pub found : IfOk r (λ x. (v : Value) × Begins s bytes v × is_value v x)
+  pub refused : IfErr r (λ e. RefusalStands s bytes e)
+  pub facts : RefusalFacts (root_fault s bytes) s bytes r
+  pub whole : IfErr r (λ e. BeginsWhole bytes → sort_of e ≡ early_end → ⊥)
+
+-- how many bytes the message has that begins so: eight of header, and as many as it states
+abbrev pub message_size : List ℕ → ℕ
+message_size bytes = 8 + length_at bytes 0
+
+-- no limit is below n
+abbrev pub Allows : Option ℕ → ℕ → Type 0
+Allows limit n = IfSome limit (λ most. n ≤ most)
+
+-- a limit is below n
+abbrev pub Forbids : Option ℕ → ℕ → Type 0
+Forbids None n = ⊥
+Forbids (Some most) n = most < n
+
+-- n bytes are taken of a message of this type and size: the header alone where the type is none,
+-- or else all of it, which no limit forbids
+abbrev pub IsTakenUpTo : Option TtlvType → Option ℕ → ℕ → ℕ → Type 0
+IsTakenUpTo None limit size n = n ≡ 8
+IsTakenUpTo (Some t) limit size n = Allows limit size × (n ≡ size)
+
+-- n bytes are taken of the message that begins so
+abbrev pub HasSize : Option ℕ → List ℕ → ℕ → Type 0
+HasSize limit bytes n = IsTakenUpTo (type_of (code_at bytes 0)) limit (message_size bytes) n
+
+-- behind the header of the message that begins so, with its tag and type
+abbrev pub behind_header : List ℕ → TtlvType → Location
+behind_header bytes t = record { offset = Some 8; parents = []; tag = Some (tag_at bytes 0); typ = Some t }
+
+-- the message that begins so is larger than the limit, and this refusal says so
+pub record IsOver {A : Type 0} (limit : Option ℕ) (bytes : List ℕ) (e : Error A) : Type 0 where
+  pub typ : TtlvType
+  pub is_typ : type_of (code_at bytes 0) ≡ Some typ
+  pub over : Forbids limit (message_size bytes)
+  pub kind : kind_of e ≡ kinds.ResponseSizeExceedsLimit (message_size bytes)
+  pub place : view_of_location (location_of e) ≡ behind_header bytes typ
+
+-- an IoError of this fault, at an unknown place
+pub record IsIoFault {A : Type 0} (fault : IoFault) (e : Error A) : Type 0 where
+  pub kind : kind_of e ≡ kinds.IoError fault
+  pub place : view_of_location (location_of e) ≡ unknown
+
+-- memory was refused; or the stream ended within the next n bytes, or reading it failed, which it can
+pub data LackCause {A : Type 0} (can_fail : Bool) (old : Option (List ℕ)) (n : ℕ) (e : Error A)
+    : Type 0 where
+  no_memory : IsMemory e → LackCause can_fail old n e
+  no_bytes : (fault : IoFault) → IsIoFault fault e → Lacks can_fail old n fault → LackCause can_fail old n e
+
+-- n bytes are due, and did not come: at most so many were taken
+pub record LacksBytes {A : Type 0} (can_fail : Bool) (old new : Option (List ℕ)) (n : ℕ) (e : Error A)
+    : Type 0 where
+  pub due : 0 < n
+  pub within : ConsumesUpTo old new n
+  pub cause : LackCause can_fail old n e
+
+-- a buffer was filled up to this length, behind what it had
+pub record IsFilled (old new : Option (List ℕ)) (had now : List ℕ) (end : ℕ) : Type 0 where
+  pub came : List ℕ
+  pub consumes : Consumes old new came
+  pub parts : now ≡ had ++ came
+  pub long : length now ≡ end
+
+-- the bytes of one message were taken: all of it, or its header
+pub record Comes (limit : Option ℕ) (old new : Option (List ℕ)) (message : List ℕ) : Type 0 where
+  pub consumes : Consumes old new message
+  pub size : HasSize limit message (length message)
+
+-- the kept buffer, where there is one, holds these bytes
+abbrev pub IsKept : Option (List ℕ) → List ℕ → Type 0
+IsKept kept bytes = IfSome kept (λ b. b ≡ bytes)
+
+-- a header was taken, of a message that is larger than the limit
+pub record ComesOver {A : Type 0} (limit : Option ℕ) (old new : Option (List ℕ)) (head : List ℕ) (e : Error A)
+    : Type 0 where
+  pub consumes : Consumes old new head
+  pub length_is : length head ≡ 8
+  pub over : IsOver limit head e
+
+-- why there is no message: its header does not come; it is larger than the limit; its body does not come
+pub data Stops {A : Type 0} (can_fail : Bool) (limit : Option ℕ) (old new kept : Option (List ℕ)) (e : Error A)
+    : Type 0 where
+  in_header : LacksBytes can_fail old new 8 e → Stops can_fail limit old new kept e
+  over_limit : (head : List ℕ) → ComesOver limit old new head e → IsKept kept head → Stops can_fail limit old new kept e
+  in_body : (head : List ℕ) (mid : Option (List ℕ)) (n : ℕ) → Consumes old mid head → length head ≡ 8
+      → HasSize limit head (8 + n) → LacksBytes can_fail mid new n e → Stops can_fail limit old new kept e
+
+-- a message was taken, and is kept where there is a buffer; this is answered of its bytes
+pub record Gives {T A : Type 0} (answers : List ℕ → Result T (Error A) → Type 0) (limit : Option ℕ)
+    (old new kept : Option (List ℕ)) (r : Result T (Error A)) : Type 0 where
+  pub message : List ℕ
+  pub comes : Comes limit old new message
+  pub is_kept : IsKept kept message
+  pub answer : answers message r
+
+-- a message was taken, and its bytes are answered; or there is none
+abbrev pub Ends : {T A : Type 0} → (List ℕ → Result T (Error A) → Type 0) → Bool → Option ℕ
+    → (old new kept : Option (List ℕ)) → Result T (Error A) → Type 0
+Ends answers can_fail limit old new kept (Ok x) = Gives answers limit old new kept (Ok x)
+Ends answers can_fail limit old new kept (Err e) =
+    Gives answers limit old new kept (Err e) ⊎ Stops can_fail limit old new kept e
+
+-- where this is a refusal by size, a header was taken that states this size, above the limit
+abbrev pub IsBySize : {A : Type 0} → Option ℕ → (old new : Option (List ℕ)) → Error A → Type 0
+IsBySize limit old new e = (n : ℕ) → view_of_kind (kind_of e) ≡ exceeds_limit n
+    → (head : List ℕ) × ComesOver limit old new head e × (n ≡ message_size head)
+
+-- want of memory; or else this
+abbrev pub OrMemory : {T A : Type 0} → Result T (Error A) → Type 0 → Type 0
+OrMemory (Ok x) P = P
+OrMemory (Err e) P = IsMemory e ⊎ P
+
+-- the first n bytes are taken and kept
+pub record TakesFirst (bytes : List ℕ) (n : ℕ) (new kept : Option (List ℕ)) : Type 0 where
+  pub left : new ≡ Some (drop n bytes)
+  pub is_kept : IsKept kept (take n bytes)
+
+-- a stream's early end, at an unknown place
+abbrev pub end_fault : Fault
+end_fault = record { kind = io_error UnexpectedEof; place = unknown }
+
+-- a size above the limit, behind the header
+abbrev pub size_fault : List ℕ → TtlvType → Fault
+size_fault bytes t = record { kind = exceeds_limit (message_size bytes); place = behind_header bytes t }
+
+-- what reading a message from these bytes comes to, by what they begin with; in place of each answer,
+-- want of memory may come
+pub record Exactly {T A : Type 0} (answers : List ℕ → Result T (Error A) → Type 0) (limit : Option ℕ) (bytes : List ℕ)
+    (new kept : Option (List ℕ)) (r : Result T (Error A)) : Type 0 where
+  -- a header that is cut
+  pub in_header : length bytes < 8 → IsFault end_fault r
+  -- a size above the limit
+  pub over_limit : 8 ≤ length bytes → (t : TtlvType) → type_of (code_at bytes 0) ≡ Some t
+      → Forbids limit (message_size bytes) → IsFault (size_fault bytes t) r × OrMemory r (TakesFirst bytes 8 new kept)
+  -- a body that is cut
+  pub in_body : 8 ≤ length bytes → (n : ℕ) → HasSize limit bytes n → length bytes < n → IsFault end_fault r
+  -- a message, or a header whose code is that of no type
+  pub whole : 8 ≤ length bytes → (n : ℕ) → HasSize limit bytes n → n ≤ length bytes
+      → OrMemory r (TakesFirst bytes n new kept × answers (take n bytes) r)

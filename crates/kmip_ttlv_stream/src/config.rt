@@ -1,0 +1,105 @@
+//! The settings of reading from a stream: a limit, and a buffer that is kept from message to message.
+
+ghost use Rattle.std.specs.Prelude.{◌≡◌, Some, None, [], option_map, vec_items, is_some, ℕ};
+ghost use Rattle.kmip_ttlv_stream.specs.Settings.{settings_of};
+
+use std::alloc::{Allocator, Global};
+use std::fmt;
+
+/// How messages are read from a stream: up to which size, and whether their bytes are kept.
+#[derive(Drop)]
+pub struct Config<A: Allocator = Global> {
+    pub(crate) limit: Option<u32>,
+    pub(crate) keeps: bool,
+    pub(crate) bytes: Vec<u8, A>,
+}
+
+impl<A: Allocator> Config<A> {
+    /// No limit and no buffer. Takes no memory.
+    pub fn new(alloc: A) -> Config<A>
+        ensures { settings_of result ≡ record { limit = None; kept = None } }
+    {
+        Config {
+            limit: None,
+            keeps: false,
+            bytes: Vec::new(alloc),
+        }
+    }
+
+    /// The size in bytes, header included, of the largest message that is read, if there is a limit.
+    pub fn max_bytes(&self) -> Option<u32>
+        ensures { result ≡ (settings_of self.now).limit }
+    {
+        self.limit
+    }
+
+    /// Whether there is a buffer.
+    pub fn has_buf(&self) -> bool
+        ensures { result ≡ is_some (settings_of self.now).kept }
+    {
+        self.keeps
+    }
+
+    /// The buffer, if there is one: the bytes of the last message.
+    pub fn read_buf(&self) -> Option<&Vec<u8, A>>
+        ensures { option_map (λ b. b.now.items) result ≡ (settings_of self.now).kept }
+    {
+        if self.keeps { Some(&self.bytes) } else { None }
+    }
+
+    /// The same with this limit: larger messages are refused before their body is taken.
+    pub fn with_max_bytes(self, max_bytes: u32) -> Config<A>
+        ensures { settings_of result ≡ record { limit = Some max_bytes; kept = (settings_of self).kept } }
+    {
+        let Config {
+            limit: _,
+            keeps,
+            bytes,
+        } = self;
+        Config {
+            limit: Some(max_bytes),
+            keeps,
+            bytes,
+        }
+    }
+
+    /// The same with an empty buffer, which is kept from message to message. Takes no memory.
+    pub fn with_read_buf(self) -> Config<A>
+        ensures { settings_of result ≡ record { limit = (settings_of self).limit; kept = Some [] } }
+    {
+        let Config {
+            limit,
+            keeps: _,
+            mut bytes,
+        } = self;
+        bytes.clear();
+        Config {
+            limit,
+            keeps: true,
+            bytes,
+        }
+    }
+}
+
+impl<A: Allocator + Copy> Config<A> {
+    /// The same limit, and an empty buffer where there is one. Takes no memory.
+    pub fn clone(&self) -> Config<A>
+        ensures { settings_of result
+            ≡ record { limit = (settings_of self.now).limit; kept = option_map (λ _. []) (settings_of self.now).kept } }
+    {
+        Config {
+            limit: self.limit,
+            keeps: self.keeps,
+            bytes: Vec::new(*self.bytes.allocator()),
+        }
+    }
+}
+
+/// The limit, and whether there is a buffer. Bytes of messages are not shown.
+impl<A: Allocator> fmt::Debug for Config<A> {
+    fn fmt<W: fmt::Write>(&self, f: &mut fmt::Formatter<W>) -> fmt::Result {
+        let limit = self.limit;
+        let keeps = self.keeps;
+        write!(f, "Config {{ max_bytes: {limit:?}, has_buf: {keeps} }}")
+    }
+}
