@@ -28,13 +28,13 @@ pub use Rattle.kmip_ttlv_de.specs.Keeps
 pub use Rattle.kmip_ttlv_de.specs.Rules
 pub use Rattle.kmip_ttlv_de.specs.Reads
 pub use Rattle.kmip_ttlv_de.specs.Reading
-pub use Rattle.kmip_ttlv_de.specs.Places as ReadPlaces
+pub use Rattle.kmip_ttlv_de.specs.ReadPlaces
 pub use Rattle.kmip_ttlv_de.specs.Parts
 pub use Rattle.kmip_ttlv_de.specs.Facts
 pub use Rattle.kmip_ttlv_de.specs.RootFacts
-pub use Rattle.kmip_ttlv_de.specs.Answer as ReadAnswers
+pub use Rattle.kmip_ttlv_de.specs.ReadAnswers
 pub use Rattle.kmip_ttlv_stream.specs.Settings
-pub use Rattle.kmip_ttlv_stream.specs.Messages as StreamMessages
+pub use Rattle.kmip_ttlv_stream.specs.StreamMessages
 pub use Rattle.kmip_ttlv_util.specs.Outlines
 pub use Rattle.kmip_ttlv_util.specs.Traces
 pub use Rattle.kmip_ttlv_util.specs.Diagnostics
@@ -49,7 +49,7 @@ pub use Rattle.kmip_ttlv_util.specs.Lending
 pub use Rattle.kmip_ttlv_util.specs.PrintAnswers
 pub use Rattle.kmip_ttlv_ser.specs.WriteLaws
 pub use Rattle.kmip_ttlv_ser.specs.Rows
-pub use Rattle.kmip_ttlv_de.specs.Leaves as ReadLeaves
+pub use Rattle.kmip_ttlv_de.specs.ReadLeaves
 pub use Rattle.kmip_ttlv_de.specs.Wholes
 pub use Rattle.kmip_ttlv_de.specs.Messages
 pub use Rattle.kmip_ttlv_laws.specs.Texts

@@ -3,7 +3,7 @@ use Rattle.std.proofs.Common.{◌≡◌, ℕ, ◌≤◌, List, Option, Some, Non
 use Rattle.kmip_ttlv_base.specs.Errors.{IsMemory, Kind, Location, out_of_memory, unknown, view_of_kind}
 use Rattle.kmip_ttlv_base.specs.Forms.{Form}
 use Rattle.kmip_ttlv_base.specs.declared.error.Error.{Error}
-use Rattle.kmip_ttlv_de.specs.Answer.{early_end, sort_of_kind}
+use Rattle.kmip_ttlv_de.specs.ReadAnswers.{early_end, sort_of_kind}
 use Rattle.kmip_ttlv_de.specs.Facts.{KindFacts, MayBeRefusal, NotBefore, Says, cause_of, place_of}
 
 -- from the kind and the place

@@ -21,9 +21,9 @@ use Rattle.kmip_ttlv_de.proofs.Front.{join_more, join_nil, seq_front, with_front
 use Rattle.kmip_ttlv_de.proofs.Heads.{accepted_leaf, code_more, first_of_items, goes_item, item_more, length_more, refused_any, refused_first, tag_more}
 use Rattle.kmip_ttlv_types.proofs.PlaceLemmas.{code_one, item_one, items_at_splits, items_in_order, raw_with, splits_items_at}
 use Rattle.kmip_ttlv_de.proofs.ReadLemmas.{option_no_struct, reads_read_of, reads_shorter, split_of_splits, splits_split_of}
-use Rattle.kmip_ttlv_de.specs.Answer.{Accepted, Answers, Goes, ReadsNothing, Sort, early_end, memory, other, sort_of}
+use Rattle.kmip_ttlv_de.specs.ReadAnswers.{Accepted, Answers, Goes, ReadsNothing, Sort, early_end, memory, other, sort_of}
 use Rattle.kmip_ttlv_de.specs.Keeps.{Keep}
-use Rattle.kmip_ttlv_de.specs.Places.{LeafAt, StructAt}
+use Rattle.kmip_ttlv_de.specs.ReadPlaces.{LeafAt, StructAt}
 use Rattle.kmip_ttlv_de.specs.Reading.{FieldsReader, Got, Reader, ended, got, read_all, read_choice, read_content, read_enum, read_field, read_fields, read_forms, read_number, read_of, read_seq, read_struct, read_tuple, read_used, read_variant, rest_of, run_of, split_of, used_up, ◌>>=◌}
 use Rattle.kmip_ttlv_de.specs.Reads.{is_like, is_option, is_struct, may_follow, may_ignore, names, names_tag}
 use Rattle.kmip_ttlv_de.specs.Rules.{by_value, choice, choice_refused, chosen}

@@ -18,10 +18,10 @@ use Rattle.kmip_ttlv_de.proofs.Going.{refused_by}
 use Rattle.kmip_ttlv_de.proofs.Heads.{accepted_leaf, code_more, refused_any, refused_first, refused_leaf}
 use Rattle.kmip_ttlv_de.proofs.Leaves.{leaf_not_length}
 use Rattle.kmip_ttlv_types.proofs.PlaceLemmas.{code_one}
-use Rattle.kmip_ttlv_de.specs.Answer.{Accepted, ReadsNothing, Sort}
+use Rattle.kmip_ttlv_de.specs.ReadAnswers.{Accepted, ReadsNothing, Sort}
 use Rattle.kmip_ttlv_de.specs.Keeps.{Keep}
 use Rattle.kmip_ttlv_de.specs.Facts.{WrongLength, WrongValue}
-use Rattle.kmip_ttlv_de.specs.Places.{LeafAt, content_at}
+use Rattle.kmip_ttlv_de.specs.ReadPlaces.{LeafAt, content_at}
 use Rattle.kmip_ttlv_de.specs.Reading.{Got, any_leaf, got, read_number, unit_of, ◌>>=◌}
 use Rattle.kmip_ttlv_de.specs.Reads.{byte_digits, first_named, is_number_type, number_text}
 

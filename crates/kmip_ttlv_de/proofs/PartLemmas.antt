@@ -9,11 +9,11 @@ use Rattle.kmip_ttlv_base.specs.declared.shape.FieldShape.{FieldShape}
 use Rattle.kmip_ttlv_base.specs.declared.shape.Shape.{Shape}
 use Rattle.kmip_ttlv_base.specs.declared.shape.VariantShape.{VariantShape}
 use Rattle.kmip_ttlv_de.proofs.Going.{items_then}
-use Rattle.kmip_ttlv_de.specs.Answer.{Goes}
+use Rattle.kmip_ttlv_de.specs.ReadAnswers.{Goes}
 use Rattle.kmip_ttlv_de.specs.Facts.{GoesPast}
 use Rattle.kmip_ttlv_de.specs.Keeps.{Keep}
 use Rattle.kmip_ttlv_de.specs.Parts.{HasField, HasForm, first_field, first_form, later_field, later_form, variant_content}
-use Rattle.kmip_ttlv_de.specs.Places.{InContent, IsFieldItem, IsInside, IsItem, StructRead, TupleRead, IsLast, IsStructure, ItemMayBegin, Opens, PartAt, StructAt, WholeItems, first_item, first_of_seq, for_struct, for_tuple, in_field, in_newtype, in_option, in_tuple, in_variant, inner_item, later_of_seq, root, stated_end}
+use Rattle.kmip_ttlv_de.specs.ReadPlaces.{InContent, IsFieldItem, IsInside, IsItem, StructRead, TupleRead, IsLast, IsStructure, ItemMayBegin, Opens, PartAt, StructAt, WholeItems, first_item, first_of_seq, for_struct, for_tuple, in_field, in_newtype, in_option, in_tuple, in_variant, inner_item, later_of_seq, root, stated_end}
 use Rattle.kmip_ttlv_de.specs.Reading.{Got}
 use Rattle.kmip_ttlv_de.specs.Reads.{is_root}
 

@@ -12,7 +12,7 @@ use Rattle.kmip_ttlv_de.proofs.Going.{items_none}
 use Rattle.kmip_ttlv_de.proofs.Heads.{first_of_items, refused_any}
 use Rattle.kmip_ttlv_types.proofs.PlaceLemmas.{item_at_text, item_one, text_at_item}
 use Rattle.kmip_ttlv_de.proofs.ReadLemmas.{read_of_reads, reads_read_of}
-use Rattle.kmip_ttlv_de.specs.Answer.{Accepted, ReadsNothing, NothingBegins, Sort, early_end, memory, other}
+use Rattle.kmip_ttlv_de.specs.ReadAnswers.{Accepted, ReadsNothing, NothingBegins, Sort, early_end, memory, other}
 use Rattle.kmip_ttlv_de.specs.Keeps.{Keep}
 use Rattle.kmip_ttlv_de.specs.Reading.{Got, got, read_of}
 use Rattle.kmip_ttlv_de.specs.Reads.{Begins, Reads, is_root, leaf, structure, wrap, wrap_some}

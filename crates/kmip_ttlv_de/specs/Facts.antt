@@ -16,11 +16,11 @@ use Rattle.kmip_ttlv_base.specs.declared.error.MalformedTtlvError.TheVariants as
 use Rattle.kmip_ttlv_base.specs.Errors.{Mismatch, invalid_variant, invalid_rule, invalid_tag, missing_identifier, other_cause, unexpected_tag, unexpected_type, unsupported_rust_type, Kind, io_error, exceeds_limit, malformed, mismatch, out_of_memory, length_overflow, Location, unknown, kind_of, view_of_kind, location_of, view_of_location, IsMemory}
 use Rattle.kmip_ttlv_base.specs.Forms.{Form, struct, enum, Fields, Variants, unit, wrapped, tuple, Forms}
 use Rattle.kmip_ttlv_de.specs.declared.leaf.Leaf.{Leaf}
-use Rattle.kmip_ttlv_de.specs.Leaves.{form_of_leaf, first_type}
+use Rattle.kmip_ttlv_de.specs.ReadLeaves.{form_of_leaf, first_type}
 use Rattle.kmip_ttlv_de.specs.Parts.{HasField, RuleChooses, NumberChooses, RuleRefused}
 use Rattle.kmip_ttlv_de.specs.Reads.{has_fields, is_number_type, names_tag, is_option, is_struct, takes, number_text, first_named}
-use Rattle.kmip_ttlv_de.specs.Places.{HasType, InContent, PartAt, StructRead, TupleRead, Opens, ItemMayBegin, WholeItems, content_at, stated_end}
-use Rattle.kmip_ttlv_de.specs.Answer.{early_end, sort_of}
+use Rattle.kmip_ttlv_de.specs.ReadPlaces.{HasType, InContent, PartAt, StructRead, TupleRead, Opens, ItemMayBegin, WholeItems, content_at, stated_end}
+use Rattle.kmip_ttlv_de.specs.ReadAnswers.{early_end, sort_of}
 use Rattle.kmip_ttlv_de.specs.Wholes.{AreWhole}
 
 -- ---- places, their parents left out

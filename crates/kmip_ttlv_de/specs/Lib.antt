@@ -3,9 +3,9 @@ pub mod Rules
 pub mod Parts
 pub mod Reads
 pub mod Reading
-pub mod Places
-pub mod Leaves
-pub mod Answer
+pub mod ReadPlaces
+pub mod ReadLeaves
+pub mod ReadAnswers
 pub mod Wholes
 pub mod Facts
 pub mod RootFacts

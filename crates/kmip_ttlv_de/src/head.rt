@@ -6,8 +6,8 @@ ghost use Rattle.kmip_ttlv_types.specs.Places.{tag_at, code_at, length_at, size}
 ghost use Rattle.kmip_ttlv_base.specs.Errors.{malformed};
 ghost use Rattle.kmip_ttlv_base.specs.declared.error.MalformedTtlvError.TheVariants.{InvalidType as InvalidTypeFault};
 ghost use Rattle.kmip_ttlv_base.specs.Forms.{Form};
-ghost use Rattle.kmip_ttlv_de.specs.Places.{ItemMayBegin};
-ghost use Rattle.kmip_ttlv_de.specs.Answer.{sort_of, early_end};
+ghost use Rattle.kmip_ttlv_de.specs.ReadPlaces.{ItemMayBegin};
+ghost use Rattle.kmip_ttlv_de.specs.ReadAnswers.{sort_of, early_end};
 ghost use Rattle.kmip_ttlv_de.specs.Facts.{Says, cause_of, place_of, code_place};
 
 use crate::refuse::{bad_code, early};

@@ -8,12 +8,12 @@ ghost use Rattle.kmip_ttlv_types.specs.Items.{Raw};
 ghost use Rattle.kmip_ttlv_base.specs.Values.{view};
 ghost use Rattle.kmip_ttlv_base.specs.Errors.{IsMemory};
 ghost use Rattle.kmip_ttlv_base.specs.Forms.{Form};
-ghost use Rattle.kmip_ttlv_de.specs.Places.{LeafAt, IsItem, PartAt};
+ghost use Rattle.kmip_ttlv_de.specs.ReadPlaces.{LeafAt, IsItem, PartAt};
 ghost use Rattle.kmip_ttlv_de.specs.Keeps.{Keep, keeps};
 ghost use Rattle.kmip_ttlv_de.specs.Reads.{takes, leaf_value, with_leaf, byte_digits, number_text};
 ghost use Rattle.kmip_ttlv_de.specs.Reading.{any_leaf, read_leaf};
-ghost use Rattle.kmip_ttlv_de.specs.Leaves.{form_of_leaf, first_type};
-ghost use Rattle.kmip_ttlv_de.specs.Answer.{Answers, ReadsNothing, sort_of};
+ghost use Rattle.kmip_ttlv_de.specs.ReadLeaves.{form_of_leaf, first_type};
+ghost use Rattle.kmip_ttlv_de.specs.ReadAnswers.{Answers, ReadsNothing, sort_of};
 ghost use Rattle.kmip_ttlv_de.specs.Facts.{Says, WrongLength, WrongValue, LeafRead};
 
 use crate::head::{content_at, end_of, length_at, tag_at, type_at};

@@ -13,7 +13,7 @@ ghost use Rattle.kmip_ttlv_types.specs.Items.{Raw, Splits};
 ghost use Rattle.kmip_ttlv_de.specs.Keeps.{Keep};
 ghost use Rattle.kmip_ttlv_de.specs.Reads.{Reads, Begins};
 ghost use Rattle.kmip_ttlv_de.specs.Reading.{got, read_of};
-ghost use Rattle.kmip_ttlv_de.specs.Answer.{RefusalStands, early_end, sort_of};
+ghost use Rattle.kmip_ttlv_de.specs.ReadAnswers.{RefusalStands, early_end, sort_of};
 ghost use Rattle.kmip_ttlv_de.specs.Wholes.{BeginsWhole};
 ghost use Rattle.kmip_ttlv_de.specs.Messages.{outer, four_bytes, long_four, one_integer, one_integer_value, may_lack_first, lacks_first_value, chosen_by_first, chosen_by_first_value, integers};
 ghost use Rattle.kmip_ttlv_de.specs.RootFacts.{root_fault, RefusalFacts};

@@ -6,12 +6,12 @@ ghost use Rattle.kmip_ttlv_types.specs.ItemTypes.{code};
 ghost use Rattle.kmip_ttlv_types.specs.Places.{code_at};
 ghost use Rattle.kmip_ttlv_base.specs.Values.{view};
 ghost use Rattle.kmip_ttlv_base.specs.Forms.{Form, enum, unit, variants_of, content_of};
-ghost use Rattle.kmip_ttlv_de.specs.Places.{IsItem, PartAt, content_at};
+ghost use Rattle.kmip_ttlv_de.specs.ReadPlaces.{IsItem, PartAt, content_at};
 ghost use Rattle.kmip_ttlv_de.specs.Parts.{NumberChooses};
 ghost use Rattle.kmip_ttlv_de.specs.Keeps.{keeps};
 ghost use Rattle.kmip_ttlv_de.specs.Reads.{is_number_type, byte_digits, number_text, first_named};
 ghost use Rattle.kmip_ttlv_de.specs.Reading.{read_number};
-ghost use Rattle.kmip_ttlv_de.specs.Answer.{Answers};
+ghost use Rattle.kmip_ttlv_de.specs.ReadAnswers.{Answers};
 ghost use Rattle.kmip_ttlv_de.specs.Facts.{Says};
 
 use crate::head::{length_at, tag_at};

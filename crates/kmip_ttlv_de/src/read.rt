@@ -11,12 +11,12 @@ ghost use Rattle.kmip_ttlv_types.specs.Places.{ItemAt, tag_at, code_at, length_a
 ghost use Rattle.kmip_ttlv_base.specs.Values.{Value, view, views, struct_value, seq_value};
 ghost use Rattle.kmip_ttlv_base.specs.Forms.{Form, Fields, Variants, struct, seq, enum, tuple, form_of, fields_of, variants_of, content_of, forms_of};
 ghost use Rattle.kmip_ttlv_de.specs.Parts.{HasField, RuleChooses};
-ghost use Rattle.kmip_ttlv_de.specs.Places.{IsItem, IsLast, WholeItems, InContent, IsInside, PartAt, StructRead, TupleRead, StructAt, stated_end};
+ghost use Rattle.kmip_ttlv_de.specs.ReadPlaces.{IsItem, IsLast, WholeItems, InContent, IsInside, PartAt, StructRead, TupleRead, StructAt, stated_end};
 ghost use Rattle.kmip_ttlv_de.specs.Keeps.{Keep, keeps};
 ghost use Rattle.kmip_ttlv_de.specs.Rules.{choice};
 ghost use Rattle.kmip_ttlv_de.specs.Reads.{is_option, is_root, is_struct, names_tag, Begins};
 ghost use Rattle.kmip_ttlv_de.specs.Reading.{FieldsReader, read_of, read_fields, read_all, rest_of, read_field, read_struct, read_seq, read_enum, read_variant, read_content, read_tuple, read_used, read_forms};
-ghost use Rattle.kmip_ttlv_de.specs.Answer.{Chooses, Answers, AnswersAll, Answers3, Ignores, GoesOn, ReadsNothing, RefusalStands, early_end, sort_of};
+ghost use Rattle.kmip_ttlv_de.specs.ReadAnswers.{Chooses, Answers, AnswersAll, Answers3, Ignores, GoesOn, ReadsNothing, RefusalStands, early_end, sort_of};
 ghost use Rattle.kmip_ttlv_de.specs.Facts.{NameWanted, Says};
 ghost use Rattle.kmip_ttlv_de.specs.RootFacts.{root_fault, named_fault, RootFacts, RefusalFacts};
 ghost use Rattle.kmip_ttlv_de.specs.Wholes.{BeginsWhole};

@@ -9,8 +9,9 @@ use Rattle.kmip_ttlv_base.specs.declared.error.Error.{Error}
 use Rattle.kmip_ttlv_base.specs.Errors.{Kind, exceeds_limit, kind_of, view_of_kind}
 use Rattle.kmip_ttlv_base.specs.Values.{Value}
 use Rattle.kmip_ttlv_base.specs.Forms.{Form, struct, option, seq, newtype, enum}
-use Rattle.kmip_ttlv_de.specs.Facts.{Fault, Cause, has, root_fault, named_fault, header_fault, RootFacts, FactsBut, KindFacts, place_of}
-use Rattle.kmip_ttlv_stream.specs.Messages.{Answered, message_size, LackCause, no_memory, no_bytes, Stops, in_header, over_limit, in_body, Ends, IsBySize}
+use Rattle.kmip_ttlv_de.specs.Facts.{KindFacts, place_of}
+use Rattle.kmip_ttlv_de.specs.RootFacts.{Fault, root_fault, named_fault, header_fault, RefusalFacts}
+use Rattle.kmip_ttlv_stream.specs.StreamMessages.{Answered, message_size, LackCause, no_memory, no_bytes, Stops, in_header, over_limit, in_body, Ends, IsBySize}
 
 -- no refusal by size
 abbrev NotBySize : Kind → Type 0
@@ -44,17 +45,17 @@ root_other (seq s) b = tt
 root_other (enum name vs) b = tt
 root_other _ b = tt
 
-facts_other : (T : Type 0) {A : Type 0} (o : Option Fault) (h : Cause → Bool) (b : List ℕ) (e : Error A) (n : ℕ)
-    → NoFaultBySize o → RootFacts {X = T} o b (Err e) → FactsBut o h b e
+facts_other : (T : Type 0) {A : Type 0} (o : Option Fault) (s : Form) (b : List ℕ) (e : Error A) (n : ℕ)
+    → NoFaultBySize o → RefusalFacts {X = T} o s b (Err e)
     → view_of_kind (kind_of e) ≡ exceeds_limit n → ⊥
-facts_other T None h b e n other root facts is = subst (KindFacts h b (place_of e)) is facts
-facts_other T (Some f) h b e n other (inl want) facts is = cc (ap view_of_kind want.kind)
-facts_other T (Some f) h b e n other (inr due) facts is = not_by_size f.kind n other (sym due.0 ∙ is)
+facts_other T None s b e n other facts is = subst (KindFacts s b (place_of e)) is facts.1
+facts_other T (Some f) s b e n other (inl want) is = cc (ap view_of_kind want.kind)
+facts_other T (Some f) s b e n other (inr due) is = not_by_size f.kind n other (sym due.0 ∙ is)
 
 answered_other : {T A : Type 0} (s : Form) (is_value : Value → T → Type 0) (b : List ℕ) (e : Error A) (n : ℕ)
     → Answered s is_value b (Err e) → view_of_kind (kind_of e) ≡ exceeds_limit n → ⊥
 answered_other s is_value b e n a is =
-    facts_other _ (root_fault s b) (has s) b e n (root_other s b) a.root a.facts is
+    facts_other _ (root_fault s b) s b e n (root_other s b) a.facts is
 
 lack_other : {A : Type 0} (can_fail : Bool) (old : Option (List ℕ)) (m : ℕ) (e : Error A) (n : ℕ)
     → LackCause can_fail old m e → view_of_kind (kind_of e) ≡ exceeds_limit n → ⊥

@@ -11,7 +11,7 @@ use Rattle.kmip_ttlv_types.specs.Places.{code_at}
 use Rattle.kmip_ttlv_types.specs.Streams.{IsShort}
 use Rattle.kmip_ttlv_base.specs.declared.error.Error.{Error}
 use Rattle.kmip_ttlv_base.specs.Errors.{Location, unknown, io_error, exceeds_limit, kind_of, view_of_kind, location_of, view_of_location, IsMemory}
-use Rattle.kmip_ttlv_stream.specs.Messages.{message_size, Forbids, HasSize, behind_header, IsIoFault, LackCause, no_memory, no_bytes, IsKept, ComesOver, Stops, in_header, over_limit, in_body, Gives, Ends, OrMemory, TakesFirst, Exactly}
+use Rattle.kmip_ttlv_stream.specs.StreamMessages.{message_size, Forbids, HasSize, behind_header, IsIoFault, LackCause, no_memory, no_bytes, IsKept, ComesOver, Stops, in_header, over_limit, in_body, Gives, Ends, OrMemory, TakesFirst, Exactly}
 use Rattle.kmip_ttlv_stream.proofs.Fronts.{SameHeader, same_header, SameHeader-sym, HasSize-along, HasSize-least, HasSize-one, HasSize-allowed}
 
 -- what was taken, and what is left

@@ -7,7 +7,7 @@ use Rattle.std.proofs.KnownBytes.{Consumes-nil, Consumes-trans}
 use Rattle.kmip_ttlv_types.specs.Streams.{IsShort, ConsumesUpTo, Lacks}
 use Rattle.kmip_ttlv_types.proofs.Taken.{IsShort-after, ConsumesUpTo-after}
 use Rattle.kmip_ttlv_base.specs.declared.error.Error.{Error}
-use Rattle.kmip_ttlv_stream.specs.Messages.{IsFilled, IsIoFault, LacksBytes, LackCause, no_memory, no_bytes}
+use Rattle.kmip_ttlv_stream.specs.StreamMessages.{IsFilled, IsIoFault, LacksBytes, LackCause, no_memory, no_bytes}
 
 -- nothing is taken yet
 pub IsFilled-none : (a : Option (List ℕ)) (xs : List ℕ) (n : ℕ) → length xs ≡ n → IsFilled a a xs xs n

@@ -6,7 +6,7 @@ use Rattle.std.proofs.KnownBytes.{Consumes-trans}
 use Rattle.kmip_ttlv_types.specs.declared.typ.TtlvType.{TtlvType}
 use Rattle.kmip_ttlv_types.specs.ItemTypes.{type_of}
 use Rattle.kmip_ttlv_types.specs.Places.{tag_at, code_at, length_at}
-use Rattle.kmip_ttlv_stream.specs.Messages.{message_size, Allows, Forbids, IsTakenUpTo, HasSize, IsFilled, Comes}
+use Rattle.kmip_ttlv_stream.specs.StreamMessages.{message_size, Allows, Forbids, IsTakenUpTo, HasSize, IsFilled, Comes}
 
 -- the fields of the header are those of the whole
 pub record SameHeader (xs ys : List ℕ) : Type 0 where

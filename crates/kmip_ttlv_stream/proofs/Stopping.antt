@@ -2,7 +2,7 @@
 use Rattle.std.proofs.Common.{◌≡◌, ℕ, ◌+◌, ◌-◌, ◌≤◌, Bool, true, false, List, [], Option, None, Some, Result, Ok, Err, sym, subst, arith, refl, inl, inr}
 use Rattle.std.specs.Prelude.{if◌then◌else◌}
 use Rattle.kmip_ttlv_base.specs.declared.error.Error.{Error}
-use Rattle.kmip_ttlv_stream.specs.Messages.{HasSize, IsOver, LacksBytes, IsFilled, Comes, Stops, in_header, over_limit, in_body, Gives, Ends}
+use Rattle.kmip_ttlv_stream.specs.StreamMessages.{HasSize, IsOver, LacksBytes, IsFilled, Comes, Stops, in_header, over_limit, in_body, Gives, Ends}
 use Rattle.kmip_ttlv_stream.proofs.Fronts.{HasSize-least, header_came, comes_whole}
 
 -- the header did not come

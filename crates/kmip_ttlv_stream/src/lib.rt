@@ -6,7 +6,7 @@
 
 ghost use Rattle.std.specs.Prelude.{◌≡◌, ℕ, List, Some, false, IfErr, IfOk};
 ghost use Rattle.kmip_ttlv_stream.specs.Settings.{settings_of, KeepsSettings};
-ghost use Rattle.kmip_ttlv_stream.specs.Messages.{Answered, Ends, IsBySize, Exactly};
+ghost use Rattle.kmip_ttlv_stream.specs.StreamMessages.{Answered, Ends, IsBySize, Exactly};
 
 mod config;
 mod take;

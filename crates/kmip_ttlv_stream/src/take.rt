@@ -4,7 +4,7 @@ ghost use Rattle.std.specs.Prelude.{◌≡◌, ℕ, ◌+◌, ◌-◌, ◌≤◌,
 ghost use Rattle.kmip_ttlv_types.specs.Streams.{Fills};
 ghost use Rattle.kmip_ttlv_base.specs.Errors.{kind_of, location_of, view_of_location};
 ghost use Rattle.kmip_ttlv_base.specs.declared.error.ErrorKind.TheVariants.{ResponseSizeExceedsLimit as TooLargeKind};
-ghost use Rattle.kmip_ttlv_stream.specs.Messages.{HasSize, IsOver, behind_header, IsIoFault, LacksBytes, IsFilled, Comes, Stops};
+ghost use Rattle.kmip_ttlv_stream.specs.StreamMessages.{HasSize, IsOver, behind_header, IsIoFault, LacksBytes, IsFilled, Comes, Stops};
 
 use kmip_ttlv_base::error::{Error, ErrorKind, ErrorLocation, Result};
 use kmip_ttlv_base::types::stream::{Filled, PIECE, Source};

@@ -1,7 +1,7 @@
 //! A small type, a slow reader, and what a message is to be read as.
 
 ghost use Rattle.std.specs.Prelude.{Some};
-ghost use Rattle.stream_vectors.specs.Samples.{single_form};
+ghost use Rattle.stream_vectors.specs.StreamSamples.{single_form};
 
 use kmip_ttlv_base::error::{Error, ErrorKind, ErrorLocation, MalformedTtlvError, SerdeError};
 use kmip_ttlv_base::shape::{Data, Deserialize, FieldShape, Shape};

@@ -2,7 +2,7 @@ use Rattle.std.proofs.lemmas.Result.{err_from_is_err_and}
 use Rattle.kmip_ttlv_base.specs.Values.{view}
 use Rattle.kmip_ttlv_de.proofs.Giving.{begins_gives}
 use Rattle.kmip_ttlv_de.proofs.RootLemmas.{refusal_err, refusal_memory, refusal_ok}
-use Rattle.kmip_ttlv_de.specs.Places.{root}
+use Rattle.kmip_ttlv_de.specs.ReadPlaces.{root}
 use Rattle.kmip_ttlv_de.specs.RootFacts.{root_fault}
 use Rattle.kmip_ttlv_de.proofs.from_slice.Goals as goal
 

@@ -15,7 +15,6 @@ returns g c =
     record {
       found = answer.found;
       refused = answer.refused;
-      root = answer.root;
       facts = answer.facts;
       whole = answer.whole;
     }

@@ -2,9 +2,9 @@ use Rattle.std.proofs.Common.{◌≡◌, ℕ, ◌+◌, drop, take, subst, ap, in
 use Rattle.kmip_ttlv_types.specs.Places.{length_at}
 use Rattle.kmip_ttlv_types.specs.Primitives.{CanHaveLength}
 use Rattle.kmip_ttlv_types.specs.Leaves.{is_valid}
-use Rattle.kmip_ttlv_de.specs.Places.{content_at}
+use Rattle.kmip_ttlv_de.specs.ReadPlaces.{content_at}
 use Rattle.kmip_ttlv_base.specs.declared.error.MalformedTtlvError.TheVariants as malformeds
-use Rattle.kmip_ttlv_de.specs.Answer.{sort_of}
+use Rattle.kmip_ttlv_de.specs.ReadAnswers.{sort_of}
 use Rattle.kmip_ttlv_de.proofs.Leaves.{leaf_not_length, leaf_invalid, leaf_plain}
 use Rattle.kmip_ttlv_de.proofs.SayLemmas.{malformed_says}
 use Rattle.kmip_ttlv_de.specs.Facts.{WrongLength, WrongValue, item_place}

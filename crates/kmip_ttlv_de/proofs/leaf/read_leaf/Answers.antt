@@ -4,8 +4,8 @@ use Rattle.kmip_ttlv_types.specs.Places.{tag_at, length_at}
 use Rattle.kmip_ttlv_de.specs.Keeps.{keeps}
 use Rattle.kmip_ttlv_de.specs.Reads.{takes, leaf_value, with_leaf}
 use Rattle.kmip_ttlv_de.specs.Reading.{any_leaf, read_leaf}
-use Rattle.kmip_ttlv_de.specs.Leaves.{first_type, form_of_leaf}
-use Rattle.kmip_ttlv_de.specs.Answer.{sort_of}
+use Rattle.kmip_ttlv_de.specs.ReadLeaves.{first_type, form_of_leaf}
+use Rattle.kmip_ttlv_de.specs.ReadAnswers.{sort_of}
 use Rattle.kmip_ttlv_types.proofs.PlaceLemmas.{raw_with}
 use Rattle.kmip_ttlv_de.proofs.Heads.{accepted_leaf, leaf_reads, leaf_not_type, leaf_no_value}
 use Rattle.kmip_ttlv_de.proofs.Going.{refused_by}
@@ -14,7 +14,7 @@ use Rattle.kmip_ttlv_de.proofs.PartLemmas.{part_reached}
 use Rattle.kmip_ttlv_de.proofs.SayLemmas.{mismatch_says}
 use Rattle.kmip_ttlv_de.proofs.Leaves.{first_taken_type}
 use Rattle.kmip_ttlv_de.specs.Facts.{by_form, cause_of, for_leaf}
-use Rattle.kmip_ttlv_de.specs.Places.{HasType}
+use Rattle.kmip_ttlv_de.specs.ReadPlaces.{HasType}
 use Rattle.kmip_ttlv_de.proofs.leaf.read_leaf.Goals as goal
 
 pub returns-in_err-typ-clause-says : goal.returns-in_err-typ-clause-says

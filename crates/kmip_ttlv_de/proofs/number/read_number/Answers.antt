@@ -6,9 +6,9 @@ use Rattle.kmip_ttlv_base.specs.Forms.{variants_of, unit}
 use Rattle.kmip_ttlv_de.specs.Keeps.{keeps}
 use Rattle.kmip_ttlv_de.specs.Reads.{is_number_type, number_text, first_named}
 use Rattle.kmip_ttlv_de.specs.Reading.{any_leaf, read_number}
-use Rattle.kmip_ttlv_de.specs.Answer.{sort_of}
+use Rattle.kmip_ttlv_de.specs.ReadAnswers.{sort_of}
 use Rattle.kmip_ttlv_de.specs.Facts.{NumberRead, WrongLength, for_number}
-use Rattle.kmip_ttlv_de.specs.Places.{HasType, content_at}
+use Rattle.kmip_ttlv_de.specs.ReadPlaces.{HasType, content_at}
 use Rattle.kmip_ttlv_base.specs.Errors.{unexpected_type}
 use Rattle.kmip_ttlv_base.specs.declared.error.MalformedTtlvError.TheVariants as malformeds
 use Rattle.kmip_ttlv_types.specs.declared.typ.TtlvType.TheVariants.{Enumeration}

@@ -7,8 +7,8 @@ use Rattle.kmip_ttlv_de.proofs.RootLemmas.{fault_not_early, refusal_err, refusal
 use Rattle.kmip_ttlv_base.proofs.Views.{view-Newtype, view-Some, view-Struct}
 use Rattle.kmip_ttlv_base.proofs.Shapes.{form_of-Struct}
 use Rattle.kmip_ttlv_de.proofs.Whole.{begins_newtype, begins_some, refuses_newtype, refuses_option}
-use Rattle.kmip_ttlv_de.specs.Answer.{sort_of}
-use Rattle.kmip_ttlv_de.specs.Places.{in_newtype, in_option}
+use Rattle.kmip_ttlv_de.specs.ReadAnswers.{sort_of}
+use Rattle.kmip_ttlv_de.specs.ReadPlaces.{in_newtype, in_option}
 use Rattle.kmip_ttlv_de.specs.RootFacts.{root_fault}
 
 pub returns-in_err-data-in-Option-clause-refused : goal.returns-in_err-data-in-Option-clause-refused

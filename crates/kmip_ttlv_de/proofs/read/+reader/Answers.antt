@@ -20,11 +20,11 @@ use Rattle.kmip_ttlv_de.proofs.SayLemmas.{field_item, field_says, item_past, lea
 use Rattle.kmip_ttlv_base.proofs.Views.{view-Newtype, view-NewtypeVariant, view-None, view-Seq, view-Some, view-Struct, view-TupleVariant}
 use Rattle.kmip_ttlv_base.proofs.Shapes.{content_of-Tuple, form_of-Enum, form_of-Struct}
 use Rattle.kmip_ttlv_de.proofs.WholeLemmas.{early_header, early_says}
-use Rattle.kmip_ttlv_de.specs.Answer.{sort_of}
+use Rattle.kmip_ttlv_de.specs.ReadAnswers.{sort_of}
 use Rattle.kmip_ttlv_de.specs.Facts.{for_tuple as wanted_tuple, missing_field, missing_part, of_field, ruled_unit, struct_place, surplus_item}
 use Rattle.kmip_ttlv_de.specs.Parts.{RuleChooses}
 use Rattle.kmip_ttlv_de.specs.Keeps.{keeps}
-use Rattle.kmip_ttlv_de.specs.Places.{HasType, IsFieldItem, IsLast, TupleRead, WholeItems, first_of_seq, for_struct, for_tuple, in_newtype, in_option, in_variant, inner_item, later_of_seq, stated_end}
+use Rattle.kmip_ttlv_de.specs.ReadPlaces.{HasType, IsFieldItem, IsLast, TupleRead, WholeItems, first_of_seq, for_struct, for_tuple, in_newtype, in_option, in_variant, inner_item, later_of_seq, stated_end}
 use Rattle.kmip_ttlv_de.specs.Reading.{got, mapped, read_content, read_enum, read_field, read_fields, read_forms, read_of, read_seq, read_struct, read_tuple, read_used, read_variant, ◌>>=◌}
 use Rattle.kmip_ttlv_de.specs.Reads.{is_option, is_struct, names}
 use Rattle.kmip_ttlv_de.specs.Rules.{by_value, choice, chosen}

@@ -2,7 +2,7 @@ use Rattle.std.proofs.Common.{◌≡◌, refl, sym}
 use Rattle.kmip_ttlv_base.specs.Forms.{variants_of}
 use Rattle.kmip_ttlv_de.proofs.SayLemmas.{mismatch_says, rule_facts}
 use Rattle.kmip_ttlv_de.specs.Keeps.{keeps}
-use Rattle.kmip_ttlv_de.specs.Places.{HasType}
+use Rattle.kmip_ttlv_de.specs.ReadPlaces.{HasType}
 use Rattle.kmip_ttlv_de.specs.Rules.{choice, choice_refused, mismatch_of}
 use Rattle.kmip_ttlv_de.proofs.read.chosen.Goals as goal
 

@@ -4,10 +4,10 @@ use Rattle.kmip_ttlv_de.proofs.read.goes_on.Goals as goal
 use Rattle.kmip_ttlv_types.specs.Places.{code_at, tag_at}
 use Rattle.kmip_ttlv_de.proofs.PartLemmas.{last_then, placed_then, seq_placed}
 use Rattle.kmip_ttlv_de.proofs.SayLemmas.{overflow_says}
-use Rattle.kmip_ttlv_de.specs.Places.{inner_item}
+use Rattle.kmip_ttlv_de.specs.ReadPlaces.{inner_item}
 use Rattle.kmip_ttlv_de.proofs.Going.{both_true, first_false, like_at, names_end, past_end, second_false}
 use Rattle.kmip_ttlv_de.proofs.Heads.{refused_any, refused_type}
-use Rattle.kmip_ttlv_de.specs.Answer.{sort_of}
+use Rattle.kmip_ttlv_de.specs.ReadAnswers.{sort_of}
 use Rattle.kmip_ttlv_de.specs.Reading.{got}
 use Rattle.kmip_ttlv_de.specs.Reads.{is_like}
 

@@ -10,9 +10,9 @@ use Rattle.kmip_ttlv_de.proofs.PartLemmas.{part_reached}
 use Rattle.kmip_ttlv_de.proofs.Going.{struct_not_type}
 use Rattle.kmip_ttlv_de.proofs.SayLemmas.{malformed_says, mismatch_says, not_structure}
 use Rattle.kmip_ttlv_de.proofs.WholeLemmas.{early_header, early_says}
-use Rattle.kmip_ttlv_de.specs.Answer.{sort_of}
+use Rattle.kmip_ttlv_de.specs.ReadAnswers.{sort_of}
 use Rattle.kmip_ttlv_de.specs.Facts.{for_struct, of_struct}
-use Rattle.kmip_ttlv_de.specs.Places.{HasType}
+use Rattle.kmip_ttlv_de.specs.ReadPlaces.{HasType}
 
 pub returns-in_err-typ-clause-says : goal.returns-in_err-typ-clause-says
 returns-in_err-typ-clause-says g c =

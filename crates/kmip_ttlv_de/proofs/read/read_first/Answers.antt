@@ -8,10 +8,10 @@ use Rattle.kmip_ttlv_de.proofs.RootLemmas.{first_found, first_refused, refusal_f
 use Rattle.kmip_ttlv_de.proofs.PartLemmas.{opened_inside, opened_read}
 use Rattle.kmip_ttlv_de.proofs.SayLemmas.{says_widened, says_within, sort_widened}
 use Rattle.kmip_ttlv_de.proofs.Whole.{refuses_widened}
-use Rattle.kmip_ttlv_de.specs.Answer.{sort_of}
+use Rattle.kmip_ttlv_de.specs.ReadAnswers.{sort_of}
 use Rattle.kmip_ttlv_de.specs.RootFacts.{named_fault, root_fault}
 use Rattle.kmip_ttlv_de.specs.Keeps.{keeps}
-use Rattle.kmip_ttlv_de.specs.Places.{root, stated_end}
+use Rattle.kmip_ttlv_de.specs.ReadPlaces.{root, stated_end}
 use Rattle.kmip_ttlv_de.specs.Reading.{read_fields}
 
 pub returns-in_err-tag-clause-refused : goal.returns-in_err-tag-clause-refused

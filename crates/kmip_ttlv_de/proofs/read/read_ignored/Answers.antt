@@ -11,9 +11,9 @@ use Rattle.kmip_ttlv_de.proofs.Ignoring.{either_valid, empty_length, fields_none
 use Rattle.kmip_ttlv_de.proofs.ReadLemmas.{is_structure_is}
 use Rattle.kmip_ttlv_de.proofs.SayLemmas.{mismatch_says, not_structure, words_say}
 use Rattle.kmip_ttlv_de.proofs.WholeLemmas.{early_header, early_item, early_says}
-use Rattle.kmip_ttlv_de.specs.Answer.{sort_of}
+use Rattle.kmip_ttlv_de.specs.ReadAnswers.{sort_of}
 use Rattle.kmip_ttlv_de.specs.Facts.{LeafRead, field_again, ignored, struct_place, unknown_field}
-use Rattle.kmip_ttlv_de.specs.Places.{HasType, LeafAt, StructRead, for_struct, inner_item}
+use Rattle.kmip_ttlv_de.specs.ReadPlaces.{HasType, LeafAt, StructRead, for_struct, inner_item}
 use Rattle.kmip_ttlv_de.specs.Reading.{rest_of}
 use Rattle.kmip_ttlv_de.specs.Reads.{names_tag}
 

@@ -6,8 +6,8 @@ use Rattle.kmip_ttlv_de.proofs.Going.{goes_nowhere, goes_refused, goes_then, pas
 use Rattle.kmip_ttlv_de.proofs.Heads.{refused_any}
 use Rattle.kmip_ttlv_de.proofs.SayLemmas.{overflow_says, says_goes}
 use Rattle.kmip_ttlv_de.proofs.PartLemmas.{inside_content, inside_then, whole_goes, whole_then}
-use Rattle.kmip_ttlv_de.specs.Answer.{sort_of}
-use Rattle.kmip_ttlv_de.specs.Places.{IsLast, WholeItems, for_struct}
+use Rattle.kmip_ttlv_de.specs.ReadAnswers.{sort_of}
+use Rattle.kmip_ttlv_de.specs.ReadPlaces.{IsLast, WholeItems, for_struct}
 use Rattle.kmip_ttlv_de.specs.Reading.{got, rest_of}
 
 pub read_ignored-requires : goal.read_ignored-requires

@@ -3,7 +3,7 @@ use Rattle.kmip_ttlv_base.specs.Errors.{invalid_tag, unexpected_tag}
 use Rattle.kmip_ttlv_types.specs.Names.{tag_of}
 use Rattle.kmip_ttlv_types.specs.Places.{tag_at}
 use Rattle.kmip_ttlv_de.proofs.SayLemmas.{mismatch_says}
-use Rattle.kmip_ttlv_de.specs.Places.{HasType}
+use Rattle.kmip_ttlv_de.specs.ReadPlaces.{HasType}
 use Rattle.kmip_ttlv_de.proofs.read.wrong_tag.Goals as goal
 
 pub returns-in-Some : goal.returns-in-Some

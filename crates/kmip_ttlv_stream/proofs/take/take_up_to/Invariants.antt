@@ -1,5 +1,5 @@
 use Rattle.std.proofs.Common.{◌≤◌, ◌-◌, vec_len}
-use Rattle.kmip_ttlv_stream.specs.Messages.{IsFilled}
+use Rattle.kmip_ttlv_stream.specs.StreamMessages.{IsFilled}
 use Rattle.kmip_ttlv_stream.proofs.take.take_up_to.Given as goal
 
 abbrev pub invariant-loop-bytes : goal.invariant-loop-bytes

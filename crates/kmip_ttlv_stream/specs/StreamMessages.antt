@@ -13,7 +13,7 @@ use Rattle.kmip_ttlv_base.specs.Errors.{Location, unknown, io_error, exceeds_lim
 use Rattle.kmip_ttlv_base.specs.Values.{Value}
 use Rattle.kmip_ttlv_base.specs.Forms.{Form}
 use Rattle.kmip_ttlv_de.specs.Reads.{Begins}
-use Rattle.kmip_ttlv_de.specs.Answer.{RefusalStands, early_end, sort_of}
+use Rattle.kmip_ttlv_de.specs.ReadAnswers.{RefusalStands, early_end, sort_of}
 use Rattle.kmip_ttlv_de.specs.Wholes.{BeginsWhole}
 use Rattle.kmip_ttlv_de.specs.RootFacts.{root_fault, RefusalFacts, Fault, IsFault}
 
