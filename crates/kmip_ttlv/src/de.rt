@@ -1,7 +1,6 @@
 //! Reading: values from bytes, and from a stream of bytes.
 
 pub use kmip_ttlv_de::{
-    from_slice, later_bytes, one_split, one_value, read_by_rules, small_messages,
-    what_begins_is_given,
+    from_slice, one_split, one_value, read_by_rules, small_messages, what_begins_is_given,
 };
 pub use kmip_ttlv_stream::{Config, from_reader};
