@@ -1,9 +1,12 @@
-//! Each growth refused in turn: want of memory, or the answer that comes with ample memory.
+//! Each growth refused in turn: want of memory, or the answer that comes with ample memory. And how
+//! much is asked for.
 
 use crate::samples::{MESSAGE, Single, Wanted, is_kept, is_memory, is_wanted, slow};
+use kmip_ttlv_base::types::stream::MemorySource;
 use kmip_ttlv_stream::{Config, from_reader};
-use refusing_allocator::RefusingAllocator;
+use refusing_allocator::{BoundedAllocator, RefusingAllocator};
 use std::alloc::Global;
+use std::io::ErrorKind;
 use std::test::Fail;
 
 // What one refused growth comes to.
@@ -84,5 +87,22 @@ fn a_second_message_takes_no_growth(rt: HostRuntime) -> Result<(), Fail> {
         }
     }
     assert!(rt; last == Outcome::Ample);
+    Ok(())
+}
+
+// Whether a stated length alone takes no memory: of a header that states more than four billion bytes
+// only a first piece is asked for.
+fn is_taken_by_pieces(alloc: Global) -> Result<bool, Fail> {
+    let stream = hex::decode(alloc, "AAAAAA01FFFFFFFF")?;
+    let heap = BoundedAllocator::new(alloc, 8 + 65_536);
+    let mut config = Config::new(&heap).with_read_buf();
+    let mut source = MemorySource(stream.as_slice());
+    let found = from_reader::<Single, _, _>(&heap, &mut source, &mut config);
+    Ok(is_wanted(&found, Wanted::Fault(ErrorKind::UnexpectedEof)))
+}
+
+#[test]
+fn a_stated_length_takes_no_memory(rt: HostRuntime) -> Result<(), Fail> {
+    assert!(rt; is_taken_by_pieces(rt.alloc())?);
     Ok(())
 }
