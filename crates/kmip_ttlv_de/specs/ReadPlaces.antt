@@ -1,4 +1,4 @@
--- Items that reading comes to, and the parts of a form by which it reads them.
+-- Items that reading may come to, and the parts of a form by which it reads them. The order of fields is left aside.
 use Rattle.std.specs.Prelude.{◌≡◌, ℕ, ◌+◌, ◌<◌, ◌≤◌, ◌⊎◌, Bool, true, List, length, take, drop, Some}
 use Rattle.kmip_ttlv_types.specs.declared.typ.TtlvType.{TtlvType}
 use Rattle.kmip_ttlv_types.specs.declared.typ.TtlvType.TheVariants.{Structure}
@@ -84,7 +84,7 @@ pub record GoesOnAt (b : List ℕ) (p q e : ℕ) : Type 0 where
   pub before : WholeItems b p q
   pub inside : q < e
 
--- Reading a form comes to a part of it, at the item p, in a group of items that ends at e. The innermost struct
+-- Reading a form may come to a part of it, at the item p, in a group of items that ends at e. The innermost struct
 -- around has the tag o.
 pub data PartAt (f : Form) (b : List ℕ) : Form → ℕ → ℕ → ℕ → Type 0 where
   root : is_root f ≡ true → PartAt f b f 0 0 (stated_end b 0)
@@ -114,7 +114,7 @@ pub data PartAt (f : Form) (b : List ℕ) : Form → ℕ → ℕ → ℕ → Typ
       → InContent b p q
       → PartAt f b s q o (stated_end b p)
 
--- reading goes into the Structure at p for this struct
+-- reading may go into the Structure at p for this struct, whose tag it has
 pub record StructRead (f : Form) (b name : List ℕ) (fs : Fields) (deny : Bool) (p : ℕ) : Type 0 where
   pub owner : ℕ
   pub end : ℕ
@@ -122,7 +122,7 @@ pub record StructRead (f : Form) (b name : List ℕ) (fs : Fields) (deny : Bool)
   pub named : tag_of name ≡ Some (tag_at b p)
   pub structure : IsStructure b p
 
--- reading goes into the Structure at p for this tuple, and the innermost struct around has the tag o
+-- reading may go into the Structure at p for this tuple, and the innermost struct around has the tag o
 pub record TupleRead (f : Form) (b : List ℕ) (ss : Forms) (p o : ℕ) : Type 0 where
   pub name : List ℕ
   pub variants : Variants
@@ -131,13 +131,13 @@ pub record TupleRead (f : Form) (b : List ℕ) (ss : Forms) (p o : ℕ) : Type 0
   pub is_chosen : RuleChooses variants Structure (tuple ss)
   pub structure : IsStructure b p
 
--- reading goes into the Structure at p
+-- reading may go into the Structure at p: for a struct or a tuple, and for none else
 pub data Opens (f : Form) (b : List ℕ) (p : ℕ) : Type 0 where
   for_struct : {name : List ℕ} {fs : Fields} {deny : Bool} → StructRead f b name fs deny p → Opens f b p
   for_tuple : {ss : Forms} {o : ℕ} → TupleRead f b ss p o → Opens f b p
 
--- Reading comes to this place, where an item may begin: the first one, or one within a Structure that reading goes
--- into. It goes into none that it ignores.
+-- Reading may come to this place, where an item may begin: the first one, or one within a Structure that a struct or a
+-- tuple may be read from.
 pub data ItemMayBegin (f : Form) (b : List ℕ) : ℕ → Type 0 where
   first_item : ItemMayBegin f b 0
   inner_item : {p q : ℕ} → Opens f b p → InContent b p q → ItemMayBegin f b q
