@@ -1,5 +1,5 @@
 -- The diagnostic of any bytes: a text of their number and their trace alone.
-use Rattle.std.specs.Prelude.{ℕ, Bool, List, [], ◌∷◌, codes}
+use Rattle.std.specs.Prelude.{ℕ, Bool, List, codes}
 use Rattle.kmip_ttlv_types.specs.Places.{tag_at}
 use Rattle.kmip_ttlv_util.specs.Outlines.{mark}
 use Rattle.kmip_ttlv_util.specs.Traces.{Entry, kept, Style, told}
