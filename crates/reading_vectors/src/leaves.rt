@@ -80,7 +80,7 @@ const NO_NUMBERS: [(&str, &str); 11] = [
 ];
 
 // Each field is judged as soon as it is there.
-const BEGINNINGS: [(&str, &str); 5] = [
+const BEGINNINGS: [(&str, &str); 6] = [
     (
         "AAAAAA02",
         "MalformedTtlv(UnexpectedType { expected: Structure, actual: Integer }); pos: 4 bytes, tag: 0xAAAAAA, type: Integer (0x02)",
@@ -88,6 +88,10 @@ const BEGINNINGS: [(&str, &str); 5] = [
     (
         "AAAAAA0C",
         "MalformedTtlv(InvalidType(12)); pos: 3 bytes, tag: 0xAAAAAA",
+    ),
+    (
+        "CCCCCC01",
+        "SerdeError(UnexpectedTag { expected: 0xAAAAAA, actual: 0xCCCCCC }); pos: 4 bytes, tag: 0xCCCCCC, type: Structure (0x01)",
     ),
     (
         "AAAAAA0100000010CCCCCC02",

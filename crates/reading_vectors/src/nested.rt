@@ -10,7 +10,7 @@ const SINGLE: &str = "AAAAAA0100000010BBBBBB02000000040000000300000000";
 const NESTED: &str = "AAAAAA0100000018BBBBBB0100000010CCCCCC02000000040000000300000000";
 
 // A struct in a field goes by its own name, and this one's is the item's tag.
-const NUMBER_IN_ONE: [(&str, &str); 2] = [
+const NUMBER_IN_ONE: [(&str, &str); 3] = [
     (
         NESTED,
         "Struct { name: \"0xAAAAAA\", fields: [Struct { name: \"0xBBBBBB\", fields: [I32(3)] }] }",
@@ -18,6 +18,10 @@ const NUMBER_IN_ONE: [(&str, &str); 2] = [
     (
         SINGLE,
         "MalformedTtlv(UnexpectedType { expected: Structure, actual: Integer }); pos: 12 bytes, parent tags: 0xAAAAAA, tag: 0xBBBBBB, type: Integer (0x02)",
+    ),
+    (
+        "AAAAAA0100000010CCCCCC01",
+        "SerdeError(UnexpectedTag { expected: 0xBBBBBB, actual: 0xCCCCCC }); pos: 12 bytes, parent tags: 0xAAAAAA, tag: 0xCCCCCC, type: Structure (0x01)",
     ),
 ];
 
