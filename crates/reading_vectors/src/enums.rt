@@ -230,15 +230,18 @@ fn tuples(rt: HostRuntime) -> Result<(), Fail> {
     )
 }
 
+const PASSED: &str =
+    "AAAAAA0100000028CCCCCC0100000014DDDDDD02000000040000000100000000EEEEEE02000000040000000200000000";
+
+const OVERFLOW: &str =
+    "MalformedTtlv(Overflow { field_end: ByteOffset(36) }); pos: 48 bytes, parent tags: 0xAAAAAA, tag: 0xEEEEEE, type: Integer (0x02)";
+
 // The end of a tuple that is passed, and a sequence as its last shape.
 #[test]
 fn ends_of_tuples(rt: HostRuntime) -> Result<(), Fail> {
     type Run = Sequence<Number>;
-    check::<Items<ThreeNumbers>>(
-        rt.alloc(),
-        "AAAAAA0100000028CCCCCC0100000014DDDDDD02000000040000000100000000EEEEEE02000000040000000200000000",
-        "MalformedTtlv(Overflow { field_end: ByteOffset(36) }); pos: 48 bytes, parent tags: 0xAAAAAA, tag: 0xEEEEEE, type: Integer (0x02)",
-    )?;
+    check::<Items<ThreeNumbers>>(rt.alloc(), PASSED, OVERFLOW)?;
+    check::<Items<TwoNumbers>>(rt.alloc(), PASSED, OVERFLOW)?;
     check::<Items<Tuple<Parts<Number, Parts<Run, NoParts>>>>>(
         rt.alloc(),
         THREE_ITEMS,
