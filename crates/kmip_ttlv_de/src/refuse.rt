@@ -3,13 +3,20 @@
 ghost use Rattle.std.specs.Prelude.{◌≡◌, ℕ, ◌+◌, ◌^◌, ◌<◌, ◌≤◌, ◌⊎◌, List, [], length, Some, None, codes};
 ghost use Rattle.kmip_ttlv_types.specs.declared.field.FieldType.TheVariants.{Length, Tag};
 ghost use Rattle.kmip_ttlv_types.specs.Places.{tag_at, code_at, length_at};
-ghost use Rattle.kmip_ttlv_base.specs.Errors.{malformed, mismatch, invalid_tag, missing_identifier, other_cause, unexpected_tag, unexpected_type, IsMemory, view_of_location};
+ghost use Rattle.kmip_ttlv_base.specs.Errors.{malformed, mismatch, invalid_tag, missing_identifier, other_cause};
+ghost use Rattle.kmip_ttlv_base.specs.Errors.{unexpected_tag, unexpected_type, IsMemory, view_of_location};
 ghost use Rattle.kmip_ttlv_base.specs.Forms.{Form};
-ghost use Rattle.kmip_ttlv_base.specs.declared.error.MalformedTtlvError.TheVariants.{InvalidType as InvalidTypeFault, InvalidLength as InvalidLengthFault, InvalidValue as InvalidValueFault, Overflow as OverflowFault, UnexpectedTtlvField as UnexpectedFieldFault, UnexpectedType as UnexpectedTypeFault};
+ghost use Rattle.kmip_ttlv_base.specs.declared.error.MalformedTtlvError.TheVariants.{InvalidType as InvalidTypeFault};
+ghost use Rattle.kmip_ttlv_base.specs.declared.error.MalformedTtlvError.TheVariants.{InvalidLength as InvalidLengthFault};
+ghost use Rattle.kmip_ttlv_base.specs.declared.error.MalformedTtlvError.TheVariants.{InvalidValue as InvalidValueFault};
+ghost use Rattle.kmip_ttlv_base.specs.declared.error.MalformedTtlvError.TheVariants.{Overflow as OverflowFault};
+ghost use Rattle.kmip_ttlv_base.specs.declared.error.MalformedTtlvError.TheVariants.{UnexpectedTtlvField as UnexpectedFieldFault};
+ghost use Rattle.kmip_ttlv_base.specs.declared.error.MalformedTtlvError.TheVariants.{UnexpectedType as UnexpectedTypeFault};
 ghost use Rattle.kmip_ttlv_de.specs.ReadAnswers.{sort_of, early_end};
 ghost use Rattle.kmip_ttlv_de.specs.ReadPlaces.{HasType};
 ghost use Rattle.kmip_ttlv_de.specs.Rules.{mismatch_of};
-ghost use Rattle.kmip_ttlv_de.specs.Facts.{tagged_place, item_place, code_place, struct_place, Facts, MayBeRefusal, Widened, cause_of, place_of};
+ghost use Rattle.kmip_ttlv_de.specs.Facts.{tagged_place, item_place, code_place, struct_place, Facts, MayBeRefusal};
+ghost use Rattle.kmip_ttlv_de.specs.Facts.{Widened, cause_of, place_of};
 ghost use Rattle.kmip_ttlv_de.specs.RootFacts.{Fault, at_first, no_struct_fault, leaf_fault};
 
 use crate::head::tag_at;
@@ -217,7 +224,8 @@ pub fn no_tag<A: Allocator + Copy>(
 
 /// The root struct's name, which is no tag.
 pub fn no_root_tag<A: Allocator + Copy>(alloc: A, name: &str) -> Error<A>
-    ensures fault { IsMemory result ⊎ ((cause_of result ≡ mismatch (invalid_tag name.now)) × (place_of result ≡ at_first)) }
+    ensures fault { IsMemory result
+        ⊎ ((cause_of result ≡ mismatch (invalid_tag name.now)) × (place_of result ≡ at_first)) }
 {
     match String::from_str(alloc, name) {
         Ok(name) => Error::new(
@@ -230,7 +238,9 @@ pub fn no_root_tag<A: Allocator + Copy>(alloc: A, name: &str) -> Error<A>
 
 /// A root that is a sequence or an enum.
 pub fn no_struct<A: Allocator + Copy>(alloc: A) -> Error<A>
-    ensures fault { (f : Fault) → no_struct_fault ≡ Some f → IsMemory result ⊎ ((cause_of result ≡ f.kind) × (place_of result ≡ f.place)) }
+    ensures fault { (f : Fault)
+        → no_struct_fault ≡ Some f
+        → IsMemory result ⊎ ((cause_of result ≡ f.kind) × (place_of result ≡ f.place)) }
 {
     match String::from_str(alloc, "no struct") {
         Ok(text) => Error::new(
@@ -256,7 +266,9 @@ fn other_field<A: Allocator>(
 
 /// A root that is a leaf.
 pub fn root_leaf<A: Allocator>() -> Error<A>
-    ensures fault { (f : Fault) → leaf_fault ≡ Some f → IsMemory result ⊎ ((cause_of result ≡ f.kind) × (place_of result ≡ f.place)) }
+    ensures fault { (f : Fault)
+        → leaf_fault ≡ Some f
+        → IsMemory result ⊎ ((cause_of result ≡ f.kind) × (place_of result ≡ f.place)) }
 {
     let first = ErrorLocation::at(Some(ByteOffset(0)), None, None, None);
     other_field(FieldType::Tag, FieldType::LengthAndValue, first)
