@@ -5,7 +5,7 @@ ghost use Rattle.std.specs.Prelude.{IfSome, IfNone};
 ghost use Rattle.kmip_ttlv_types.specs.ItemTypes.{code, type_of, padding, is_structure};
 ghost use Rattle.kmip_ttlv_types.specs.Places.{tag_at, code_at, length_at, size};
 ghost use Rattle.kmip_ttlv_base.specs.Errors.{malformed};
-ghost use Rattle.kmip_ttlv_base.specs.declared.error.MalformedTtlvError.TheVariants.{InvalidType as InvalidTypeFault};
+ghost use Rattle.kmip_ttlv_base.specs.declared.error.MalformedTtlvError.TheVariants as malformeds;
 ghost use Rattle.kmip_ttlv_base.specs.Forms.{Form};
 ghost use Rattle.kmip_ttlv_de.specs.ReadPlaces.{ItemMayBegin};
 ghost use Rattle.kmip_ttlv_de.specs.ReadAnswers.{sort_of, early_end};
@@ -34,7 +34,7 @@ pub fn type_at<A: Allocator>(bytes: &[u8], pos: usize) -> Result<TtlvType, A>
         ((sort_of r ≡ early_end) × (length bytes.now < pos + 4))
         ⊎ ((pos + 4 ≤ length bytes.now) × (type_of (code_at bytes.now pos) ≡ None))) }
     ensures fault { IfErr result (λ r. pos + 4 ≤ length bytes.now
-        → (cause_of r ≡ malformed (InvalidTypeFault (code_at bytes.now pos)))
+        → (cause_of r ≡ malformed (malformeds.InvalidType (code_at bytes.now pos)))
         × (place_of r ≡ code_place bytes.now pos)) }
     ensures says { IfErr result (λ r. (f : Form) (e : ℕ)
         → pos < e

@@ -1,7 +1,11 @@
 -- The texts that a value holds.
 use Rattle.std.specs.Prelude.{◌≡◌, ℕ, true, List}
 use Rattle.std.specs.Str.{is_utf8}
-use Rattle.kmip_ttlv_base.specs.Values.{Value, boolean_value, i8_value, i16_value, i32_value, u32_value, i64_value, u64_value, interval_value, text_value, bytes_value, big_integer_value, none_value, some_value, seq_value, struct_value, newtype_value, unit_variant_value, newtype_variant_value, tuple_variant_value, unsupported_value, Values, no_values, value}
+use Rattle.kmip_ttlv_base.specs.Values.{Value, boolean_value, i8_value, i16_value, i32_value, u32_value, i64_value}
+use Rattle.kmip_ttlv_base.specs.Values.{u64_value, interval_value, text_value, bytes_value, big_integer_value}
+use Rattle.kmip_ttlv_base.specs.Values.{none_value, some_value, seq_value, struct_value, newtype_value}
+use Rattle.kmip_ttlv_base.specs.Values.{unit_variant_value, newtype_variant_value, tuple_variant_value}
+use Rattle.kmip_ttlv_base.specs.Values.{unsupported_value, Values, no_values, value}
 
 -- each text in the value is such a one
 abbrev mutual
