@@ -1,5 +1,6 @@
 -- What was taken from a reader, and the bytes that hexadecimal text stands for.
-use Rattle.std.specs.Prelude.{◌≡◌, ℕ, ◌-◌, Bool, false, not, ◌==◌, ◌||◌, List, ◌++◌, ◌<◌, length, slice_index, filter, Option, Result, IsErr}
+use Rattle.std.specs.Prelude.{◌≡◌, ℕ, ◌-◌, Bool, false, not, ◌==◌, ◌||◌, List, ◌++◌, ◌<◌, length, slice_index, filter}
+use Rattle.std.specs.Prelude.{Option, Result, IsErr}
 use Rattle.std.specs.List.{AllPass}
 use Rattle.std.specs.Str.{IsUtf8}
 use Rattle.std.specs.Io.KnownBytes.{Consumes, IsAtEnd}

@@ -18,7 +18,10 @@ read_pair first second = struct_value (codes "0xAAAAAA") (value (i32_value first
 
 -- what the pair of these numbers is written as
 abbrev pub written_pair : ℤ → ℤ → Value
-written_pair first second = struct_value (codes "0xAAAAAA") (value (newtype_value (codes "Transparent:0xBBBBBB") (i32_value first)) (value (newtype_value (codes "Transparent:0xCCCCCC") (i32_value second)) no_values))
+written_pair first second =
+    struct_value (codes "0xAAAAAA") (
+    value (newtype_value (codes "Transparent:0xBBBBBB") (i32_value first)) (
+    value (newtype_value (codes "Transparent:0xCCCCCC") (i32_value second)) no_values))
 
 -- the item that the pair of these numbers is written as
 abbrev pub pair_tree : ℤ → ℤ → Tree
@@ -30,4 +33,9 @@ pair_tree first second = node 0xAAAAAA (tree (number_leaf 0xBBBBBB first) (tree 
 -- the two numbers and the pair's canonical bytes, a line each
 abbrev pub pair_text : ℤ → ℤ → List ℕ
 pair_text first second =
-    codes "0xBBBBBB " ++ (signed_decimal first ++ (codes "\n0xCCCCCC " ++ (signed_decimal second ++ (codes "\n" ++ (encode_upper (bytes (pair_tree first second)) ++ codes "\n")))))
+    codes "0xBBBBBB "
+    ++ (signed_decimal first
+    ++ (codes "\n0xCCCCCC "
+    ++ (signed_decimal second
+    ++ (codes "\n"
+    ++ (encode_upper (bytes (pair_tree first second)) ++ codes "\n")))))

@@ -3,7 +3,8 @@ use Rattle.std.specs.Prelude.{ℕ, List, Option, Some, None, Result, Ok, Err}
 use Rattle.std.specs.Io.KnownBytes.{Appends, Keeps}
 use Rattle.kmip_ttlv.specs.Streams.{AppendsFront}
 use Rattle.hex_to_txt_run.specs.Inputs.{TakesAll}
-use Rattle.hex_to_txt_run.specs.Reasons.{Reason, unknown_words, unreadable_input, unwritable_output, refused_memory, line_of}
+use Rattle.hex_to_txt_run.specs.Reasons.{Reason, unknown_words, unreadable_input, unwritable_output, refused_memory}
+use Rattle.hex_to_txt_run.specs.Reasons.{line_of}
 use Rattle.hex_to_txt_run.specs.Tasks.{Task}
 use Rattle.hex_to_txt_run.specs.TaskTexts.{TaskPrints, TaskRefuses}
 

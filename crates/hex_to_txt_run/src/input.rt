@@ -1,9 +1,11 @@
 //! The program's input: all bytes of a reader, and what they stand for.
 
-ghost use Rattle.std.specs.Prelude.{◌≡◌, ◌≤◌, ◌<◌, ◌+◌, length, take, drop, Ok, IfSome, IfNone, IfOk, IfErr, OnOk, OnErr, filter, vec_len};
+ghost use Rattle.std.specs.Prelude.{◌≡◌, ◌≤◌, ◌<◌, ◌+◌, length, take, drop, Ok, IfSome, IfNone, IfOk, IfErr, OnOk};
+ghost use Rattle.std.specs.Prelude.{OnErr, filter, vec_len};
 ghost use Rattle.std.specs.Io.{ReadsAtMost};
 ghost use Rattle.std.specs.Io.KnownBytes.{Consumes, IsAtEnd, Keeps};
-ghost use Rattle.hex_to_txt_run.specs.Inputs.{TakesAll, is_kept, decoded, IsUnread, IsUndecoded, is_break, CutAtEnd, CutText, CutNoText};
+ghost use Rattle.hex_to_txt_run.specs.Inputs.{TakesAll, is_kept, decoded, IsUnread, IsUndecoded, is_break, CutAtEnd};
+ghost use Rattle.hex_to_txt_run.specs.Inputs.{CutText, CutNoText};
 ghost use Rattle.hex_to_txt_run.specs.Reasons.{reason_of};
 
 use crate::refusal::Refusal;
@@ -40,7 +42,8 @@ fn read_at<A: Allocator, R: Read>(
     ensures len { vec_len bytes.new ≡ vec_len bytes.old }
     ensures front { take at bytes.new.items ≡ take at bytes.old.items }
     ensures fits { IfOk result (λ n. at + n ≤ vec_len bytes.new) }
-    ensures ok { IfOk result (λ n. Consumes (R.remaining input.old) (R.remaining input.new) (take n (drop at bytes.new.items))) }
+    ensures ok { IfOk result (λ n. Consumes (R.remaining input.old) (R.remaining input.new)
+        (take n (drop at bytes.new.items))) }
     ensures end { IfOk result (λ n. n ≡ 0 → IsAtEnd (R.remaining input.new)) }
     ensures err { OnErr result (Keeps (R.remaining input.old) (R.remaining input.new)) }
 {

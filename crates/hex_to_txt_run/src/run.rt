@@ -24,7 +24,12 @@ fn respond<A: Allocator + Copy, B: Allocator, R: Read, W: Write>(
     output: &mut W,
 ) -> Result<(), Refusal<A>>
     ensures { Responds reason_of (task_of (map string_bytes words.now))
-        (record { input = R.remaining input.old; input_left = R.remaining input.new; output = W.contents output.old; output_now = W.contents output.new }) result }
+        (record {
+          input = R.remaining input.old;
+          input_left = R.remaining input.new;
+          output = W.contents output.old;
+          output_now = W.contents output.new;
+        }) result }
 {
     let Some(task) = task_of(words) else {
         return Err(Refusal::UnknownWords);
@@ -52,11 +57,21 @@ pub fn run<A: Allocator + Copy, B: Allocator, R: Read, W: Write, E: Write>(
     ensures status { result ≤ 1 }
     // With status 0 the text of the whole input was appended to the output, and nothing else.
     ensures printed { result ≡ 0 → Printed (task_of (map string_bytes words.now))
-        (record { input = R.remaining input.old; input_left = R.remaining input.new; output = W.contents output.old; output_now = W.contents output.new })
+        (record {
+          input = R.remaining input.old;
+          input_left = R.remaining input.new;
+          output = W.contents output.old;
+          output_now = W.contents output.new;
+        })
         × Keeps (E.contents errors.old) (E.contents errors.new) }
     // With status 1 there is a reason, which is true of the words and the input.
     ensures failed { result ≡ 1 → Failed (task_of (map string_bytes words.now))
-        (record { input = R.remaining input.old; input_left = R.remaining input.new; output = W.contents output.old; output_now = W.contents output.new })
+        (record {
+          input = R.remaining input.old;
+          input_left = R.remaining input.new;
+          output = W.contents output.old;
+          output_now = W.contents output.new;
+        })
         (E.contents errors.old) (E.contents errors.new) }
     // Where no text is the input's, the output gets nothing.
     ensures nothing { HasNoText (task_of (map string_bytes words.now)) (R.remaining input.old)

@@ -1,5 +1,4 @@
--- Each definition that a public contract cites, under one name. Where two parts have a file of the
--- same name, the upper part's has another one here.
+-- Each definition that a public contract cites, under one name: no two parts have a file of the same name.
 pub use Rattle.kmip_ttlv_types.specs.ItemTypes
 pub use Rattle.kmip_ttlv_types.specs.Leaves
 pub use Rattle.kmip_ttlv_types.specs.Items
@@ -36,6 +35,8 @@ pub use Rattle.kmip_ttlv_de.specs.ReadAnswers
 pub use Rattle.kmip_ttlv_stream.specs.Settings
 pub use Rattle.kmip_ttlv_stream.specs.StreamMessages
 pub use Rattle.kmip_ttlv_util.specs.Outlines
+pub use Rattle.kmip_ttlv_util.specs.Entries
+pub use Rattle.kmip_ttlv_util.specs.WalkPlaces
 pub use Rattle.kmip_ttlv_util.specs.Traces
 pub use Rattle.kmip_ttlv_util.specs.Diagnostics
 pub use Rattle.kmip_ttlv_util.specs.TagNames

@@ -2,7 +2,7 @@
 use Rattle.std.proofs.Common.{◌≡◌, ℕ, ℤ, List, Bool as Boole, String, Vec, Box, Bor, string_bytes, rules}
 use Rattle.kmip_ttlv_base.specs.declared.shape.Data.{Data, the_lemmas}
 use Rattle.kmip_ttlv_base.specs.declared.shape.Data.TheVariants.{Bool, I8, I16, I32, U32, I64, U64, Interval, Text, Bytes, BigInteger, None, Some, Seq, Struct, Newtype, UnitVariant, NewtypeVariant, TupleVariant, Unsupported}
-use Rattle.kmip_ttlv_base.specs.Values.{view, views, boolean_value, i8_value, i16_value, i32_value, u32_value, i64_value, u64_value, interval_value, text_value, bytes_value, big_integer_value, none, some, seq_value, struct_value, newtype_value, unit_variant_value, newtype_variant_value, tuple_variant_value, unsupported_value}
+use Rattle.kmip_ttlv_base.specs.Values.{view, views, boolean_value, i8_value, i16_value, i32_value, u32_value, i64_value, u64_value, interval_value, text_value, bytes_value, big_integer_value, none_value, some_value, seq_value, struct_value, newtype_value, unit_variant_value, newtype_variant_value, tuple_variant_value, unsupported_value}
 
 pub view-Bool : (A : Type 0) (b : Boole) → view {A = A} (Bool b) ≡ boolean_value b
 view-Bool A b = search (rules, the_lemmas)
@@ -37,10 +37,10 @@ view-Bytes v = search (rules, the_lemmas)
 pub view-BigInteger : {A : Type 0} (v : Vec ℕ A) → view (BigInteger v) ≡ big_integer_value v.items
 view-BigInteger v = search (rules, the_lemmas)
 
-pub view-None : (A : Type 0) → view {A = A} None ≡ none
+pub view-None : (A : Type 0) → view {A = A} None ≡ none_value
 view-None A = search (rules, the_lemmas)
 
-pub view-Some : {A : Type 0} (b : Box (Data A) A) → view (Some b) ≡ some (view b.value)
+pub view-Some : {A : Type 0} (b : Box (Data A) A) → view (Some b) ≡ some_value (view b.value)
 view-Some b = search (rules, the_lemmas)
 
 pub view-Seq : {A : Type 0} (v : Vec (Data A) A) → view (Seq v) ≡ seq_value (views v.items)

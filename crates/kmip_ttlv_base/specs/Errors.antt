@@ -1,5 +1,6 @@
 -- Why a call refuses and where, without where it lies in memory.
-use Rattle.std.specs.Prelude.{◌≡◌, ℕ, Bool, true, false, List, [], ◌∷◌, Option, Some, None, option_map, string_bytes, is_none, ◌&&◌, ◌⊎◌, ◌-◌, ◌^◌, ◌==◌, if◌then◌else◌, codes}
+use Rattle.std.specs.Prelude.{◌≡◌, ℕ, Bool, true, false, List, [], ◌∷◌, Option, Some, None, option_map, string_bytes}
+use Rattle.std.specs.Prelude.{is_none, ◌&&◌, ◌⊎◌, ◌-◌, ◌^◌, ◌==◌, if◌then◌else◌, codes}
 use Rattle.std.specs.declared.vec.Vec.{Vec}
 use Rattle.std.specs.IoError.{error_kind}
 use Rattle.std.specs.declared.io.ErrorKind.{ErrorKind as IoKind}
@@ -74,7 +75,8 @@ tags_of (Some tags) = tags.items
 
 -- the place that a location is
 abbrev pub view_of_location : {A : Type 0} → ErrorLocation A → Location
-view_of_location l = record { offset = option_map (λ o. o.0) l.offset; parents = tags_of l.parent_tags; tag = l.tag; typ = l.typ }
+view_of_location l =
+    record { offset = option_map (λ o. o.0) l.offset; parents = tags_of l.parent_tags; tag = l.tag; typ = l.typ }
 
 -- whether a list has nothing in it
 abbrev pub is_empty : List ℕ → Bool
@@ -118,12 +120,16 @@ invalid_operation = codes "Internal error: invalid state machine operaiton"
 -- the kind that a low-level refusal is; where a text is copied, memory may be refused
 abbrev pub IsKindOf : {A B : Type 0} → LowError B → ErrorKind A → Type 0
 IsKindOf (lows.IoError e) k = k ≡ kinds.IoError e
-IsKindOf (lows.InvalidTtlvTag text) k = (view_of_kind k ≡ mismatch (invalid_tag (string_bytes text))) ⊎ (k ≡ kinds.OutOfMemory)
-IsKindOf (lows.UnexpectedTtlvField expected actual) k = view_of_kind k ≡ malformed (malforms.UnexpectedTtlvField expected actual)
+IsKindOf (lows.InvalidTtlvTag text) k =
+    (view_of_kind k ≡ mismatch (invalid_tag (string_bytes text))) ⊎ (k ≡ kinds.OutOfMemory)
+IsKindOf (lows.UnexpectedTtlvField expected actual) k =
+    view_of_kind k ≡ malformed (malforms.UnexpectedTtlvField expected actual)
 IsKindOf (lows.UnsupportedTtlvType code) k = view_of_kind k ≡ malformed (malforms.UnsupportedType code)
 IsKindOf (lows.InvalidTtlvType code) k = view_of_kind k ≡ malformed (malforms.InvalidType code)
-IsKindOf (lows.InvalidTtlvValueLength expected actual typ) k = view_of_kind k ≡ malformed (malforms.InvalidLength expected actual typ)
+IsKindOf (lows.InvalidTtlvValueLength expected actual typ) k =
+    view_of_kind k ≡ malformed (malforms.InvalidLength expected actual typ)
 IsKindOf (lows.InvalidTtlvValue typ) k = view_of_kind k ≡ malformed (malforms.InvalidValue typ)
-IsKindOf lows.InvalidStateMachineOperation k = (view_of_kind k ≡ mismatch (other_cause invalid_operation)) ⊎ (k ≡ kinds.OutOfMemory)
+IsKindOf lows.InvalidStateMachineOperation k =
+    (view_of_kind k ≡ mismatch (other_cause invalid_operation)) ⊎ (k ≡ kinds.OutOfMemory)
 IsKindOf lows.OutOfMemory k = k ≡ kinds.OutOfMemory
 IsKindOf lows.LengthOverflow k = k ≡ kinds.LengthOverflow

@@ -1,8 +1,10 @@
 -- A shape without where it lies in memory.
 use Rattle.std.specs.Prelude.{ℕ, Bool, List, [], ◌∷◌}
-use Rattle.kmip_ttlv_base.specs.declared.shape.Shape.{Shape, Row_of-FieldShape, end_of-FieldShape, more_of-FieldShape, Row_of-VariantShape, end_of-VariantShape, more_of-VariantShape}
+use Rattle.kmip_ttlv_base.specs.declared.shape.Shape.{Shape, Row_of-FieldShape, end_of-FieldShape, more_of-FieldShape}
+use Rattle.kmip_ttlv_base.specs.declared.shape.Shape.{Row_of-VariantShape, end_of-VariantShape, more_of-VariantShape}
 use Rattle.kmip_ttlv_base.specs.declared.shape.Shape.TheVariants as shapes
-use Rattle.kmip_ttlv_base.specs.declared.shape.VariantContent.{VariantContent, Row_of-Shape, end_of-Shape, more_of-Shape}
+use Rattle.kmip_ttlv_base.specs.declared.shape.VariantContent.{VariantContent, Row_of-Shape, end_of-Shape}
+use Rattle.kmip_ttlv_base.specs.declared.shape.VariantContent.{more_of-Shape}
 use Rattle.kmip_ttlv_base.specs.declared.shape.VariantContent.TheVariants as contents
 use Rattle.kmip_ttlv_base.specs.declared.shape.FieldShape.{FieldShape}
 use Rattle.kmip_ttlv_base.specs.declared.shape.VariantShape.{VariantShape}

@@ -1,7 +1,12 @@
 -- The values that a form can give: of its kind and its names.
 use Rattle.std.specs.Prelude.{◌≡◌, ℕ, List, ◌⊎◌}
-use Rattle.kmip_ttlv_base.specs.Values.{Value, boolean_value, i32_value, i64_value, interval_value, text_value, bytes_value, big_integer_value, none, some, seq_value, struct_value, newtype_value, unit_variant_value, newtype_variant_value, tuple_variant_value, Values, no_values, value}
-use Rattle.kmip_ttlv_base.specs.Forms.{Form, struct, option, seq, newtype, enum, int32, int64, boolean, text, octets, interval, big_integer, Fields, no_fields, field, Variants, no_variants, variant, Content, unit, wrapped, tuple, Forms, no_forms, form}
+use Rattle.kmip_ttlv_base.specs.Values.{Value, boolean_value, i32_value, i64_value, interval_value, text_value}
+use Rattle.kmip_ttlv_base.specs.Values.{bytes_value, big_integer_value, none_value, some_value, seq_value, struct_value}
+use Rattle.kmip_ttlv_base.specs.Values.{newtype_value, unit_variant_value, newtype_variant_value, tuple_variant_value}
+use Rattle.kmip_ttlv_base.specs.Values.{Values, no_values, value}
+use Rattle.kmip_ttlv_base.specs.Forms.{Form, struct, option, seq, newtype, enum, int32, int64, boolean, text, octets}
+use Rattle.kmip_ttlv_base.specs.Forms.{interval, big_integer, Fields, no_fields, field, Variants, no_variants, variant}
+use Rattle.kmip_ttlv_base.specs.Forms.{Content, unit, wrapped, tuple, Forms, no_forms, form}
 
 -- a number that an Integer is
 abbrev pub IsI32 : Value → Type 0
@@ -40,8 +45,8 @@ IsBigInteger _ = ⊥
 
 -- an option is None, or Some of what the form inside gives
 abbrev pub OptionGives : (Value → Type 0) → Value → Type 0
-OptionGives gives none = Unit {0}
-OptionGives gives (some v) = gives v
+OptionGives gives none_value = Unit {0}
+OptionGives gives (some_value v) = gives v
 OptionGives gives _ = ⊥
 
 -- each value is one that the form gives

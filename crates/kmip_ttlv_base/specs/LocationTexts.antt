@@ -1,5 +1,6 @@
 -- How places are printed.
-use Rattle.std.specs.Prelude.{◌≡◌, ℕ, Bool, true, List, [], ◌∷◌, ◌++◌, Option, Some, None, option_map, is_none, ◌&&◌, if◌then◌else◌, codes, Result, IfOk}
+use Rattle.std.specs.Prelude.{◌≡◌, ℕ, Bool, true, List, [], ◌∷◌, ◌++◌, Option, Some, None, option_map, is_none, ◌&&◌}
+use Rattle.std.specs.Prelude.{if◌then◌else◌, codes, Result, IfOk}
 use Rattle.std.specs.List.{flat_map}
 use Rattle.std.specs.Fmt.{decimal, HasWritten, IsPlainFormatter}
 use Rattle.std.specs.declared.fmt.Formatter.{Formatter}
@@ -34,8 +35,13 @@ location_text l =
     let typ = option_map (λ t. codes "type: " ++ type_text t) l.typ in
     if is_nowhere l then codes "Unknown" else
     part_text true position ++ (part_text (is_none position) parents
-    ++ (part_text (is_none position && is_none parents) tag ++ part_text (is_none position && is_none parents && is_none tag) typ))
+    ++ (part_text (is_none position && is_none parents) tag
+    ++ part_text (is_none position && is_none parents && is_none tag) typ))
 
 -- a part was written, and the answer is whether the next part is the first
-abbrev pub WritesPart : {W E : Type 0} → (W → List ℕ → W → Type 0) → Formatter W → Bool → Option (List ℕ) → Result Bool E → Formatter W → Type 0
-WritesPart took f is_first part result g = IsPlainFormatter f → IfOk result (λ next. HasWritten took f (part_text is_first part) g × (next ≡ is_first && is_none part))
+abbrev pub WritesPart :
+    {W E : Type 0} → (W → List ℕ → W → Type 0)
+    → Formatter W → Bool → Option (List ℕ) → Result Bool E → Formatter W → Type 0
+WritesPart took f is_first part result g =
+    IsPlainFormatter f
+    → IfOk result (λ next. HasWritten took f (part_text is_first part) g × (next ≡ is_first && is_none part))

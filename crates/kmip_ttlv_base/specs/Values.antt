@@ -17,8 +17,8 @@ mutual
     text_value : List ℕ → Value
     bytes_value : List ℕ → Value
     big_integer_value : List ℕ → Value
-    none : Value
-    some : Value → Value
+    none_value : Value
+    some_value : Value → Value
     seq_value : Values → Value
     struct_value : (name : List ℕ) → Values → Value
     newtype_value : (name : List ℕ) → Value → Value
@@ -50,8 +50,8 @@ view_step (layer.Interval n) = interval_value n
 view_step (layer.Text s) = text_value (string_bytes s)
 view_step (layer.Bytes v) = bytes_value v.items
 view_step (layer.BigInteger v) = big_integer_value v.items
-view_step layer.None = none
-view_step (layer.Some b) = some b.value
+view_step layer.None = none_value
+view_step (layer.Some b) = some_value b.value
 view_step (layer.Seq v) = seq_value (values_of v.items)
 view_step (layer.Struct name fields) = struct_value name.now (values_of fields.items)
 view_step (layer.Newtype name inner) = newtype_value name.now inner.value

@@ -1,10 +1,15 @@
 //! Why a call refuses, and where.
 
 ghost use Rattle.std.specs.Prelude.{◌≡◌, Some, None, IfSome, IfNone, option_map};
-ghost use Rattle.kmip_ttlv_base.specs.Errors.{Kind, out_of_memory, Location, unknown, kind_of, view_of_kind, location_of, view_of_location, is_nowhere, tags_of, only_offset, only_small_offset, IsOverflow, IsKindOf};
+ghost use Rattle.kmip_ttlv_base.specs.Errors.{Kind, out_of_memory, Location, unknown, kind_of, view_of_kind};
+ghost use Rattle.kmip_ttlv_base.specs.Errors.{location_of, view_of_location, is_nowhere, tags_of, only_offset};
+ghost use Rattle.kmip_ttlv_base.specs.Errors.{only_small_offset, IsOverflow, IsKindOf};
 ghost use Rattle.kmip_ttlv_base.specs.LocationTexts.{location_text};
 ghost use Rattle.std.specs.Io.Cursor.{cursor_position};
-ghost use Rattle.kmip_ttlv_base.specs.declared.error.ErrorKind.TheVariants.{IoError as IoErrorKind, MalformedTtlv as MalformedKind, SerdeError as SerdeKind, OutOfMemory as MemoryKind};
+ghost use Rattle.kmip_ttlv_base.specs.declared.error.ErrorKind.TheVariants.{IoError as IoErrorKind};
+ghost use Rattle.kmip_ttlv_base.specs.declared.error.ErrorKind.TheVariants.{MalformedTtlv as MalformedKind};
+ghost use Rattle.kmip_ttlv_base.specs.declared.error.ErrorKind.TheVariants.{SerdeError as SerdeKind};
+ghost use Rattle.kmip_ttlv_base.specs.declared.error.ErrorKind.TheVariants.{OutOfMemory as MemoryKind};
 
 use crate::location::{write_parents, write_position, write_tag, write_type};
 use crate::types;
@@ -286,7 +291,8 @@ impl<A: Allocator> ErrorLocation<A> {
         tag: Option<TtlvTag>,
         typ: Option<TtlvType>,
     ) -> ErrorLocation<A>
-        ensures { view_of_location result ≡ record { offset = option_map (λ o. o.0) offset; parents = tags_of parent_tags; tag = tag; typ = typ } }
+        ensures { view_of_location result
+            ≡ record { offset = option_map (λ o. o.0) offset; parents = tags_of parent_tags; tag = tag; typ = typ } }
     {
         ErrorLocation {
             offset,
@@ -346,7 +352,13 @@ impl<A: Allocator> ErrorLocation<A> {
         Option<TtlvTag>,
         Option<TtlvType>,
     )
-        ensures { view_of_location self ≡ record { offset = option_map (λ o. o.0) result.0; parents = tags_of result.1; tag = result.2; typ = result.3 } }
+        ensures { view_of_location self
+            ≡ record {
+              offset = option_map (λ o. o.0) result.0;
+              parents = tags_of result.1;
+              tag = result.2;
+              typ = result.3;
+            } }
     {
         let ErrorLocation {
             offset,

@@ -49,7 +49,8 @@ pub fn write_tag<W: fmt::Write>(
     is_first: bool,
     tag: Option<TtlvTag>,
 ) -> Result<bool, fmt::Error>
-    ensures { WritesPart W.write_str_gives f.old is_first (option_map (λ t. codes "tag: " ++ tag_text t) tag) result f.new }
+    ensures { WritesPart W.write_str_gives f.old is_first
+        (option_map (λ t. codes "tag: " ++ tag_text t) tag) result f.new }
 {
     let Some(tag) = tag else {
         return Ok(is_first);
@@ -66,7 +67,8 @@ pub fn write_type<W: fmt::Write>(
     is_first: bool,
     typ: Option<TtlvType>,
 ) -> Result<bool, fmt::Error>
-    ensures { WritesPart W.write_str_gives f.old is_first (option_map (λ t. codes "type: " ++ type_text t) typ) result f.new }
+    ensures { WritesPart W.write_str_gives f.old is_first
+        (option_map (λ t. codes "type: " ++ type_text t) typ) result f.new }
 {
     let Some(typ) = typ else {
         return Ok(is_first);

@@ -6,7 +6,7 @@ use Rattle.kmip_ttlv_types.specs.Items.{Raw}
 use Rattle.kmip_ttlv_types.specs.declared.typ.TtlvType.{TtlvType}
 use Rattle.kmip_ttlv_base.specs.Forms.{Content, Fields, Form, Forms, Variants, big_integer, boolean, enum, int32, int64, interval, newtype, no_variants, octets, option, seq, struct, text, tuple, unit, variant, wrapped}
 use Rattle.kmip_ttlv_base.specs.Gives.{ContentGives, EachGives, FieldsGive, FormsGive, Gives, VariantsGive}
-use Rattle.kmip_ttlv_base.specs.Values.{Value, Values, none, unit_variant_value}
+use Rattle.kmip_ttlv_base.specs.Values.{Value, Values, none_value, unit_variant_value}
 use Rattle.kmip_ttlv_de.specs.Keeps.{Keep}
 use Rattle.kmip_ttlv_de.specs.Reads.{Begins, Reads, ReadsContent, ReadsField, ReadsFields, ReadsForms, ReadsRun, ReadsVariant, absent, by_number, by_rule, done, ends, first_named, here, inner, is_option, leaf, leaf_value, more, named, next, no_part, number_text, part, parts, run, structure, takes, there, whole, wrap, wrap_some}
 
@@ -24,7 +24,7 @@ leaf_gives octets t c e = tt
 leaf_gives interval t c e = tt
 leaf_gives big_integer t c e = tt
 
-absent_gives : (s : Form) → is_option s ≡ true → Gives s none
+absent_gives : (s : Form) → is_option s ≡ true → Gives s none_value
 absent_gives (struct name fs deny) e = absurd cc
 absent_gives (option s) e = tt
 absent_gives (seq s) e = absurd cc

@@ -11,7 +11,7 @@ use Rattle.kmip_ttlv_types.specs.declared.typ.TtlvType.{TtlvType}
 use Rattle.kmip_ttlv_types.specs.declared.typ.TtlvType.TheVariants.{BigInteger, Boolean, ByteString, DateTime, Enumeration, Integer, Interval, LongInteger, Structure, TextString}
 use Rattle.kmip_ttlv_base.specs.Errors.{Mismatch}
 use Rattle.kmip_ttlv_base.specs.Forms.{Fields, Form, Variants, big_integer, boolean, content_of, enum, field, fields_of, form, form_of, forms_of, int32, int64, interval, newtype, octets, option, seq, struct, text, variants_of}
-use Rattle.kmip_ttlv_base.specs.Values.{Value, Values, no_values, none, seq_value, struct_value, value, view, views}
+use Rattle.kmip_ttlv_base.specs.Values.{Value, Values, no_values, none_value, seq_value, struct_value, value, view, views}
 use Rattle.kmip_ttlv_base.specs.declared.error.Error.{Error}
 use Rattle.kmip_ttlv_base.specs.declared.shape.Data.{Data}
 use Rattle.kmip_ttlv_base.specs.declared.shape.FieldShape.{FieldShape}
@@ -21,7 +21,8 @@ use Rattle.kmip_ttlv_de.proofs.Front.{join_more, join_nil, seq_front, with_front
 use Rattle.kmip_ttlv_de.proofs.Heads.{accepted_leaf, code_more, first_of_items, goes_item, item_more, length_more, refused_any, refused_first, tag_more}
 use Rattle.kmip_ttlv_types.proofs.PlaceLemmas.{code_one, item_one, items_at_splits, items_in_order, raw_with, splits_items_at}
 use Rattle.kmip_ttlv_de.proofs.ReadLemmas.{option_no_struct, reads_read_of, reads_shorter, split_of_splits, splits_split_of}
-use Rattle.kmip_ttlv_de.specs.ReadAnswers.{Accepted, Answers, Goes, ReadsNothing, Sort, early_end, memory, other, sort_of}
+use Rattle.kmip_ttlv_de.specs.ReadAnswers.{Sort, early_end, memory, other, sort_of}
+use Rattle.kmip_ttlv_de.specs.ReaderSteps.{Accepted, Answers, Goes, ReadsNothing}
 use Rattle.kmip_ttlv_de.specs.Keeps.{Keep}
 use Rattle.kmip_ttlv_de.specs.ReadPlaces.{LeafAt, StructAt}
 use Rattle.kmip_ttlv_de.specs.Reading.{FieldsReader, Got, Reader, ended, got, read_all, read_choice, read_content, read_enum, read_field, read_fields, read_forms, read_number, read_of, read_seq, read_struct, read_tuple, read_used, read_variant, rest_of, run_of, split_of, used_up, ◌>>=◌}
@@ -232,7 +233,7 @@ read_nil big_integer k = refl
 pub field_missing : (name : List ℕ) (s : Form) (k : List Keep) → is_option s ≡ false → read_field name s (read_of s) k [] ≡ None
 field_missing name s k o = rw (read_nil s k, o) (elim (is_struct s) as (λ t. ◌≡◌ {A = Option (Got Value)} (cond t None None) None) [ true ↦ refl | false ↦ refl ])
 
-pub field_absent : (name : List ℕ) (s : Form) (k : List Keep) (zs : List Raw) → is_option s ≡ true → names name zs ≡ false → read_field name s (read_of s) k zs ≡ got none k zs
+pub field_absent : (name : List ℕ) (s : Form) (k : List Keep) (zs : List Raw) → is_option s ≡ true → names name zs ≡ false → read_field name s (read_of s) k zs ≡ got none_value k zs
 field_absent name s k zs o n = rw (option_no_struct s o, n, o) refl
 
 pub names_not : (name : List ℕ) (x : Raw) (xs : List Raw) (t : ℕ) → (tag_of name ≡ Some t → ⊥) → x.tag ≡ t → names name (x ∷ xs) ≡ false
@@ -269,7 +270,7 @@ pub answers_via : {V X A : Type 0} (view' : X → V) (r s : Reads' V) (b : List 
 answers_via view' r s b p e k k' (Ok y) same g = record { in_order = g.in_order; within = g.within; taken = g.taken; are_taken = g.are_taken; left = λ after zs items. let z = g.left after zs items in (z.0, same after zs items ∙ z.1, z.2) }
 answers_via view' r s b p e k k' (Err f) same g = refused_via r s b p e k k (sort_of f) (λ after zs items h. same after zs items ∙ h) g
 
-pub goes_none : (name : List ℕ) (s : Form) (b : List ℕ) (p e : ℕ) (k : List Keep) → p ≤ length b → is_option s ≡ true → ((after : List ℕ) (zs : List Raw) → ItemsAt (b ++ after) p e zs → names name zs ≡ false) → Accepted (read_field name s (read_of s)) b p e k k none p
+pub goes_none : (name : List ℕ) (s : Form) (b : List ℕ) (p e : ℕ) (k : List Keep) → p ≤ length b → is_option s ≡ true → ((after : List ℕ) (zs : List Raw) → ItemsAt (b ++ after) p e zs → names name zs ≡ false) → Accepted (read_field name s (read_of s)) b p e k k none_value p
 goes_none name s b p e k le o n = record { in_order = omega arith; within = le; taken = []; are_taken = refl; left = λ after zs items. (zs, field_absent name s k zs o (n after zs items), items) }
 
 pub names_end : (name : List ℕ) (b after : List ℕ) (p e : ℕ) (zs : List Raw) → p ≡ e → p ≤ length b → ItemsAt (b ++ after) p e zs → zs ≡ []

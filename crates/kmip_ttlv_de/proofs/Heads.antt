@@ -11,7 +11,8 @@ use Rattle.kmip_ttlv_types.specs.declared.typ.TtlvType.{TtlvType}
 use Rattle.kmip_ttlv_base.specs.Forms.{Form}
 use Rattle.kmip_ttlv_base.specs.Values.{Value}
 use Rattle.kmip_ttlv_types.proofs.PlaceLemmas.{code_one, item_one, plain_bytes, raw_with, type_of-code}
-use Rattle.kmip_ttlv_de.specs.ReadAnswers.{Accepted, Goes, ReadsNothing, Sort, early_end, memory, other}
+use Rattle.kmip_ttlv_de.specs.ReadAnswers.{Sort, early_end, memory, other}
+use Rattle.kmip_ttlv_de.specs.ReaderSteps.{Accepted, Goes, ReadsNothing}
 use Rattle.kmip_ttlv_de.specs.Keeps.{Keep, keep_of, keeps}
 use Rattle.kmip_ttlv_de.specs.ReadPlaces.{LeafAt}
 use Rattle.kmip_ttlv_de.specs.Reading.{Got, any_leaf, got, read_leaf}

@@ -11,7 +11,8 @@ use Rattle.kmip_ttlv_base.specs.declared.shape.FieldShape.{FieldShape}
 use Rattle.kmip_ttlv_de.proofs.Going.{refused_via, rest_ignored, rest_refused}
 use Rattle.kmip_ttlv_de.proofs.Heads.{code_more, first_of_items, item_of_leaf, refused_end, tag_more}
 use Rattle.kmip_ttlv_types.proofs.PlaceLemmas.{code_one, raw_with}
-use Rattle.kmip_ttlv_de.specs.ReadAnswers.{Goes, ReadsNothing, Sort, early_end}
+use Rattle.kmip_ttlv_de.specs.ReadAnswers.{Sort, early_end}
+use Rattle.kmip_ttlv_de.specs.ReaderSteps.{Goes, ReadsNothing}
 use Rattle.kmip_ttlv_de.specs.Keeps.{Keep}
 use Rattle.kmip_ttlv_de.specs.ReadPlaces.{LeafAt}
 use Rattle.kmip_ttlv_de.specs.Reading.{any_leaf, got, rest_of}

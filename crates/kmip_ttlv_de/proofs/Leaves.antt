@@ -11,7 +11,8 @@ use Rattle.kmip_ttlv_types.specs.declared.typ.TtlvType.{TtlvType}
 use Rattle.kmip_ttlv_types.specs.declared.typ.TtlvType.TheVariants.{BigInteger, Boolean, ByteString, DateTime, Enumeration, Integer, Interval, LongInteger, Structure, TextString}
 use Rattle.kmip_ttlv_de.proofs.Heads.{code_more, length_more, part_more, refused_first}
 use Rattle.kmip_ttlv_types.proofs.PlaceLemmas.{code_one, eight}
-use Rattle.kmip_ttlv_de.specs.ReadAnswers.{ReadsNothing, Sort}
+use Rattle.kmip_ttlv_de.specs.ReadAnswers.{Sort}
+use Rattle.kmip_ttlv_de.specs.ReaderSteps.{ReadsNothing}
 use Rattle.kmip_ttlv_de.specs.Keeps.{Keep}
 use Rattle.kmip_ttlv_de.specs.ReadLeaves.{first_type, form_of_leaf}
 use Rattle.kmip_ttlv_de.specs.Reads.{takes}

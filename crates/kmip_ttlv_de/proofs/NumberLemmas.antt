@@ -18,7 +18,8 @@ use Rattle.kmip_ttlv_de.proofs.Going.{refused_by}
 use Rattle.kmip_ttlv_de.proofs.Heads.{accepted_leaf, code_more, refused_any, refused_first, refused_leaf}
 use Rattle.kmip_ttlv_de.proofs.Leaves.{leaf_not_length}
 use Rattle.kmip_ttlv_types.proofs.PlaceLemmas.{code_one}
-use Rattle.kmip_ttlv_de.specs.ReadAnswers.{Accepted, ReadsNothing, Sort}
+use Rattle.kmip_ttlv_de.specs.ReadAnswers.{Sort}
+use Rattle.kmip_ttlv_de.specs.ReaderSteps.{Accepted, ReadsNothing}
 use Rattle.kmip_ttlv_de.specs.Keeps.{Keep}
 use Rattle.kmip_ttlv_de.specs.Facts.{WrongLength, WrongValue}
 use Rattle.kmip_ttlv_de.specs.ReadPlaces.{LeafAt, content_at}

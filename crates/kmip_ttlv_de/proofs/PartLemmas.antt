@@ -9,7 +9,7 @@ use Rattle.kmip_ttlv_base.specs.declared.shape.FieldShape.{FieldShape}
 use Rattle.kmip_ttlv_base.specs.declared.shape.Shape.{Shape}
 use Rattle.kmip_ttlv_base.specs.declared.shape.VariantShape.{VariantShape}
 use Rattle.kmip_ttlv_de.proofs.Going.{items_then}
-use Rattle.kmip_ttlv_de.specs.ReadAnswers.{Goes}
+use Rattle.kmip_ttlv_de.specs.ReaderSteps.{Goes}
 use Rattle.kmip_ttlv_de.specs.Facts.{GoesPast}
 use Rattle.kmip_ttlv_de.specs.Keeps.{Keep}
 use Rattle.kmip_ttlv_de.specs.Parts.{HasField, HasForm, first_field, first_form, later_field, later_form, variant_content}

@@ -9,7 +9,7 @@ use Rattle.kmip_ttlv_types.specs.Places.{ItemAt, ItemsAt, code_at, is_plain, len
 use Rattle.kmip_ttlv_types.specs.declared.typ.TtlvType.{TtlvType}
 use Rattle.kmip_ttlv_types.specs.declared.typ.TtlvType.TheVariants.{BigInteger, Boolean, ByteString, DateTime, Enumeration, Integer, Interval, LongInteger, Structure, TextString}
 use Rattle.kmip_ttlv_base.specs.Forms.{Content, Fields, Form, Forms, Variants, big_integer, boolean, enum, field, form, int32, int64, interval, newtype, no_fields, no_forms, no_variants, octets, option, seq, struct, text, tuple, unit, variant, wrapped}
-use Rattle.kmip_ttlv_base.specs.Values.{Value, Values, newtype_value, newtype_variant_value, no_values, none, seq_value, some, struct_value, tuple_variant_value, unit_variant_value, value}
+use Rattle.kmip_ttlv_base.specs.Values.{Value, Values, newtype_value, newtype_variant_value, no_values, none_value, seq_value, some_value, struct_value, tuple_variant_value, unit_variant_value, value}
 use Rattle.kmip_ttlv_types.proofs.PlaceLemmas.{items_at_splits, items_in_order, raw_with, same_raw, splits_items_at, type_of-code}
 use Rattle.kmip_ttlv_de.specs.Keeps.{Keep}
 use Rattle.kmip_ttlv_de.specs.Reading.{FieldsReader, Got, Reader, got, item_of, raw_at, read_choice, read_content, read_enum, read_field, read_fields, read_forms, read_leaf, read_number, read_of, read_seq, read_struct, read_tuple, read_variant, run_of, split_from, split_of, unit_of, used_up, ◌>>=◌}
@@ -273,11 +273,11 @@ seq_sound s read sound k (h ∷ xs) g e =
 
 field_sound : (name : List ℕ) (s : Form) (read : Reader) → Sound s read → (k : List Keep) (xs : List Raw) (g : Got Value) → read_field name s read k xs ≡ Some g → ReadsField name s k xs g.value g.kept g.rest
 field_sound name s read sound k xs g e =
-    elim (is_struct s) as (λ b. is_struct s ≡ b → cond b (read k xs) (cond (names name xs) (read k xs) (cond (is_option s) (got none k xs) None)) ≡ Some g → ReadsField name s k xs g.value g.kept g.rest) [
+    elim (is_struct s) as (λ b. is_struct s ≡ b → cond b (read k xs) (cond (names name xs) (read k xs) (cond (is_option s) (got none_value k xs) None)) ≡ Some g → ReadsField name s k xs g.value g.kept g.rest) [
       | true ↦ λ t c. inner t (sound k xs g c)
-      | false ↦ λ t c. elim (names name xs) as (λ b. names name xs ≡ b → cond b (read k xs) (cond (is_option s) (got none k xs) None) ≡ Some g → ReadsField name s k xs g.value g.kept g.rest) [
+      | false ↦ λ t c. elim (names name xs) as (λ b. names name xs ≡ b → cond b (read k xs) (cond (is_option s) (got none_value k xs) None) ≡ Some g → ReadsField name s k xs g.value g.kept g.rest) [
         | true ↦ λ n d. named n t (sound k xs g d)
-        | false ↦ λ n d. let o = guard_some (is_option s) (got none k xs) g d in as_got (λ v k' ys. ReadsField name s k xs v k' ys) none k xs g o.1 (absent o.0 n)
+        | false ↦ λ n d. let o = guard_some (is_option s) (got none_value k xs) g d in as_got (λ v k' ys. ReadsField name s k xs v k' ys) none_value k xs g o.1 (absent o.0 n)
       ] refl c
     ] refl e
 
@@ -336,8 +336,8 @@ mutual
   pub reads_read_of : (s : Form) → Sound s (read_of s)
   reads_read_of (struct name fs deny) k xs g e = struct_sound name fs deny (read_fields fs) (fields_read_of fs) k xs g e
   reads_read_of (option s) k xs g e =
-      let a = bind_some (read_of s k xs) (λ v. got (some v.value) v.kept v.rest) g e in
-      as_got (λ w k' ys. Reads (option s) k xs w k' ys) (some a.0.value) a.0.kept a.0.rest g a.2 (wrap_some (reads_read_of s k xs a.0 a.1))
+      let a = bind_some (read_of s k xs) (λ v. got (some_value v.value) v.kept v.rest) g e in
+      as_got (λ w k' ys. Reads (option s) k xs w k' ys) (some_value a.0.value) a.0.kept a.0.rest g a.2 (wrap_some (reads_read_of s k xs a.0 a.1))
   reads_read_of (seq s) k xs g e = seq_sound s (read_of s) (reads_read_of s) k xs g e
   reads_read_of (newtype name s) k xs g e =
       let a = bind_some (read_of s k xs) (λ v. got (newtype_value name v.value) v.kept v.rest) g e in

@@ -9,7 +9,8 @@ use Rattle.kmip_ttlv_base.specs.declared.error.Error.{Error}
 use Rattle.kmip_ttlv_de.proofs.Going.{struct_accepted}
 use Rattle.kmip_ttlv_types.proofs.PlaceLemmas.{item_at_text}
 use Rattle.kmip_ttlv_de.proofs.Whole.{begins_found, begins_refused}
-use Rattle.kmip_ttlv_de.specs.ReadAnswers.{Accepted, ReadsNothing, NothingBegins, Sort, early_end, memory, sort_of, sort_of_kind}
+use Rattle.kmip_ttlv_de.specs.ReadAnswers.{NothingBegins, Sort, early_end, memory, sort_of, sort_of_kind}
+use Rattle.kmip_ttlv_de.specs.ReaderSteps.{Accepted, ReadsNothing}
 use Rattle.kmip_ttlv_de.proofs.FactLemmas.{memory_says}
 use Rattle.kmip_ttlv_de.specs.Facts.{Facts, NotBefore, Says, cause_of, place_of}
 use Rattle.kmip_ttlv_de.specs.RootFacts.{Fault, RefusalFacts, RootFacts, named_fault}

@@ -14,7 +14,8 @@ use Rattle.kmip_ttlv_base.specs.declared.error.MalformedTtlvError.{MalformedTtlv
 use Rattle.kmip_ttlv_de.proofs.FactLemmas.{exact_says, maybe_says, memory_says, not_before_later}
 use Rattle.kmip_ttlv_de.proofs.PartLemmas.{field_part, last_past, opens_structure}
 use Rattle.kmip_ttlv_de.proofs.WholeLemmas.{whole_inside, whole_rest}
-use Rattle.kmip_ttlv_de.specs.ReadAnswers.{Goes, memory, sort_of, sort_of_kind}
+use Rattle.kmip_ttlv_de.specs.ReadAnswers.{memory, sort_of, sort_of_kind}
+use Rattle.kmip_ttlv_de.specs.ReaderSteps.{Goes}
 use Rattle.kmip_ttlv_de.specs.Facts.{KindFacts, MalformedFacts, MayBeRefusal, MismatchFacts, NotBefore, RuleFacts, Says, Widened, WordFacts, cause_of, code_place, item_place, place_of, struct_place, without_parents}
 use Rattle.kmip_ttlv_de.specs.Keeps.{Keep}
 use Rattle.kmip_ttlv_de.specs.ReadPlaces.{HasType, IsFieldItem, IsInside, IsItem, IsLast, ItemMayBegin, Opens, PartAt, StructRead, stated_end}

@@ -1,5 +1,5 @@
 -- From a reader's answer to what the bytes begin with.
-use Rattle.std.proofs.Common.{append_assoc, ◌≡◌, ℕ, ◌+◌, ◌<◌, Bool, false, List, [], ◌∷◌, ◌++◌, take, drop, Option, Some, None, refl, sym, ap, subst, ◌∙◌, arith}
+use Rattle.std.proofs.Common.{◌≡◌, ℕ, ◌+◌, ◌<◌, Bool, false, List, [], ◌∷◌, ◌++◌, take, drop, Option, Some, None, refl, sym, ap, subst, ◌∙◌, arith}
 use Rattle.std.proofs.lemmas.List.{append-nil, take-append-drop}
 use Rattle.std.proofs.Common.{inl, inr, ◌⊎◌, false}
 use Rattle.kmip_ttlv_types.specs.Items.{Raw}
@@ -7,12 +7,13 @@ use Rattle.kmip_ttlv_types.specs.Names.{tag_of}
 use Rattle.kmip_ttlv_types.specs.Places.{ItemAt, ItemsAt, length_at, size}
 use Rattle.kmip_ttlv_types.specs.declared.typ.TtlvType.TheVariants.{Structure}
 use Rattle.kmip_ttlv_base.specs.Forms.{Fields, Form, newtype, option, struct}
-use Rattle.kmip_ttlv_base.specs.Values.{Value, newtype_value, some}
+use Rattle.kmip_ttlv_base.specs.Values.{Value, newtype_value, some_value}
 use Rattle.kmip_ttlv_de.proofs.Going.{items_none}
 use Rattle.kmip_ttlv_de.proofs.Heads.{first_of_items, refused_any}
 use Rattle.kmip_ttlv_types.proofs.PlaceLemmas.{item_at_text, item_one, text_at_item}
 use Rattle.kmip_ttlv_de.proofs.ReadLemmas.{read_of_reads, reads_read_of}
-use Rattle.kmip_ttlv_de.specs.ReadAnswers.{Accepted, ReadsNothing, NothingBegins, Sort, early_end, memory, other}
+use Rattle.kmip_ttlv_de.specs.ReadAnswers.{NothingBegins, Sort, early_end, memory, other}
+use Rattle.kmip_ttlv_de.specs.ReaderSteps.{Accepted, ReadsNothing}
 use Rattle.kmip_ttlv_de.specs.Keeps.{Keep}
 use Rattle.kmip_ttlv_de.specs.Reading.{Got, got, read_of}
 use Rattle.kmip_ttlv_de.specs.Reads.{Begins, Reads, is_root, leaf, structure, wrap, wrap_some}
@@ -91,7 +92,7 @@ refuses_widened s b x y (inr m) h = subst (λ t. NothingBegins s b t) (sym m) h
 
 -- ---- options and newtypes around a root
 
-pub begins_some : (s : Form) (b : List ℕ) (v : Value) → Begins s b v → Begins (option s) b (some v)
+pub begins_some : (s : Form) (b : List ℕ) (v : Value) → Begins s b v → Begins (option s) b (some_value v)
 begins_some s b v g = record { root = g.root; item = g.item; item_text = g.item_text; after = g.after; kept = g.kept; is_text = g.is_text; is_structure = g.is_structure; parts = g.parts; reads = wrap_some g.reads }
 
 pub begins_newtype : (name : List ℕ) (s : Form) (b : List ℕ) (v : Value) → Begins s b v → Begins (newtype name s) b (newtype_value name v)
@@ -120,7 +121,3 @@ pub refuses_newtype : (name : List ℕ) (s : Form) (b : List ℕ) (r : Sort) →
 refuses_newtype name s b memory h = tt
 refuses_newtype name s b early_end h = λ v g. let w = begins_in_newtype name s b v g in h w.0 w.1
 refuses_newtype name s b other h = λ after v g. let w = begins_in_newtype name s (b ++ after) v g in h after w.0 w.1
-
--- bytes behind the first item change nothing
-pub begins_longer : (s : Form) (b more : List ℕ) (v : Value) → Begins s b v → Begins s (b ++ more) v
-begins_longer s b more v g = record { root = g.root; item = g.item; item_text = g.item_text; after = g.after ++ more; kept = g.kept; is_text = g.is_text; is_structure = g.is_structure; parts = ap (λ (x : List ℕ). x ++ more) g.parts ∙ append_assoc g.item_text g.after more; reads = g.reads }

@@ -10,7 +10,7 @@ use Rattle.kmip_ttlv_base.specs.Forms.{Form}
 use Rattle.kmip_ttlv_base.specs.declared.error.Error.{Error}
 use Rattle.kmip_ttlv_de.proofs.Going.{content_items, items_then}
 use Rattle.kmip_ttlv_types.proofs.PlaceLemmas.{code_one, items_one}
-use Rattle.kmip_ttlv_de.specs.ReadAnswers.{Goes}
+use Rattle.kmip_ttlv_de.specs.ReaderSteps.{Goes}
 use Rattle.kmip_ttlv_de.specs.Facts.{Facts, NotBefore, Says, place_of}
 use Rattle.kmip_ttlv_de.specs.Keeps.{Keep}
 use Rattle.kmip_ttlv_de.specs.Reading.{Got}

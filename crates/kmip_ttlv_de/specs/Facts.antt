@@ -1,5 +1,6 @@
 -- What a refusal on reading says of the bytes and of the form.
-use Rattle.std.specs.Prelude.{◌≡◌, ◌≢◌, ℕ, ◌+◌, ◌<◌, ◌≤◌, ◌⊎◌, Bool, true, false, List, [], length, Option, Some, None, codes}
+use Rattle.std.specs.Prelude.{◌≡◌, ◌≢◌, ℕ, ◌+◌, ◌<◌, ◌≤◌, ◌⊎◌, Bool, true, false, List, [], length, Option, Some, None}
+use Rattle.std.specs.Prelude.{codes}
 use Rattle.std.specs.declared.io.ErrorKind.TheVariants as io_kinds
 use Rattle.kmip_ttlv_types.specs.declared.typ.TtlvType.{TtlvType}
 use Rattle.kmip_ttlv_types.specs.declared.typ.TtlvType.TheVariants.{Structure, Enumeration}
@@ -13,13 +14,19 @@ use Rattle.kmip_ttlv_types.specs.Places.{tag_at, code_at, length_at, size}
 use Rattle.kmip_ttlv_base.specs.declared.error.Error.{Error}
 use Rattle.kmip_ttlv_base.specs.declared.error.MalformedTtlvError.{MalformedTtlvError}
 use Rattle.kmip_ttlv_base.specs.declared.error.MalformedTtlvError.TheVariants as malformeds
-use Rattle.kmip_ttlv_base.specs.Errors.{Mismatch, invalid_variant, invalid_rule, invalid_tag, missing_identifier, other_cause, unexpected_tag, unexpected_type, unsupported_rust_type, Kind, io_error, exceeds_limit, malformed, mismatch, out_of_memory, length_overflow, Location, unknown, kind_of, view_of_kind, location_of, view_of_location, IsMemory}
+use Rattle.kmip_ttlv_base.specs.Errors.{Mismatch, invalid_variant, invalid_rule, invalid_tag, missing_identifier}
+use Rattle.kmip_ttlv_base.specs.Errors.{other_cause, unexpected_tag, unexpected_type, unsupported_rust_type, Kind}
+use Rattle.kmip_ttlv_base.specs.Errors.{io_error, exceeds_limit, malformed, mismatch, out_of_memory, length_overflow}
+use Rattle.kmip_ttlv_base.specs.Errors.{Location, unknown, kind_of, view_of_kind, location_of, view_of_location}
+use Rattle.kmip_ttlv_base.specs.Errors.{IsMemory}
 use Rattle.kmip_ttlv_base.specs.Forms.{Form, struct, enum, Fields, Variants, unit, wrapped, tuple, Forms}
 use Rattle.kmip_ttlv_de.specs.declared.leaf.Leaf.{Leaf}
 use Rattle.kmip_ttlv_de.specs.ReadLeaves.{form_of_leaf, first_type}
 use Rattle.kmip_ttlv_de.specs.Parts.{HasField, RuleChooses, NumberChooses, RuleRefused}
-use Rattle.kmip_ttlv_de.specs.Reads.{has_fields, is_number_type, names_tag, is_option, is_struct, takes, number_text, first_named}
-use Rattle.kmip_ttlv_de.specs.ReadPlaces.{HasType, InContent, PartAt, StructRead, TupleRead, Opens, ItemMayBegin, WholeItems, content_at, stated_end}
+use Rattle.kmip_ttlv_de.specs.Reads.{has_fields, is_number_type, names_tag, is_option, is_struct, takes, number_text}
+use Rattle.kmip_ttlv_de.specs.Reads.{first_named}
+use Rattle.kmip_ttlv_de.specs.ReadPlaces.{HasType, InContent, PartAt, StructRead, TupleRead, Opens, ItemMayBegin}
+use Rattle.kmip_ttlv_de.specs.ReadPlaces.{WholeItems, content_at, stated_end}
 use Rattle.kmip_ttlv_de.specs.ReadAnswers.{early_end, sort_of}
 use Rattle.kmip_ttlv_de.specs.Wholes.{AreWhole}
 
@@ -371,4 +378,10 @@ MayBeRefusal k l e = IsMemory e ⊎ IsRefusal k l e
 
 -- the same but for its parents, or want of memory
 abbrev pub Widened : {A : Type 0} → Error A → Error A → Type 0
-Widened e r = IsMemory r ⊎ ((cause_of r ≡ cause_of e) × ((place_of r).offset ≡ (place_of e).offset) × ((place_of r).tag ≡ (place_of e).tag) × ((place_of r).typ ≡ (place_of e).typ) × ((place_of e).offset ≡ None → place_of r ≡ place_of e))
+Widened e r =
+    IsMemory r
+    ⊎ ((cause_of r ≡ cause_of e)
+    × ((place_of r).offset ≡ (place_of e).offset)
+    × ((place_of r).tag ≡ (place_of e).tag)
+    × ((place_of r).typ ≡ (place_of e).typ)
+    × ((place_of e).offset ≡ None → place_of r ≡ place_of e))

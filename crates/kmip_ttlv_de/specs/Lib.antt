@@ -6,6 +6,7 @@ pub mod Reading
 pub mod ReadPlaces
 pub mod ReadLeaves
 pub mod ReadAnswers
+pub mod ReaderSteps
 pub mod Wholes
 pub mod Facts
 pub mod RootFacts

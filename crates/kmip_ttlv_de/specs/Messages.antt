@@ -1,8 +1,10 @@
 -- Small messages, and the forms that read them or don't.
 use Rattle.std.specs.Prelude.{ℕ, false, List, [], ◌∷◌, codes}
 use Rattle.std.specs.Int.{w32, cast_signed}
-use Rattle.kmip_ttlv_base.specs.Values.{Value, i32_value, none, struct_value, unit_variant_value, newtype_variant_value, no_values, value}
-use Rattle.kmip_ttlv_base.specs.Forms.{Form, struct, option, seq, enum, int32, no_fields, field, no_variants, variant, unit, wrapped}
+use Rattle.kmip_ttlv_base.specs.Values.{Value, i32_value, none_value, struct_value, unit_variant_value}
+use Rattle.kmip_ttlv_base.specs.Values.{newtype_variant_value, no_values, value}
+use Rattle.kmip_ttlv_base.specs.Forms.{Form, struct, option, seq, enum, int32, no_fields, field, no_variants, variant}
+use Rattle.kmip_ttlv_base.specs.Forms.{unit, wrapped}
 
 -- the header of a Structure with tag AAAAAA, of so many bytes
 abbrev pub outer : ℕ → List ℕ
@@ -30,18 +32,23 @@ one_integer_value n = struct_value (codes "0xAAAAAA") (value (number_value n) no
 
 -- an integer BBBBBB that may be left out, and a required one, CCCCCC
 abbrev pub may_lack_first : Form
-may_lack_first = struct (codes "0xAAAAAA") (field (codes "0xBBBBBB") (option int32) (field (codes "0xCCCCCC") int32 no_fields)) false
+may_lack_first =
+    struct (codes "0xAAAAAA") (
+    field (codes "0xBBBBBB") (option int32) (
+    field (codes "0xCCCCCC") int32 no_fields)) false
 
 -- its value where the first integer is left out, by the number of the second
 abbrev pub lacks_first_value : ℕ → Value
-lacks_first_value n = struct_value (codes "0xAAAAAA") (value none (value (number_value n) no_values))
+lacks_first_value n = struct_value (codes "0xAAAAAA") (value none_value (value (number_value n) no_values))
 
 -- an enumeration BBBBBB, and what is chosen by its text
 abbrev pub chosen_by_first : Form
 chosen_by_first =
     struct (codes "0xAAAAAA") (
     field (codes "0xBBBBBB") (enum (codes "first") (variant (codes "0x00000001") unit no_variants)) (
-    field (codes "0xCCCCCC") (enum (codes "second") (variant (codes "if 0xBBBBBB==0x1") (wrapped int32) (variant (codes "if 0xBBBBBB==0x00000001") (wrapped int32) no_variants))) no_fields)) false
+    field (codes "0xCCCCCC") (enum (codes "second") (
+    variant (codes "if 0xBBBBBB==0x1") (wrapped int32) (
+    variant (codes "if 0xBBBBBB==0x00000001") (wrapped int32) no_variants))) no_fields)) false
 
 -- its value where the first enumeration is 1, by the number that follows
 abbrev pub chosen_by_first_value : ℕ → Value

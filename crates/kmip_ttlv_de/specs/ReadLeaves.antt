@@ -1,6 +1,7 @@
 -- The forms of leaves.
 use Rattle.kmip_ttlv_types.specs.declared.typ.TtlvType.{TtlvType}
-use Rattle.kmip_ttlv_types.specs.declared.typ.TtlvType.TheVariants.{Integer, LongInteger, BigInteger, Boolean, TextString, ByteString, Interval}
+use Rattle.kmip_ttlv_types.specs.declared.typ.TtlvType.TheVariants.{Integer, LongInteger, BigInteger, Boolean}
+use Rattle.kmip_ttlv_types.specs.declared.typ.TtlvType.TheVariants.{TextString, ByteString, Interval}
 use Rattle.kmip_ttlv_base.specs.Forms.{Form, int32, int64, boolean, text, octets, interval, big_integer}
 use Rattle.kmip_ttlv_de.specs.declared.leaf.Leaf.{Leaf}
 use Rattle.kmip_ttlv_de.specs.declared.leaf.Leaf.TheVariants as leaves

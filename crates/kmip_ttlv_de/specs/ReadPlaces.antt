@@ -6,7 +6,8 @@ use Rattle.kmip_ttlv_types.specs.ItemTypes.{code}
 use Rattle.kmip_ttlv_types.specs.Items.{Raw}
 use Rattle.kmip_ttlv_types.specs.Names.{tag_of}
 use Rattle.kmip_ttlv_types.specs.Places.{ItemsAt, tag_at, code_at, length_at, size}
-use Rattle.kmip_ttlv_base.specs.Forms.{Form, struct, option, seq, newtype, enum, Fields, Variants, wrapped, tuple, Forms}
+use Rattle.kmip_ttlv_base.specs.Forms.{Form, struct, option, seq, newtype, enum, Fields, Variants, wrapped, tuple}
+use Rattle.kmip_ttlv_base.specs.Forms.{Forms}
 use Rattle.kmip_ttlv_de.specs.Reads.{is_root, is_struct}
 use Rattle.kmip_ttlv_de.specs.Parts.{HasField, HasForm, RuleChooses}
 

@@ -1,17 +1,25 @@
 -- What a form reads from a list of items, by one rule for each way to read.
-use Rattle.std.specs.Prelude.{◌≡◌, ℕ, suc, Bool, true, false, List, [], ◌∷◌, ◌++◌, Option, Some, None, ◌/◌, ◌%◌, ◌==◌, ◌&&◌, ◌||◌, not, if◌then◌else◌}
+use Rattle.std.specs.Prelude.{◌≡◌, ℕ, suc, Bool, true, false, List, [], ◌∷◌, ◌++◌, Option, Some, None, ◌/◌, ◌%◌, ◌==◌}
+use Rattle.std.specs.Prelude.{◌&&◌, ◌||◌, not, if◌then◌else◌}
 use Rattle.std.specs.Int.{w32, w64, from_be_bytes, cast_signed}
 use Rattle.std.specs.List.{flat_map}
 use Rattle.std.specs.Str.{bytes_eq}
 use Rattle.std.specs.Fmt.{digit_glyph}
 use Rattle.kmip_ttlv_types.specs.declared.typ.TtlvType.{TtlvType}
-use Rattle.kmip_ttlv_types.specs.declared.typ.TtlvType.TheVariants.{Structure, Integer, LongInteger, BigInteger, Enumeration, Boolean, TextString, ByteString, DateTime, Interval}
+use Rattle.kmip_ttlv_types.specs.declared.typ.TtlvType.TheVariants.{Structure, Integer, LongInteger, BigInteger}
+use Rattle.kmip_ttlv_types.specs.declared.typ.TtlvType.TheVariants.{Enumeration, Boolean, TextString, ByteString}
+use Rattle.kmip_ttlv_types.specs.declared.typ.TtlvType.TheVariants.{DateTime, Interval}
 use Rattle.kmip_ttlv_types.specs.ItemTypes.{code, is_structure}
 use Rattle.kmip_ttlv_types.specs.Leaves.{is_valid}
 use Rattle.kmip_ttlv_types.specs.Items.{Raw, Splits, IsTextOf}
 use Rattle.kmip_ttlv_types.specs.Names.{tag_of}
-use Rattle.kmip_ttlv_base.specs.Values.{Value, boolean_value, i32_value, i64_value, interval_value, text_value, bytes_value, big_integer_value, none, some, seq_value, struct_value, newtype_value, unit_variant_value, newtype_variant_value, tuple_variant_value, Values, no_values, value}
-use Rattle.kmip_ttlv_base.specs.Forms.{Form, struct, option, seq, newtype, enum, int32, int64, boolean, text, octets, interval, big_integer, Fields, no_fields, field, Variants, no_variants, variant, Content, unit, wrapped, tuple, Forms, no_forms, form}
+use Rattle.kmip_ttlv_base.specs.Values.{Value, boolean_value, i32_value, i64_value, interval_value, text_value}
+use Rattle.kmip_ttlv_base.specs.Values.{bytes_value, big_integer_value, none_value, some_value, seq_value, struct_value}
+use Rattle.kmip_ttlv_base.specs.Values.{newtype_value, unit_variant_value, newtype_variant_value, tuple_variant_value}
+use Rattle.kmip_ttlv_base.specs.Values.{Values, no_values, value}
+use Rattle.kmip_ttlv_base.specs.Forms.{Form, struct, option, seq, newtype, enum, int32, int64, boolean, text, octets}
+use Rattle.kmip_ttlv_base.specs.Forms.{interval, big_integer, Fields, no_fields, field, Variants, no_variants, variant}
+use Rattle.kmip_ttlv_base.specs.Forms.{Content, unit, wrapped, tuple, Forms, no_forms, form}
 use Rattle.kmip_ttlv_de.specs.Keeps.{Keep}
 use Rattle.kmip_ttlv_de.specs.Rules.{chosen, by_value, choice}
 
@@ -56,7 +64,9 @@ has_fields (field name s fs) = true
 
 -- an item that is ignored: of no declared tag, and valid where it is a leaf
 abbrev pub may_ignore : Fields → Bool → Raw → Bool
-may_ignore fs deny x = has_fields fs && (not deny && (not (names_tag fs x.tag) && (is_structure x.typ || is_valid x.typ x.content)))
+may_ignore fs deny x =
+    has_fields fs
+    && (not deny && (not (names_tag fs x.tag) && (is_structure x.typ || is_valid x.typ x.content)))
 
 -- what may follow the last field
 abbrev pub may_follow : Fields → Bool → List Raw → Bool
@@ -85,7 +95,7 @@ leaf_value text content = text_value content
 leaf_value octets content = bytes_value content
 leaf_value interval content = interval_value (from_be_bytes w32 content)
 leaf_value big_integer content = big_integer_value content
-leaf_value _ content = none
+leaf_value _ content = none_value
 
 -- a text is kept under its item's tag, and no other leaf is
 abbrev pub with_leaf : Form → Raw → List Keep → List Keep
@@ -114,44 +124,121 @@ first_named name (variant vname c vs) = if bytes_eq vname name then Some c else 
 mutual
   -- from these items, with these texts kept, the form reads a value, and leaves these items and texts
   pub data Reads : Form → List Keep → List Raw → Value → List Keep → List Raw → Type 0 where
-    leaf : {s : Form} {h : Raw} {xs : List Raw} {k : List Keep} → takes s h.typ ≡ true → is_valid h.typ h.content ≡ true → Reads s k (h ∷ xs) (leaf_value s h.content) (with_leaf s h k) xs
-    wrap_some : {s : Form} {k k' : List Keep} {xs ys : List Raw} {v : Value} → Reads s k xs v k' ys → Reads (option s) k xs (some v) k' ys
-    wrap : {s : Form} {name : List ℕ} {k k' : List Keep} {xs ys : List Raw} {v : Value} → Reads s k xs v k' ys → Reads (newtype name s) k xs (newtype_value name v) k' ys
-    run : {s : Form} {h : Raw} {k k' k'' : List Keep} {xs ys zs : List Raw} {v : Value} {vs : Values} → Reads s k (h ∷ xs) v k' ys → ReadsRun s h k' ys vs k'' zs → Reads (seq s) k (h ∷ xs) (seq_value (value v vs)) k'' zs
-    structure : {name : List ℕ} {fs : Fields} {deny : Bool} {h : Raw} {xs zs rest : List Raw} {k k' : List Keep} {vs : Values} → names name (h ∷ []) ≡ true → h.typ ≡ Structure → Splits zs h.content → ReadsFields fs k zs vs k' rest → may_follow fs deny rest ≡ true → Reads (struct name fs deny) k (h ∷ xs) (struct_value name vs) k' xs
-    by_rule : {name : List ℕ} {vs : Variants} {h : Raw} {xs ys : List Raw} {k k' : List Keep} {v : Value} {i : ℕ} → choice vs k h.typ ≡ chosen i → ReadsVariant name vs i k (h ∷ xs) v k' ys → Reads (enum name vs) k (h ∷ xs) v k' ys
-    by_number : {name : List ℕ} {vs : Variants} {h : Raw} {xs : List Raw} {k : List Keep} → choice vs k h.typ ≡ by_value → is_number_type h.typ ≡ true → is_valid h.typ h.content ≡ true → first_named (number_text h.content) vs ≡ Some unit → Reads (enum name vs) k (h ∷ xs) (unit_variant_value name (number_text h.content)) (k ++ record { tag = h.tag; text = number_text h.content } ∷ []) xs
+    leaf :
+        {s : Form} {h : Raw} {xs : List Raw} {k : List Keep}
+        → takes s h.typ ≡ true
+        → is_valid h.typ h.content ≡ true
+        → Reads s k (h ∷ xs) (leaf_value s h.content) (with_leaf s h k) xs
+    wrap_some :
+        {s : Form} {k k' : List Keep} {xs ys : List Raw} {v : Value}
+        → Reads s k xs v k' ys
+        → Reads (option s) k xs (some_value v) k' ys
+    wrap :
+        {s : Form} {name : List ℕ} {k k' : List Keep} {xs ys : List Raw} {v : Value}
+        → Reads s k xs v k' ys
+        → Reads (newtype name s) k xs (newtype_value name v) k' ys
+    run :
+        {s : Form} {h : Raw} {k k' k'' : List Keep} {xs ys zs : List Raw} {v : Value} {vs : Values}
+        → Reads s k (h ∷ xs) v k' ys
+        → ReadsRun s h k' ys vs k'' zs
+        → Reads (seq s) k (h ∷ xs) (seq_value (value v vs)) k'' zs
+    structure :
+        {name : List ℕ} {fs : Fields} {deny : Bool} {h : Raw} {xs zs rest : List Raw} {k k' : List Keep} {vs : Values}
+        → names name (h ∷ []) ≡ true
+        → h.typ ≡ Structure
+        → Splits zs h.content
+        → ReadsFields fs k zs vs k' rest
+        → may_follow fs deny rest ≡ true
+        → Reads (struct name fs deny) k (h ∷ xs) (struct_value name vs) k' xs
+    by_rule :
+        {name : List ℕ} {vs : Variants} {h : Raw} {xs ys : List Raw} {k k' : List Keep} {v : Value} {i : ℕ}
+        → choice vs k h.typ ≡ chosen i
+        → ReadsVariant name vs i k (h ∷ xs) v k' ys
+        → Reads (enum name vs) k (h ∷ xs) v k' ys
+    by_number :
+        {name : List ℕ} {vs : Variants} {h : Raw} {xs : List Raw} {k : List Keep}
+        → choice vs k h.typ ≡ by_value
+        → is_number_type h.typ ≡ true
+        → is_valid h.typ h.content ≡ true
+        → first_named (number_text h.content) vs ≡ Some unit
+        → Reads (enum name vs) k (h ∷ xs)
+        (unit_variant_value name (number_text h.content))
+        (k ++ record { tag = h.tag; text = number_text h.content } ∷ []) xs
 
   -- the variant at this index reads
   pub data ReadsVariant : List ℕ → Variants → ℕ → List Keep → List Raw → Value → List Keep → List Raw → Type 0 where
-    here : {name vname : List ℕ} {c : Content} {vs : Variants} {k k' : List Keep} {xs ys : List Raw} {v : Value} → ReadsContent name vname c k xs v k' ys → ReadsVariant name (variant vname c vs) 0 k xs v k' ys
-    there : {name vname : List ℕ} {c : Content} {vs : Variants} {i : ℕ} {k k' : List Keep} {xs ys : List Raw} {v : Value} → ReadsVariant name vs i k xs v k' ys → ReadsVariant name (variant vname c vs) (suc i) k xs v k' ys
+    here :
+        {name vname : List ℕ} {c : Content} {vs : Variants} {k k' : List Keep} {xs ys : List Raw} {v : Value}
+        → ReadsContent name vname c k xs v k' ys
+        → ReadsVariant name (variant vname c vs) 0 k xs v k' ys
+    there :
+        {name vname : List ℕ} {c : Content} {vs : Variants} {i : ℕ} {k k' : List Keep} {xs ys : List Raw} {v : Value}
+        → ReadsVariant name vs i k xs v k' ys
+        → ReadsVariant name (variant vname c vs) (suc i) k xs v k' ys
 
   -- the content of a variant reads: a form from the same item, or forms that use up a structure's items
   pub data ReadsContent : List ℕ → List ℕ → Content → List Keep → List Raw → Value → List Keep → List Raw → Type 0 where
-    whole : {name vname : List ℕ} {s : Form} {k k' : List Keep} {xs ys : List Raw} {v : Value} → Reads s k xs v k' ys → ReadsContent name vname (wrapped s) k xs (newtype_variant_value name vname v) k' ys
-    parts : {name vname : List ℕ} {ss : Forms} {h : Raw} {xs zs : List Raw} {k k' : List Keep} {vs : Values} → h.typ ≡ Structure → Splits zs h.content → ReadsForms ss k zs vs k' [] → ReadsContent name vname (tuple ss) k (h ∷ xs) (tuple_variant_value name vname vs) k' xs
+    whole :
+        {name vname : List ℕ} {s : Form} {k k' : List Keep} {xs ys : List Raw} {v : Value}
+        → Reads s k xs v k' ys
+        → ReadsContent name vname (wrapped s) k xs (newtype_variant_value name vname v) k' ys
+    parts :
+        {name vname : List ℕ} {ss : Forms} {h : Raw} {xs zs : List Raw} {k k' : List Keep} {vs : Values}
+        → h.typ ≡ Structure
+        → Splits zs h.content
+        → ReadsForms ss k zs vs k' []
+        → ReadsContent name vname (tuple ss) k (h ∷ xs) (tuple_variant_value name vname vs) k' xs
 
   -- the forms read one after the other
   pub data ReadsForms : Forms → List Keep → List Raw → Values → List Keep → List Raw → Type 0 where
     no_part : {k : List Keep} {xs : List Raw} → ReadsForms no_forms k xs no_values k xs
-    part : {s : Form} {ss : Forms} {k k' k'' : List Keep} {xs ys zs : List Raw} {v : Value} {vs : Values} → Reads s k xs v k' ys → ReadsForms ss k' ys vs k'' zs → ReadsForms (form s ss) k xs (value v vs) k'' zs
+    part :
+        {s : Form} {ss : Forms} {k k' k'' : List Keep} {xs ys zs : List Raw} {v : Value} {vs : Values}
+        → Reads s k xs v k' ys
+        → ReadsForms ss k' ys vs k'' zs
+        → ReadsForms (form s ss) k xs (value v vs) k'' zs
 
   -- the form reads again, as long as the first item is like this one
   pub data ReadsRun : Form → Raw → List Keep → List Raw → Values → List Keep → List Raw → Type 0 where
-    ends : {s : Form} {h : Raw} {k : List Keep} {xs : List Raw} → is_like h xs ≡ false → ReadsRun s h k xs no_values k xs
-    more : {s : Form} {h : Raw} {k k' k'' : List Keep} {xs ys zs : List Raw} {v : Value} {vs : Values} → is_like h xs ≡ true → Reads s k xs v k' ys → ReadsRun s h k' ys vs k'' zs → ReadsRun s h k xs (value v vs) k'' zs
+    ends :
+        {s : Form} {h : Raw} {k : List Keep} {xs : List Raw}
+        → is_like h xs ≡ false
+        → ReadsRun s h k xs no_values k xs
+    more :
+        {s : Form} {h : Raw} {k k' k'' : List Keep} {xs ys zs : List Raw} {v : Value} {vs : Values}
+        → is_like h xs ≡ true
+        → Reads s k xs v k' ys
+        → ReadsRun s h k' ys vs k'' zs
+        → ReadsRun s h k xs (value v vs) k'' zs
 
   -- the fields read one after the other
   pub data ReadsFields : Fields → List Keep → List Raw → Values → List Keep → List Raw → Type 0 where
     done : {k : List Keep} {xs : List Raw} → ReadsFields no_fields k xs no_values k xs
-    next : {name : List ℕ} {s : Form} {fs : Fields} {k k' k'' : List Keep} {xs ys zs : List Raw} {v : Value} {vs : Values} → ReadsField name s k xs v k' ys → ReadsFields fs k' ys vs k'' zs → ReadsFields (field name s fs) k xs (value v vs) k'' zs
+    next :
+        {name : List ℕ} {s : Form} {fs : Fields} {k k' k'' : List Keep} {xs ys zs : List Raw} {v : Value} {vs : Values}
+        → ReadsField name s k xs v k' ys
+        → ReadsFields fs k' ys vs k'' zs
+        → ReadsFields (field name s fs) k xs (value v vs) k'' zs
 
-  -- one field: an option is left out where its name isn't the next item's; a struct goes by its own name, any other by the field's
+  -- one field: an option is left out where its name isn't the next item's; a struct goes by its own name, any other by
+  -- the field's
   pub data ReadsField : List ℕ → Form → List Keep → List Raw → Value → List Keep → List Raw → Type 0 where
-    absent : {name : List ℕ} {s : Form} {k : List Keep} {xs : List Raw} → is_option s ≡ true → names name xs ≡ false → ReadsField name s k xs none k xs
-    named : {name : List ℕ} {s : Form} {k k' : List Keep} {xs ys : List Raw} {v : Value} → names name xs ≡ true → is_struct s ≡ false → Reads s k xs v k' ys → ReadsField name s k xs v k' ys
-    inner : {name : List ℕ} {s : Form} {k k' : List Keep} {xs ys : List Raw} {v : Value} → is_struct s ≡ true → Reads s k xs v k' ys → ReadsField name s k xs v k' ys
+    absent :
+        {name : List ℕ} {s : Form} {k : List Keep} {xs : List Raw}
+        → is_option s ≡ true
+        → names name xs ≡ false
+        → ReadsField name s k xs none_value k xs
+    named :
+        {name : List ℕ} {s : Form} {k k' : List Keep} {xs ys : List Raw} {v : Value}
+        → names name xs ≡ true
+        → is_struct s ≡ false
+        → Reads s k xs v k' ys
+        → ReadsField name s k xs v k' ys
+    inner :
+        {name : List ℕ} {s : Form} {k k' : List Keep} {xs ys : List Raw} {v : Value}
+        → is_struct s ≡ true
+        → Reads s k xs v k' ys
+        → ReadsField name s k xs v k' ys
 
 -- what may stand for a whole message: a struct, with newtypes and options around it or none
 abbrev pub is_root : Form → Bool

@@ -1,5 +1,6 @@
 -- What a refusal says, the root's own ones first.
-use Rattle.std.specs.Prelude.{ℕ, ◌≤◌, List, [], length, Option, Some, None, nat_le, ◌==◌, if◌then◌else◌, codes, Result, Ok, Err, IfErr}
+use Rattle.std.specs.Prelude.{ℕ, ◌≤◌, List, [], length, Option, Some, None, nat_le, ◌==◌, if◌then◌else◌, codes, Result}
+use Rattle.std.specs.Prelude.{Ok, Err, IfErr}
 use Rattle.kmip_ttlv_types.specs.declared.typ.TtlvType.{TtlvType}
 use Rattle.kmip_ttlv_types.specs.declared.typ.TtlvType.TheVariants.{Structure}
 use Rattle.kmip_ttlv_types.specs.declared.field.FieldType.TheVariants as fields
@@ -21,12 +22,20 @@ pub record Fault : Type 0 where
 abbrev pub at_first : Location
 at_first = record { offset = Some 0; parents = []; tag = None; typ = None }
 
+-- the first item is no Structure
+abbrev pub structure_fault : List ℕ → TtlvType → Option Fault
+structure_fault b t =
+    if is_structure t
+    then None
+    else Some record { kind = malformed (malformeds.UnexpectedType Structure t); place = item_place b 0 4 t }
+
 -- the first item's type, by its code, is none; or its tag is another; or it is no Structure
 abbrev pub header_fault : ℕ → List ℕ → Option TtlvType → Option Fault
-header_fault tag b None = Some record { kind = malformed (malformeds.InvalidType (code_at b 0)); place = code_place b 0 }
+header_fault tag b None =
+    Some record { kind = malformed (malformeds.InvalidType (code_at b 0)); place = code_place b 0 }
 header_fault tag b (Some t) =
     if tag == tag_at b 0
-    then (if is_structure t then None else Some record { kind = malformed (malformeds.UnexpectedType Structure t); place = item_place b 0 4 t })
+    then structure_fault b t
     else Some record { kind = mismatch (unexpected_tag tag (tag_at b 0)); place = item_place b 0 4 t }
 
 -- a name that is no tag, or else what the first eight bytes have
@@ -40,7 +49,8 @@ no_struct_fault = Some record { kind = mismatch (other_cause (codes "no struct")
 
 -- the root is a leaf
 abbrev pub leaf_fault : Option Fault
-leaf_fault = Some record { kind = malformed (malformeds.UnexpectedTtlvField fields.Tag fields.LengthAndValue); place = at_first }
+leaf_fault =
+    Some record { kind = malformed (malformeds.UnexpectedTtlvField fields.Tag fields.LengthAndValue); place = at_first }
 
 -- the refusal that a root's form and the first eight bytes bring about
 abbrev pub root_fault : Form → List ℕ → Option Fault

@@ -1,10 +1,13 @@
 -- Rules in the names of variants: what they say of the texts that were read, and which variant they choose.
-use Rattle.std.specs.Prelude.{ℕ, ◌+◌, Bool, true, false, List, [], ◌∷◌, take, length, ◌-◌, codes, eqb, nat_le, ◌==◌, if◌then◌else◌, Option, Some, None, option_map, option_and_then, Result, Ok, Err, filter}
+use Rattle.std.specs.Prelude.{ℕ, ◌+◌, Bool, true, false, List, [], ◌∷◌, take, length, ◌-◌, codes, eqb, nat_le, ◌==◌}
+use Rattle.std.specs.Prelude.{if◌then◌else◌, Option, Some, None, option_map, option_and_then, Result, Ok, Err, filter}
 use Rattle.std.specs.Option.{option_or}
 use Rattle.std.specs.List.{last_or, list_any, slice_split, ends_with}
 use Rattle.std.specs.Str.{bytes_eq, trim}
 use Rattle.kmip_ttlv_types.specs.declared.typ.TtlvType.{TtlvType}
-use Rattle.kmip_ttlv_types.specs.declared.typ.TtlvType.TheVariants.{Structure, Integer, LongInteger, BigInteger, Enumeration, Boolean, TextString, ByteString, DateTime, Interval}
+use Rattle.kmip_ttlv_types.specs.declared.typ.TtlvType.TheVariants.{Structure, Integer, LongInteger, BigInteger}
+use Rattle.kmip_ttlv_types.specs.declared.typ.TtlvType.TheVariants.{Enumeration, Boolean, TextString, ByteString}
+use Rattle.kmip_ttlv_types.specs.declared.typ.TtlvType.TheVariants.{DateTime, Interval}
 use Rattle.kmip_ttlv_types.specs.Names.{after_prefix, number, tag_of}
 use Rattle.kmip_ttlv_base.specs.Errors.{Mismatch, invalid_rule, invalid_tag}
 use Rattle.kmip_ttlv_base.specs.Forms.{Variants, no_variants, variant}
@@ -47,7 +50,10 @@ type_name Interval = codes "Interval"
 -- what stands before the first place at which a text has a pattern, and what stands after the pattern there
 abbrev pub cut : List ℕ → List ℕ → Option (List ℕ × List ℕ)
 cut pattern [] = option_map (λ rest. ([], rest)) (after_prefix pattern [])
-cut pattern (c ∷ cs) = option_or (option_map (λ rest. ([], rest)) (after_prefix pattern (c ∷ cs))) (option_map (λ x. (c ∷ x.0, x.1)) (cut pattern cs))
+cut pattern (c ∷ cs) =
+    option_or
+    (option_map (λ rest. ([], rest)) (after_prefix pattern (c ∷ cs)))
+    (option_map (λ x. (c ∷ x.0, x.1)) (cut pattern cs))
 
 -- the sides of an operator, trimmed
 unfoldable pub sides : List ℕ → List ℕ → Option (List ℕ × List ℕ)
@@ -78,15 +84,28 @@ with_text (Some text) follows = follows text
 
 -- `==`: the item's type has this name, or the last text kept under a tag is this one; not where there is no such tag
 unfoldable pub equal : List Keep → TtlvType → List ℕ → List ℕ → Verdict
-equal ks typ l x = if bytes_eq l (codes "type") then says (bytes_eq x (type_name typ)) else with_text (option_and_then (last ks) (tag_of l)) (λ text. says (bytes_eq text x))
+equal ks typ l x =
+    if bytes_eq l (codes "type")
+    then says (bytes_eq x (type_name typ))
+    else with_text (option_and_then (last ks) (tag_of l)) (λ text. says (bytes_eq text x))
 
 -- `>=`: the last text kept under a tag is at least this number; refused with what is no tag or no number
 unfoldable pub at_least : List Keep → List ℕ → List ℕ → Verdict
-at_least ks l x = needs (tag_of l) l (λ t. with_text (last ks t) (λ text. needs (number text) text (λ m. needs (number x) x (λ n. says (nat_le n m)))))
+at_least ks l x =
+    needs (tag_of l) l (λ t.
+    with_text (last ks t) (λ text.
+    needs (number text) text (λ m.
+    needs (number x) x (λ n.
+    says (nat_le n m)))))
 
--- `in`: the last text kept under a tag is one of those between brackets and commas, trimmed; refused with what is no tag
+-- `in`: the last text kept under a tag is one of those between brackets and commas, trimmed; refused with what is no
+-- tag
 unfoldable pub member : List Keep → List ℕ → List ℕ → Verdict
-member ks l x = with_text (in_brackets x) (λ all. needs (tag_of l) l (λ t. with_text (last ks t) (λ text. says (list_any (λ m. bytes_eq (trim m) text) (slice_split (λ c. c == 44) all)))))
+member ks l x =
+    with_text (in_brackets x) (λ all.
+    needs (tag_of l) l (λ t.
+    with_text (last ks t) (λ text.
+    says (list_any (λ m. bytes_eq (trim m) text) (slice_split (λ c. c == 44) all)))))
 
 -- what an operator says of its sides, where it stands in the text; else another verdict
 abbrev pub by : Option (List ℕ × List ℕ) → (List ℕ → List ℕ → Verdict) → Verdict → Verdict

@@ -9,7 +9,12 @@ mutual
   -- a leaf, valid or not, or a Structure whose content is split into such items
   pub data SplitThroughout : Raw → Type 0 where
     leaf_item : {x : Raw} → is_structure x.typ ≡ false → SplitThroughout x
-    split_item : {x : Raw} {zs : List Raw} → x.typ ≡ Structure → Splits zs x.content → AllSplitThroughout zs → SplitThroughout x
+    split_item :
+        {x : Raw} {zs : List Raw}
+        → x.typ ≡ Structure
+        → Splits zs x.content
+        → AllSplitThroughout zs
+        → SplitThroughout x
 
   -- each of them is such an item
   pub data AllSplitThroughout : List Raw → Type 0 where

@@ -1,10 +1,11 @@
 //! The fields of an item, at its place among the bytes.
 
-ghost use Rattle.std.specs.Prelude.{◌≡◌, ◌≢◌, ℕ, Bool, ◌+◌, ◌<◌, ◌≤◌, ◌⊎◌, length, take, drop, None, Some, IfOk, IfErr, IfSome, IfNone};
+ghost use Rattle.std.specs.Prelude.{◌≡◌, ◌≢◌, ℕ, Bool, ◌+◌, ◌<◌, ◌≤◌, ◌⊎◌, length, take, drop, None, Some, IfOk, IfErr};
+ghost use Rattle.std.specs.Prelude.{IfSome, IfNone};
 ghost use Rattle.kmip_ttlv_types.specs.ItemTypes.{code, type_of, padding, is_structure};
 ghost use Rattle.kmip_ttlv_types.specs.Places.{tag_at, code_at, length_at, size};
 ghost use Rattle.kmip_ttlv_base.specs.Errors.{malformed};
-ghost use Rattle.kmip_ttlv_base.specs.declared.error.MalformedTtlvError.TheVariants.{InvalidType as InvalidTypeFault};
+ghost use Rattle.kmip_ttlv_base.specs.declared.error.MalformedTtlvError.TheVariants as malformeds;
 ghost use Rattle.kmip_ttlv_base.specs.Forms.{Form};
 ghost use Rattle.kmip_ttlv_de.specs.ReadPlaces.{ItemMayBegin};
 ghost use Rattle.kmip_ttlv_de.specs.ReadAnswers.{sort_of, early_end};
@@ -29,8 +30,12 @@ pub fn tag_at(bytes: &[u8], pos: usize) -> TtlvTag
 pub fn type_at<A: Allocator>(bytes: &[u8], pos: usize) -> Result<TtlvType, A>
     requires inside { pos ≤ length bytes.now }
     ensures ok { IfOk result (λ t. (pos + 4 ≤ length bytes.now) × (code_at bytes.now pos ≡ code t)) }
-    ensures err { IfErr result (λ r. ((sort_of r ≡ early_end) × (length bytes.now < pos + 4)) ⊎ ((pos + 4 ≤ length bytes.now) × (type_of (code_at bytes.now pos) ≡ None))) }
-    ensures fault { IfErr result (λ r. pos + 4 ≤ length bytes.now → (cause_of r ≡ malformed (InvalidTypeFault (code_at bytes.now pos))) × (place_of r ≡ code_place bytes.now pos)) }
+    ensures err { IfErr result (λ r.
+        ((sort_of r ≡ early_end) × (length bytes.now < pos + 4))
+        ⊎ ((pos + 4 ≤ length bytes.now) × (type_of (code_at bytes.now pos) ≡ None))) }
+    ensures fault { IfErr result (λ r. pos + 4 ≤ length bytes.now
+        → (cause_of r ≡ malformed (malformeds.InvalidType (code_at bytes.now pos)))
+        × (place_of r ≡ code_place bytes.now pos)) }
     ensures says { IfErr result (λ r. (f : Form) (e : ℕ)
         → pos < e
         → ItemMayBegin f bytes.now pos

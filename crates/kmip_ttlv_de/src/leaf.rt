@@ -1,6 +1,7 @@
 //! Leaves: their content, and the values that shapes read from it.
 
-ghost use Rattle.std.specs.Prelude.{◌≡◌, ◌≢◌, ℕ, Bool, ◌+◌, ◌<◌, ◌≤◌, ◌++◌, length, take, drop, None, Some, true, false, IfOk, IfErr, List, string_bytes};
+ghost use Rattle.std.specs.Prelude.{◌≡◌, ◌≢◌, ℕ, Bool, ◌+◌, ◌<◌, ◌≤◌, ◌++◌, length, take, drop, None, Some, true};
+ghost use Rattle.std.specs.Prelude.{false, IfOk, IfErr, List, string_bytes};
 ghost use Rattle.kmip_ttlv_types.specs.ItemTypes.{code, fixed_length};
 ghost use Rattle.kmip_ttlv_types.specs.Leaves.{is_valid};
 ghost use Rattle.kmip_ttlv_types.specs.Places.{tag_at, code_at, length_at};
@@ -13,7 +14,8 @@ ghost use Rattle.kmip_ttlv_de.specs.Keeps.{Keep, keeps};
 ghost use Rattle.kmip_ttlv_de.specs.Reads.{takes, leaf_value, with_leaf, byte_digits, number_text};
 ghost use Rattle.kmip_ttlv_de.specs.Reading.{any_leaf, read_leaf};
 ghost use Rattle.kmip_ttlv_de.specs.ReadLeaves.{form_of_leaf, first_type};
-ghost use Rattle.kmip_ttlv_de.specs.ReadAnswers.{Answers, ReadsNothing, sort_of};
+ghost use Rattle.kmip_ttlv_de.specs.ReadAnswers.{sort_of};
+ghost use Rattle.kmip_ttlv_de.specs.ReaderSteps.{Answers, ReadsNothing};
 ghost use Rattle.kmip_ttlv_de.specs.Facts.{Says, WrongLength, WrongValue, LeafRead};
 
 use crate::head::{content_at, end_of, length_at, tag_at, type_at};
@@ -116,8 +118,12 @@ pub fn leaf_at<A: Allocator>(bytes: &[u8], pos: usize, typ: TtlvType) -> Result<
     requires there { pos + 4 ≤ length bytes.now }
     requires typ_is { code_at bytes.now pos ≡ code typ }
     requires leaf { typ ≢ TtlvType.Structure }
-    ensures ok { IfOk result (λ r. LeafAt bytes.now pos typ (length_at bytes.now pos) r.0.now r.1 × (is_valid typ r.0.now ≡ true)) }
-    ensures err { IfErr result (λ r. (k : List Keep) (e : ℕ) → pos < e → ReadsNothing any_leaf bytes.now pos e k (sort_of r)) }
+    ensures ok { IfOk result (λ r.
+        LeafAt bytes.now pos typ (length_at bytes.now pos) r.0.now r.1
+        × (is_valid typ r.0.now ≡ true)) }
+    ensures err { IfErr result (λ r. (k : List Keep) (e : ℕ)
+        → pos < e
+        → ReadsNothing any_leaf bytes.now pos e k (sort_of r)) }
     ensures says { IfErr result (λ r. (f : Form) (e : ℕ)
         → pos < e
         → ((w n : ℕ) → WrongLength bytes.now pos typ w n → LeafRead f bytes.now pos typ)
@@ -188,7 +194,10 @@ fn keep_leaf<A: Allocator + Copy>(
 ) -> Result<(), A>
     requires takes { takes (form_of_leaf leaf) typ ≡ true }
     requires valid { is_valid typ content.now ≡ true }
-    ensures ok { IfOk result (λ _. (x : Raw) → x.tag ≡ tag → x.content ≡ content.now → keeps kept.new.items ≡ with_leaf (form_of_leaf leaf) x (keeps kept.old.items)) }
+    ensures ok { IfOk result (λ _. (x : Raw)
+        → x.tag ≡ tag
+        → x.content ≡ content.now
+        → keeps kept.new.items ≡ with_leaf (form_of_leaf leaf) x (keeps kept.old.items)) }
     ensures err { IfErr result (λ e. IsMemory e) }
 {
     if let Leaf::Text = leaf {
@@ -210,7 +219,8 @@ pub fn read_leaf<A: Allocator + Copy>(
 ) -> Result<(Data<A>, usize), A>
     requires before_end { pos < end }
     requires inside { pos ≤ length bytes.now }
-    ensures answers { Answers view (read_leaf (form_of_leaf leaf)) bytes.now pos end (keeps kept.old.items) (keeps kept.new.items) result }
+    ensures answers { Answers view (read_leaf (form_of_leaf leaf)) bytes.now pos end
+        (keeps kept.old.items) (keeps kept.new.items) result }
     ensures further { IfOk result (λ r. pos + 8 ≤ r.1) }
     ensures says { IfErr result (λ r. (f : Form) (o : ℕ)
         → PartAt f bytes.now (form_of_leaf leaf) pos o end

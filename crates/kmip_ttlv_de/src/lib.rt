@@ -15,7 +15,9 @@ ghost use Rattle.kmip_ttlv_de.specs.Reads.{Reads, Begins};
 ghost use Rattle.kmip_ttlv_de.specs.Reading.{got, read_of};
 ghost use Rattle.kmip_ttlv_de.specs.ReadAnswers.{RefusalStands, early_end, sort_of};
 ghost use Rattle.kmip_ttlv_de.specs.Wholes.{BeginsWhole};
-ghost use Rattle.kmip_ttlv_de.specs.Messages.{outer, four_bytes, long_four, one_integer, one_integer_value, may_lack_first, lacks_first_value, chosen_by_first, chosen_by_first_value, integers};
+ghost use Rattle.kmip_ttlv_de.specs.Messages.{outer, four_bytes, long_four, one_integer, one_integer_value};
+ghost use Rattle.kmip_ttlv_de.specs.Messages.{may_lack_first, lacks_first_value, chosen_by_first};
+ghost use Rattle.kmip_ttlv_de.specs.Messages.{chosen_by_first_value, integers};
 ghost use Rattle.kmip_ttlv_de.specs.RootFacts.{root_fault, RefusalFacts};
 
 mod head;
@@ -80,7 +82,9 @@ pub fn from_slice<T: Deserialize<A>, A: Allocator + Copy>(alloc: A, bytes: &[u8]
 
 /// What is read, from items or from bytes, is of the form's kind and names.
 pub fn what_begins_is_given()
-    ensures items { (s : Form) (k k' : List Keep) (xs ys : List Raw) (v : Value) → Reads s k xs v k' ys → Gives s v }
+    ensures items { (s : Form) (k k' : List Keep) (xs ys : List Raw) (v : Value)
+        → Reads s k xs v k' ys
+        → Gives s v }
     ensures bytes { (s : Form) (bytes : List ℕ) (v : Value) → Begins s bytes v → Gives s v }
 {}
 
@@ -96,8 +100,12 @@ pub fn one_split()
 
 /// What a form reads by its rules, the function of the same meaning reads, and nothing else.
 pub fn read_by_rules()
-    ensures some { (s : Form) (k k' : List Keep) (xs ys : List Raw) (v : Value) → Reads s k xs v k' ys → read_of s k xs ≡ got v k' ys }
-    ensures only { (s : Form) (k k' : List Keep) (xs ys : List Raw) (v : Value) → read_of s k xs ≡ got v k' ys → Reads s k xs v k' ys }
+    ensures complete { (s : Form) (k k' : List Keep) (xs ys : List Raw) (v : Value)
+        → Reads s k xs v k' ys
+        → read_of s k xs ≡ got v k' ys }
+    ensures sound { (s : Form) (k k' : List Keep) (xs ys : List Raw) (v : Value)
+        → read_of s k xs ≡ got v k' ys
+        → Reads s k xs v k' ys }
 {}
 
 /// What small messages are read as.
@@ -110,7 +118,8 @@ pub fn small_messages()
     ensures left_out { Begins may_lack_first (outer 16 ++ four_bytes 204 2 5 0) (lacks_first_value 5) }
     ensures other_tag { (v : Value) → Begins one_integer (outer 16 ++ four_bytes 204 2 5 0) v → ⊥ }
     // A rule sees the text of the number that was read before.
-    ensures chosen { Begins chosen_by_first (outer 32 ++ four_bytes 187 5 1 0 ++ four_bytes 204 2 7 0) (chosen_by_first_value 7) }
+    ensures chosen { Begins chosen_by_first (outer 32 ++ four_bytes 187 5 1 0 ++ four_bytes 204 2 7 0)
+        (chosen_by_first_value 7) }
     // A sequence ends at another type, and what follows is a field that was read already.
     ensures duplicate { (v : Value) → Begins integers (outer 32 ++ four_bytes 187 2 3 0 ++ long_four) v → ⊥ }
 {}

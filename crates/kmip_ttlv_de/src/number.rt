@@ -1,6 +1,7 @@
 //! Enums that are read by a number: the text that names a variant.
 
-ghost use Rattle.std.specs.Prelude.{◌≡◌, ◌≢◌, ℕ, Bool, ◌+◌, ◌<◌, ◌≤◌, ◌++◌, List, length, Some, true, IfOk, IfErr, IfSome, option_map, string_bytes};
+ghost use Rattle.std.specs.Prelude.{◌≡◌, ◌≢◌, ℕ, Bool, ◌+◌, ◌<◌, ◌≤◌, ◌++◌, List, length, Some, true, IfOk, IfErr};
+ghost use Rattle.std.specs.Prelude.{IfSome, option_map, string_bytes};
 ghost use Rattle.std.specs.Fmt.{digit_glyph};
 ghost use Rattle.kmip_ttlv_types.specs.ItemTypes.{code};
 ghost use Rattle.kmip_ttlv_types.specs.Places.{code_at};
@@ -11,7 +12,7 @@ ghost use Rattle.kmip_ttlv_de.specs.Parts.{NumberChooses};
 ghost use Rattle.kmip_ttlv_de.specs.Keeps.{keeps};
 ghost use Rattle.kmip_ttlv_de.specs.Reads.{is_number_type, byte_digits, number_text, first_named};
 ghost use Rattle.kmip_ttlv_de.specs.Reading.{read_number};
-ghost use Rattle.kmip_ttlv_de.specs.ReadAnswers.{Answers};
+ghost use Rattle.kmip_ttlv_de.specs.ReaderSteps.{Answers};
 ghost use Rattle.kmip_ttlv_de.specs.Facts.{Says};
 
 use crate::head::{length_at, tag_at};
@@ -53,7 +54,8 @@ fn first_named<'s, A: Allocator>(
     name: &str,
     variants: &'s [VariantShape<A>],
 ) -> Option<&'s VariantShape<A>>
-    ensures content { option_map (λ v. content_of v.now.content) result ≡ first_named name.now (variants_of variants.now) }
+    ensures content { option_map (λ v. content_of v.now.content) result
+        ≡ first_named name.now (variants_of variants.now) }
     ensures name { IfSome result (λ v. v.now.name.now ≡ name.now) }
 {
     for variant in variants {
@@ -120,7 +122,8 @@ pub fn read_number<A: Allocator + Copy>(
     requires before_end { pos < end }
     requires there { pos + 4 ≤ length bytes.now }
     requires typ_is { code_at bytes.now pos ≡ code typ }
-    ensures answers { Answers view (read_number name.now (variants_of variants.now)) bytes.now pos end (keeps kept.old.items) (keeps kept.new.items) result }
+    ensures answers { Answers view (read_number name.now (variants_of variants.now)) bytes.now pos end
+        (keeps kept.old.items) (keeps kept.new.items) result }
     ensures further { IfOk result (λ r. pos + 8 ≤ r.1) }
     ensures says { IfErr result (λ r. (f : Form)
         → PartAt f bytes.now (enum name.now (variants_of variants.now)) pos owner end

@@ -3,20 +3,26 @@
 //! A reader is at an offset among all the bytes, within a structure that ends at a further offset.
 //! It answers what it read and the offset behind it. The texts that were read go along in `kept`.
 
-ghost use Rattle.std.specs.Prelude.{◌≡◌, ◌≢◌, ℕ, Some, None, Bool, true, false, ◌+◌, ◌<◌, ◌≤◌, List, [], length, IfOk, IfErr, IfSome};
+ghost use Rattle.std.specs.Prelude.{◌≡◌, ◌≢◌, ℕ, Some, None, Bool, true, false, ◌+◌, ◌<◌, ◌≤◌, List, [], length, IfOk};
+ghost use Rattle.std.specs.Prelude.{IfErr, IfSome};
 ghost use Rattle.kmip_ttlv_types.specs.ItemTypes.{code};
 ghost use Rattle.kmip_ttlv_types.specs.Items.{Raw};
 ghost use Rattle.kmip_ttlv_types.specs.Names.{tag_of};
 ghost use Rattle.kmip_ttlv_types.specs.Places.{ItemAt, tag_at, code_at, length_at};
 ghost use Rattle.kmip_ttlv_base.specs.Values.{Value, view, views, struct_value, seq_value};
-ghost use Rattle.kmip_ttlv_base.specs.Forms.{Form, Fields, Variants, struct, seq, enum, tuple, form_of, fields_of, variants_of, content_of, forms_of};
+ghost use Rattle.kmip_ttlv_base.specs.Forms.{Form, Fields, Variants, struct, seq, enum, tuple, form_of, fields_of};
+ghost use Rattle.kmip_ttlv_base.specs.Forms.{variants_of, content_of, forms_of};
 ghost use Rattle.kmip_ttlv_de.specs.Parts.{HasField, RuleChooses};
-ghost use Rattle.kmip_ttlv_de.specs.ReadPlaces.{IsItem, IsLast, WholeItems, InContent, IsInside, PartAt, StructRead, TupleRead, StructAt, stated_end};
+ghost use Rattle.kmip_ttlv_de.specs.ReadPlaces.{IsItem, IsLast, WholeItems, InContent, IsInside, PartAt, StructRead};
+ghost use Rattle.kmip_ttlv_de.specs.ReadPlaces.{TupleRead, StructAt, stated_end};
 ghost use Rattle.kmip_ttlv_de.specs.Keeps.{Keep, keeps};
 ghost use Rattle.kmip_ttlv_de.specs.Rules.{choice};
 ghost use Rattle.kmip_ttlv_de.specs.Reads.{is_option, is_root, is_struct, names_tag, Begins};
-ghost use Rattle.kmip_ttlv_de.specs.Reading.{FieldsReader, read_of, read_fields, read_all, rest_of, read_field, read_struct, read_seq, read_enum, read_variant, read_content, read_tuple, read_used, read_forms};
-ghost use Rattle.kmip_ttlv_de.specs.ReadAnswers.{Chooses, Answers, AnswersAll, Answers3, Ignores, GoesOn, ReadsNothing, RefusalStands, early_end, sort_of};
+ghost use Rattle.kmip_ttlv_de.specs.Reading.{FieldsReader, read_of, read_fields, read_all, rest_of, read_field};
+ghost use Rattle.kmip_ttlv_de.specs.Reading.{read_struct, read_seq, read_enum, read_variant, read_content, read_tuple};
+ghost use Rattle.kmip_ttlv_de.specs.Reading.{read_used, read_forms};
+ghost use Rattle.kmip_ttlv_de.specs.ReadAnswers.{RefusalStands, early_end, sort_of};
+ghost use Rattle.kmip_ttlv_de.specs.ReaderSteps.{Chooses, Answers, AnswersAll, Answers3, Ignores, GoesOn, ReadsNothing};
 ghost use Rattle.kmip_ttlv_de.specs.Facts.{NameWanted, Says};
 ghost use Rattle.kmip_ttlv_de.specs.RootFacts.{root_fault, named_fault, RootFacts, RefusalFacts};
 ghost use Rattle.kmip_ttlv_de.specs.Wholes.{BeginsWhole};
@@ -79,7 +85,8 @@ fn read_shape<A: Allocator + Copy>(
 ) -> Result<(Data<A>, usize), A>
     requires before_end { pos < end }
     requires inside { pos ≤ length bytes.now }
-    ensures answers { Answers view (read_of (form_of shape.now)) bytes.now pos end (keeps kept.old.items) (keeps kept.new.items) result }
+    ensures answers { Answers view (read_of (form_of shape.now)) bytes.now pos end
+        (keeps kept.old.items) (keeps kept.new.items) result }
     ensures further { IfOk result (λ r. pos + 8 ≤ r.1) }
     ensures says { IfErr result (λ r. (f : Form)
         → PartAt f bytes.now (form_of shape.now) pos owner end
@@ -133,12 +140,17 @@ fn open_struct<A: Allocator + Copy>(
 ) -> Result<(TtlvTag, u32), A>
     requires inside { pos ≤ length bytes.now }
     ensures ok { IfOk result (λ r. StructAt name.now bytes.now pos r.0 r.1) }
-    ensures err { IfErr result (λ r. (fs : Fields) (deny : Bool) (read : FieldsReader) (k : List Keep) (e : ℕ) → pos < e → ReadsNothing (read_struct name.now fs deny read) bytes.now pos e k (sort_of r)) }
+    ensures err { IfErr result (λ r. (fs : Fields) (deny : Bool) (read : FieldsReader) (k : List Keep) (e : ℕ)
+        → pos < e
+        → ReadsNothing (read_struct name.now fs deny read) bytes.now pos e k (sort_of r)) }
     ensures says { IfErr result (λ r. (f : Form) (fs : Fields) (deny : Bool) (o e : ℕ)
         → pos < e
         → PartAt f bytes.now (struct name.now fs deny) pos o e
         → Says f bytes.now pos e r) }
-    ensures root { pos ≡ 0 → (t : ℕ) → tag_of name.now ≡ Some t → RootFacts (named_fault name.now bytes.now (Some t)) bytes.now result }
+    ensures root { pos ≡ 0
+        → (t : ℕ)
+        → tag_of name.now ≡ Some t
+        → RootFacts (named_fault name.now bytes.now (Some t)) bytes.now result }
 {
     let typ = type_at(bytes, pos)?;
     let Some(tag) = TtlvTag::from_name(name) else {
@@ -169,7 +181,11 @@ fn read_struct<A: Allocator + Copy>(
     kept: &mut Vec<Kept<A>, A>,
 ) -> Result<(Vec<Data<A>, A>, usize), A>
     requires inside { pos ≤ length bytes.now }
-    ensures answers { (e : ℕ) → pos < e → Answers (λ v. struct_value name.now (views v.items)) (read_struct name.now (fields_of fields.now) deny (read_fields (fields_of fields.now))) bytes.now pos e (keeps kept.old.items) (keeps kept.new.items) result }
+    ensures answers { (e : ℕ)
+        → pos < e
+        → Answers (λ v. struct_value name.now (views v.items))
+        (read_struct name.now (fields_of fields.now) deny (read_fields (fields_of fields.now)))
+        bytes.now pos e (keeps kept.old.items) (keeps kept.new.items) result }
     ensures further { IfOk result (λ r. pos + 8 ≤ r.1) }
     ensures says { IfErr result (λ r. (f : Form) (o e : ℕ)
         → pos < e
@@ -200,7 +216,9 @@ fn read_content<A: Allocator + Copy>(
     kept: &mut Vec<Kept<A>, A>,
 ) -> Result<Vec<Data<A>, A>, A>
     requires inside { pos ≤ length bytes.now }
-    ensures answers { AnswersAll (λ v. views v.items) (read_all (fields_of fields.now) deny (read_fields (fields_of fields.now))) bytes.now pos end (keeps kept.old.items) (keeps kept.new.items) result }
+    ensures answers { AnswersAll (λ v. views v.items)
+        (read_all (fields_of fields.now) deny (read_fields (fields_of fields.now)))
+        bytes.now pos end (keeps kept.old.items) (keeps kept.new.items) result }
     ensures says { IfErr result (λ r. (f : Form) (name : List ℕ) (p : ℕ)
         → StructRead f bytes.now name (fields_of fields.now) deny p
         → tag ≡ tag_at bytes.now p
@@ -226,7 +244,8 @@ fn read_fields<A: Allocator + Copy>(
     kept: &mut Vec<Kept<A>, A>,
 ) -> Result<(Vec<Data<A>, A>, usize, usize), A>
     requires inside { pos ≤ length bytes.now }
-    ensures answers { Answers3 (λ v. views v.items) (read_fields (fields_of fields.now)) bytes.now pos end (keeps kept.old.items) (keeps kept.new.items) result }
+    ensures answers { Answers3 (λ v. views v.items) (read_fields (fields_of fields.now))
+        bytes.now pos end (keeps kept.old.items) (keeps kept.new.items) result }
     ensures says { IfErr result (λ r. (deny : Bool) (f : Form) (name : List ℕ) (p : ℕ)
         → StructRead f bytes.now name (fields_of fields.now) deny p
         → tag ≡ tag_at bytes.now p
@@ -270,7 +289,8 @@ fn read_rest<A: Allocator + Copy>(
     end: usize,
 ) -> Result<(), A>
     requires inside { pos ≤ length bytes.now }
-    ensures answers { (k : List Keep) → AnswersAll (λ u. tt) (rest_of (fields_of fields.now) deny) bytes.now pos end k k result }
+    ensures answers { (k : List Keep)
+        → AnswersAll (λ u. tt) (rest_of (fields_of fields.now) deny) bytes.now pos end k k result }
     ensures says { IfErr result (λ r. (f : Form) (name : List ℕ) (p : ℕ)
         → StructRead f bytes.now name (fields_of fields.now) deny p
         → tag ≡ tag_at bytes.now p
@@ -349,7 +369,8 @@ fn read_field<A: Allocator + Copy>(
     kept: &mut Vec<Kept<A>, A>,
 ) -> Result<(Data<A>, usize), A>
     requires inside { pos ≤ length bytes.now }
-    ensures answers { Answers view (read_field name.now (form_of shape.now) (read_of (form_of shape.now))) bytes.now pos end (keeps kept.old.items) (keeps kept.new.items) result }
+    ensures answers { Answers view (read_field name.now (form_of shape.now) (read_of (form_of shape.now)))
+        bytes.now pos end (keeps kept.old.items) (keeps kept.new.items) result }
     ensures says { IfErr result (λ r. (fs : Fields) (deny : Bool) (f : Form) (struct_name : List ℕ) (p : ℕ)
         → StructRead f bytes.now struct_name fs deny p
         → tag ≡ tag_at bytes.now p
@@ -413,7 +434,8 @@ fn read_seq<A: Allocator + Copy>(
 ) -> Result<(Vec<Data<A>, A>, usize), A>
     requires before_end { pos < end }
     requires inside { pos ≤ length bytes.now }
-    ensures answers { Answers (λ v. seq_value (views v.items)) (read_seq (read_of (form_of shape.now))) bytes.now pos end (keeps kept.old.items) (keeps kept.new.items) result }
+    ensures answers { Answers (λ v. seq_value (views v.items)) (read_seq (read_of (form_of shape.now)))
+        bytes.now pos end (keeps kept.old.items) (keeps kept.new.items) result }
     ensures further { IfOk result (λ r. pos + 8 ≤ r.1) }
     ensures says { IfErr result (λ r. (f : Form)
         → PartAt f bytes.now (seq (form_of shape.now)) pos owner end
@@ -510,7 +532,9 @@ fn read_enum<A: Allocator + Copy>(
 ) -> Result<(Data<A>, usize), A>
     requires before_end { pos < end }
     requires inside { pos ≤ length bytes.now }
-    ensures answers { Answers view (read_enum name.now (variants_of variants.now) (read_variant name.now (variants_of variants.now))) bytes.now pos end (keeps kept.old.items) (keeps kept.new.items) result }
+    ensures answers { Answers view
+        (read_enum name.now (variants_of variants.now) (read_variant name.now (variants_of variants.now)))
+        bytes.now pos end (keeps kept.old.items) (keeps kept.new.items) result }
     ensures further { IfOk result (λ r. pos + 8 ≤ r.1) }
     ensures says { IfErr result (λ r. (f : Form)
         → PartAt f bytes.now (enum name.now (variants_of variants.now)) pos owner end
@@ -553,7 +577,8 @@ fn read_variant<A: Allocator + Copy>(
     requires before_end { pos < end }
     requires there { pos + 4 ≤ length bytes.now }
     requires typ_is { code_at bytes.now pos ≡ code typ }
-    ensures answers { Answers view (read_content name.now variant.now (content_of content.now)) bytes.now pos end (keeps kept.old.items) (keeps kept.new.items) result }
+    ensures answers { Answers view (read_content name.now variant.now (content_of content.now))
+        bytes.now pos end (keeps kept.old.items) (keeps kept.new.items) result }
     ensures further { IfOk result (λ r. pos + 8 ≤ r.1) }
     ensures says { IfErr result (λ r. (f : Form) (vs : Variants)
         → PartAt f bytes.now (enum name.now vs) pos owner end
@@ -599,7 +624,10 @@ fn read_tuple<A: Allocator + Copy>(
 ) -> Result<(Vec<Data<A>, A>, usize), A>
     requires there { pos + 4 ≤ length bytes.now }
     requires typ_is { code_at bytes.now pos ≡ code typ }
-    ensures answers { (e : ℕ) → pos < e → Answers (λ v. views v.items) (read_tuple (read_forms (forms_of shapes.now))) bytes.now pos e (keeps kept.old.items) (keeps kept.new.items) result }
+    ensures answers { (e : ℕ)
+        → pos < e
+        → Answers (λ v. views v.items) (read_tuple (read_forms (forms_of shapes.now)))
+        bytes.now pos e (keeps kept.old.items) (keeps kept.new.items) result }
     ensures further { IfOk result (λ r. pos + 8 ≤ r.1) }
     ensures says { IfErr result (λ r. (f : Form) (name : List ℕ) (vs : Variants) (e : ℕ)
         → pos < e
@@ -633,7 +661,8 @@ fn read_parts<A: Allocator + Copy>(
     kept: &mut Vec<Kept<A>, A>,
 ) -> Result<Vec<Data<A>, A>, A>
     requires inside { pos ≤ length bytes.now }
-    ensures answers { AnswersAll (λ v. views v.items) (read_used (read_forms (forms_of shapes.now))) bytes.now pos end (keeps kept.old.items) (keeps kept.new.items) result }
+    ensures answers { AnswersAll (λ v. views v.items) (read_used (read_forms (forms_of shapes.now)))
+        bytes.now pos end (keeps kept.old.items) (keeps kept.new.items) result }
     ensures says { IfErr result (λ r. (f : Form) (p : ℕ)
         → TupleRead f bytes.now (forms_of shapes.now) p owner
         → IsInside bytes.now p pos end
@@ -674,7 +703,8 @@ fn read_first<A: Allocator + Copy>(
     bytes: &[u8],
 ) -> Result<Vec<Data<A>, A>, A>
     requires named { (t : ℕ) × (tag_of name.now ≡ Some t) }
-    ensures found { IfOk result (λ v. Begins (struct name.now (fields_of fields.now) deny) bytes.now (struct_value name.now (views v.items))) }
+    ensures found { IfOk result (λ v. Begins (struct name.now (fields_of fields.now) deny) bytes.now
+        (struct_value name.now (views v.items))) }
     ensures refused { IfErr result (λ e. RefusalStands (struct name.now (fields_of fields.now) deny) bytes.now e) }
     ensures facts { (f : Form)
         → PartAt f bytes.now (struct name.now (fields_of fields.now) deny) 0 0 (stated_end bytes.now 0)

@@ -3,13 +3,15 @@
 ghost use Rattle.std.specs.Prelude.{◌≡◌, ℕ, ◌+◌, ◌^◌, ◌<◌, ◌≤◌, ◌⊎◌, List, [], length, Some, None, codes};
 ghost use Rattle.kmip_ttlv_types.specs.declared.field.FieldType.TheVariants.{Length, Tag};
 ghost use Rattle.kmip_ttlv_types.specs.Places.{tag_at, code_at, length_at};
-ghost use Rattle.kmip_ttlv_base.specs.Errors.{malformed, mismatch, invalid_tag, missing_identifier, other_cause, unexpected_tag, unexpected_type, IsMemory, view_of_location};
+ghost use Rattle.kmip_ttlv_base.specs.Errors.{malformed, mismatch, invalid_tag, missing_identifier, other_cause};
+ghost use Rattle.kmip_ttlv_base.specs.Errors.{unexpected_tag, unexpected_type, IsMemory, view_of_location};
+ghost use Rattle.kmip_ttlv_base.specs.declared.error.MalformedTtlvError.TheVariants as malformeds;
 ghost use Rattle.kmip_ttlv_base.specs.Forms.{Form};
-ghost use Rattle.kmip_ttlv_base.specs.declared.error.MalformedTtlvError.TheVariants.{InvalidType as InvalidTypeFault, InvalidLength as InvalidLengthFault, InvalidValue as InvalidValueFault, Overflow as OverflowFault, UnexpectedTtlvField as UnexpectedFieldFault, UnexpectedType as UnexpectedTypeFault};
 ghost use Rattle.kmip_ttlv_de.specs.ReadAnswers.{sort_of, early_end};
 ghost use Rattle.kmip_ttlv_de.specs.ReadPlaces.{HasType};
 ghost use Rattle.kmip_ttlv_de.specs.Rules.{mismatch_of};
-ghost use Rattle.kmip_ttlv_de.specs.Facts.{tagged_place, item_place, code_place, struct_place, Facts, MayBeRefusal, Widened, cause_of, place_of};
+ghost use Rattle.kmip_ttlv_de.specs.Facts.{tagged_place, item_place, code_place, struct_place, Facts, MayBeRefusal};
+ghost use Rattle.kmip_ttlv_de.specs.Facts.{Widened, cause_of, place_of};
 ghost use Rattle.kmip_ttlv_de.specs.RootFacts.{Fault, at_first, no_struct_fault, leaf_fault};
 
 use crate::head::tag_at;
@@ -60,7 +62,7 @@ fn in_struct<A: Allocator>(offset: usize, tag: TtlvTag) -> ErrorLocation<A>
 /// The code of no type.
 pub fn bad_code<A: Allocator>(bytes: &[u8], pos: usize) -> Error<A>
     requires there { pos + 4 ≤ length bytes.now }
-    ensures cause { cause_of result ≡ malformed (InvalidTypeFault (code_at bytes.now pos)) }
+    ensures cause { cause_of result ≡ malformed (malformeds.InvalidType (code_at bytes.now pos)) }
     ensures place { place_of result ≡ code_place bytes.now pos }
 {
     Error::new(
@@ -85,7 +87,7 @@ fn other_length<A: Allocator>(
 ) -> Error<A>
     requires there { pos + 4 ≤ length bytes.now }
     requires fits { after < 2 ^ 33 }
-    ensures cause { cause_of result ≡ malformed (InvalidLengthFault expected actual typ) }
+    ensures cause { cause_of result ≡ malformed (malformeds.InvalidLength expected actual typ) }
     ensures place { place_of result ≡ item_place bytes.now pos after typ }
 {
     Error::new(
@@ -107,7 +109,7 @@ pub fn bad_length<A: Allocator>(
     actual: u32,
 ) -> Error<A>
     requires there { pos + 8 ≤ length bytes.now }
-    ensures cause { cause_of result ≡ malformed (InvalidLengthFault expected actual typ) }
+    ensures cause { cause_of result ≡ malformed (malformeds.InvalidLength expected actual typ) }
     ensures place { place_of result ≡ item_place bytes.now pos 8 typ }
 {
     other_length(bytes, pos, typ, expected, actual, 8)
@@ -122,7 +124,7 @@ pub fn bad_number_length<A: Allocator>(
     actual: u32,
 ) -> Error<A>
     requires there { pos + 8 ≤ length bytes.now }
-    ensures cause { cause_of result ≡ malformed (InvalidLengthFault expected actual typ) }
+    ensures cause { cause_of result ≡ malformed (malformeds.InvalidLength expected actual typ) }
     ensures place { place_of result ≡ item_place bytes.now pos 4 typ }
 {
     other_length(bytes, pos, typ, expected, actual, 4)
@@ -131,7 +133,7 @@ pub fn bad_number_length<A: Allocator>(
 /// Content that is no value of this type.
 pub fn bad_value<A: Allocator>(bytes: &[u8], pos: usize, typ: TtlvType, n: u32) -> Error<A>
     requires there { pos + 8 + n ≤ length bytes.now }
-    ensures cause { cause_of result ≡ malformed (InvalidValueFault typ) }
+    ensures cause { cause_of result ≡ malformed (malformeds.InvalidValue typ) }
     ensures place { place_of result ≡ item_place bytes.now pos (8 + n) typ }
 {
     Error::new(
@@ -143,7 +145,7 @@ pub fn bad_value<A: Allocator>(bytes: &[u8], pos: usize, typ: TtlvType, n: u32) 
 /// An item that has to be a Structure.
 pub fn no_structure<A: Allocator>(bytes: &[u8], pos: usize, typ: TtlvType) -> Error<A>
     requires there { pos + 4 ≤ length bytes.now }
-    ensures cause { cause_of result ≡ malformed (UnexpectedTypeFault TtlvType.Structure typ) }
+    ensures cause { cause_of result ≡ malformed (malformeds.UnexpectedType TtlvType.Structure typ) }
     ensures place { place_of result ≡ item_place bytes.now pos 4 typ }
 {
     Error::new(
@@ -217,7 +219,8 @@ pub fn no_tag<A: Allocator + Copy>(
 
 /// The root struct's name, which is no tag.
 pub fn no_root_tag<A: Allocator + Copy>(alloc: A, name: &str) -> Error<A>
-    ensures fault { IsMemory result ⊎ ((cause_of result ≡ mismatch (invalid_tag name.now)) × (place_of result ≡ at_first)) }
+    ensures fault { IsMemory result
+        ⊎ ((cause_of result ≡ mismatch (invalid_tag name.now)) × (place_of result ≡ at_first)) }
 {
     match String::from_str(alloc, name) {
         Ok(name) => Error::new(
@@ -230,7 +233,9 @@ pub fn no_root_tag<A: Allocator + Copy>(alloc: A, name: &str) -> Error<A>
 
 /// A root that is a sequence or an enum.
 pub fn no_struct<A: Allocator + Copy>(alloc: A) -> Error<A>
-    ensures fault { (f : Fault) → no_struct_fault ≡ Some f → IsMemory result ⊎ ((cause_of result ≡ f.kind) × (place_of result ≡ f.place)) }
+    ensures fault { (f : Fault)
+        → no_struct_fault ≡ Some f
+        → IsMemory result ⊎ ((cause_of result ≡ f.kind) × (place_of result ≡ f.place)) }
 {
     match String::from_str(alloc, "no struct") {
         Ok(text) => Error::new(
@@ -247,7 +252,7 @@ fn other_field<A: Allocator>(
     actual: FieldType,
     place: ErrorLocation<A>,
 ) -> Error<A>
-    ensures cause { cause_of result ≡ malformed (UnexpectedFieldFault expected actual) }
+    ensures cause { cause_of result ≡ malformed (malformeds.UnexpectedTtlvField expected actual) }
     ensures place { place_of result ≡ view_of_location place }
 {
     let fault = MalformedTtlvError::UnexpectedTtlvField { expected, actual };
@@ -256,7 +261,9 @@ fn other_field<A: Allocator>(
 
 /// A root that is a leaf.
 pub fn root_leaf<A: Allocator>() -> Error<A>
-    ensures fault { (f : Fault) → leaf_fault ≡ Some f → IsMemory result ⊎ ((cause_of result ≡ f.kind) × (place_of result ≡ f.place)) }
+    ensures fault { (f : Fault)
+        → leaf_fault ≡ Some f
+        → IsMemory result ⊎ ((cause_of result ≡ f.kind) × (place_of result ≡ f.place)) }
 {
     let first = ErrorLocation::at(Some(ByteOffset(0)), None, None, None);
     other_field(FieldType::Tag, FieldType::LengthAndValue, first)
@@ -276,7 +283,7 @@ pub fn no_fields<A: Allocator>(bytes: &[u8], pos: usize, typ: TtlvType) -> Error
 
 /// The item that begins at `last` was read, and it ends at `next`, past the end.
 pub fn overflow<A: Allocator>(bytes: &[u8], last: usize, next: usize, end: usize) -> Error<A>
-    ensures cause { cause_of result ≡ malformed (OverflowFault record { 0 = end }) }
+    ensures cause { cause_of result ≡ malformed (malformeds.Overflow record { 0 = end }) }
     ensures place { (t : TtlvType) → HasType bytes.now last t → place_of result ≡ tagged_place bytes.now last next t }
 {
     let is_there = bytes.len() >= 4 && last <= bytes.len() - 4;
@@ -373,7 +380,7 @@ pub fn unknown_variant<A: Allocator + Copy>(
 /// A unit variant that a rule chose.
 pub fn chosen_unit<A: Allocator>(bytes: &[u8], pos: usize, typ: TtlvType) -> Error<A>
     requires there { pos + 4 ≤ length bytes.now }
-    ensures cause { cause_of result ≡ malformed (UnexpectedFieldFault Length Tag) }
+    ensures cause { cause_of result ≡ malformed (malformeds.UnexpectedTtlvField Length Tag) }
     ensures place { place_of result ≡ item_place bytes.now pos 4 typ }
 {
     other_field(FieldType::Length, FieldType::Tag, at(bytes, pos, typ, 4))
@@ -387,7 +394,7 @@ pub fn named_content<A: Allocator>(
     actual: FieldType,
 ) -> Error<A>
     requires there { pos + 16 ≤ length bytes.now }
-    ensures cause { cause_of result ≡ malformed (UnexpectedFieldFault Tag actual) }
+    ensures cause { cause_of result ≡ malformed (malformeds.UnexpectedTtlvField Tag actual) }
     ensures place { place_of result ≡ item_place bytes.now pos 16 typ }
 {
     other_field(FieldType::Tag, actual, at(bytes, pos, typ, 16))

@@ -12,7 +12,7 @@ use Rattle.kmip_ttlv_types.specs.Leaves.{is_valid}
 use Rattle.kmip_ttlv_types.specs.Items.{IsTextOf}
 use Rattle.kmip_ttlv_types.specs.Names.{tag_of, number, below_tag_limit, transparent_name, override_name}
 use Rattle.kmip_ttlv_types.specs.Trees.{Tree, leaf, node, Trees, no_trees, tree, trees_of, bytes, bytes_below, raw_of, leaf_bytes, node_bytes, Fits}
-use Rattle.kmip_ttlv_base.specs.Values.{Value, boolean_value, i8_value, i16_value, i32_value, u32_value, i64_value, u64_value, interval_value, text_value, bytes_value, big_integer_value, none, some, seq_value, struct_value, newtype_value, unit_variant_value, newtype_variant_value, tuple_variant_value, unsupported_value, Values, no_values, value}
+use Rattle.kmip_ttlv_base.specs.Values.{Value, boolean_value, i8_value, i16_value, i32_value, u32_value, i64_value, u64_value, interval_value, text_value, bytes_value, big_integer_value, none_value, some_value, seq_value, struct_value, newtype_value, unit_variant_value, newtype_variant_value, tuple_variant_value, unsupported_value, Values, no_values, value}
 use Rattle.kmip_ttlv_ser.specs.declared.held.Held.{Held}
 use Rattle.kmip_ttlv_ser.specs.declared.held.Held.TheVariants.{Nothing, Plain, Overriding}
 use Rattle.kmip_ttlv_ser.specs.WrittenItems.{◌>>=◌, take_tag, one_leaf, one_node, one_structure, some_item, left_over, without_override, held_over, enumeration, newtype_row, variant_row, is_wrapper, items, items_in}
@@ -153,8 +153,8 @@ mutual
   items_made P (text_value s) w ts h f e = leaf_made P w TextString s ts f h e
   items_made P (bytes_value s) w ts h f e = leaf_made P w ByteString s ts f refl e
   items_made P (big_integer_value s) w ts h f e = leaf_made P w BigInteger _ ts f refl e
-  items_made P none w ts h f e = absurd cc
-  items_made P (some v) w ts h f e = items_made P v w ts h f e
+  items_made P none_value w ts h f e = absurd cc
+  items_made P (some_value v) w ts h f e = items_made P v w ts h f e
   items_made P (seq_value vs) w ts h f e = items_in_made P vs w ts h f e
   items_made P (struct_value name vs) w ts h f e = structure_made P w name (items_in vs Nothing) ts f (λ us. items_in_made P vs Nothing us h tt) e
   items_made P (newtype_value name v) w ts h f e = newtype_made P (transparent_name name) name w (items v) ts f (λ u us. items_made P v u us h) e
@@ -188,8 +188,8 @@ mutual
   any_texts (text_value s) = tt
   any_texts (bytes_value s) = tt
   any_texts (big_integer_value s) = tt
-  any_texts none = tt
-  any_texts (some v) = any_texts v
+  any_texts none_value = tt
+  any_texts (some_value v) = any_texts v
   any_texts (seq_value vs) = any_texts_in vs
   any_texts (struct_value name vs) = any_texts_in vs
   any_texts (newtype_value name v) = any_texts v

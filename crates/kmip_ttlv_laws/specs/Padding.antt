@@ -8,12 +8,24 @@ mutual
   -- equal items; or Structures of one tag that contain items which are pairwise the same but for padding
   pub data SameButPadding : Raw → Raw → Type 0 where
     equal_items : {x : Raw} → SameButPadding x x
-    split_alike : {x y : Raw} {xs ys : List Raw} → x.tag ≡ y.tag → x.typ ≡ Structure → y.typ ≡ Structure → Splits xs x.content → Splits ys y.content → AllSameButPadding xs ys → SameButPadding x y
+    split_alike :
+        {x y : Raw} {xs ys : List Raw}
+        → x.tag ≡ y.tag
+        → x.typ ≡ Structure
+        → y.typ ≡ Structure
+        → Splits xs x.content
+        → Splits ys y.content
+        → AllSameButPadding xs ys
+        → SameButPadding x y
 
   -- items that are pairwise the same but for padding
   pub data AllSameButPadding : List Raw → List Raw → Type 0 where
     both_end : AllSameButPadding [] []
-    both_go_on : {x y : Raw} {xs ys : List Raw} → SameButPadding x y → AllSameButPadding xs ys → AllSameButPadding (x ∷ xs) (y ∷ ys)
+    both_go_on :
+        {x y : Raw} {xs ys : List Raw}
+        → SameButPadding x y
+        → AllSameButPadding xs ys
+        → AllSameButPadding (x ∷ xs) (y ∷ ys)
 
 -- the header and the content of an item, with fewer bytes behind them than pad it
 pub record LacksPadding (x : Raw) (text : List ℕ) : Type 0 where

@@ -21,15 +21,26 @@ use Rattle.kmip_ttlv_laws.specs.Padding.{SameButPadding, EndsInLack}
 
 -- behind the whole text of an item any bytes may follow in place of any others
 abbrev pub LaterBytes : Type 0
-LaterBytes = (s : Form) (x : Raw) (text after later : List ℕ) (v : Value) → IsTextOf x text → Begins s (text ++ after) v ↔ Begins s (text ++ later) v
+LaterBytes =
+    (s : Form) (x : Raw) (text after later : List ℕ) (v : Value)
+    → IsTextOf x text
+    → Begins s (text ++ after) v ↔ Begins s (text ++ later) v
 
 -- so too behind the bytes that the first item's length states, where they are all there, whatever they are
 abbrev pub MessageAlone : Type 0
-MessageAlone = (s : Form) (bytes after : List ℕ) (v : Value) → 8 + length_at bytes 0 ≤ length bytes → Begins s bytes v ↔ Begins s (take (8 + length_at bytes 0) bytes ++ after) v
+MessageAlone =
+    (s : Form) (bytes after : List ℕ) (v : Value)
+    → 8 + length_at bytes 0 ≤ length bytes
+    → Begins s bytes v ↔ Begins s (take (8 + length_at bytes 0) bytes ++ after) v
 
 -- a message without its last bytes begins with no value, and is refused for no cause but an early end or want of memory
 abbrev pub CutMessages : Type 0
-CutMessages = (s : Form) (x : Raw) (front back : List ℕ) (v : Value) → IsTextOf x (front ++ back) → 0 < length back → Begins s (front ++ back) v → ((w : Value) → Begins s front w → ⊥) × (NothingBegins s front other → ⊥)
+CutMessages =
+    (s : Form) (x : Raw) (front back : List ℕ) (v : Value)
+    → IsTextOf x (front ++ back)
+    → 0 < length back
+    → Begins s (front ++ back) v
+    → ((w : Value) → Begins s front w → ⊥) × (NothingBegins s front other → ⊥)
 
 -- at most one tree has the same text
 abbrev pub OneTree : Type 0
@@ -41,47 +52,93 @@ ReadsAlone s x v = (kept : List Keep) × Reads s [] (x ∷ []) v kept []
 
 -- what is written, after however many bytes, begins with what a root form reads from the first of the items
 abbrev pub ReadingWhatWasWritten : Type 0
-ReadingWhatWasWritten = (v d : Value) (n : ℕ) (written : List ℕ) (r : Tree) (rest : List Tree) (s : Form) → IsWrittenAs v n written → items v Nothing ≡ Some (r ∷ rest) → is_root s ≡ true → Begins s written d ↔ ReadsAlone s (raw_of r) d
+ReadingWhatWasWritten =
+    (v d : Value) (n : ℕ) (written : List ℕ) (r : Tree) (rest : List Tree) (s : Form)
+    → IsWrittenAs v n written
+    → items v Nothing ≡ Some (r ∷ rest)
+    → is_root s ≡ true
+    → Begins s written d ↔ ReadsAlone s (raw_of r) d
 
 -- texts of two items that are the same but for padding, whatever follows them, begin with the same values
 abbrev pub PaddingIsFree : Type 0
-PaddingIsFree = (s : Form) (x y : Raw) (a b after later : List ℕ) (v : Value) → SameButPadding x y → IsTextOf x a → IsTextOf y b → Begins s (a ++ after) v ↔ Begins s (b ++ later) v
+PaddingIsFree =
+    (s : Form) (x y : Raw) (a b after later : List ℕ) (v : Value)
+    → SameButPadding x y
+    → IsTextOf x a
+    → IsTextOf y b
+    → Begins s (a ++ after) v ↔ Begins s (b ++ later) v
 
 -- all texts of one tree are texts of items that are the same but for padding
 abbrev pub TextsDifferInPadding : Type 0
-TextsDifferInPadding = (t : Tree) (x y : Raw) (a b : List ℕ) → IsTreeText t a → IsTreeText t b → IsTextOf x a → IsTextOf y b → SameButPadding x y
+TextsDifferInPadding =
+    (t : Tree) (x y : Raw) (a b : List ℕ)
+    → IsTreeText t a
+    → IsTreeText t b
+    → IsTextOf x a
+    → IsTextOf y b
+    → SameButPadding x y
 
 -- all texts of one tree, whatever follows them, begin with the same values
 abbrev pub PaddingOfTreesIsFree : Type 0
-PaddingOfTreesIsFree = (s : Form) (t : Tree) (a b after later : List ℕ) (v : Value) → IsTreeText t a → IsTreeText t b → Begins s (a ++ after) v ↔ Begins s (b ++ later) v
+PaddingOfTreesIsFree =
+    (s : Form) (t : Tree) (a b after later : List ℕ) (v : Value)
+    → IsTreeText t a
+    → IsTreeText t b
+    → Begins s (a ++ after) v ↔ Begins s (b ++ later) v
 
 -- no form reads from a Structure whose last item lacks padding, whatever was kept before and follows
 abbrev pub PaddingIsRequired : Type 0
-PaddingIsRequired = (s : Form) (k k' : List Keep) (x : Raw) (xs ys : List Raw) (v : Value) → EndsInLack x → Reads s k (x ∷ xs) v k' ys → ⊥
+PaddingIsRequired =
+    (s : Form) (k k' : List Keep) (x : Raw) (xs ys : List Raw) (v : Value)
+    → EndsInLack x
+    → Reads s k (x ∷ xs) v k' ys
+    → ⊥
 
 -- nor does a message begin with it
 abbrev pub PaddingOfRootsIsRequired : Type 0
-PaddingOfRootsIsRequired = (s : Form) (x : Raw) (text after : List ℕ) (v : Value) → IsTextOf x text → EndsInLack x → Begins s (text ++ after) v → ⊥
+PaddingOfRootsIsRequired =
+    (s : Form) (x : Raw) (text after : List ℕ) (v : Value)
+    → IsTextOf x text
+    → EndsInLack x
+    → Begins s (text ++ after) v
+    → ⊥
 
 -- what is written of a value whose texts are UTF-8 is one text of each of its items, one after the other
 abbrev pub WrittenIsWellFormed : Type 0
-WrittenIsWellFormed = (v : Value) (n : ℕ) (written : List ℕ) (ts : List Tree) → IsWrittenAs v n written → items v Nothing ≡ Some ts → TextsAreUtf8 v → AllByRecursion (λ t. IsTreeText t (bytes t)) ts × (written ≡ bytes_all ts)
+WrittenIsWellFormed =
+    (v : Value) (n : ℕ) (written : List ℕ) (ts : List Tree)
+    → IsWrittenAs v n written
+    → items v Nothing ≡ Some ts
+    → TextsAreUtf8 v
+    → AllByRecursion (λ t. IsTreeText t (bytes t)) ts × (written ≡ bytes_all ts)
 
 -- a tree that has any text has its canonical bytes as a text, and these are as long
 abbrev pub CanonicalIsText : Type 0
-CanonicalIsText = (t : Tree) (text : List ℕ) → IsTreeText t text → IsTreeText t (bytes t) × (length (bytes t) ≡ length text)
+CanonicalIsText =
+    (t : Tree) (text : List ℕ)
+    → IsTreeText t text
+    → IsTreeText t (bytes t) × (length (bytes t) ≡ length text)
 
 -- a text of a tree begins with what a root form reads from the tree's item
 abbrev pub ReadingTrees : Type 0
-ReadingTrees = (s : Form) (t : Tree) (text after : List ℕ) (v : Value) → is_root s ≡ true → IsTreeText t text → Begins s (text ++ after) v ↔ ReadsAlone s (raw_of t) v
+ReadingTrees =
+    (s : Form) (t : Tree) (text after : List ℕ) (v : Value)
+    → is_root s ≡ true
+    → IsTreeText t text
+    → Begins s (text ++ after) v ↔ ReadsAlone s (raw_of t) v
 
--- the one value is written under this tag as one leaf, from which the form reads the other, whatever was kept before and follows
+-- the one value is written under this tag as one leaf, from which the form reads the other, whatever was kept before
+-- and follows
 abbrev pub LeafComesBack : Form → Value → Value → ℕ → List Keep → List Raw → Type 0
-LeafComesBack s v w t k xs = (x : Tree) × (items v (Plain t) ≡ Some (x ∷ [])) × Reads s k (raw_of x ∷ xs) w (with_leaf s (raw_of x) k) xs
+LeafComesBack s v w t k xs =
+    (x : Tree) × (items v (Plain t) ≡ Some (x ∷ [])) × Reads s k (raw_of x ∷ xs) w (with_leaf s (raw_of x) k) xs
 
 -- each pair of values that comes back does so as one leaf
 abbrev pub LeavesComeBack : Type 0
-LeavesComeBack = (s : Form) (v w : Value) (t : ℕ) (k : List Keep) (xs : List Raw) → ComesBack s v w → LeafComesBack s v w t k xs
+LeavesComeBack =
+    (s : Form) (v w : Value) (t : ℕ) (k : List Keep) (xs : List Raw)
+    → ComesBack s v w
+    → LeafComesBack s v w t k xs
 
 -- the variant is written under the held tag as one leaf, from which the enum reads the unit of the number's
 -- text, and keeps that text, whatever was kept before and follows
@@ -99,4 +156,8 @@ UnitsComeBack =
 
 -- what is written is the items of the trees, one after the other, and so is each content, at every depth
 abbrev pub WrittenIsItems : Type 0
-WrittenIsItems = (v : Value) (n : ℕ) (written : List ℕ) (ts : List Tree) → IsWrittenAs v n written → items v Nothing ≡ Some ts → Splits (map raw_of ts) written × AllByRecursion ContainsItems ts
+WrittenIsItems =
+    (v : Value) (n : ℕ) (written : List ℕ) (ts : List Tree)
+    → IsWrittenAs v n written
+    → items v Nothing ≡ Some ts
+    → Splits (map raw_of ts) written × AllByRecursion ContainsItems ts

@@ -1,13 +1,17 @@
 -- The texts that a value holds.
 use Rattle.std.specs.Prelude.{◌≡◌, ℕ, true, List}
 use Rattle.std.specs.Str.{is_utf8}
-use Rattle.kmip_ttlv_base.specs.Values.{Value, boolean_value, i8_value, i16_value, i32_value, u32_value, i64_value, u64_value, interval_value, text_value, bytes_value, big_integer_value, none, some, seq_value, struct_value, newtype_value, unit_variant_value, newtype_variant_value, tuple_variant_value, unsupported_value, Values, no_values, value}
+use Rattle.kmip_ttlv_base.specs.Values.{Value, boolean_value, i8_value, i16_value, i32_value, u32_value, i64_value}
+use Rattle.kmip_ttlv_base.specs.Values.{u64_value, interval_value, text_value, bytes_value, big_integer_value}
+use Rattle.kmip_ttlv_base.specs.Values.{none_value, some_value, seq_value, struct_value, newtype_value}
+use Rattle.kmip_ttlv_base.specs.Values.{unit_variant_value, newtype_variant_value, tuple_variant_value}
+use Rattle.kmip_ttlv_base.specs.Values.{unsupported_value, Values, no_values, value}
 
 -- each text in the value is such a one
 abbrev mutual
   pub EachText : (List ℕ → Type 0) → Value → Type 0
   EachText P (text_value s) = P s
-  EachText P (some v) = EachText P v
+  EachText P (some_value v) = EachText P v
   EachText P (seq_value vs) = EachTextIn P vs
   EachText P (struct_value name vs) = EachTextIn P vs
   EachText P (newtype_value name v) = EachText P v
@@ -23,7 +27,7 @@ abbrev mutual
   EachText P (interval_value n) = Unit {0}
   EachText P (bytes_value s) = Unit {0}
   EachText P (big_integer_value s) = Unit {0}
-  EachText P none = Unit {0}
+  EachText P none_value = Unit {0}
   EachText P (unit_variant_value name vname) = Unit {0}
   EachText P (unsupported_value name) = Unit {0}
 

@@ -11,7 +11,11 @@
 ghost use Rattle.kmip_ttlv_base.specs.declared.shape.Data.{Data};
 ghost use Rattle.kmip_ttlv_base.specs.Values.{view};
 ghost use Rattle.kmip_ttlv_laws.specs.Texts.{TextsAreUtf8};
-ghost use Rattle.kmip_ttlv_laws.specs.ReadingLaws.{LaterBytes, MessageAlone, CutMessages, OneTree, ReadingWhatWasWritten, PaddingIsFree, TextsDifferInPadding, PaddingOfTreesIsFree, PaddingIsRequired, PaddingOfRootsIsRequired, WrittenIsWellFormed, WrittenIsItems, CanonicalIsText, ReadingTrees, LeavesComeBack, UnitsComeBack};
+ghost use Rattle.kmip_ttlv_laws.specs.ReadingLaws.{LaterBytes, MessageAlone, CutMessages, OneTree};
+ghost use Rattle.kmip_ttlv_laws.specs.ReadingLaws.{ReadingWhatWasWritten, PaddingIsFree, TextsDifferInPadding};
+ghost use Rattle.kmip_ttlv_laws.specs.ReadingLaws.{PaddingOfTreesIsFree, PaddingIsRequired, PaddingOfRootsIsRequired};
+ghost use Rattle.kmip_ttlv_laws.specs.ReadingLaws.{WrittenIsWellFormed, WrittenIsItems, CanonicalIsText, ReadingTrees};
+ghost use Rattle.kmip_ttlv_laws.specs.ReadingLaws.{LeavesComeBack, UnitsComeBack};
 
 use std::alloc::Allocator;
 

@@ -3,7 +3,7 @@ use Rattle.std.specs.Prelude.{ℕ, ◌+◌, ◌≤◌, ◌^◌, Bool, true, fals
 use Rattle.kmip_ttlv_types.specs.Names.{transparent_name}
 use Rattle.kmip_ttlv_types.specs.Primitives.{sign_extended}
 use Rattle.kmip_ttlv_types.specs.Trees.{Tree, bytes_all}
-use Rattle.kmip_ttlv_base.specs.Values.{Value, text_value, bytes_value, big_integer_value, some, seq_value, struct_value, newtype_value, newtype_variant_value, tuple_variant_value, Values, no_values, value}
+use Rattle.kmip_ttlv_base.specs.Values.{Value, text_value, bytes_value, big_integer_value, some_value as some, seq_value, struct_value, newtype_value, newtype_variant_value, tuple_variant_value, Values, no_values, value}
 use Rattle.kmip_ttlv_ser.specs.declared.held.Held.{Held}
 use Rattle.kmip_ttlv_ser.specs.declared.held.Held.TheVariants.{Nothing, Plain}
 use Rattle.kmip_ttlv_ser.specs.declared.held.Place.{Place}

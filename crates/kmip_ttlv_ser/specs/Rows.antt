@@ -2,7 +2,7 @@
 use Rattle.std.specs.Prelude.{◌≡◌, ℕ, pos, true, false, List, [], ◌∷◌, Some, None, codes}
 use Rattle.kmip_ttlv_types.specs.Trees.{bytes_all}
 use Rattle.kmip_ttlv_base.specs.Errors.{Kind, mismatch, invalid_tag, invalid_variant, unsupported_rust_type}
-use Rattle.kmip_ttlv_base.specs.Values.{Value, i32_value, u64_value, big_integer_value, interval_value, none, seq_value, struct_value, newtype_value, unit_variant_value, newtype_variant_value, Values, no_values, value}
+use Rattle.kmip_ttlv_base.specs.Values.{Value, i32_value, u64_value, big_integer_value, interval_value, none_value as none, seq_value, struct_value, newtype_value, unit_variant_value, newtype_variant_value, Values, no_values, value}
 use Rattle.kmip_ttlv_ser.specs.declared.held.Held.TheVariants.{Nothing}
 use Rattle.kmip_ttlv_ser.specs.WrittenItems.{◌>>=◌, items}
 use Rattle.kmip_ttlv_ser.specs.Faults.{fault, no_tag, tag_unused}

@@ -1,5 +1,6 @@
 -- Messages at the front of a stream: which bytes are taken, and what is answered.
-use Rattle.std.specs.Prelude.{◌≡◌, ℕ, ◌+◌, ◌<◌, ◌≤◌, ◌⊎◌, Bool, List, [], ◌++◌, length, take, drop, Option, Some, None, IfSome, IfErr, IfOk, Result, Ok, Err}
+use Rattle.std.specs.Prelude.{◌≡◌, ℕ, ◌+◌, ◌<◌, ◌≤◌, ◌⊎◌, Bool, List, [], ◌++◌, length, take, drop, Option, Some, None}
+use Rattle.std.specs.Prelude.{IfSome, IfErr, IfOk, Result, Ok, Err}
 use Rattle.std.specs.Io.KnownBytes.{Consumes}
 use Rattle.std.specs.declared.io.Error.{Error as IoFault}
 use Rattle.std.specs.declared.io.ErrorKind.TheVariants.{UnexpectedEof}
@@ -9,7 +10,8 @@ use Rattle.kmip_ttlv_types.specs.Places.{tag_at, code_at, length_at}
 use Rattle.kmip_ttlv_types.specs.Streams.{ConsumesUpTo, Lacks}
 use Rattle.kmip_ttlv_base.specs.declared.error.Error.{Error}
 use Rattle.kmip_ttlv_base.specs.declared.error.ErrorKind.TheVariants as kinds
-use Rattle.kmip_ttlv_base.specs.Errors.{Location, unknown, io_error, exceeds_limit, kind_of, view_of_kind, location_of, view_of_location, IsMemory}
+use Rattle.kmip_ttlv_base.specs.Errors.{Location, unknown, io_error, exceeds_limit, kind_of, view_of_kind, location_of}
+use Rattle.kmip_ttlv_base.specs.Errors.{view_of_location, IsMemory}
 use Rattle.kmip_ttlv_base.specs.Values.{Value}
 use Rattle.kmip_ttlv_base.specs.Forms.{Form}
 use Rattle.kmip_ttlv_de.specs.Reads.{Begins}

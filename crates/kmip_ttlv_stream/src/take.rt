@@ -1,10 +1,12 @@
 //! Taking the bytes of one message from a stream.
 
-ghost use Rattle.std.specs.Prelude.{◌≡◌, ℕ, ◌+◌, ◌-◌, ◌≤◌, ◌<◌, ◌^◌, length, take, drop, Some, IfOk, IfErr, OnOk, vec_len};
+ghost use Rattle.std.specs.Prelude.{◌≡◌, ℕ, ◌+◌, ◌-◌, ◌≤◌, ◌<◌, ◌^◌, length, take, drop, Some, IfOk, IfErr, OnOk};
+ghost use Rattle.std.specs.Prelude.{vec_len};
 ghost use Rattle.kmip_ttlv_types.specs.Streams.{Fills};
 ghost use Rattle.kmip_ttlv_base.specs.Errors.{kind_of, location_of, view_of_location};
 ghost use Rattle.kmip_ttlv_base.specs.declared.error.ErrorKind.TheVariants.{ResponseSizeExceedsLimit as TooLargeKind};
-ghost use Rattle.kmip_ttlv_stream.specs.StreamMessages.{HasSize, IsOver, behind_header, IsIoFault, LacksBytes, IsFilled, Comes, Stops};
+ghost use Rattle.kmip_ttlv_stream.specs.StreamMessages.{HasSize, IsOver, behind_header, IsIoFault, LacksBytes};
+ghost use Rattle.kmip_ttlv_stream.specs.StreamMessages.{IsFilled, Comes, Stops};
 
 use kmip_ttlv_base::error::{Error, ErrorKind, ErrorLocation, Result};
 use kmip_ttlv_base::types::stream::{Filled, PIECE, Source};

@@ -17,7 +17,11 @@ six_digits n = digit (n / 1048576 % 16) ∷ digit (n / 65536 % 16) ∷ four_digi
 -- the eight digits of a number below 2^32
 unfoldable pub eight_digits : ℕ → List ℕ
 eight_digits n =
-    digit (n / 268435456 % 16) ∷ digit (n / 16777216 % 16) ∷ digit (n / 1048576 % 16) ∷ digit (n / 65536 % 16) ∷ four_digits n
+    digit (n / 268435456 % 16)
+    ∷ digit (n / 16777216 % 16)
+    ∷ digit (n / 1048576 % 16)
+    ∷ digit (n / 65536 % 16)
+    ∷ four_digits n
 
 -- how a tag is printed
 abbrev pub tag_text : ℕ → List ℕ

@@ -8,7 +8,9 @@ use Rattle.kmip_ttlv_types.specs.ItemTypes.{code, type_of}
 use Rattle.kmip_ttlv_types.specs.Streams.{AppendsFront, ConsumesUpTo, Lacks, UsesRoom, IsTight}
 
 -- a number was read from the n bytes that it is written as, or they did not come
-abbrev pub ReadsNumber : {A : Type 0} → (ℕ → List ℕ) → ℕ → Bool → Option (List ℕ) → Option (List ℕ) → Result ℕ (Error A) → Type 0
+abbrev pub ReadsNumber :
+    {A : Type 0} → (ℕ → List ℕ) → ℕ → Bool
+    → Option (List ℕ) → Option (List ℕ) → Result ℕ (Error A) → Type 0
 ReadsNumber bytes_of n can_fail old new (Ok number) = Consumes old new (bytes_of number)
 ReadsNumber bytes_of n can_fail old new (Err (errors.IoError e)) = Lacks can_fail old n e × ConsumesUpTo old new n
 ReadsNumber bytes_of n can_fail old new (Err _) = ⊥
@@ -21,7 +23,10 @@ ReadsType can_fail old new (Err (errors.IoError e)) = Lacks can_fail old 1 e × 
 ReadsType can_fail old new (Err _) = ⊥
 
 -- these bytes were written; or a beginning of them, where there is no room or the writer failed
-abbrev pub Writes : {T A : Type 0} → List ℕ → (old new : Option (List ℕ)) → (room_old room_new : Option ℕ) → Result T (Error A) → Type 0
+abbrev pub Writes :
+    {T A : Type 0} → List ℕ
+    → (old new : Option (List ℕ)) → (room_old room_new : Option ℕ) → Result T (Error A) → Type 0
 Writes bytes old new room_old room_new (Ok done) = Appends old new bytes × UsesRoom room_old room_new (length bytes)
-Writes bytes old new room_old room_new (Err (errors.IoError e)) = AppendsFront old new bytes × IsTight room_old (length bytes)
+Writes bytes old new room_old room_new (Err (errors.IoError e)) =
+    AppendsFront old new bytes × IsTight room_old (length bytes)
 Writes bytes old new room_old room_new (Err _) = ⊥

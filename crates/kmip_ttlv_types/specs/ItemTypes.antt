@@ -1,7 +1,9 @@
 -- The types of items, their codes, and how long their values are (KMIP 1.0, 9.1.1.2 and 9.1.1.3).
 use Rattle.std.specs.Prelude.{ℕ, ◌-◌, ◌%◌, Bool, true, false, Option, Some, None, if◌then◌else◌, ◌==◌}
 use Rattle.kmip_ttlv_types.specs.declared.typ.TtlvType.{TtlvType}
-use Rattle.kmip_ttlv_types.specs.declared.typ.TtlvType.TheVariants.{Structure, Integer, LongInteger, BigInteger, Enumeration, Boolean, TextString, ByteString, DateTime, Interval}
+use Rattle.kmip_ttlv_types.specs.declared.typ.TtlvType.TheVariants.{Structure, Integer, LongInteger, BigInteger}
+use Rattle.kmip_ttlv_types.specs.declared.typ.TtlvType.TheVariants.{Enumeration, Boolean, TextString, ByteString}
+use Rattle.kmip_ttlv_types.specs.declared.typ.TtlvType.TheVariants.{DateTime, Interval}
 
 -- the code of a type
 abbrev pub code : TtlvType → ℕ

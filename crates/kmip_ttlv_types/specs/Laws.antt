@@ -1,8 +1,10 @@
 -- Laws of the definitions, which the functions of the module `laws` promise.
-use Rattle.std.specs.Prelude.{◌≡◌, ◌↔◌, ℕ, ◌+◌, ◌%◌, ◌^◌, ◌<◌, ◌≤◌, ◌⊎◌, IsOk, None, List, ◌∷◌, ◌++◌, length, replicate, Bool, true, false, IsTrue, Option, Some, Result, Ok, Err, MatchResult}
+use Rattle.std.specs.Prelude.{◌≡◌, ◌↔◌, ℕ, ◌+◌, ◌%◌, ◌^◌, ◌<◌, ◌≤◌, ◌⊎◌, IsOk, None, List, ◌∷◌, ◌++◌, length, replicate}
+use Rattle.std.specs.Prelude.{Bool, true, false, IsTrue, Option, Some, Result, Ok, Err, MatchResult}
 use Rattle.std.specs.declared.alloc.Global.{Global}
 use Rattle.kmip_ttlv_types.specs.declared.error.Error.{Error}
-use Rattle.kmip_ttlv_types.specs.declared.error.Error.TheVariants.{OutOfMemory, InvalidTtlvType, IoError, LengthOverflow}
+use Rattle.kmip_ttlv_types.specs.declared.error.Error.TheVariants.{OutOfMemory, InvalidTtlvType, IoError}
+use Rattle.kmip_ttlv_types.specs.declared.error.Error.TheVariants.{LengthOverflow}
 use Rattle.kmip_ttlv_types.specs.declared.field.FieldType.{FieldType}
 use Rattle.kmip_ttlv_types.specs.declared.field.FieldType.TheVariants.{Tag, Typ}
 use Rattle.kmip_ttlv_types.specs.declared.machine.TtlvStateMachineMode.TheVariants.{Deserializing, Serializing}
@@ -17,7 +19,8 @@ use Rattle.std.specs.Int.{bytes_high_first}
 
 -- what is written of a value after its type
 abbrev pub written_rest : TtlvType → List ℕ → List ℕ
-written_rest typ bytes = let content = content_of typ bytes in length_and_content content ++ replicate (pad_len (length content)) 0
+written_rest typ bytes =
+    let content = content_of typ bytes in length_and_content content ++ replicate (pad_len (length content)) 0
 
 -- why a whole leaf that is there is not read: reading failed, which it can; or memory was refused, where
 -- it is taken for a content that is not empty
@@ -30,15 +33,22 @@ FailsToRead takes_memory can_fail content e = ⊥
 -- what follows is left
 abbrev pub IsReadBack : {T : Type 0} → TtlvType → (T → List ℕ) → Bool → T → Type 0
 IsReadBack {T} typ bytes_of takes_memory v =
-    length (content_of typ (bytes_of v)) < 2 ^ 32 → (can_fail : Bool) (rest : List ℕ) (new : Option (List ℕ)) (result : Result T (Error Global))
+    length (content_of typ (bytes_of v)) < 2 ^ 32
+    → (can_fail : Bool) (rest : List ℕ) (new : Option (List ℕ)) (result : Result T (Error Global))
     → ReadsLeaf typ bytes_of takes_memory can_fail (Some (written_rest typ (bytes_of v) ++ rest)) new result
-    → MatchResult result (λ w. (bytes_of w ≡ content_of typ (bytes_of v)) × (new ≡ Some rest)) (FailsToRead takes_memory can_fail (content_of typ (bytes_of v)))
+    → MatchResult result
+    (λ w. (bytes_of w ≡ content_of typ (bytes_of v)) × (new ≡ Some rest))
+    (FailsToRead takes_memory can_fail (content_of typ (bytes_of v)))
 
 -- a whole leaf that is there, its padding of any value, is read, and what follows is left
 abbrev pub ReadsWholeLeaves : {T : Type 0} → TtlvType → (T → List ℕ) → Bool → Type 0
 ReadsWholeLeaves {T} typ bytes_of takes_memory =
-    (content pad rest : List ℕ) → length content < 2 ^ 32 → length pad ≡ pad_len (length content) → is_valid typ content ≡ true
-    → (can_fail : Bool) (new : Option (List ℕ)) (result : Result T (Error Global)) → ReadsLeaf typ bytes_of takes_memory can_fail (Some ((length_and_content content ++ pad) ++ rest)) new result
+    (content pad rest : List ℕ)
+    → length content < 2 ^ 32
+    → length pad ≡ pad_len (length content)
+    → is_valid typ content ≡ true
+    → (can_fail : Bool) (new : Option (List ℕ)) (result : Result T (Error Global))
+    → ReadsLeaf typ bytes_of takes_memory can_fail (Some ((length_and_content content ++ pad) ++ rest)) new result
     → MatchResult result (λ w. (bytes_of w ≡ content) × (new ≡ Some rest)) (FailsToRead takes_memory can_fail content)
 
 -- a value was written into memory and read from there: it has the bytes that were written; or it is too
@@ -54,22 +64,37 @@ Rereads typ bytes_of v (Err _) = ⊥
 abbrev pub ReadsHeaders : Type 0
 ReadsHeaders =
     ((bytes_of : ℕ → List ℕ) (n : ℕ) (there : List ℕ) (new : Option (List ℕ)) (result : Result ℕ (Error Global))
-    → n ≤ length there → ReadsNumber bytes_of n false (Some there) new result → IsOk result)
-    × ((c : ℕ) (rest : List ℕ) (new : Option (List ℕ)) (result : Result TtlvType (Error Global)) → ReadsType false (Some (c ∷ rest)) new result
+    → n ≤ length there
+    → ReadsNumber bytes_of n false (Some there) new result
+    → IsOk result)
+    × ((c : ℕ) (rest : List ℕ) (new : Option (List ℕ)) (result : Result TtlvType (Error Global))
+    → ReadsType false (Some (c ∷ rest)) new result
     → MatchResult result (λ t. code t ≡ c) (λ e. (e ≡ InvalidTtlvType c) × (type_of c ≡ None)))
 
 -- bytes are written where there is room for them, and a leaf whose length fits
 abbrev pub WritesWhereRoom : Type 0
-WritesWhereRoom = (bytes : List ℕ) (n : ℕ) (old new : Option (List ℕ)) (room : ℕ) (room_new : Option ℕ) (result : Result (Unit {0}) (Error Global))
-    → length bytes ≤ room → n < 2 ^ 32 → Writes bytes old new (Some room) room_new result ⊎ WritesLong n bytes old new (Some room) room_new result → IsOk result
+WritesWhereRoom =
+    (bytes : List ℕ) (n : ℕ) (old new : Option (List ℕ)) (room : ℕ) (room_new : Option ℕ)
+    (result : Result (Unit {0}) (Error Global))
+    → length bytes ≤ room
+    → n < 2 ^ 32
+    → Writes bytes old new (Some room) room_new result ⊎ WritesLong n bytes old new (Some room) room_new result
+    → IsOk result
 
 -- while deserializing, each field that is accepted is to be read
 abbrev pub ReadsEachField : Type 0
-ReadsEachField = (s : State) (given : FieldType) (t : Step) → s.mode ≡ Deserializing → step s given ≡ Some t → t.answer ≡ true
+ReadsEachField =
+    (s : State) (given : FieldType) (t : Step)
+    → s.mode ≡ Deserializing
+    → step s given ≡ Some t
+    → t.answer ≡ true
 
 -- while serializing, a field that is accepted is not to be written exactly where it is a tag to be ignored
 abbrev pub SkipsIgnoredTags : Type 0
-SkipsIgnoredTags = (s : State) (given : FieldType) (t : Step) → s.mode ≡ Serializing → step s given ≡ Some t
+SkipsIgnoredTags =
+    (s : State) (given : FieldType) (t : Step)
+    → s.mode ≡ Serializing
+    → step s given ≡ Some t
     → (t.answer ≡ false) ↔ ((s.ignores ≡ true) × (s.due ≡ Typ) × (given ≡ Tag))
 
 -- a content and its padding are a multiple of eight bytes
@@ -78,5 +103,7 @@ PadsToEight = (n : ℕ) → (n + pad_len n) % 8 ≡ 0
 
 -- a leaf is a multiple of eight bytes: its tag, and what is written after it
 abbrev pub LeavesAreTagAndRest : Type 0
-LeavesAreTagAndRest = (tag : ℕ) (typ : TtlvType) (content : List ℕ)
-    → (leaf_bytes tag typ content ≡ bytes_high_first 3 tag ++ leaf_rest typ content) × (length (leaf_bytes tag typ content) % 8 ≡ 0)
+LeavesAreTagAndRest =
+    (tag : ℕ) (typ : TtlvType) (content : List ℕ)
+    → (leaf_bytes tag typ content ≡ bytes_high_first 3 tag ++ leaf_rest typ content)
+    × (length (leaf_bytes tag typ content) % 8 ≡ 0)

@@ -10,5 +10,6 @@ pub mod Digits
 pub mod Streams
 pub mod Headers
 pub mod Primitives
+pub mod FixedReads
 pub mod Machine
 pub mod Laws

@@ -1,9 +1,11 @@
 -- Which field may follow which.
-use Rattle.std.specs.Prelude.{◌≡◌, Bool, true, false, if◌then◌else◌, ◌&&◌, Option, Some, None, option_map, Result, Ok, Err}
+use Rattle.std.specs.Prelude.{◌≡◌, Bool, true, false, if◌then◌else◌, ◌&&◌, Option, Some, None, option_map, Result, Ok}
+use Rattle.std.specs.Prelude.{Err}
 use Rattle.kmip_ttlv_types.specs.declared.error.Error.{Error}
 use Rattle.kmip_ttlv_types.specs.declared.error.Error.TheVariants.{UnexpectedTtlvField, InvalidStateMachineOperation}
 use Rattle.kmip_ttlv_types.specs.declared.field.FieldType.{FieldType}
-use Rattle.kmip_ttlv_types.specs.declared.field.FieldType.TheVariants.{Tag, Typ, Length, Value, LengthAndValue, TypeAndLengthAndValue}
+use Rattle.kmip_ttlv_types.specs.declared.field.FieldType.TheVariants.{Tag, Typ, Length, Value, LengthAndValue}
+use Rattle.kmip_ttlv_types.specs.declared.field.FieldType.TheVariants.{TypeAndLengthAndValue}
 use Rattle.kmip_ttlv_types.specs.declared.machine.TtlvStateMachineMode.{TtlvStateMachineMode}
 use Rattle.kmip_ttlv_types.specs.declared.machine.TtlvStateMachineMode.TheVariants.{Deserializing, Serializing}
 use Rattle.kmip_ttlv_types.specs.declared.machine.TtlvStateMachine.{TtlvStateMachine}
@@ -52,12 +54,15 @@ abbrev pub step : State → FieldType → Option Step
 step s given =
     if is_ignored s given
     then Some record { answer = false; after = record { mode = s.mode; due = Typ; ignores = false } }
-    else option_map (λ due. record { answer = true; after = record { mode = s.mode; due = due; ignores = s.ignores } }) (next_due s.mode s.due given)
+    else option_map
+    (λ due. record { answer = true; after = record { mode = s.mode; due = due; ignores = s.ignores } })
+    (next_due s.mode s.due given)
 
 -- the machine made a step; or it refused, naming the field that is due and the one given, and stands where it stood
 abbrev pub Advances : {A : Type 0} → State → FieldType → State → Result Bool (Error A) → Type 0
 Advances old given new (Ok answer) = step old given ≡ Some record { answer = answer; after = new }
-Advances old given new (Err (UnexpectedTtlvField expected actual)) = (step old given ≡ None) × (expected ≡ old.due) × (actual ≡ given) × (new ≡ old)
+Advances old given new (Err (UnexpectedTtlvField expected actual)) =
+    (step old given ≡ None) × (expected ≡ old.due) × (actual ≡ given) × (new ≡ old)
 Advances old given new (Err _) = ⊥
 
 -- the next surplus tag will be ignored; or, while deserializing, that is refused

@@ -1,5 +1,6 @@
 -- What number a text names.
-use Rattle.std.specs.Prelude.{ℕ, ◌^◌, Bool, true, List, [], ◌∷◌, Option, Some, None, if◌then◌else◌, nat_lt, ◌==◌, ◌&&◌, option_and_then, length, drop, codes, eqb}
+use Rattle.std.specs.Prelude.{ℕ, ◌^◌, Bool, true, List, [], ◌∷◌, Option, Some, None, if◌then◌else◌, nat_lt, ◌==◌, ◌&&◌}
+use Rattle.std.specs.Prelude.{option_and_then, length, drop, codes, eqb}
 use Rattle.std.specs.Prelude.{◌≡◌, Result, Ok, Err, string_bytes}
 use Rattle.std.specs.Char.{is_digit}
 use Rattle.std.specs.List.{starts_with}
@@ -24,7 +25,10 @@ all_digits radix (c ∷ cs) = is_digit c radix && all_digits radix cs
 
 -- the number of one hexadecimal digit or more, where it is below 2^32
 abbrev pub numeral : List ℕ → Option ℕ
-numeral ds = if nat_lt 0 (length ds) && all_digits 16 ds && nat_lt (digits_value 16 ds) (2 ^ 32) then Some (digits_value 16 ds) else None
+numeral ds =
+    if nat_lt 0 (length ds) && all_digits 16 ds && nat_lt (digits_value 16 ds) (2 ^ 32)
+    then Some (digits_value 16 ds)
+    else None
 
 -- the number that a text is: any count of leading "0x", a "+" or none, and hexadecimal digits
 unfoldable pub number : List ℕ → Option ℕ

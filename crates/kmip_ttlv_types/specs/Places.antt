@@ -1,5 +1,6 @@
 -- Items by the places where they stand among bytes, each place an offset from the first byte.
-use Rattle.std.specs.Prelude.{◌≡◌, ℕ, Bool, true, ◌&&◌, ◌+◌, ◌≤◌, List, [], ◌∷◌, length, take, drop, slice_index, nat_lt}
+use Rattle.std.specs.Prelude.{◌≡◌, ℕ, Bool, true, ◌&&◌, ◌+◌, ◌≤◌, List, [], ◌∷◌, length, take, drop, slice_index}
+use Rattle.std.specs.Prelude.{nat_lt}
 use Rattle.std.specs.Int.{w32, from_be_bytes}
 use Rattle.kmip_ttlv_types.specs.declared.typ.TtlvType.{TtlvType}
 use Rattle.kmip_ttlv_types.specs.ItemTypes.{code, padding}
@@ -7,7 +8,8 @@ use Rattle.kmip_ttlv_types.specs.Items.{Raw}
 
 -- the tag that is written at a place, in its first three bytes
 abbrev pub tag_at : List ℕ → ℕ → ℕ
-tag_at bytes p = from_be_bytes w32 (0 ∷ slice_index bytes p ∷ slice_index bytes (p + 1) ∷ slice_index bytes (p + 2) ∷ [])
+tag_at bytes p =
+    from_be_bytes w32 (0 ∷ slice_index bytes p ∷ slice_index bytes (p + 1) ∷ slice_index bytes (p + 2) ∷ [])
 
 -- the type's code, in the fourth
 abbrev pub code_at : List ℕ → ℕ → ℕ
@@ -15,7 +17,13 @@ code_at bytes p = slice_index bytes (p + 3)
 
 -- the length, in the next four
 abbrev pub length_at : List ℕ → ℕ → ℕ
-length_at bytes p = from_be_bytes w32 (slice_index bytes (p + 4) ∷ slice_index bytes (p + 5) ∷ slice_index bytes (p + 6) ∷ slice_index bytes (p + 7) ∷ [])
+length_at bytes p =
+    from_be_bytes w32 (
+    slice_index bytes (p + 4)
+    ∷ slice_index bytes (p + 5)
+    ∷ slice_index bytes (p + 6)
+    ∷ slice_index bytes (p + 7)
+    ∷ [])
 
 -- the bytes that an item takes
 abbrev pub size : TtlvType → ℕ → ℕ
@@ -28,7 +36,17 @@ all_below (b ∷ bs) = nat_lt b 256 && all_below bs
 
 -- the eight numbers of a header are bytes
 abbrev pub is_plain : List ℕ → ℕ → Bool
-is_plain bytes p = all_below (slice_index bytes p ∷ slice_index bytes (p + 1) ∷ slice_index bytes (p + 2) ∷ slice_index bytes (p + 3) ∷ slice_index bytes (p + 4) ∷ slice_index bytes (p + 5) ∷ slice_index bytes (p + 6) ∷ slice_index bytes (p + 7) ∷ [])
+is_plain bytes p =
+    all_below (
+    slice_index bytes p
+    ∷ slice_index bytes (p + 1)
+    ∷ slice_index bytes (p + 2)
+    ∷ slice_index bytes (p + 3)
+    ∷ slice_index bytes (p + 4)
+    ∷ slice_index bytes (p + 5)
+    ∷ slice_index bytes (p + 6)
+    ∷ slice_index bytes (p + 7)
+    ∷ [])
 
 -- the item at a place
 pub record ItemAt (bytes : List ℕ) (p : ℕ) (x : Raw) : Type 0 where

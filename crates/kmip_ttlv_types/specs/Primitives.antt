@@ -1,5 +1,6 @@
--- What reading and writing a leaf's value did: its length, content and padding (KMIP 1.0, 9.1.1).
-use Rattle.std.specs.Prelude.{◌≡◌, ◌≢◌, ℕ, ◌+◌, ◌^◌, ◌≤◌, ◌<◌, List, [], ◌∷◌, ◌++◌, length, take, drop, replicate, Bool, true, false, IsTrue, ◌⊎◌, nat_lt, if◌then◌else◌, Option, Some, IfSome, Result, Ok, Err, refl}
+-- A leaf's value, and what reading and writing it did: its length, content and padding (KMIP 1.0, 9.1.1).
+use Rattle.std.specs.Prelude.{◌≡◌, ◌≢◌, ℕ, ◌+◌, ◌^◌, ◌≤◌, ◌<◌, List, [], ◌∷◌, ◌++◌, length, take, drop, replicate, Bool}
+use Rattle.std.specs.Prelude.{true, false, IsTrue, ◌⊎◌, nat_lt, if◌then◌else◌, Option, Some, IfSome, Result, Ok, Err}
 use Rattle.std.specs.Int.{w32, w64, to_be_bytes, from_be_bytes}
 use Rattle.std.specs.Io.KnownBytes.{Appends, Consumes, Keeps}
 use Rattle.std.specs.IoError.{error_kind}
@@ -7,7 +8,7 @@ use Rattle.std.specs.declared.io.ErrorKind.TheVariants.{UnexpectedEof}
 use Rattle.kmip_ttlv_types.specs.declared.error.Error.{Error}
 use Rattle.kmip_ttlv_types.specs.declared.error.Error.TheVariants as errors
 use Rattle.kmip_ttlv_types.specs.declared.typ.TtlvType.{TtlvType}
-use Rattle.kmip_ttlv_types.specs.declared.typ.TtlvType.TheVariants.{BigInteger, Boolean}
+use Rattle.kmip_ttlv_types.specs.declared.typ.TtlvType.TheVariants.{BigInteger}
 use Rattle.kmip_ttlv_types.specs.ItemTypes.{code, fixed_length, pad_len}
 use Rattle.kmip_ttlv_types.specs.Leaves.{is_valid}
 use Rattle.kmip_ttlv_types.specs.Streams.{AppendsFront, ConsumesUpTo, Lacks, UsesRoom, IsTight}
@@ -25,6 +26,10 @@ sign_extended bytes = replicate (pad_len (length bytes)) (sign_byte bytes) ++ by
 abbrev pub content_of : TtlvType → List ℕ → List ℕ
 content_of BigInteger bytes = sign_extended bytes
 content_of _ bytes = bytes
+
+-- the content of a Boolean
+abbrev pub boolean_bytes : Bool → List ℕ
+boolean_bytes b = to_be_bytes w64 (if b then 1 else 0)
 
 -- a length, and the content of that length
 unfoldable pub length_and_content : List ℕ → List ℕ
@@ -46,10 +51,14 @@ IsLengthOf content (Err _) = ⊥
 
 -- bytes were written whose content is n bytes long; or nothing, as four bytes can't hold n; or a
 -- beginning, where there is no room or the writer failed
-abbrev pub WritesLong : {T A : Type 0} → ℕ → List ℕ → (old new : Option (List ℕ)) → (room_old room_new : Option ℕ) → Result T (Error A) → Type 0
-WritesLong n bytes old new room_old room_new (Ok done) = (n < 2 ^ 32) × Appends old new bytes × UsesRoom room_old room_new (length bytes)
+abbrev pub WritesLong :
+    {T A : Type 0} → ℕ → List ℕ
+    → (old new : Option (List ℕ)) → (room_old room_new : Option ℕ) → Result T (Error A) → Type 0
+WritesLong n bytes old new room_old room_new (Ok done) =
+    (n < 2 ^ 32) × Appends old new bytes × UsesRoom room_old room_new (length bytes)
 WritesLong n bytes old new room_old room_new (Err errors.LengthOverflow) = (2 ^ 32 ≤ n) × Keeps old new
-WritesLong n bytes old new room_old room_new (Err (errors.IoError e)) = (n < 2 ^ 32) × AppendsFront old new bytes × IsTight room_old (length bytes)
+WritesLong n bytes old new room_old room_new (Err (errors.IoError e)) =
+    (n < 2 ^ 32) × AppendsFront old new bytes × IsTight room_old (length bytes)
 WritesLong n bytes old new room_old room_new (Err _) = ⊥
 
 -- n bytes of any value were taken, or they did not come
@@ -60,14 +69,21 @@ Skips n can_fail old new (Err _) = ⊥
 
 -- a content of n bytes was read, which is a value; or n is no length of such a value, and nothing
 -- was taken; or the content is no value; or it did not come; or memory was refused, where it is taken
-abbrev pub ReadsValue : {T A : Type 0} → TtlvType → (T → List ℕ) → (takes_memory can_fail : Bool) → (old new : Option (List ℕ)) → ℕ → Result T (Error A) → Type 0
-ReadsValue typ bytes_of takes_memory can_fail old new n (Ok v) = Consumes old new (bytes_of v) × (length (bytes_of v) ≡ n) × (is_valid typ (bytes_of v) ≡ true)
+abbrev pub ReadsValue :
+    {T A : Type 0} → TtlvType → (T → List ℕ) → (takes_memory can_fail : Bool)
+    → (old new : Option (List ℕ)) → ℕ → Result T (Error A) → Type 0
+ReadsValue typ bytes_of takes_memory can_fail old new n (Ok v) =
+    Consumes old new (bytes_of v) × (length (bytes_of v) ≡ n) × (is_valid typ (bytes_of v) ≡ true)
 ReadsValue typ bytes_of takes_memory can_fail old new n (Err (errors.InvalidTtlvValueLength expected actual t)) =
     (t ≡ typ) × (actual ≡ n) × (fixed_length typ ≡ Some expected) × (n ≢ expected) × Keeps old new
 ReadsValue typ bytes_of takes_memory can_fail old new n (Err (errors.InvalidTtlvValue t)) =
-    (t ≡ typ) × CanHaveLength typ n × ((content : List ℕ) × Consumes old new content × (length content ≡ n) × (is_valid typ content ≡ false))
-ReadsValue typ bytes_of takes_memory can_fail old new n (Err (errors.IoError e)) = CanHaveLength typ n × Lacks can_fail old n e × ConsumesUpTo old new n
-ReadsValue typ bytes_of takes_memory can_fail old new n (Err errors.OutOfMemory) = IsTrue takes_memory × (0 < n) × CanHaveLength typ n × ConsumesUpTo old new n
+    (t ≡ typ)
+    × CanHaveLength typ n
+    × ((content : List ℕ) × Consumes old new content × (length content ≡ n) × (is_valid typ content ≡ false))
+ReadsValue typ bytes_of takes_memory can_fail old new n (Err (errors.IoError e)) =
+    CanHaveLength typ n × Lacks can_fail old n e × ConsumesUpTo old new n
+ReadsValue typ bytes_of takes_memory can_fail old new n (Err errors.OutOfMemory) =
+    IsTrue takes_memory × (0 < n) × CanHaveLength typ n × ConsumesUpTo old new n
 ReadsValue typ bytes_of takes_memory can_fail old new n (Err _) = ⊥
 
 -- the length that these bytes begin with
@@ -83,7 +99,9 @@ abbrev pub IsCut : TtlvType → List ℕ → Type 0
 IsCut typ bytes =
     let n = stated_length bytes in
     (length bytes < 4)
-    ⊎ (CanHaveLength typ n × ((length bytes < 4 + n) ⊎ ((is_valid typ (stated_content bytes) ≡ true) × (length bytes < 4 + n + pad_len n))))
+    ⊎ (CanHaveLength typ n
+    × ((length bytes < 4 + n)
+    ⊎ ((is_valid typ (stated_content bytes) ≡ true) × (length bytes < 4 + n + pad_len n))))
 
 -- the length is one that no value of the type has
 abbrev pub HasWrongLength : TtlvType → ℕ → ℕ → List ℕ → Type 0
@@ -113,30 +131,17 @@ pub record ConsumesLeaf (old new : Option (List ℕ)) (content : List ℕ) : Typ
 
 -- a leaf's length, content and padding were read, and the content is a value; or they are refused,
 -- each refusal for what is there, and what was taken lies within them
-abbrev pub ReadsLeaf : {T A : Type 0} → TtlvType → (T → List ℕ) → (takes_memory can_fail : Bool) → (old new : Option (List ℕ)) → Result T (Error A) → Type 0
-ReadsLeaf typ bytes_of takes_memory can_fail old new (Ok v) = ConsumesLeaf old new (bytes_of v) × (is_valid typ (bytes_of v) ≡ true)
+abbrev pub ReadsLeaf :
+    {T A : Type 0} → TtlvType → (T → List ℕ) → (takes_memory can_fail : Bool)
+    → (old new : Option (List ℕ)) → Result T (Error A) → Type 0
+ReadsLeaf typ bytes_of takes_memory can_fail old new (Ok v) =
+    ConsumesLeaf old new (bytes_of v) × (is_valid typ (bytes_of v) ≡ true)
 ReadsLeaf typ bytes_of takes_memory can_fail old new (Err (errors.InvalidTtlvValueLength expected actual t)) =
     (t ≡ typ) × IfSome old (HasWrongLength typ expected actual) × StaysWithin old new
 ReadsLeaf typ bytes_of takes_memory can_fail old new (Err (errors.InvalidTtlvValue t)) =
     (t ≡ typ) × IfSome old (HasWrongContent typ) × StaysWithin old new
 ReadsLeaf typ bytes_of takes_memory can_fail old new (Err (errors.IoError e)) =
     (IsTrue can_fail ⊎ ((error_kind e ≡ UnexpectedEof) × IfSome old (IsCut typ))) × StaysWithin old new
-ReadsLeaf typ bytes_of takes_memory can_fail old new (Err errors.OutOfMemory) = IsTrue takes_memory × IfSome old HasContent × StaysWithin old new
+ReadsLeaf typ bytes_of takes_memory can_fail old new (Err errors.OutOfMemory) =
+    IsTrue takes_memory × IfSome old HasContent × StaysWithin old new
 ReadsLeaf typ bytes_of takes_memory can_fail old new (Err _) = ⊥
-
--- the content of a Boolean
-abbrev pub boolean_bytes : Bool → List ℕ
-boolean_bytes b = to_be_bytes w64 (if b then 1 else 0)
-
--- these are the content of a Boolean
-pub boolean_bytes-valid : (b : Bool) → is_valid Boolean (boolean_bytes b) ≡ true
-boolean_bytes-valid true = refl
-boolean_bytes-valid false = refl
-
--- k bytes were read for a value of a type whose length is k; or n is another length, and nothing was
--- taken; or they did not come
-abbrev pub ReadsFixed : {A : Type 0} → TtlvType → ℕ → (can_fail : Bool) → (old new : Option (List ℕ)) → ℕ → Result (List ℕ) (Error A) → Type 0
-ReadsFixed typ k can_fail old new n (Ok bytes) = (n ≡ k) × Consumes old new bytes
-ReadsFixed typ k can_fail old new n (Err (errors.InvalidTtlvValueLength expected actual t)) = (t ≡ typ) × (actual ≡ n) × (expected ≡ k) × (n ≢ k) × Keeps old new
-ReadsFixed typ k can_fail old new n (Err (errors.IoError e)) = (n ≡ k) × Lacks can_fail old n e × ConsumesUpTo old new n
-ReadsFixed typ k can_fail old new n (Err _) = ⊥

@@ -1,5 +1,6 @@
 -- What a call over a reader or a writer did to its known bytes.
-use Rattle.std.specs.Prelude.{◌≡◌, ℕ, ◌<◌, ◌≤◌, ◌+◌, List, length, take, Bool, IsTrue, ◌⊎◌, IfSome, Option, None, Some, Result, Ok, Err}
+use Rattle.std.specs.Prelude.{◌≡◌, ℕ, ◌<◌, ◌≤◌, ◌+◌, List, length, take, Bool, IsTrue, ◌⊎◌, IfSome, Option, None, Some}
+use Rattle.std.specs.Prelude.{Result, Ok, Err}
 use Rattle.std.specs.Io.KnownBytes.{Appends, Consumes}
 use Rattle.std.specs.IoError.{error_kind}
 use Rattle.std.specs.declared.io.Error.{Error as IoFault}
@@ -39,11 +40,14 @@ Lacks can_fail known n e = IsTrue can_fail ⊎ ((error_kind e ≡ UnexpectedEof)
 -- a buffer was filled by consumed bytes, or they did not come
 abbrev pub FillsAll : {T A : Type 0} → Bool → Option (List ℕ) → Option (List ℕ) → List ℕ → Result T (Error A) → Type 0
 FillsAll can_fail old new buf (Ok v) = Consumes old new buf
-FillsAll can_fail old new buf (Err (errors.IoError e)) = Lacks can_fail old (length buf) e × ConsumesUpTo old new (length buf)
+FillsAll can_fail old new buf (Err (errors.IoError e)) =
+    Lacks can_fail old (length buf) e × ConsumesUpTo old new (length buf)
 FillsAll can_fail old new buf (Err _) = ⊥
 
 -- n bytes were taken into memory; or they did not come; or memory was refused, where any is needed
-abbrev pub Takes : {T A : Type 0} → (T → List ℕ) → Bool → Option (List ℕ) → Option (List ℕ) → ℕ → Result T (Error A) → Type 0
+abbrev pub Takes :
+    {T A : Type 0} → (T → List ℕ) → Bool
+    → Option (List ℕ) → Option (List ℕ) → ℕ → Result T (Error A) → Type 0
 Takes items can_fail old new n (Ok v) = Consumes old new (items v) × (length (items v) ≡ n)
 Takes items can_fail old new n (Err (errors.IoError e)) = Lacks can_fail old n e × ConsumesUpTo old new n
 Takes items can_fail old new n (Err errors.OutOfMemory) = (0 < n) × ConsumesUpTo old new n

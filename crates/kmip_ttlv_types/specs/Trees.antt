@@ -63,12 +63,17 @@ abbrev mutual
 -- the bytes are a text of the tree, with padding of any value
 abbrev mutual
   pub IsTreeText : Tree → List ℕ → Type 0
-  IsTreeText (leaf tag typ content) bytes = (is_valid typ content ≡ true) × IsTextOf record { tag = tag; typ = typ; content = content } bytes
-  IsTreeText (node tag below) bytes = (content : List ℕ) × IsTextOf record { tag = tag; typ = Structure; content = content } bytes × AreTreeTexts below content
+  IsTreeText (leaf tag typ content) bytes =
+      (is_valid typ content ≡ true) × IsTextOf record { tag = tag; typ = typ; content = content } bytes
+  IsTreeText (node tag below) bytes =
+      (content : List ℕ)
+      × IsTextOf record { tag = tag; typ = Structure; content = content } bytes
+      × AreTreeTexts below content
 
   pub AreTreeTexts : Trees → List ℕ → Type 0
   AreTreeTexts no_trees bytes = bytes ≡ []
-  AreTreeTexts (tree t ts) bytes = (text : List ℕ) × (rest : List ℕ) × (bytes ≡ text ++ rest) × IsTreeText t text × AreTreeTexts ts rest
+  AreTreeTexts (tree t ts) bytes =
+      (text : List ℕ) × (rest : List ℕ) × (bytes ≡ text ++ rest) × IsTreeText t text × AreTreeTexts ts rest
 
 -- not a leaf
 abbrev pub IsStructure : Tree → Type 0

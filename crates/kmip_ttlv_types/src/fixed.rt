@@ -2,8 +2,10 @@
 
 ghost use Rattle.std.specs.Prelude.{◌≡◌, false, length, refl};
 ghost use Rattle.std.specs.Int.{w32, w64, to_be_bytes, cast_unsigned};
-ghost use Rattle.kmip_ttlv_types.specs.declared.typ.TtlvType.TheVariants.{Integer, LongInteger, Enumeration, Boolean, DateTime, Interval};
-ghost use Rattle.kmip_ttlv_types.specs.Primitives.{ReadsFixed, boolean_bytes, boolean_bytes-valid};
+ghost use Rattle.kmip_ttlv_types.specs.declared.typ.TtlvType.TheVariants.{Integer, LongInteger, Enumeration, Boolean};
+ghost use Rattle.kmip_ttlv_types.specs.declared.typ.TtlvType.TheVariants.{DateTime, Interval};
+ghost use Rattle.kmip_ttlv_types.specs.Primitives.{boolean_bytes};
+ghost use Rattle.kmip_ttlv_types.specs.FixedReads.{ReadsFixed, boolean_bytes-valid};
 
 use crate::Result;
 use crate::error::Error;

@@ -2,7 +2,9 @@
 //! a function over any primitive that calls one and rests on it.
 
 ghost use Rattle.std.specs.Prelude.{◌≡◌, IsTrue};
-ghost use Rattle.kmip_ttlv_types.specs.Laws.{IsReadBack, ReadsWholeLeaves, ReadsHeaders, WritesWhereRoom, ReadsEachField, SkipsIgnoredTags, PadsToEight, LeavesAreTagAndRest, Rereads};
+ghost use Rattle.kmip_ttlv_types.specs.Laws.{IsReadBack, ReadsWholeLeaves, ReadsHeaders, WritesWhereRoom};
+ghost use Rattle.kmip_ttlv_types.specs.Laws.{ReadsEachField, SkipsIgnoredTags, PadsToEight, LeavesAreTagAndRest};
+ghost use Rattle.kmip_ttlv_types.specs.Laws.{Rereads};
 
 use crate::Result;
 use crate::fixed::{
@@ -19,13 +21,15 @@ use std::hash::Hash;
 /// follows. The only refusals are a failure of the source, where it can fail, and want of memory, where
 /// reading takes memory for its content.
 pub fn what_was_written_is_read_back<T: SerializableTtlvType>(value: &T)
-    ensures { IsReadBack T.HasTtlvType.TTLV_TYPE T.SerializableTtlvType.value_bytes T.SerializableTtlvType.takes_memory value.now }
+    ensures { IsReadBack T.HasTtlvType.TTLV_TYPE
+        T.SerializableTtlvType.value_bytes T.SerializableTtlvType.takes_memory value.now }
 {}
 
 /// A whole leaf that is there is read, whatever its padding. The only refusals are a failure of the
 /// source, where it can fail, and want of memory, where reading takes memory for its content.
 pub fn a_whole_leaf_in_memory_is_read<T: SerializableTtlvType>()
-    ensures { ReadsWholeLeaves T.HasTtlvType.TTLV_TYPE T.SerializableTtlvType.value_bytes T.SerializableTtlvType.takes_memory }
+    ensures { ReadsWholeLeaves T.HasTtlvType.TTLV_TYPE
+        T.SerializableTtlvType.value_bytes T.SerializableTtlvType.takes_memory }
 {}
 
 /// A tag, a type and a length are read from memory that has their bytes, save a byte that is no type.
@@ -76,32 +80,44 @@ pub fn equal_tags_hash_alike(a: TtlvTag, b: TtlvTag)
 
 /// Two values of the same bytes are the same.
 pub fn an_integer_is_told_by_its_bytes(a: TtlvInteger, b: TtlvInteger)
-    ensures { ⟦<TtlvInteger as SerializableTtlvType>⟧.value_bytes a ≡ ⟦<TtlvInteger as SerializableTtlvType>⟧.value_bytes b → a ≡ b }
+    ensures { ⟦<TtlvInteger as SerializableTtlvType>⟧.value_bytes a
+        ≡ ⟦<TtlvInteger as SerializableTtlvType>⟧.value_bytes b
+        → a ≡ b }
 {}
 
 /// Two values of the same bytes are the same.
 pub fn a_long_integer_is_told_by_its_bytes(a: TtlvLongInteger, b: TtlvLongInteger)
-    ensures { ⟦<TtlvLongInteger as SerializableTtlvType>⟧.value_bytes a ≡ ⟦<TtlvLongInteger as SerializableTtlvType>⟧.value_bytes b → a ≡ b }
+    ensures { ⟦<TtlvLongInteger as SerializableTtlvType>⟧.value_bytes a
+        ≡ ⟦<TtlvLongInteger as SerializableTtlvType>⟧.value_bytes b
+        → a ≡ b }
 {}
 
 /// Two values of the same bytes are the same.
 pub fn an_enumeration_is_told_by_its_bytes(a: TtlvEnumeration, b: TtlvEnumeration)
-    ensures { ⟦<TtlvEnumeration as SerializableTtlvType>⟧.value_bytes a ≡ ⟦<TtlvEnumeration as SerializableTtlvType>⟧.value_bytes b → a ≡ b }
+    ensures { ⟦<TtlvEnumeration as SerializableTtlvType>⟧.value_bytes a
+        ≡ ⟦<TtlvEnumeration as SerializableTtlvType>⟧.value_bytes b
+        → a ≡ b }
 {}
 
 /// Two values of the same bytes are the same.
 pub fn a_boolean_is_told_by_its_bytes(a: TtlvBoolean, b: TtlvBoolean)
-    ensures { ⟦<TtlvBoolean as SerializableTtlvType>⟧.value_bytes a ≡ ⟦<TtlvBoolean as SerializableTtlvType>⟧.value_bytes b → a ≡ b }
+    ensures { ⟦<TtlvBoolean as SerializableTtlvType>⟧.value_bytes a
+        ≡ ⟦<TtlvBoolean as SerializableTtlvType>⟧.value_bytes b
+        → a ≡ b }
 {}
 
 /// Two values of the same bytes are the same.
 pub fn a_date_time_is_told_by_its_bytes(a: TtlvDateTime, b: TtlvDateTime)
-    ensures { ⟦<TtlvDateTime as SerializableTtlvType>⟧.value_bytes a ≡ ⟦<TtlvDateTime as SerializableTtlvType>⟧.value_bytes b → a ≡ b }
+    ensures { ⟦<TtlvDateTime as SerializableTtlvType>⟧.value_bytes a
+        ≡ ⟦<TtlvDateTime as SerializableTtlvType>⟧.value_bytes b
+        → a ≡ b }
 {}
 
 /// Two values of the same bytes are the same.
 pub fn an_interval_is_told_by_its_bytes(a: TtlvInterval, b: TtlvInterval)
-    ensures { ⟦<TtlvInterval as SerializableTtlvType>⟧.value_bytes a ≡ ⟦<TtlvInterval as SerializableTtlvType>⟧.value_bytes b → a ≡ b }
+    ensures { ⟦<TtlvInterval as SerializableTtlvType>⟧.value_bytes a
+        ≡ ⟦<TtlvInterval as SerializableTtlvType>⟧.value_bytes b
+        → a ≡ b }
 {}
 
 // How many bytes are written of a leaf's type, length and padding at most.

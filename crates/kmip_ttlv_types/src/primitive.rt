@@ -5,7 +5,8 @@ ghost use Rattle.kmip_ttlv_types.specs.declared.typ.TtlvType.{TtlvType};
 ghost use Rattle.kmip_ttlv_types.specs.ItemTypes.{pad_len};
 ghost use Rattle.kmip_ttlv_types.specs.Leaves.{is_valid};
 ghost use Rattle.kmip_ttlv_types.specs.Headers.{Writes};
-ghost use Rattle.kmip_ttlv_types.specs.Primitives.{content_of, length_and_content, leaf_rest, IsLengthOf, WritesLong, Skips, ReadsValue, ReadsLeaf};
+ghost use Rattle.kmip_ttlv_types.specs.Primitives.{content_of, length_and_content, leaf_rest, IsLengthOf, WritesLong};
+ghost use Rattle.kmip_ttlv_types.specs.Primitives.{Skips, ReadsValue, ReadsLeaf};
 
 use crate::Result;
 use crate::length::TtlvLength;
@@ -45,7 +46,8 @@ pub trait SerializableTtlvType: HasTtlvType + Sized + Drop {
     /// InvalidTtlvValue where the content is no value of this type; IoError where it does not come;
     /// OutOfMemory where memory is refused.
     fn read_value<S: Source>(alloc: Self::Alloc, src: &mut S, value_len: u32) -> Result<Self>
-        ensures { ReadsValue Self.TTLV_TYPE value_bytes takes_memory S.can_fail (S.left src.old) (S.left src.new) value_len result };
+        ensures { ReadsValue Self.TTLV_TYPE value_bytes takes_memory
+            S.can_fail (S.left src.old) (S.left src.new) value_len result };
 
     /// Writes length and content, and answers the length in bytes.
     ///
@@ -53,7 +55,8 @@ pub trait SerializableTtlvType: HasTtlvType + Sized + Drop {
     /// writing fails, and then a beginning may have been written.
     fn write_length_and_value<S: Sink>(&self, dst: &mut S) -> Result<u32>
         ensures writes { let content = content_of Self.TTLV_TYPE (value_bytes self.now) in
-            WritesLong (length content) (length_and_content content) (S.held dst.old) (S.held dst.new) (S.room dst.old) (S.room dst.new) result }
+            WritesLong (length content) (length_and_content content)
+            (S.held dst.old) (S.held dst.new) (S.room dst.old) (S.room dst.new) result }
         ensures length { IfOk result (λ n. n ≡ length (content_of Self.TTLV_TYPE (value_bytes self.now))) };
 
     // The bytes of a value are the content of such a leaf.
@@ -89,7 +92,8 @@ pub trait SerializableTtlvType: HasTtlvType + Sized + Drop {
     ///
     /// IoError where that fails; a beginning may have been written.
     final fn write_pad_bytes<S: Sink>(dst: &mut S, value_len: u32) -> Result<()>
-        ensures { Writes (replicate (pad_len value_len) 0) (S.held dst.old) (S.held dst.new) (S.room dst.old) (S.room dst.new) result }
+        ensures { Writes (replicate (pad_len value_len) 0)
+            (S.held dst.old) (S.held dst.new) (S.room dst.old) (S.room dst.new) result }
     {
         let zeros = [0u8; 8];
         let count = Self::calc_pad_bytes(value_len) as usize;
@@ -104,7 +108,8 @@ pub trait SerializableTtlvType: HasTtlvType + Sized + Drop {
     /// bytes do not come; OutOfMemory where memory is refused. What was taken then lies within
     /// length, content and padding.
     final fn read<S: Source>(alloc: Self::Alloc, src: &mut S) -> Result<Self>
-        ensures { ReadsLeaf Self.TTLV_TYPE value_bytes takes_memory S.can_fail (S.left src.old) (S.left src.new) result }
+        ensures { ReadsLeaf Self.TTLV_TYPE value_bytes takes_memory
+            S.can_fail (S.left src.old) (S.left src.new) result }
     {
         let length = *TtlvLength::read(src)?;
         let value = Self::read_value(alloc, src, length)?;
@@ -118,7 +123,8 @@ pub trait SerializableTtlvType: HasTtlvType + Sized + Drop {
     /// writing fails, and then a beginning may have been written.
     final fn write<S: Sink>(&self, dst: &mut S) -> Result<()>
         ensures { let content = content_of Self.TTLV_TYPE (value_bytes self.now) in
-            WritesLong (length content) (leaf_rest Self.TTLV_TYPE content) (S.held dst.old) (S.held dst.new) (S.room dst.old) (S.room dst.new) result }
+            WritesLong (length content) (leaf_rest Self.TTLV_TYPE content)
+            (S.held dst.old) (S.held dst.new) (S.room dst.old) (S.room dst.new) result }
     {
         self.value_length()?;
         self.ttlv_type().write(dst)?;
@@ -129,7 +135,8 @@ pub trait SerializableTtlvType: HasTtlvType + Sized + Drop {
 
 // Writes two slices, one after the other.
 pub fn send_both<S: Sink>(dst: &mut S, first: &[u8], second: &[u8]) -> Result<()>
-    ensures { Writes (first.now ++ second.now) (S.held dst.old) (S.held dst.new) (S.room dst.old) (S.room dst.new) result }
+    ensures { Writes (first.now ++ second.now)
+        (S.held dst.old) (S.held dst.new) (S.room dst.old) (S.room dst.new) result }
 {
     dst.send(first)?;
     dst.send(second)?;
@@ -140,7 +147,8 @@ pub fn send_both<S: Sink>(dst: &mut S, first: &[u8], second: &[u8]) -> Result<()
 #[tactic(auto, unfolding(crate::specs::Primitives::length_and_content))]
 pub fn write_slice<S: Sink>(dst: &mut S, length: u32, content: &[u8]) -> Result<()>
     requires { length ≡ length' content.now }
-    ensures { Writes (length_and_content content.now) (S.held dst.old) (S.held dst.new) (S.room dst.old) (S.room dst.new) result }
+    ensures { Writes (length_and_content content.now)
+        (S.held dst.old) (S.held dst.new) (S.room dst.old) (S.room dst.new) result }
 {
     send_both(dst, &length.to_be_bytes(), content)
 }

@@ -6,7 +6,8 @@
 //! that is handed over as a reader or a writer counts as one; `MemorySource`, `MemoryCursor` and
 //! `MemorySink` are the memory that cannot fail.
 
-ghost use Rattle.std.specs.Prelude.{◌≡◌, ℕ, List, Bool, true, false, Option, None, Some, ◌<◌, ◌≤◌, ◌-◌, ◌+◌, ◌^◌, length, take, drop, IfOk, IfErr, OnOk, OnErr, vec_len, vec_items, vec_capacity};
+ghost use Rattle.std.specs.Prelude.{◌≡◌, ℕ, List, Bool, true, false, Option, None, Some, ◌<◌, ◌≤◌, ◌-◌, ◌+◌, ◌^◌};
+ghost use Rattle.std.specs.Prelude.{length, take, drop, IfOk, IfErr, OnOk, OnErr, vec_len, vec_items, vec_capacity};
 ghost use Rattle.std.specs.Io.{ReadsAtMost, WritesAtMost};
 ghost use Rattle.std.specs.Io.Cursor.{cursor_position, cursor_inner, cursor_remaining};
 ghost use Rattle.std.specs.Io.KnownBytes.{Appends, Consumes, IsAtEnd, Keeps};
@@ -213,7 +214,8 @@ fn read_at<R: Read>(reader: &mut R, buf: &mut [u8], at: usize) -> io::Result<usi
     requires { at < length buf.old }
     ensures front { take at buf.new ≡ take at buf.old }
     ensures fits { IfOk result (λ n. at + n ≤ length buf.new) }
-    ensures ok { IfOk result (λ n. Consumes (R.remaining reader.old) (R.remaining reader.new) (take n (drop at buf.new))) }
+    ensures ok { IfOk result (λ n. Consumes (R.remaining reader.old) (R.remaining reader.new)
+        (take n (drop at buf.new))) }
     ensures end { IfOk result (λ n. n ≡ 0 → IsAtEnd (R.remaining reader.new)) }
     ensures err { OnErr result (Keeps (R.remaining reader.old) (R.remaining reader.new)) }
 {

@@ -1,6 +1,7 @@
 //! The tag of an item.
 
-ghost use Rattle.std.specs.Prelude.{◌≡◌, true, ℕ, ◌≤◌, ◌^◌, ◌++◌, IfNone, IfSome, IfOk, IfErr, Some, None, string_bytes};
+ghost use Rattle.std.specs.Prelude.{◌≡◌, true, ℕ, ◌≤◌, ◌^◌, ◌++◌, IfNone, IfSome, IfOk, IfErr, Some, None};
+ghost use Rattle.std.specs.Prelude.{string_bytes};
 ghost use Rattle.std.specs.Int.{bytes_high_first};
 ghost use Rattle.std.specs.Str.{IsAscii};
 ghost use Rattle.std.specs.Fmt.{WritesOnOk, digits};
@@ -91,7 +92,8 @@ impl TtlvTag {
     ///
     /// IoError where that fails; a beginning may have been written.
     pub fn write<S: Sink>(&self, dst: &mut S) -> Result<(), Error>
-        ensures { Writes (bytes_high_first 3 self.now) (S.held dst.old) (S.held dst.new) (S.room dst.old) (S.room dst.new) result }
+        ensures { Writes (bytes_high_first 3 self.now)
+            (S.held dst.old) (S.held dst.new) (S.room dst.old) (S.room dst.new) result }
     {
         let bytes: [u8; 3] = self.into();
         dst.send(&bytes)?;

@@ -88,7 +88,8 @@ impl TtlvType {
     ///
     /// IoError where that fails.
     pub fn write<S: Sink>(&self, dst: &mut S) -> Result<(), Error>
-        ensures { Writes (code self.now ∷ []) (S.held dst.old) (S.held dst.new) (S.room dst.old) (S.room dst.new) result }
+        ensures { Writes (code self.now ∷ [])
+            (S.held dst.old) (S.held dst.new) (S.room dst.old) (S.room dst.new) result }
     {
         dst.send(&[self.code()])?;
         Ok(())

@@ -8,7 +8,7 @@ use Rattle.kmip_ttlv_types.specs.declared.typ.TtlvType.TheVariants.{Structure, I
 use Rattle.kmip_ttlv_types.specs.Leaves.{is_valid}
 use Rattle.kmip_ttlv_types.specs.Places.{tag_at, code_at, length_at, size}
 use Rattle.kmip_ttlv_types.specs.ItemTypes.{type_of}
-use Rattle.kmip_ttlv_util.specs.Traces.{Detail, detail_of, detail_at, entry_at, is_fine, extent, type_if, type_read, kept}
+use Rattle.kmip_ttlv_util.specs.Entries.{Detail, detail_of, detail_at, entry_at, is_fine, extent, type_if, type_read, kept}
 use Rattle.kmip_ttlv_util.specs.Walks.{IsItem}
 
 module _ (w : List ℕ) (p : ℕ) where

@@ -6,7 +6,9 @@ use Rattle.kmip_ttlv_types.specs.declared.typ.TtlvType.{TtlvType}
 use Rattle.kmip_ttlv_types.specs.declared.typ.TtlvType.TheVariants.{Structure, Integer, LongInteger, BigInteger, Enumeration, Boolean, TextString, ByteString, DateTime, Interval}
 use Rattle.kmip_ttlv_util.specs.declared.item.Item.{Item}
 use Rattle.kmip_ttlv_types.specs.Places.{length_at}
-use Rattle.kmip_ttlv_util.specs.Traces.{Place, start, left_at, has_end, opened, after, entry_at, type_read, extent, trace, Style, told}
+use Rattle.kmip_ttlv_util.specs.Traces.{trace, Style, told}
+use Rattle.kmip_ttlv_util.specs.WalkPlaces.{Place, start, left_at, has_end, opened, after}
+use Rattle.kmip_ttlv_util.specs.Entries.{entry_at, type_read, extent}
 use Rattle.kmip_ttlv_util.specs.Walks.{IsItem, Ready, Closed, Passed}
 use Rattle.kmip_ttlv_util.proofs.Entries.{extent_least}
 use Rattle.kmip_ttlv_util.proofs.Rest.{place, text_from, count_from, text_start, count_start, text_reads, count_reads, text_unreadable, count_unreadable, text_closes, count_closes, text_over, count_over, text_past, count_past}

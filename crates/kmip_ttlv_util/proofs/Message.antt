@@ -12,7 +12,8 @@ use Rattle.kmip_ttlv_types.specs.Items.{Raw, IsTextOf}
 use Rattle.kmip_ttlv_types.specs.Leaves.{is_valid}
 use Rattle.kmip_ttlv_types.specs.Trees.{Tree, Trees, leaf, node, no_trees, tree, IsTreeText, AreTreeTexts, HasNoEmpty, IsStructure}
 use Rattle.kmip_ttlv_util.specs.Outlines.{IsKept, IsOutline, AreOutlines, value_of, outline_of, outlines_of, mark, diag, diag_all}
-use Rattle.kmip_ttlv_util.specs.Traces.{entry_at, kept, detail_of, trace}
+use Rattle.kmip_ttlv_util.specs.Traces.{trace}
+use Rattle.kmip_ttlv_util.specs.Entries.{entry_at, kept, detail_of}
 use Rattle.kmip_ttlv_util.specs.Diagnostics.{diag_style, hostile}
 use Rattle.kmip_ttlv_util.specs.declared.item.Item.{Item}
 use Rattle.kmip_ttlv_util.specs.PrintAnswers.{IsExact}

@@ -9,7 +9,8 @@ use Rattle.kmip_ttlv_types.specs.declared.typ.TtlvType.TheVariants.{Structure, I
 use Rattle.kmip_ttlv_types.specs.Places.{tag_at, length_at}
 use Rattle.kmip_ttlv_types.specs.Trees.{Tree, Trees, leaf, node, no_trees, tree}
 use Rattle.kmip_ttlv_util.specs.declared.item.Item.{Item}
-use Rattle.kmip_ttlv_util.specs.Traces.{entry_at, has_end}
+use Rattle.kmip_ttlv_util.specs.WalkPlaces.{has_end}
+use Rattle.kmip_ttlv_util.specs.Entries.{entry_at}
 use Rattle.kmip_ttlv_util.specs.Pretty.{two_digits, hex_bytes, data_shown, pretty_line, pretty, pretty_all, warning, pretty_style, IsPrinted, IsPretty}
 use Rattle.kmip_ttlv_util.specs.Walks.{IsItem}
 use Rattle.kmip_ttlv_util.proofs.Walked.{Drawing, Draws, drawn, drawn_all, message_told, leaf_not}

@@ -4,7 +4,9 @@ use Rattle.std.proofs.lemmas.Bool.{eq-eqb, ne_eqb, lt-ltb, le-ltb}
 use Rattle.kmip_ttlv_types.specs.declared.typ.TtlvType.{TtlvType}
 use Rattle.kmip_ttlv_types.specs.Places.{length_at}
 use Rattle.kmip_ttlv_util.specs.Walks.{Ready}
-use Rattle.kmip_ttlv_util.specs.Traces.{Entry, entry_at, type_read, Place, left_at, closes, Turn, turn_left, all_closed, end_passed, entry_follows, turn, after, entries_by, entries_from, start, trace, Style, end_text, told_from, told}
+use Rattle.kmip_ttlv_util.specs.Traces.{closes, entries_by, entries_from, trace, Style, end_text, told_from, told}
+use Rattle.kmip_ttlv_util.specs.WalkPlaces.{Place, left_at, Turn, turn_left, all_closed, end_passed, entry_follows, turn, after, start}
+use Rattle.kmip_ttlv_util.specs.Entries.{Entry, entry_at, type_read}
 
 abbrev pub place : ℕ → List ℕ → ℕ → Bool → Place
 place p es k z = record { pos = p; ends = es; endless = k; loose = z }

@@ -4,13 +4,13 @@ use Rattle.std.specs.Prelude.{reverse}
 use Rattle.std.specs.List.{slice_get}
 use Rattle.std.proofs.lemmas.List.{reverse-append, take_more, take_all}
 use Rattle.std.proofs.lemmas.Option.{slice_get_within, slice_get-get_or, get_or_from_slice_get}
-use Rattle.kmip_ttlv_util.specs.Traces.{Place, has_end, opened, onward, after}
+use Rattle.kmip_ttlv_util.specs.WalkPlaces.{Place, has_end, opened, onward, after}
 use Rattle.kmip_ttlv_util.specs.Walks.{Ready, Closed, Passed}
 use Rattle.std.proofs.lemmas.List.{length-reverse}
 use Rattle.std.proofs.Common.{◌⊎◌, inl, inr}
 use Rattle.kmip_ttlv_types.specs.declared.typ.TtlvType.{TtlvType}
 use Rattle.kmip_ttlv_types.specs.declared.typ.TtlvType.TheVariants.{Structure, Integer, LongInteger, BigInteger, Enumeration, Boolean, TextString, ByteString, DateTime, Interval}
-use Rattle.kmip_ttlv_util.specs.Traces.{extent}
+use Rattle.kmip_ttlv_util.specs.Entries.{extent}
 use Rattle.kmip_ttlv_util.proofs.Rest.{place, ready_root, ready_before, ready_loose}
 
 -- an empty stack has no last

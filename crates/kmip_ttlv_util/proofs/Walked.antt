@@ -9,7 +9,9 @@ use Rattle.kmip_ttlv_types.specs.ItemTypes.{type_of}
 use Rattle.kmip_ttlv_types.specs.Leaves.{is_valid}
 use Rattle.kmip_ttlv_types.specs.Places.{tag_at, length_at, size}
 use Rattle.kmip_ttlv_types.specs.Trees.{Tree, Trees, leaf, node, no_trees, tree, IsTreeText, AreTreeTexts, HasNoEmpty, HaveNoEmpty, IsStructure}
-use Rattle.kmip_ttlv_util.specs.Traces.{Entry, start, entry_at, has_end, after, detail_of, extent, trace, Style, told}
+use Rattle.kmip_ttlv_util.specs.Traces.{trace, Style, told}
+use Rattle.kmip_ttlv_util.specs.WalkPlaces.{start, has_end, after}
+use Rattle.kmip_ttlv_util.specs.Entries.{Entry, entry_at, detail_of, extent}
 use Rattle.kmip_ttlv_util.specs.Walks.{Ready}
 use Rattle.kmip_ttlv_types.proofs.PlaceLemmas.{raw_with, header_of, item_at_text, text_length, type_of-code}
 use Rattle.kmip_ttlv_util.proofs.Entries.{entry_tag, entry_length, detail_here, read_leaf, read_structure, extent_leaf}

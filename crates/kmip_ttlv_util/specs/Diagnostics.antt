@@ -2,7 +2,8 @@
 use Rattle.std.specs.Prelude.{ℕ, Bool, List, codes}
 use Rattle.kmip_ttlv_types.specs.Places.{tag_at}
 use Rattle.kmip_ttlv_util.specs.Outlines.{mark}
-use Rattle.kmip_ttlv_util.specs.Traces.{Entry, kept, Style, told}
+use Rattle.kmip_ttlv_util.specs.Traces.{Style, told}
+use Rattle.kmip_ttlv_util.specs.Entries.{Entry, kept}
 
 -- what stands where a structure's content exceeds its length
 unfoldable pub exceeded : List ℕ

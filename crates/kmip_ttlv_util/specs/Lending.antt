@@ -7,5 +7,9 @@ use Rattle.kmip_ttlv_util.specs.declared.printer.PrettyPrinter.{PrettyPrinter}
 use Rattle.kmip_ttlv_util.specs.contracts.printer.PrettyPrinter.{the_row}
 
 -- the printer stays what the result shows
-abbrev pub stays : (A : RattleType) (heap : alloc.Ghosts A.Denot) → MutBor (PrettyPrinter A.Denot) → Bor (PrettyPrinter A.Denot) → Fml
+abbrev pub stays :
+    (A : RattleType) (heap : alloc.Ghosts A.Denot)
+    → MutBor (PrettyPrinter A.Denot)
+    → Bor (PrettyPrinter A.Denot)
+    → Fml
 stays A heap p r = follows_so (the_row A heap) (the_row A heap) p.ghost_name none (λ _ _. ⊤) (λ n. n ≡ r.now)

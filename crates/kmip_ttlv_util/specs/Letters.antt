@@ -1,7 +1,9 @@
 -- The letters of types in diagnostics, and the digits of tags.
 use Rattle.std.specs.Prelude.{◌≡◌, ◌↔◌, ℕ, Bool, ◌&&◌, ◌||◌, Option, Some, None, if◌then◌else◌, ◌==◌, nat_le}
 use Rattle.kmip_ttlv_types.specs.declared.typ.TtlvType.{TtlvType}
-use Rattle.kmip_ttlv_types.specs.declared.typ.TtlvType.TheVariants.{Structure, Integer, LongInteger, BigInteger, Enumeration, Boolean, TextString, ByteString, DateTime, Interval}
+use Rattle.kmip_ttlv_types.specs.declared.typ.TtlvType.TheVariants.{Structure, Integer, LongInteger, BigInteger}
+use Rattle.kmip_ttlv_types.specs.declared.typ.TtlvType.TheVariants.{Enumeration, Boolean, TextString, ByteString}
+use Rattle.kmip_ttlv_types.specs.declared.typ.TtlvType.TheVariants.{DateTime, Interval}
 
 -- a type's letter
 abbrev pub letter : TtlvType → ℕ

@@ -1,5 +1,7 @@
 pub mod Letters
 pub mod Outlines
+pub mod Entries
+pub mod WalkPlaces
 pub mod Traces
 pub mod Diagnostics
 pub mod PrintAnswers

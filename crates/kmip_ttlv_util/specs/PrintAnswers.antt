@@ -12,13 +12,27 @@ pub record Exact (prefix : List ℕ) (t : Tree) (text : List ℕ) : Type 0 where
 
 -- of a well-formed message, which has no empty structure unless these are closed
 abbrev pub IsExact : List ℕ → Bool → List ℕ → List ℕ → Type 0
-IsExact prefix closed bytes text = (t : Tree) → IsTreeText t bytes → IsStructure t → (closed ≡ false → HasNoEmpty t) → Exact prefix t text
+IsExact prefix closed bytes text =
+    (t : Tree)
+    → IsTreeText t bytes
+    → IsStructure t
+    → (closed ≡ false → HasNoEmpty t)
+    → Exact prefix t text
 
 -- two well-formed messages have equal diagnostics exactly if their outlines are equal
 abbrev pub TellsOutlines : Type 0
-TellsOutlines = (prefix : List ℕ) (closed : Bool) (a b : List ℕ) (t u : Tree) → EachIndex a (λ i. slice_index a i < 256) → EachIndex b (λ i. slice_index b i < 256)
-    → IsTreeText t a → IsTreeText u b → IsStructure t → IsStructure u → (closed ≡ false → HasNoEmpty t) → (closed ≡ false → HasNoEmpty u)
-    → (hostile prefix closed (length a) (trace closed a) ≡ hostile prefix closed (length b) (trace closed b)) ↔ (outline_of t ≡ outline_of u)
+TellsOutlines =
+    (prefix : List ℕ) (closed : Bool) (a b : List ℕ) (t u : Tree)
+    → EachIndex a (λ i. slice_index a i < 256)
+    → EachIndex b (λ i. slice_index b i < 256)
+    → IsTreeText t a
+    → IsTreeText u b
+    → IsStructure t
+    → IsStructure u
+    → (closed ≡ false → HasNoEmpty t)
+    → (closed ≡ false → HasNoEmpty u)
+    → (hostile prefix closed (length a) (trace closed a) ≡ hostile prefix closed (length b) (trace closed b))
+    ↔ (outline_of t ≡ outline_of u)
 
 -- under one prefix, equal diagnostics are those of equal outlines
 abbrev pub HasOneOutline : Type 0

@@ -1,12 +1,15 @@
--- What a diagnostic is read back as: the lines of the longest list of parts with which the text begins; of an outline's diagnostic, the outline's redacted lines.
-use Rattle.std.specs.Prelude.{codes, ◌≡◌, ◌≢◌, ℕ, suc, ◌-◌, ◌<◌, List, [], ◌∷◌, ◌++◌, length, take, drop, Option, Some, None, if◌then◌else◌, ◌==◌}
+-- What a diagnostic is read back as: the lines of the longest list of parts with which the text begins; of an outline's
+-- diagnostic, the outline's redacted lines.
+use Rattle.std.specs.Prelude.{codes, ◌≡◌, ◌≢◌, ℕ, suc, ◌-◌, ◌<◌, List, [], ◌∷◌, ◌++◌, length, take, drop, Option, Some}
+use Rattle.std.specs.Prelude.{None, if◌then◌else◌, ◌==◌}
 use Rattle.std.specs.List.{prefix_len, AllByRecursion}
 use Rattle.std.specs.Str.{trim_end}
 use Rattle.kmip_ttlv_types.specs.declared.typ.TtlvType.{TtlvType}
 use Rattle.kmip_ttlv_types.specs.declared.typ.TtlvType.TheVariants.{Structure, Enumeration}
 use Rattle.kmip_ttlv_types.specs.Names.{tag_of}
 use Rattle.kmip_ttlv_types.specs.Digits.{six_digits}
-use Rattle.kmip_ttlv_util.specs.Outlines.{Outline, Outlines, leaf_outline, node_outline, no_outlines, outline, IsOutline, hex_upper, diag}
+use Rattle.kmip_ttlv_util.specs.Outlines.{Outline, Outlines, leaf_outline, node_outline, no_outlines, outline}
+use Rattle.kmip_ttlv_util.specs.Outlines.{IsOutline, hex_upper, diag}
 use Rattle.kmip_ttlv_util.specs.Letters.{letter, type_of_letter, is_hex}
 use Rattle.kmip_ttlv_util.specs.Lines.{tag_part, typ_part, line, hidden}
 
@@ -28,7 +31,8 @@ StandsBehind typ after shown rest = (shown ≡ hidden) × (rest ≡ after) × (0
 -- the tag that stands in front: the longest front of digits, behind `0x` and the prefix
 abbrev pub tag_in_front : List ℕ → List ℕ → Option ℕ
 tag_in_front prefix [] = None
-tag_in_front prefix (c ∷ s) = if c == 93 then None else tag_of (codes "0x" ++ (prefix ++ take (prefix_len is_hex (c ∷ s)) (c ∷ s)))
+tag_in_front prefix (c ∷ s) =
+    if c == 93 then None else tag_of (codes "0x" ++ (prefix ++ take (prefix_len is_hex (c ∷ s)) (c ∷ s)))
 
 -- the type that stands behind these digits
 abbrev pub typ_in_front : List ℕ → Option TtlvType
@@ -39,7 +43,10 @@ typ_in_front (c ∷ s) = type_of_letter c
 abbrev pub Stands : List ℕ → ℕ → List ℕ → Part → List ℕ → Type 0
 Stands prefix depth s close_part rest = (0 < depth) × (s ≡ 93 ∷ rest)
 Stands prefix depth s (item_part tag typ shown) rest =
-    (after : List ℕ) × (tag_in_front prefix s ≡ Some tag) × (drop (prefix_len is_hex s) s ≡ letter typ ∷ after) × StandsBehind typ after shown rest
+    (after : List ℕ)
+    × (tag_in_front prefix s ≡ Some tag)
+    × (drop (prefix_len is_hex s) s ≡ letter typ ∷ after)
+    × StandsBehind typ after shown rest
 
 -- how deep it is behind a part
 abbrev pub depth_behind : ℕ → Part → ℕ
@@ -50,7 +57,8 @@ depth_behind depth (item_part tag typ shown) = depth
 -- parts stand in front of a text, one after the other; how deep it is behind them, and what is left
 abbrev pub StandAll : List ℕ → ℕ → List ℕ → List Part → ℕ → List ℕ → Type 0
 StandAll prefix depth s [] deep rest = (deep ≡ depth) × (rest ≡ s)
-StandAll prefix depth s (p ∷ ps) deep rest = (more : List ℕ) × Stands prefix depth s p more × StandAll prefix (depth_behind depth p) more ps deep rest
+StandAll prefix depth s (p ∷ ps) deep rest =
+    (more : List ℕ) × Stands prefix depth s p more × StandAll prefix (depth_behind depth p) more ps deep rest
 
 -- the line of a part
 abbrev pub part_line : (ℕ → Option (List ℕ)) → ℕ → Part → List ℕ
@@ -70,7 +78,8 @@ unfinished_by names depth (Some tag) (Some typ) = typ_part names depth tag typ
 
 -- what is written of an unfinished part: its tag and its type, as far as these stand there
 abbrev pub unfinished : (ℕ → Option (List ℕ)) → List ℕ → ℕ → List ℕ → List ℕ
-unfinished names prefix depth s = unfinished_by names depth (tag_in_front prefix s) (typ_in_front (drop (prefix_len is_hex s) s))
+unfinished names prefix depth s =
+    unfinished_by names depth (tag_in_front prefix s) (typ_in_front (drop (prefix_len is_hex s) s))
 
 -- the longest list of parts with which a text begins
 pub record Longest (names : ℕ → Option (List ℕ)) (prefix : List ℕ) (depth : ℕ) (s text : List ℕ) : Type 0 where

@@ -1,6 +1,8 @@
--- A diagnostic read back, as a function of the text: part by part. What the answer is, in words of the text alone, stands in ReadBack.
+-- A diagnostic read back, as a function of the text: part by part. What the answer is, in words of the text alone,
+-- stands in ReadBack.
 use Rattle.std.specs.Borrow.{Bor}
-use Rattle.std.specs.Prelude.{codes, ◌≡◌, ℕ, zero, suc, ◌+◌, ◌&&◌, List, [], ◌∷◌, ◌++◌, length, take, drop, Option, Some, None, if◌then◌else◌, ◌==◌, nat_lt}
+use Rattle.std.specs.Prelude.{codes, ◌≡◌, ℕ, zero, suc, ◌+◌, ◌&&◌, List, [], ◌∷◌, ◌++◌, length, take, drop, Option}
+use Rattle.std.specs.Prelude.{Some, None, if◌then◌else◌, ◌==◌, nat_lt}
 use Rattle.std.specs.List.{prefix_len, position_or_len}
 use Rattle.std.specs.Str.{trim_end}
 use Rattle.kmip_ttlv_types.specs.declared.typ.TtlvType.{TtlvType}
@@ -41,13 +43,16 @@ close_step (suc d) s = reads_on [] d s
 -- an enumeration's value
 abbrev pub value_step : (ℕ → Option (List ℕ)) → ℕ → ℕ → List ℕ → ℕ → Step
 value_step names depth tag s n =
-    if nat_lt 0 n && nat_lt n (length s) then reads_on (line names depth tag Enumeration (take n s)) depth (drop (n + 1) s) else stops_with (typ_part names depth tag Enumeration)
+    if nat_lt 0 n && nat_lt n (length s)
+    then reads_on (line names depth tag Enumeration (take n s)) depth (drop (n + 1) s)
+    else stops_with (typ_part names depth tag Enumeration)
 
 -- what follows a tag and a type
 abbrev pub data_step : (ℕ → Option (List ℕ)) → ℕ → ℕ → TtlvType → List ℕ → Step
 data_step names depth tag typ [] = stops_with (typ_part names depth tag typ)
 data_step names depth tag Structure (c ∷ s) = reads_on (line names depth tag Structure []) (suc depth) (c ∷ s)
-data_step names depth tag Enumeration (c ∷ s) = value_step names depth tag (c ∷ s) (position_or_len (λ b. b == 58) (c ∷ s))
+data_step names depth tag Enumeration (c ∷ s) =
+    value_step names depth tag (c ∷ s) (position_or_len (λ b. b == 58) (c ∷ s))
 data_step names depth tag typ (c ∷ s) = reads_on (line names depth tag typ hidden) depth (c ∷ s)
 
 -- what follows a tag, by the type that stands there
@@ -72,7 +77,8 @@ digits_step names prefix depth s n = tag_step names depth (drop n s) (tag_of (co
 -- the next part of a text so deep
 unfoldable pub step : (ℕ → Option (List ℕ)) → List ℕ → ℕ → List ℕ → Step
 step names prefix depth [] = stops_with []
-step names prefix depth (c ∷ s) = if c == 93 then close_step depth s else digits_step names prefix depth (c ∷ s) (prefix_len is_hex (c ∷ s))
+step names prefix depth (c ∷ s) =
+    if c == 93 then close_step depth s else digits_step names prefix depth (c ∷ s) (prefix_len is_hex (c ∷ s))
 
 -- what is written of a part and of what is left
 abbrev pub written_by : Step → (ℕ → List ℕ → List ℕ) → List ℕ
@@ -82,7 +88,8 @@ written_by (stops_with w) more = w
 -- the lines of a text from a depth on, at most so many
 unfoldable pub undiag_from : (ℕ → Option (List ℕ)) → ℕ → List ℕ → ℕ → List ℕ → List ℕ
 undiag_from names zero prefix depth s = []
-undiag_from names (suc most) prefix depth s = written_by (step names prefix depth s) (λ d r. undiag_from names most prefix d r)
+undiag_from names (suc most) prefix depth s =
+    written_by (step names prefix depth s) (λ d r. undiag_from names most prefix d r)
 
 -- the lines of the longest list of parts with which a text begins, then what is written of one
 -- unfinished part

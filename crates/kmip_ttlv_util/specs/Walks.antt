@@ -7,7 +7,8 @@ use Rattle.kmip_ttlv_util.specs.declared.item.Item.{Item}
 use Rattle.kmip_ttlv_util.specs.declared.walk.Walk.{Walk}
 use Rattle.kmip_ttlv_util.specs.declared.walk.Next.{Next}
 use Rattle.kmip_ttlv_util.specs.declared.walk.Next.TheVariants.{Closes, Over, Past, Reads}
-use Rattle.kmip_ttlv_util.specs.Traces.{entry_at, type_read, Place, left_at, turn, entry_follows, kept, extent}
+use Rattle.kmip_ttlv_util.specs.WalkPlaces.{Place, left_at, turn, entry_follows}
+use Rattle.kmip_ttlv_util.specs.Entries.{entry_at, type_read, kept, extent}
 
 -- the item at a place is read
 pub record IsItem (bytes : List ℕ) (p : ℕ) (i : Item) : Type 0 where

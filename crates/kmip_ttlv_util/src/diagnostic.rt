@@ -1,6 +1,7 @@
 //! The diagnostic of any bytes: its parts, and the loop that writes them.
 
-ghost use Rattle.std.specs.Prelude.{◌≡◌, ℕ, ◌+◌, ◌/◌, ◌<◌, ◌≤◌, ◌^◌, ◌++◌, ◌∷◌, List, [], length, IfOk, OnOk, IfSome, string_bytes};
+ghost use Rattle.std.specs.Prelude.{◌≡◌, ℕ, ◌+◌, ◌/◌, ◌<◌, ◌≤◌, ◌^◌, ◌++◌, ◌∷◌, List, [], length, IfOk, OnOk, IfSome};
+ghost use Rattle.std.specs.Prelude.{string_bytes};
 ghost use Rattle.std.specs.Prelude.{true};
 ghost use Rattle.kmip_ttlv_types.specs.Digits.{six_digits};
 ghost use Rattle.kmip_ttlv_util.specs.Outlines.{stripped, value_text, mark};
@@ -94,7 +95,8 @@ pub fn diagnose<A: Allocator + Copy>(
     closed: bool,
     bytes: &[u8],
 ) -> Result<(String<A>, usize), AllocError>
-    ensures text { IfOk result (λ r. string_bytes r.0 ≡ hostile prefix.now closed (length bytes.now) (trace closed bytes.now)) }
+    ensures text { IfOk result (λ r. string_bytes r.0
+        ≡ hostile prefix.now closed (length bytes.now) (trace closed bytes.now)) }
     ensures count { IfOk result (λ r. r.1 ≡ length (trace closed bytes.now)) }
     ensures bounded { IfOk result (λ r. r.1 ≤ length bytes.now / 8 + 1) }
 {

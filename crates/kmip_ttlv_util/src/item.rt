@@ -6,7 +6,7 @@ ghost use Rattle.kmip_ttlv_types.specs.declared.typ.TtlvType.TheVariants.{Boolea
 ghost use Rattle.kmip_ttlv_types.specs.ItemTypes.{code, padding, type_of};
 ghost use Rattle.kmip_ttlv_types.specs.Leaves.{is_valid};
 ghost use Rattle.kmip_ttlv_types.specs.Places.{tag_at, code_at, length_at, size};
-ghost use Rattle.kmip_ttlv_util.specs.Traces.{entry_at, type_read};
+ghost use Rattle.kmip_ttlv_util.specs.Entries.{entry_at, type_read};
 ghost use Rattle.kmip_ttlv_util.specs.Walks.{IsItem};
 
 use kmip_ttlv_types::{TtlvTag, TtlvType};
@@ -71,7 +71,10 @@ fn padding_of(typ: TtlvType, n: usize) -> usize
 /// The content of an item, and the place behind its padding, if all of it is there.
 fn content_at(bytes: &[u8], pos: usize, typ: TtlvType, n: u32) -> Option<(&[u8], usize)>
     requires { pos + 8 ≤ length bytes.now }
-    ensures some { IfSome result (λ r. (r.0.now ≡ take n (drop (pos + 8) bytes.now)) × (r.1 ≡ pos + size typ n) × (r.1 ≤ length bytes.now)) }
+    ensures some { IfSome result (λ r.
+        (r.0.now ≡ take n (drop (pos + 8) bytes.now))
+        × (r.1 ≡ pos + size typ n)
+        × (r.1 ≤ length bytes.now)) }
     ensures none { IfNone result (length bytes.now < pos + size typ n) }
 {
     let n = n as usize;

@@ -9,7 +9,8 @@ ghost use Rattle.kmip_ttlv_types.specs.declared.typ.TtlvType.TheVariants.{Struct
 ghost use Rattle.kmip_ttlv_types.specs.Leaves.{is_valid};
 ghost use Rattle.kmip_ttlv_util.specs.Lines.{hex_padded};
 ghost use Rattle.kmip_ttlv_util.specs.TagNames.{name_in};
-ghost use Rattle.kmip_ttlv_util.specs.Pretty.{bracketed, two_digits, hex_bytes, value_shown, data_shown, pretty_line, warning, IsPrinted};
+ghost use Rattle.kmip_ttlv_util.specs.Pretty.{bracketed, two_digits, hex_bytes, value_shown, data_shown, pretty_line};
+ghost use Rattle.kmip_ttlv_util.specs.Pretty.{warning, IsPrinted};
 
 use crate::diagnostic::EXCEEDED;
 use crate::item::{Item, item_at};
@@ -40,7 +41,9 @@ fn eight_bytes(content: &[u8]) -> u64
 
 /// A signed number of four bytes.
 fn push_integer<A: Allocator>(out: &mut String<A>, n: u32) -> Result<(), AllocError>
-    ensures { OnOk result (string_bytes out.new ≡ string_bytes out.old ++ (hex_padded 6 n ++ bracketed (signed_decimal (cast_signed w32 n)))) }
+    ensures { OnOk result (string_bytes out.new
+        ≡ string_bytes out.old
+        ++ (hex_padded 6 n ++ bracketed (signed_decimal (cast_signed w32 n)))) }
 {
     let signed = n.cast_signed();
     push_six(out, n as u64)?;
@@ -49,7 +52,9 @@ fn push_integer<A: Allocator>(out: &mut String<A>, n: u32) -> Result<(), AllocEr
 
 /// A signed number of eight bytes.
 fn push_long_integer<A: Allocator>(out: &mut String<A>, n: u64) -> Result<(), AllocError>
-    ensures { OnOk result (string_bytes out.new ≡ string_bytes out.old ++ (hex_padded 6 n ++ bracketed (signed_decimal (cast_signed w64 n)))) }
+    ensures { OnOk result (string_bytes out.new
+        ≡ string_bytes out.old
+        ++ (hex_padded 6 n ++ bracketed (signed_decimal (cast_signed w64 n)))) }
 {
     let signed = n.cast_signed();
     push_six(out, n)?;
@@ -146,7 +151,9 @@ fn push_line<A: Allocator>(
     item: &Item<'_>,
 ) -> Result<(), AllocError>
     requires { item.now.typ ≢ TheStructure → is_valid item.now.typ item.now.content.now ≡ true }
-    ensures { OnOk result (string_bytes out.new ≡ string_bytes out.old ++ pretty_line (name_in names.now) depth item.now.tag item.now.typ item.now.content.now) }
+    ensures { OnOk result (string_bytes out.new
+        ≡ string_bytes out.old
+        ++ pretty_line (name_in names.now) depth item.now.tag item.now.typ item.now.content.now) }
 {
     push_tag_part(out, names, depth, item.tag)?;
     push_type_part(out, item.typ)?;

@@ -99,8 +99,10 @@ impl<A: Allocator + Copy> PrettyPrinter<A> {
     /// Where an item can't be read the text ends with `ERROR: ` and some words, and where content
     /// exceeds its structure's length with a line that says so.
     pub fn to_string(&self, bytes: &[u8]) -> Result<String<A>, AllocError>
-        ensures printed { IfOk result (λ r. IsPrinted (names_of self.now) (closes_empty self.now) bytes.now (string_bytes r)) }
-        ensures pretty { IfOk result (λ r. IsPretty (names_of self.now) (closes_empty self.now) bytes.now (string_bytes r)) }
+        ensures printed { IfOk result (λ r. IsPrinted (names_of self.now) (closes_empty self.now)
+            bytes.now (string_bytes r)) }
+        ensures pretty { IfOk result (λ r. IsPretty (names_of self.now) (closes_empty self.now)
+            bytes.now (string_bytes r)) }
     {
         print(
             *self.prefix.allocator(),
@@ -115,8 +117,11 @@ impl<A: Allocator + Copy> PrettyPrinter<A> {
     /// The text is that of [`PrettyPrinter::to_diag_string`]. At most an eighth of the number of
     /// bytes, rounded down, and one items are tried.
     pub fn to_diag_counted(&self, bytes: &[u8]) -> Result<(String<A>, usize), AllocError>
-        ensures hostile { IfOk result (λ r. string_bytes r.0 ≡ hostile (prefix_of self.now) (closes_empty self.now) (length bytes.now) (trace (closes_empty self.now) bytes.now)) }
-        ensures exact { IfOk result (λ r. IsExact (prefix_of self.now) (closes_empty self.now) bytes.now (string_bytes r.0)) }
+        ensures hostile { IfOk result (λ r. string_bytes r.0
+            ≡ hostile (prefix_of self.now) (closes_empty self.now) (length bytes.now)
+            (trace (closes_empty self.now) bytes.now)) }
+        ensures exact { IfOk result (λ r. IsExact (prefix_of self.now) (closes_empty self.now)
+            bytes.now (string_bytes r.0)) }
         ensures count { IfOk result (λ r. r.1 ≡ length (trace (closes_empty self.now) bytes.now)) }
         ensures bounded { IfOk result (λ r. r.1 ≤ length bytes.now / 8 + 1) }
     {
@@ -134,8 +139,11 @@ impl<A: Allocator + Copy> PrettyPrinter<A> {
     /// Of bytes that are no message it is a text of how many they are and of their trace alone, and
     /// ends with `ERR` after an item that can't be read.
     pub fn to_diag_string(&self, bytes: &[u8]) -> Result<String<A>, AllocError>
-        ensures hostile { IfOk result (λ r. string_bytes r ≡ hostile (prefix_of self.now) (closes_empty self.now) (length bytes.now) (trace (closes_empty self.now) bytes.now)) }
-        ensures exact { IfOk result (λ r. IsExact (prefix_of self.now) (closes_empty self.now) bytes.now (string_bytes r)) }
+        ensures hostile { IfOk result (λ r. string_bytes r
+            ≡ hostile (prefix_of self.now) (closes_empty self.now) (length bytes.now)
+            (trace (closes_empty self.now) bytes.now)) }
+        ensures exact { IfOk result (λ r. IsExact (prefix_of self.now) (closes_empty self.now)
+            bytes.now (string_bytes r)) }
     {
         let (text, _) = self.to_diag_counted(bytes)?;
         Ok(text)
@@ -148,8 +156,10 @@ impl<A: Allocator + Copy> PrettyPrinter<A> {
     /// linear in the text and in what is written.
     pub fn from_diag_string(&self, text: &str) -> Result<String<A>, AllocError>
         ensures undiag { IfOk result (λ r. string_bytes r ≡ undiag (names_of self.now) (prefix_of self.now) text.now) }
-        ensures longest { IfOk result (λ r. ReadsLongest (names_of self.now) (prefix_of self.now) text.now (string_bytes r)) }
-        ensures redacted { IfOk result (λ r. IsReadBack (names_of self.now) (prefix_of self.now) text.now (string_bytes r)) }
+        ensures longest { IfOk result (λ r. ReadsLongest (names_of self.now) (prefix_of self.now)
+            text.now (string_bytes r)) }
+        ensures redacted { IfOk result (λ r. IsReadBack (names_of self.now) (prefix_of self.now)
+            text.now (string_bytes r)) }
     {
         read_back(
             *self.prefix.allocator(),

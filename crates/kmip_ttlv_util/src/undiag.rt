@@ -1,6 +1,7 @@
 //! Diagnostics read back: a text is read from its front, a part at a time, in a loop.
 
-ghost use Rattle.std.specs.Prelude.{◌≡◌, ℕ, ◌+◌, ◌++◌, ◌∷◌, ◌<◌, ◌^◌, List, length, take, drop, Option, None, Some, IfOk, IfSome, IfNone, string_bytes};
+ghost use Rattle.std.specs.Prelude.{◌≡◌, ℕ, ◌+◌, ◌++◌, ◌∷◌, ◌<◌, ◌^◌, List, length, take, drop, Option, None, Some};
+ghost use Rattle.std.specs.Prelude.{IfOk, IfSome, IfNone, string_bytes};
 ghost use Rattle.std.specs.List.{prefix_len};
 ghost use Rattle.std.specs.Str.{IsUtf8};
 ghost use Rattle.kmip_ttlv_types.specs.Names.{tag_of};
@@ -101,7 +102,9 @@ fn read_data<'t, A: Allocator>(
     s: &'t str,
 ) -> Result<Option<(usize, &'t str)>, AllocError>
     requires room { depth + 1 < 2 ^ 64 }
-    ensures { (names : ℕ → Option (List ℕ)) (before : List ℕ) (tag : ℕ) → string_bytes out.old ≡ before ++ typ_part names depth tag typ → IfOk result (λ r. Reads (data_step names depth tag typ s.now) before (string_bytes out.new) r) }
+    ensures { (names : ℕ → Option (List ℕ)) (before : List ℕ) (tag : ℕ)
+        → string_bytes out.old ≡ before ++ typ_part names depth tag typ
+        → IfOk result (λ r. Reads (data_step names depth tag typ s.now) before (string_bytes out.new) r) }
 {
     if s.is_empty() {
         return Ok(None);
@@ -137,7 +140,8 @@ fn read_part<'t, A: Allocator + Copy>(
     s: &'t str,
 ) -> Result<Option<(usize, &'t str)>, AllocError>
     requires room { depth + 1 < 2 ^ 64 }
-    ensures { IfOk result (λ r. Reads (step (name_in names.now) prefix.now depth s.now) (string_bytes out.old) (string_bytes out.new) r) }
+    ensures { IfOk result (λ r. Reads (step (name_in names.now) prefix.now depth s.now)
+        (string_bytes out.old) (string_bytes out.new) r) }
 {
     if s.is_empty() {
         return Ok(None);

@@ -3,7 +3,8 @@
 
 ghost use Rattle.std.specs.Prelude.{◌≡◌, ℕ, ◌+◌, ◌<◌, ◌≤◌, ◌^◌, List, length, OnOk};
 ghost use Rattle.kmip_ttlv_util.specs.declared.walk.Next.TheVariants.{Closes as Closing};
-ghost use Rattle.kmip_ttlv_util.specs.Traces.{after, extent, has_end, start};
+ghost use Rattle.kmip_ttlv_util.specs.WalkPlaces.{after, has_end, start};
+ghost use Rattle.kmip_ttlv_util.specs.Entries.{extent};
 ghost use Rattle.kmip_ttlv_util.specs.Walks.{place_of, Ready, Comes};
 
 use kmip_ttlv_types::TtlvType;

@@ -13,4 +13,5 @@ read_single n = struct_value (codes "0xAAAAAA") (value (i32_value n) no_values)
 
 -- what is written of it: the number under a tag of its own
 abbrev pub written_single : ℤ → Value
-written_single n = struct_value (codes "0xAAAAAA") (value (newtype_value (codes "Transparent:0xBBBBBB") (i32_value n)) no_values)
+written_single n =
+    struct_value (codes "0xAAAAAA") (value (newtype_value (codes "Transparent:0xBBBBBB") (i32_value n)) no_values)

@@ -3,7 +3,8 @@
 
 ghost use Rattle.std.specs.Prelude.{◌≡◌, IfOk};
 ghost use Rattle.kmip_ttlv.specs.Values.{view, i32_value};
-ghost use Rattle.ttlv_vectors.specs.Requests.{two_values, header_value, attribute_value, algorithm_value, attributes_value, item_value, request_value};
+ghost use Rattle.ttlv_vectors.specs.Requests.{two_values, header_value, attribute_value, algorithm_value};
+ghost use Rattle.ttlv_vectors.specs.Requests.{attributes_value, item_value, request_value};
 
 use crate::data::{newtype, tagged_number, variant};
 use kmip_ttlv::shape::{Data, Serialize};

@@ -8,7 +8,7 @@ use Rattle.kmip_ttlv_types.specs.Names.{tag_of}
 use Rattle.kmip_ttlv_types.specs.Places.{code_at, tag_at}
 use Rattle.kmip_ttlv_types.specs.declared.typ.TtlvType.TheVariants.{Structure}
 use Rattle.kmip_ttlv_base.specs.Forms.{big_integer, boolean, content_of, fields_of, form_of, forms_of, int32, int64, interval, octets, text, tuple, variants_of}
-use Rattle.kmip_ttlv_base.specs.Values.{newtype_value, newtype_variant_value, some, tuple_variant_value, view, views}
+use Rattle.kmip_ttlv_base.specs.Values.{newtype_value, newtype_variant_value, some_value, tuple_variant_value, view, views}
 use Rattle.kmip_ttlv_base.specs.declared.error.MalformedTtlvError.TheVariants as malformeds
 use Rattle.kmip_ttlv_types.specs.declared.field.FieldType.TheVariants.{Length, Tag}
 use Rattle.kmip_ttlv_de.proofs.FactLemmas.{memory_says}
@@ -114,7 +114,7 @@ pub read_shape-returns-in_err-data-in-Option-clause-answers :
 unfolding read_of
 read_shape-returns-in_err-data-in-Option-clause-answers g t c =
     let p = err_from_is_err_and c.from_residual.result c.from_residual.ensures.1 in
-    rw (p.1, p.2, c.in-Option.is) (refused_map (mapped some) (read_of (form_of c.in-Option.inner.value)) c.args.bytes.now c.args.pos c.args.end (keeps c.args.kept.now.items) (sort_of c.in_err-data-in-Option.field-0.0) refl (rw c.deref-in-Option.ensures at c.in_err-data-in-Option.ensures.answers))
+    rw (p.1, p.2, c.in-Option.is) (refused_map (mapped some_value) (read_of (form_of c.in-Option.inner.value)) c.args.bytes.now c.args.pos c.args.end (keeps c.args.kept.now.items) (sort_of c.in_err-data-in-Option.field-0.0) refl (rw c.deref-in-Option.ensures at c.in_err-data-in-Option.ensures.answers))
 
 pub read_shape-returns-in_err-data-in-Newtype-clause-answers :
     goal.read_shape-returns-in_err-data-in-Newtype-clause-answers
@@ -142,7 +142,7 @@ pub read_shape-returns-in_ok-new-in-Option-clause-answers :
 unfolding read_of
 read_shape-returns-in_ok-new-in-Option-clause-answers g t c =
     let made : view c.in_ok-new-in-Option.field-0.value ≡ view c.in_ok-data-in-Option.data = ap view (search rules) in
-    rw (c.in-Option.is, view-Some c.in_ok-new-in-Option.field-0, made) (goes_map (mapped some) (read_of (form_of c.in-Option.inner.value)) (got (view c.in_ok-data-in-Option.data)) c.args.bytes.now c.args.pos c.args.end (keeps c.args.kept.now.items) (keeps c.read_shape.new.kept.items) c.in_ok-data-in-Option.next (rw c.deref-in-Option.ensures at c.in_ok-data-in-Option.ensures.answers))
+    rw (c.in-Option.is, view-Some c.in_ok-new-in-Option.field-0, made) (goes_map (mapped some_value) (read_of (form_of c.in-Option.inner.value)) (got (view c.in_ok-data-in-Option.data)) c.args.bytes.now c.args.pos c.args.end (keeps c.args.kept.now.items) (keeps c.read_shape.new.kept.items) c.in_ok-data-in-Option.next (rw c.deref-in-Option.ensures at c.in_ok-data-in-Option.ensures.answers))
 
 pub read_shape-returns-in_ok-inner-in-Newtype-clause-answers :
     goal.read_shape-returns-in_ok-inner-in-Newtype-clause-answers

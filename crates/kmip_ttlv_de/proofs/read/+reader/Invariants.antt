@@ -5,7 +5,7 @@ use Rattle.kmip_ttlv_types.specs.Places.{ItemAt}
 use Rattle.kmip_ttlv_base.specs.Forms.{fields_of, form_of, forms_of}
 use Rattle.kmip_ttlv_base.specs.Values.{views}
 use Rattle.kmip_ttlv_de.proofs.Front.{seq_front, with_front}
-use Rattle.kmip_ttlv_de.specs.ReadAnswers.{Goes}
+use Rattle.kmip_ttlv_de.specs.ReaderSteps.{Goes}
 use Rattle.kmip_ttlv_de.specs.Keeps.{keeps}
 use Rattle.kmip_ttlv_de.specs.ReadPlaces.{IsLast}
 use Rattle.kmip_ttlv_de.specs.Reading.{read_fields, read_forms, read_of, read_seq, read_used, run_of, used_up, ◌>>=◌}

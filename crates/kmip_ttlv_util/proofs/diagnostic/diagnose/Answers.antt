@@ -1,6 +1,7 @@
 use Rattle.std.proofs.Common.{◌≡◌, ℕ, List, length, ◌++◌, ◌+◌, ap, sym, subst, refl, ◌∙◌, None}
 use Rattle.std.specs.Prelude.{string_bytes, reverse}
-use Rattle.kmip_ttlv_util.specs.Traces.{Place, type_read, entry_at}
+use Rattle.kmip_ttlv_util.specs.WalkPlaces.{Place}
+use Rattle.kmip_ttlv_util.specs.Entries.{type_read, entry_at}
 use Rattle.kmip_ttlv_util.specs.Diagnostics.{diag_style, exceeded, hostile}
 use Rattle.kmip_ttlv_util.proofs.Message.{item_mark}
 use Rattle.kmip_ttlv_util.specs.Walks.{place_of, Ready}

@@ -2,7 +2,8 @@ use Rattle.std.proofs.Common.{◌≡◌, ℕ, List, [], ◌+◌, ◌++◌, lengt
 use Rattle.std.specs.Prelude.{string_bytes, codes}
 use Rattle.std.specs.Fmt.{decimal}
 use Rattle.std.proofs.lemmas.List.{length-reverse}
-use Rattle.kmip_ttlv_util.specs.Traces.{Place, type_read, entry_at}
+use Rattle.kmip_ttlv_util.specs.WalkPlaces.{Place}
+use Rattle.kmip_ttlv_util.specs.Entries.{type_read, entry_at}
 use Rattle.kmip_ttlv_util.specs.Diagnostics.{exceeded}
 use Rattle.kmip_ttlv_util.specs.TagNames.{name_in}
 use Rattle.kmip_ttlv_util.specs.Pretty.{pretty_style, pretty_line, warning}

@@ -3,7 +3,7 @@ use Rattle.std.specs.Prelude.{reverse}
 use Rattle.std.specs.List.{slice_get}
 use Rattle.kmip_ttlv_types.specs.declared.typ.TtlvType.TheVariants.{Structure}
 use Rattle.kmip_ttlv_util.specs.Walks.{place_of}
-use Rattle.kmip_ttlv_util.specs.Traces.{has_end}
+use Rattle.kmip_ttlv_util.specs.WalkPlaces.{has_end}
 use Rattle.kmip_ttlv_util.proofs.Stack.{step_leaf, step_opens, step_empty, step_endless, pushed}
 use Rattle.kmip_ttlv_util.proofs.walk.Walk.step.Goals.{then-eq+then-has_end+in_ok-push, then-eq+else-has_end+in-Some+in_ok-push-in-Some, then-eq+else-has_end+in-None, else-eq}
 use Rattle.kmip_ttlv_util.proofs.walk.Walk.step.Goals as goal
