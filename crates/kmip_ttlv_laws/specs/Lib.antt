@@ -2,4 +2,5 @@ pub mod Texts
 pub mod Padding
 pub mod Contents
 pub mod Returns
+pub mod Agreements
 pub mod ReadingLaws
