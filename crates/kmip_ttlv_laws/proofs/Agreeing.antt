@@ -1,25 +1,23 @@
 -- What agrees with a form is read by it.
 use Rattle.std.proofs.Common.{◌≡◌, ℕ, Bool, true, false, List, [], ◌∷◌, ◌++◌, map, Option, Some, None, refl, sym, ap, subst, ◌∙◌}
-use Rattle.std.specs.Prelude.{◌==◌, ◌&&◌, ◌||◌}
+use Rattle.std.specs.Prelude.{◌&&◌, ◌||◌}
 use Rattle.std.specs.Int.{w32, to_be_bytes}
 use Rattle.std.specs.List.{AllByRecursion}
 use Rattle.std.proofs.lemmas.Bool.{eq-eqb}
 use Rattle.std.proofs.lemmas.List.{append-nil, map-append}
-use Rattle.kmip_ttlv_types.specs.declared.typ.TtlvType.{TtlvType}
-use Rattle.kmip_ttlv_types.specs.declared.typ.TtlvType.TheVariants.{Structure, Enumeration}
+use Rattle.kmip_ttlv_types.specs.declared.typ.TtlvType.TheVariants.{Enumeration}
 use Rattle.kmip_ttlv_types.specs.ItemTypes.{code}
 use Rattle.kmip_ttlv_types.specs.Items.{Raw, Splits}
-use Rattle.kmip_ttlv_types.specs.Names.{number, transparent_name}
-use Rattle.kmip_ttlv_types.specs.Trees.{Fits, FitsBelow, Tree, Trees, bytes_below, leaf, node, no_trees, tree, trees_of, raw_of}
-use Rattle.kmip_ttlv_base.specs.Forms.{Form, struct, option, seq, newtype, enum, Fields, field, Forms, Variants, Content}
-use Rattle.kmip_ttlv_base.specs.Values.{Value, none, some, seq_value, struct_value, newtype_value, unit_variant_value, newtype_variant_value, tuple_variant_value, Values, no_values, value}
+use Rattle.kmip_ttlv_types.specs.Trees.{Fits, FitsBelow, Tree, bytes_below, leaf, node, trees_of, raw_of}
+use Rattle.kmip_ttlv_base.specs.Forms.{Form, seq, Fields, Forms, Variants, Content}
+use Rattle.kmip_ttlv_base.specs.Values.{Value, seq_value, Values, no_values, value}
 use Rattle.kmip_ttlv_ser.specs.declared.held.Held.{Held}
-use Rattle.kmip_ttlv_ser.specs.declared.held.Held.TheVariants.{Nothing, Plain, Overriding}
-use Rattle.kmip_ttlv_ser.specs.WrittenItems.{◌>>=◌, enumeration, held_over, held_tag, is_wrapper, items, items_in, left_over, newtype_row, one_leaf, one_node, some_item, take_tag, variant_row, without_override}
+use Rattle.kmip_ttlv_ser.specs.declared.held.Held.TheVariants.{Nothing}
+use Rattle.kmip_ttlv_ser.specs.WrittenItems.{◌>>=◌, enumeration, held_tag, items, items_in, left_over, some_item}
 use Rattle.kmip_ttlv_de.proofs.Whole.{begins_one}
 use Rattle.kmip_ttlv_de.specs.Keeps.{Keep}
 use Rattle.kmip_ttlv_de.specs.Reads.{Begins, Reads, ReadsContent, ReadsField, ReadsFields, ReadsForms, ReadsRun, ReadsVariant, absent, by_number, by_rule, done, ends, has_tag, here, inner, is_like, is_root, is_struct, leaf_value, more, named, names, next, no_part, part, parts, run, structure, there, whole, wrap, wrap_some, leaf as read_leaf}
-use Rattle.kmip_ttlv_laws.specs.Agreements.{Head, Agrees, leaf_agrees, inner_agrees, option_agrees, newtype_agrees, struct_agrees, rule_agrees, tuple_agrees, number_agrees, seq_agrees, RunAgrees, last_agrees, next_agrees, FieldsAgree, no_field_agrees, nothing_agrees, absent_agrees, field_agrees, FormsAgree, no_form_agrees, form_agrees, Wraps, some_wraps, newtype_wraps, variant_wraps, Encloses, struct_encloses, newtype_encloses, variant_encloses, tuple_encloses, IsNumbered, unit_is_numbered, number_is_numbered, HasVariant, first_variant, later_variant, is_named, is_alike, is_field_of, is_run, leaf_type, with_value}
+use Rattle.kmip_ttlv_laws.specs.Agreements.{Head, Agrees, goes_on, leaf_agrees, inner_agrees, option_agrees, newtype_agrees, struct_agrees, rule_agrees, tuple_agrees, number_agrees, seq_agrees, RunAgrees, last_agrees, next_agrees, FieldsAgree, no_field_agrees, nothing_agrees, absent_agrees, field_agrees, FormsAgree, no_form_agrees, form_agrees, Wraps, some_wraps, newtype_wraps, variant_wraps, Encloses, struct_encloses, newtype_encloses, variant_encloses, tuple_encloses, IsNumbered, unit_is_numbered, number_is_numbered, HasVariant, first_variant, later_variant, is_named, is_alike, is_field_of, is_run, leaf_type, with_value}
 use Rattle.kmip_ttlv_laws.specs.Contents.{items_below}
 use Rattle.kmip_ttlv_laws.specs.ReadingLaws.{AgreeingIsRead, AgreeingIsWritten}
 use Rattle.kmip_ttlv_laws.proofs.Contents.{below_splits}
@@ -52,6 +50,10 @@ like_first r x [] None e h = refl
 like_first r x [] (Some y) e h = absurd h
 like_first r x (t ∷ ts) None e h = absurd h
 like_first r x (t ∷ ts) (Some y) e h = rw (e.0, e.1, h.0, h.1) refl
+
+-- of a sequence that ends, the next item isn't like the first
+not_alike : (v : Value) (x : Head) (y : Option Head) → goes_on v x y ≡ false → is_run v ≡ true → is_alike x y ≡ false
+not_alike v x y e is = sym (ap (λ (b : Bool). b && is_alike x y) is) ∙ e
 
 -- ---- what fits
 
@@ -269,7 +271,7 @@ mutual
       let q = run_agreed b in
       let e : r.rest ≡ [] = r.alone single in
       let read : (f : AllByRecursion Fits (r.first ∷ q.first ∷ q.rest)) (zs : List Raw) → Reads s k (raw_of r.first ∷ zs) v k' zs =
-            λ f zs. one_read s k k' v r.first r.rest zs e single (λ g. r.reads g zs) f.0 in
+      λ f zs. one_read s k k' v r.first r.rest zs e single (λ g. r.reads g zs) f.0 in
       record {
         first = r.first;
         rest = q.first ∷ q.rest;
@@ -295,16 +297,16 @@ mutual
         are = two_steps w ws Nothing r.first r.rest q.trees r.are q.are;
         head_is = r.head_is;
         reads = λ f.
-          rw (map-append raw_of r.rest q.trees)
+            rw (map-append raw_of r.rest q.trees)
             (next
-              (field_reads name s x (raw_of r.first) k k' _ (map raw_of q.trees) v e r.head_is
-                (r.reads (fits_first (r.first ∷ r.rest) q.trees f) (map raw_of q.trees) (λ is. like_first (raw_of r.first) x q.trees y r.head_is q.head_is ∙ apart is)))
-              (q.reads (fits_last (r.first ∷ r.rest) q.trees f)));
+            (field_reads name s x (raw_of r.first) k k' _ (map raw_of q.trees) v e r.head_is
+            (r.reads (fits_first (r.first ∷ r.rest) q.trees f) (map raw_of q.trees) (λ is. like_first (raw_of r.first) x q.trees y r.head_is q.head_is ∙ not_alike v x y apart is)))
+            (q.reads (fits_last (r.first ∷ r.rest) q.trees f)));
       }
 
   forms_agreed : {ss : Forms} {k k' : List Keep} {ws vs : Values} {y : Option Head} → FormsAgree ss k ws y vs k' → FormsAreRead ss k ws y vs k'
   forms_agreed no_form_agrees = record { trees = []; are = refl; head_is = tt; reads = λ f. no_part }
-  forms_agreed (form_agrees {w = w} {ws = ws} {x = x} {y = y} apart a b) =
+  forms_agreed (form_agrees {w = w} {v = v} {ws = ws} {x = x} {y = y} apart a b) =
       let r = agreed a in
       let q = forms_agreed b in
       record {
@@ -312,10 +314,10 @@ mutual
         are = two_steps w ws Nothing r.first r.rest q.trees r.are q.are;
         head_is = r.head_is;
         reads = λ f.
-          rw (map-append raw_of r.rest q.trees)
+            rw (map-append raw_of r.rest q.trees)
             (part
-              (r.reads (fits_first (r.first ∷ r.rest) q.trees f) (map raw_of q.trees) (λ is. like_first (raw_of r.first) x q.trees y r.head_is q.head_is ∙ apart is))
-              (q.reads (fits_last (r.first ∷ r.rest) q.trees f)));
+            (r.reads (fits_first (r.first ∷ r.rest) q.trees f) (map raw_of q.trees) (λ is. like_first (raw_of r.first) x q.trees y r.head_is q.head_is ∙ not_alike v x y apart is))
+            (q.reads (fits_last (r.first ∷ r.rest) q.trees f)));
       }
 
 -- what a root form reads is no sequence
@@ -338,7 +340,7 @@ pub agreeing_is_written : AgreeingIsWritten
 agreeing_is_written s k k' h w v x a = let r = agreed a in (r.first, r.rest, r.are, r.head_is.0, r.head_is.1)
 
 pub agreeing_is_read : AgreeingIsRead
-agreeing_is_read s w v d x k n written root a is =
+agreeing_is_read s w v d n written root (x, k, a) is =
     let r = agreed a in
     let same : is.trees ≡ r.first ∷ r.rest = let e : Some is.trees ≡ Some (r.first ∷ r.rest) = sym is.are ∙ r.are in cc in
     let fits : AllByRecursion Fits (r.first ∷ r.rest) = subst (AllByRecursion Fits) same is.fit.each in

@@ -10,3 +10,4 @@ pub mod OneTree
 pub mod Returns
 pub mod Contents
 pub mod Agreeing
+pub mod WorkedAgreements

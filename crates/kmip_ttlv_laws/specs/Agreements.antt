@@ -41,6 +41,10 @@ is_run (newtype_value name v) = is_run v
 is_run (newtype_variant_value name vname v) = is_run v
 is_run _ = false
 
+-- the next item would be read into a sequence that was meant to end
+abbrev pub goes_on : Value → Head → Option Head → Bool
+goes_on v x y = is_run v && is_alike x y
+
 -- the type of the leaf that a value is written as
 abbrev pub leaf_type : Value → TtlvType
 leaf_type (boolean_value b) = Boolean
@@ -60,6 +64,10 @@ leaf_type _ = Structure
 abbrev pub with_value : Form → ℕ → Value → List Keep → List Keep
 with_value text t (text_value s) k = k ++ record { tag = t; text = s } ∷ []
 with_value _ t _ k = k
+
+-- no tag is held, as at the beginning of a message and of each field
+abbrev pub unheld : Held
+unheld = Nothing
 
 -- under the first held tag the value is written as the other is under the second
 pub data Wraps : Held → Value → Held → Value → Type 0 where
@@ -127,14 +135,12 @@ mutual
         → held_tag h ≡ Some t
         → ComesBack s w v
         → Agrees s k h w record { tag = t; typ = leaf_type w } v (with_value s t w k)
-
     -- what is written within a wrapper
     inner_agrees :
         {s : Form} {k k' : List Keep} {h i : Held} {w u v : Value} {x : Head}
         → Wraps h w i u
         → Agrees s k i u x v k'
         → Agrees s k h w x v k'
-
     -- an option and a newtype wrap what their form reads
     option_agrees :
         {s : Form} {k k' : List Keep} {h : Held} {w v : Value} {x : Head}
@@ -144,7 +150,6 @@ mutual
         {s : Form} {name : List ℕ} {k k' : List Keep} {h : Held} {w v : Value} {x : Head}
         → Agrees s k h w x v k'
         → Agrees (newtype name s) k h w x (newtype_value name v) k'
-
     -- a Structure of the struct's tag, whose items agree with the fields
     struct_agrees :
         {name : List ℕ} {fs : Fields} {deny : Bool} {k k' : List Keep} {h : Held} {w : Value} {t : ℕ} {ws vs : Values}
@@ -153,7 +158,6 @@ mutual
         → Encloses h w t ws
         → FieldsAgree fs k ws y vs k'
         → Agrees (struct name fs deny) k h w record { tag = t; typ = Structure } (struct_value name vs) k'
-
     -- a rule chooses a variant, with which the same value agrees
     rule_agrees :
         {s : Form} {own name : List ℕ} {vs : Variants} {i : ℕ} {k k' : List Keep} {h : Held} {w v : Value}
@@ -162,7 +166,6 @@ mutual
         → HasVariant vs i name (wrapped s)
         → Agrees s k h w x v k'
         → Agrees (enum own vs) k h w x (newtype_variant_value own name v) k'
-
     -- a rule chooses a variant, with whose forms the items of a Structure agree
     tuple_agrees :
         {ss : Forms} {own name : List ℕ} {cs : Variants} {i : ℕ} {k k' : List Keep} {h : Held} {w : Value} {t : ℕ}
@@ -172,15 +175,13 @@ mutual
         → Encloses h w t ws
         → FormsAgree ss k ws y vs k'
         → Agrees (enum own cs) k h w record { tag = t; typ = Structure } (tuple_variant_value own name vs) k'
-
     -- a number chooses a unit; its text is kept
     number_agrees :
         {own : List ℕ} {vs : Variants} {k : List Keep} {h : Held} {w : Value} {t n : ℕ}
         → IsNumbered h w t n
         → NamesUnit vs k n
         → Agrees (enum own vs) k h w record { tag = t; typ = Enumeration } (unit_variant_value own (text_of_number n))
-            (k ++ record { tag = t; text = text_of_number n } ∷ [])
-
+        (k ++ record { tag = t; text = text_of_number n } ∷ [])
     -- the elements of a sequence
     seq_agrees :
         {s : Form} {k k' : List Keep} {h : Held} {ws vs : Values} {x : Head}
@@ -219,7 +220,7 @@ mutual
         {name : List ℕ} {s : Form} {fs : Fields} {k k' k'' : List Keep} {w v : Value} {ws vs : Values} {x : Head}
         {y : Option Head}
         → is_field_of name s x ≡ true
-        → (is_run v ≡ true → is_alike x y ≡ false)
+        → goes_on v x y ≡ false
         → Agrees s k Nothing w x v k'
         → FieldsAgree fs k' ws y vs k''
         → FieldsAgree (field name s fs) k (value w ws) (Some x) (value v vs) k''
@@ -229,7 +230,11 @@ mutual
     no_form_agrees : {k : List Keep} → FormsAgree no_forms k no_values None no_values k
     form_agrees :
         {s : Form} {ss : Forms} {k k' k'' : List Keep} {w v : Value} {ws vs : Values} {x : Head} {y : Option Head}
-        → (is_run v ≡ true → is_alike x y ≡ false)
+        → goes_on v x y ≡ false
         → Agrees s k Nothing w x v k'
         → FormsAgree ss k' ws y vs k''
         → FormsAgree (form s ss) k (value w ws) (Some x) (value v vs) k''
+
+-- by itself, as a whole message, the one value agrees with the form as the other
+abbrev pub MessageAgrees : Form → Value → Value → Type 0
+MessageAgrees s w v = (x : Head) × (k : List Keep) × Agrees s [] unheld w x v k

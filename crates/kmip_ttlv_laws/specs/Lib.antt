@@ -3,4 +3,5 @@ pub mod Padding
 pub mod Contents
 pub mod Returns
 pub mod Agreements
+pub mod WorkedAgreements
 pub mod ReadingLaws

@@ -16,7 +16,7 @@ use Rattle.kmip_ttlv_de.specs.Keeps.{Keep}
 use Rattle.kmip_ttlv_de.specs.Reads.{Reads, Begins, is_root, with_leaf}
 use Rattle.kmip_ttlv_laws.specs.Contents.{ContainsItems}
 use Rattle.kmip_ttlv_laws.specs.Texts.{TextsAreUtf8}
-use Rattle.kmip_ttlv_laws.specs.Agreements.{Head, Agrees}
+use Rattle.kmip_ttlv_laws.specs.Agreements.{Head, Agrees, MessageAgrees}
 use Rattle.kmip_ttlv_laws.specs.Returns.{ComesBack, NamesUnit, text_of_number}
 use Rattle.kmip_ttlv_laws.specs.Padding.{SameButPadding, EndsInLack}
 
@@ -107,8 +107,8 @@ AgreeingIsWritten =
 -- where a value agrees with a root form, as another one, and is written, the bytes begin with that one and no other
 abbrev pub AgreeingIsRead : Type 0
 AgreeingIsRead =
-    (s : Form) (w v d : Value) (x : Head) (k : List Keep) (n : ℕ) (written : List ℕ)
-    → is_root s ≡ true → Agrees s [] Nothing w x v k → IsWrittenAs w n written → Begins s written d ↔ (d ≡ v)
+    (s : Form) (w v d : Value) (n : ℕ) (written : List ℕ)
+    → is_root s ≡ true → MessageAgrees s w v → IsWrittenAs w n written → Begins s written d ↔ (d ≡ v)
 
 -- what is written is the items of the trees, one after the other, and so is each content, at every depth
 abbrev pub WrittenIsItems : Type 0

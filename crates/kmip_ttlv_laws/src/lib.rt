@@ -12,6 +12,7 @@ ghost use Rattle.kmip_ttlv_base.specs.declared.shape.Data.{Data};
 ghost use Rattle.kmip_ttlv_base.specs.Values.{view};
 ghost use Rattle.kmip_ttlv_laws.specs.Texts.{TextsAreUtf8};
 ghost use Rattle.kmip_ttlv_laws.specs.ReadingLaws.{LaterBytes, MessageAlone, CutMessages, OneTree, ReadingWhatWasWritten, PaddingIsFree, TextsDifferInPadding, PaddingOfTreesIsFree, PaddingIsRequired, PaddingOfRootsIsRequired, WrittenIsWellFormed, WrittenIsItems, CanonicalIsText, ReadingTrees, LeavesComeBack, UnitsComeBack, AgreeingIsWritten, AgreeingIsRead};
+ghost use Rattle.kmip_ttlv_laws.specs.WorkedAgreements.{AttributesAgree, OptionsAgree};
 
 use std::alloc::Allocator;
 
@@ -174,4 +175,11 @@ pub fn agreeing_values_come_back()
     ensures written { AgreeingIsWritten }
     // The bytes have to be what is written, so that all lengths fit. Of a shape that is no struct no message begins.
     ensures read { AgreeingIsRead }
+{}
+
+/// Worked values that agree with a form: attributes of a key, each read by the rule that its own name chooses,
+/// and options of which one is left out.
+pub fn worked_values_agree()
+    ensures attributes { AttributesAgree }
+    ensures options { OptionsAgree }
 {}
