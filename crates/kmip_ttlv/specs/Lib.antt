@@ -57,4 +57,5 @@ pub use Rattle.kmip_ttlv_laws.specs.Texts
 pub use Rattle.kmip_ttlv_laws.specs.Padding
 pub use Rattle.kmip_ttlv_laws.specs.Contents
 pub use Rattle.kmip_ttlv_laws.specs.Returns
+pub use Rattle.kmip_ttlv_laws.specs.Agreements
 pub use Rattle.kmip_ttlv_laws.specs.ReadingLaws

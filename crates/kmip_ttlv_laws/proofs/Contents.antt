@@ -10,7 +10,7 @@ use Rattle.kmip_ttlv_laws.specs.ReadingLaws.{WrittenIsItems}
 use Rattle.kmip_ttlv_laws.proofs.Made.{AllMade, Any, AreMade, IsMade, any_texts, items_made, text_of_tree}
 
 -- the bytes of trees are their items
-below_splits : (ts : Trees) → AreMade Any ts → FitsBelow ts → Splits (items_below ts) (bytes_below ts)
+pub below_splits : (ts : Trees) → AreMade Any ts → FitsBelow ts → Splits (items_below ts) (bytes_below ts)
 below_splits no_trees m f = refl
 below_splits (tree t ts) m f = (bytes t, bytes_below ts, text_of_tree Any t m.0 f.0, refl, below_splits ts m.1 f.1)
 

@@ -9,3 +9,5 @@ pub mod DataTexts
 pub mod OneTree
 pub mod Returns
 pub mod Contents
+pub mod Agreeing
+pub mod WorkedAgreements

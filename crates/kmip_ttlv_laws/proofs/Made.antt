@@ -78,7 +78,7 @@ leaf_made P Nothing typ content ts f c e = absurd cc
 leaf_made P (Plain t) typ content ts f c e = let same : leaf t typ content ∷ [] ≡ ts = cc in subst (AllMade P) same ((f, c), tt)
 leaf_made P (Overriding t) typ content ts f c e = let same : leaf t typ content ∷ [] ≡ ts = cc in subst (AllMade P) same ((f, c), tt)
 
-below_made : (P : List ℕ → Type 0) (ts : List Tree) → AllMade P ts → AreMade P (trees_of ts)
+pub below_made : (P : List ℕ → Type 0) (ts : List Tree) → AllMade P ts → AreMade P (trees_of ts)
 below_made P [] h = tt
 below_made P (t ∷ ts) h = (h.0, below_made P ts h.1)
 
@@ -198,7 +198,7 @@ mutual
   any_texts (tuple_variant_value name vname vs) = any_texts_in vs
   any_texts (unsupported_value name) = tt
 
-  any_texts_in : (vs : Values) → EachTextIn Any vs
+  pub any_texts_in : (vs : Values) → EachTextIn Any vs
   any_texts_in no_values = tt
   any_texts_in (value v vs) = (any_texts v, any_texts_in vs)
 

@@ -4,27 +4,42 @@ use Rattle.std.specs.Int.{w32, w64, to_be_bytes, from_be_bytes, cast_signed, cas
 use Rattle.std.proofs.lemmas.Int.{to_z-of_z}
 use Rattle.std.proofs.lemmas.Nat.{from_be_bytes-to_be_bytes_4, from_be_bytes-to_be_bytes_8}
 use Rattle.std.proofs.Math.Facts.{Fits-of_z}
-use Rattle.kmip_ttlv_types.specs.declared.typ.TtlvType.{TtlvType}
-use Rattle.kmip_ttlv_types.specs.declared.typ.TtlvType.TheVariants.{Integer, LongInteger, BigInteger, Enumeration, Boolean, TextString, ByteString, DateTime, Interval}
+use Rattle.kmip_ttlv_types.specs.declared.typ.TtlvType.TheVariants.{Enumeration}
 use Rattle.kmip_ttlv_types.specs.Leaves.{is_valid}
 use Rattle.kmip_ttlv_types.specs.Items.{Raw}
 use Rattle.kmip_ttlv_types.specs.Trees.{leaf as leaf_tree}
 use Rattle.kmip_ttlv_base.specs.Forms.{Form, int32, int64, boolean, text, octets, interval, big_integer}
 use Rattle.kmip_ttlv_base.specs.Values.{Value, boolean_value, i8_value, i16_value, i32_value, i64_value, u64_value, interval_value, text_value, bytes_value, big_integer_value, unit_variant_value}
+use Rattle.kmip_ttlv_ser.specs.declared.held.Held.{Held}
 use Rattle.kmip_ttlv_ser.specs.declared.held.Held.TheVariants.{Plain}
 use Rattle.kmip_ttlv_types.specs.Primitives.{sign_extended}
-use Rattle.kmip_ttlv_ser.specs.WrittenItems.{items, enumeration, one_leaf, ◌>>=◌}
+use Rattle.kmip_ttlv_ser.specs.WrittenItems.{held_tag, items, enumeration, one_leaf, ◌>>=◌}
 use Rattle.kmip_ttlv_de.specs.Keeps.{Keep}
 use Rattle.kmip_ttlv_de.specs.Reads.{Reads, leaf, by_number, leaf_value, takes, with_leaf}
-use Rattle.kmip_ttlv_laws.specs.ReadingLaws.{LeavesComeBack, LeafComesBack, UnitsComeBack}
-use Rattle.kmip_ttlv_laws.specs.Returns.{as_big_integer, as_big_octets, as_boolean, as_date, as_int16, as_int32, as_int64, as_int8, as_interval, as_octets, as_text}
+use Rattle.kmip_ttlv_laws.specs.Agreements.{is_run, leaf_type, with_value}
+use Rattle.kmip_ttlv_laws.specs.ReadingLaws.{LeavesComeBack, UnitsComeBack}
+use Rattle.kmip_ttlv_laws.specs.Returns.{ComesBack, as_big_integer, as_big_octets, as_boolean, as_date, as_int16, as_int32, as_int64, as_int8, as_interval, as_octets, as_text}
 
--- a leaf whose content the form takes, and for whose content it gives this value
-by_content : (s : Form) (v w : Value) (t : ℕ) (typ : TtlvType) (content : List ℕ) (k : List Keep) (xs : List Raw) → items v (Plain t) ≡ Some (leaf_tree t typ content ∷ []) → takes s typ ≡ true → is_valid typ content ≡ true → leaf_value s content ≡ w → LeafComesBack s v w t k xs
-by_content s v w t typ content k xs are takes_it valid gives =
-    let x : Raw = record { tag = t; typ = typ; content = content } in
-    let read : Reads s k (x ∷ xs) (leaf_value s content) (with_leaf s x k) xs = leaf takes_it valid in
-    (leaf_tree t typ content, are, subst (λ (u : Value). Reads s k (x ∷ xs) u (with_leaf s x k) xs) gives read)
+-- a value is written as one leaf, whose content the form takes, and for whose content it gives the other value
+pub record LeafIs (s : Form) (w v : Value) : Type 0 where
+  pub content : List ℕ
+  pub written : (h : Held) (t : ℕ) → held_tag h ≡ Some t → items w h ≡ Some (leaf_tree t (leaf_type w) content ∷ [])
+  pub takes_it : takes s (leaf_type w) ≡ true
+  pub valid : is_valid (leaf_type w) content ≡ true
+  pub gives : leaf_value s content ≡ v
+  pub single : is_run v ≡ false
+  pub keeps : (t : ℕ) (k : List Keep) → with_leaf s record { tag = t; typ = leaf_type w; content = content } k ≡ with_value s t w k
+
+leaf_by : (s : Form) (w v : Value) (content : List ℕ) → ((h : Held) → items w h ≡ one_leaf h (leaf_type w) content) → takes s (leaf_type w) ≡ true → is_valid (leaf_type w) content ≡ true → leaf_value s content ≡ v → is_run v ≡ false → ((t : ℕ) (k : List Keep) → with_leaf s record { tag = t; typ = leaf_type w; content = content } k ≡ with_value s t w k) → LeafIs s w v
+leaf_by s w v content are takes_it valid gives single keeps = record {
+  content = content;
+  written = λ h t e. are h ∙ ap (λ (o : Option ℕ). o >>= λ n. Some (leaf_tree n (leaf_type w) content ∷ [])) e;
+  takes_it = takes_it;
+  valid = valid;
+  gives = gives;
+  single = single;
+  keeps = keeps;
+}
 
 -- signed numbers come back from their bytes
 four_back : (z : ℤ) → FitsSigned w32 z → cast_signed w32 (from_be_bytes w32 (to_be_bytes w32 (cast_unsigned w32 z))) ≡ z
@@ -34,23 +49,31 @@ eight_back : (z : ℤ) → FitsSigned w64 z → cast_signed w64 (from_be_bytes w
 eight_back z f = ap (cast_signed w64) (from_be_bytes-to_be_bytes_8 (cast_unsigned w64 z) (omega (arith, Fits-of_z f))) ∙ to_z-of_z w64 z f
 
 -- a truth value comes back
-bool_back : (b : Bool) (t : ℕ) (k : List Keep) (xs : List Raw) → LeafComesBack boolean (boolean_value b) (boolean_value b) t k xs
-bool_back true t k xs = by_content boolean (boolean_value true) (boolean_value true) t Boolean (to_be_bytes w64 1) k xs refl refl refl refl
-bool_back false t k xs = by_content boolean (boolean_value false) (boolean_value false) t Boolean (to_be_bytes w64 0) k xs refl refl refl refl
+bool_is : (b : Bool) → LeafIs boolean (boolean_value b) (boolean_value b)
+bool_is true = leaf_by boolean (boolean_value true) (boolean_value true) (to_be_bytes w64 1) (λ h. refl) refl refl refl refl (λ t k. refl)
+bool_is false = leaf_by boolean (boolean_value false) (boolean_value false) (to_be_bytes w64 0) (λ h. refl) refl refl refl refl (λ t k. refl)
 
 -- by each rule
+pub leaf_of : (s : Form) (w v : Value) → ComesBack s w v → LeafIs s w v
+leaf_of s w v (as_int8 {z = z} f) = leaf_by int32 (i8_value z) (i32_value z) (to_be_bytes w32 (cast_unsigned w32 z)) (λ h. refl) refl refl (ap i32_value (four_back z f)) refl (λ t k. refl)
+leaf_of s w v (as_int16 {z = z} f) = leaf_by int32 (i16_value z) (i32_value z) (to_be_bytes w32 (cast_unsigned w32 z)) (λ h. refl) refl refl (ap i32_value (four_back z f)) refl (λ t k. refl)
+leaf_of s w v (as_int32 {z = z} f) = leaf_by int32 (i32_value z) (i32_value z) (to_be_bytes w32 (cast_unsigned w32 z)) (λ h. refl) refl refl (ap i32_value (four_back z f)) refl (λ t k. refl)
+leaf_of s w v (as_int64 {z = z} f) = leaf_by int64 (i64_value z) (i64_value z) (to_be_bytes w64 (cast_unsigned w64 z)) (λ h. refl) refl refl (ap i64_value (eight_back z f)) refl (λ t k. refl)
+leaf_of s w v (as_date {n = n} lt) = leaf_by int64 (u64_value n) (i64_value (cast_signed w64 n)) (to_be_bytes w64 n) (λ h. refl) refl refl (ap (λ m. i64_value (cast_signed w64 m)) (from_be_bytes-to_be_bytes_8 n lt)) refl (λ t k. refl)
+leaf_of s w v (as_boolean {b = b}) = bool_is b
+leaf_of s w v (as_text {s = c} u) = leaf_by text (text_value c) (text_value c) c (λ h. refl) refl u refl refl (λ t k. refl)
+leaf_of s w v (as_octets {s = c}) = leaf_by octets (bytes_value c) (bytes_value c) c (λ h. refl) refl refl refl refl (λ t k. refl)
+leaf_of s w v (as_interval {n = n} lt) = leaf_by interval (interval_value n) (interval_value n) (to_be_bytes w32 n) (λ h. refl) refl refl (ap interval_value (from_be_bytes-to_be_bytes_4 n lt)) refl (λ t k. refl)
+leaf_of s w v (as_big_integer {s = c}) = leaf_by big_integer (big_integer_value c) (big_integer_value (sign_extended c)) (sign_extended c) (λ h. refl) refl refl refl refl (λ t k. refl)
+leaf_of s w v (as_big_octets {s = c}) = leaf_by octets (big_integer_value c) (bytes_value (sign_extended c)) (sign_extended c) (λ h. refl) refl refl refl refl (λ t k. refl)
+
+-- which comes back, whatever was kept before and follows
 pub leaves_come_back : LeavesComeBack
-leaves_come_back s v w t k xs (as_int8 {z = z} f) = by_content int32 (i8_value z) (i32_value z) t Integer (to_be_bytes w32 (cast_unsigned w32 z)) k xs refl refl refl (ap i32_value (four_back z f))
-leaves_come_back s v w t k xs (as_int16 {z = z} f) = by_content int32 (i16_value z) (i32_value z) t Integer (to_be_bytes w32 (cast_unsigned w32 z)) k xs refl refl refl (ap i32_value (four_back z f))
-leaves_come_back s v w t k xs (as_int32 {z = z} f) = by_content int32 (i32_value z) (i32_value z) t Integer (to_be_bytes w32 (cast_unsigned w32 z)) k xs refl refl refl (ap i32_value (four_back z f))
-leaves_come_back s v w t k xs (as_int64 {z = z} f) = by_content int64 (i64_value z) (i64_value z) t LongInteger (to_be_bytes w64 (cast_unsigned w64 z)) k xs refl refl refl (ap i64_value (eight_back z f))
-leaves_come_back s v w t k xs (as_date {n = n} lt) = by_content int64 (u64_value n) (i64_value (cast_signed w64 n)) t DateTime (to_be_bytes w64 n) k xs refl refl refl (ap (λ m. i64_value (cast_signed w64 m)) (from_be_bytes-to_be_bytes_8 n lt))
-leaves_come_back s v w t k xs (as_boolean {b = b}) = bool_back b t k xs
-leaves_come_back s v w t k xs (as_text {s = c} u) = by_content text (text_value c) (text_value c) t TextString c k xs refl refl u refl
-leaves_come_back s v w t k xs (as_octets {s = c}) = by_content octets (bytes_value c) (bytes_value c) t ByteString c k xs refl refl refl refl
-leaves_come_back s v w t k xs (as_interval {n = n} lt) = by_content interval (interval_value n) (interval_value n) t Interval (to_be_bytes w32 n) k xs refl refl refl (ap interval_value (from_be_bytes-to_be_bytes_4 n lt))
-leaves_come_back s v w t k xs (as_big_integer {s = c}) = by_content big_integer (big_integer_value c) (big_integer_value (sign_extended c)) t BigInteger (sign_extended c) k xs refl refl refl refl
-leaves_come_back s v w t k xs (as_big_octets {s = c}) = by_content octets (big_integer_value c) (bytes_value (sign_extended c)) t BigInteger (sign_extended c) k xs refl refl refl refl
+leaves_come_back s v w t k xs c =
+    let l = leaf_of s v w c in
+    let x : Raw = record { tag = t; typ = leaf_type v; content = l.content } in
+    let read : Reads s k (x ∷ xs) (leaf_value s l.content) (with_leaf s x k) xs = leaf l.takes_it l.valid in
+    (leaf_tree t (leaf_type v) l.content, l.written (Plain t) t refl, subst (λ (u : Value). Reads s k (x ∷ xs) u (with_leaf s x k) xs) l.gives read)
 
 -- a unit variant comes back by its number
 pub units_come_back : UnitsComeBack

@@ -16,6 +16,7 @@ use Rattle.kmip_ttlv_de.specs.Keeps.{Keep}
 use Rattle.kmip_ttlv_de.specs.Reads.{Reads, Begins, is_root, with_leaf}
 use Rattle.kmip_ttlv_laws.specs.Contents.{ContainsItems}
 use Rattle.kmip_ttlv_laws.specs.Texts.{TextsAreUtf8}
+use Rattle.kmip_ttlv_laws.specs.Agreements.{Head, Agrees, MessageAgrees}
 use Rattle.kmip_ttlv_laws.specs.Returns.{ComesBack, NamesUnit, text_of_number}
 use Rattle.kmip_ttlv_laws.specs.Padding.{SameButPadding, EndsInLack}
 
@@ -153,6 +154,18 @@ abbrev pub UnitsComeBack : Type 0
 UnitsComeBack =
     (name vname own : List ℕ) (vs : Variants) (w : Held) (t n : ℕ) (k : List Keep) (xs : List Raw)
     → take_tag w name ≡ Some t → number vname ≡ Some n → NamesUnit vs k n → UnitComesBack name vname own vs w t n k xs
+
+-- what agrees with a form is written as items, the first of the head
+abbrev pub AgreeingIsWritten : Type 0
+AgreeingIsWritten =
+    (s : Form) (k k' : List Keep) (h : Held) (w v : Value) (x : Head) → Agrees s k h w x v k'
+    → (t : Tree) × (ts : List Tree) × (items w h ≡ Some (t ∷ ts)) × ((raw_of t).tag ≡ x.tag) × ((raw_of t).typ ≡ x.typ)
+
+-- where a value agrees with a root form, as another one, and is written, the bytes begin with that one and no other
+abbrev pub AgreeingIsRead : Type 0
+AgreeingIsRead =
+    (s : Form) (w v d : Value) (n : ℕ) (written : List ℕ)
+    → is_root s ≡ true → MessageAgrees s w v → IsWrittenAs w n written → Begins s written d ↔ (d ≡ v)
 
 -- what is written is the items of the trees, one after the other, and so is each content, at every depth
 abbrev pub WrittenIsItems : Type 0

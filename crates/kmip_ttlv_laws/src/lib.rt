@@ -15,7 +15,8 @@ ghost use Rattle.kmip_ttlv_laws.specs.ReadingLaws.{LaterBytes, MessageAlone, Cut
 ghost use Rattle.kmip_ttlv_laws.specs.ReadingLaws.{ReadingWhatWasWritten, PaddingIsFree, TextsDifferInPadding};
 ghost use Rattle.kmip_ttlv_laws.specs.ReadingLaws.{PaddingOfTreesIsFree, PaddingIsRequired, PaddingOfRootsIsRequired};
 ghost use Rattle.kmip_ttlv_laws.specs.ReadingLaws.{WrittenIsWellFormed, WrittenIsItems, CanonicalIsText, ReadingTrees};
-ghost use Rattle.kmip_ttlv_laws.specs.ReadingLaws.{LeavesComeBack, UnitsComeBack};
+ghost use Rattle.kmip_ttlv_laws.specs.ReadingLaws.{LeavesComeBack, UnitsComeBack, AgreeingIsWritten, AgreeingIsRead};
+ghost use Rattle.kmip_ttlv_laws.specs.WorkedAgreements.{AttributesAgree, OptionsAgree};
 
 use std::alloc::Allocator;
 
@@ -166,4 +167,23 @@ pub fn units_are_read_back()
     // a unit: a variant named `0x1` is written as 00000001, and looked for as `0x00000001`. A tag has to
     // be there to be taken: under one that was taken before without `Override:`, nothing is written.
     ensures { UnitsComeBack }
+{}
+
+/// What was written is read back: where a value agrees with a shape's form, its bytes begin with the value that
+/// it agrees as, and with no other.
+///
+/// Round trips of users' messages rest on it: a type shows that what it is written as agrees with its form as what
+/// it is read as, and has the rest from here.
+pub fn agreeing_values_come_back()
+    // A sequence of nothing and an option that is left out are written as no item, so what agrees is more than these.
+    ensures written { AgreeingIsWritten }
+    // The bytes have to be what is written, so that all lengths fit. Of a shape that is no struct no message begins.
+    ensures read { AgreeingIsRead }
+{}
+
+/// Worked values that agree with a form: attributes of a key, each read by the rule that its own name chooses,
+/// and options of which one is left out.
+pub fn worked_values_agree()
+    ensures attributes { AttributesAgree }
+    ensures options { OptionsAgree }
 {}

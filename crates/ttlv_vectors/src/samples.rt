@@ -4,8 +4,7 @@ ghost use Rattle.std.specs.Prelude.{◌≡◌, IfOk};
 ghost use Rattle.ttlv_vectors.specs.Samples.{single_form, read_single, written_single};
 
 use crate::data::{number_of, tagged_number};
-use kmip_ttlv::de::one_value;
-use kmip_ttlv::laws::{leaves_are_read_back, reading_what_was_written, written_is_items};
+use kmip_ttlv::laws::agreeing_values_come_back;
 use kmip_ttlv::shape::{Data, Deserialize, FieldShape, Serialize, Shape};
 use kmip_ttlv::{from_slice, to_vec};
 use std::alloc::{AllocError, Allocator};
@@ -57,18 +56,15 @@ impl<A: Allocator> Deserialize<A> for Single {
     }
 }
 
-/// Writes a message, and reads it back from its bytes: what comes back is the same. The laws that it
-/// calls do nothing; they are what that rests on.
+/// Writes a message, and reads it back from its bytes: what comes back is the same. The law that it
+/// calls does nothing; it is what that rests on.
 pub fn there_and_back<A: Allocator + Copy>(
     alloc: A,
     message: Single,
 ) -> kmip_ttlv::error::Result<Single, A>
     ensures { IfOk result (λ back. back ≡ message) }
 {
-    leaves_are_read_back();
-    written_is_items();
-    reading_what_was_written();
-    one_value();
+    agreeing_values_come_back();
     let bytes = to_vec(alloc, &message)?;
     let back: Single = from_slice(alloc, bytes.as_slice())?;
     Ok(back)

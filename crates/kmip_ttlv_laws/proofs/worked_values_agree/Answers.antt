@@ -1,0 +1,8 @@
+use Rattle.kmip_ttlv_laws.proofs.WorkedAgreements.{attributes_agree, options_agree}
+use Rattle.kmip_ttlv_laws.proofs.worked_values_agree.Goals as goal
+
+pub returns-clause-attributes : goal.returns-clause-attributes
+returns-clause-attributes c = attributes_agree
+
+pub returns-clause-options : goal.returns-clause-options
+returns-clause-options c = options_agree
