@@ -130,17 +130,20 @@ fn headers(alloc: Global, count: u32) -> Result<Vec<u8>, AllocError> {
     Ok(bytes)
 }
 
-// Whether so many headers have a diagnostic within a mebibyte, and no readable text, nor one when the
-// diagnostic is read back: those grow by the square of their number.
+// Whether the bytes have a diagnostic, and for want of memory no readable text, nor one when the
+// diagnostic is read back.
+fn has_diagnostic_alone<A: Allocator + Copy>(alloc: A, bytes: &[u8]) -> Result<bool, AllocError> {
+    let printer = printer(alloc, "4200", false)?;
+    let diagnostic = printer.to_diag_string(bytes)?;
+    Ok(printer.to_string(bytes).is_err() && printer.from_diag_string(diagnostic.as_str()).is_err())
+}
+
+// Whether so many headers have a diagnostic within a mebibyte, and no readable text: those grow by the
+// square of their number.
 fn is_bounded(alloc: Global, count: u32) -> Result<bool, AllocError> {
     let bytes = headers(alloc, count)?;
     let heap = BoundedAllocator::new(alloc, 1 << 20);
-    let printer = printer(&heap, "4200", false)?;
-    let diagnostic = printer.to_diag_string(bytes.as_slice())?;
-    Ok(
-        printer.to_string(bytes.as_slice()).is_err()
-            && printer.from_diag_string(diagnostic.as_str()).is_err(),
-    )
+    has_diagnostic_alone(&heap, bytes.as_slice())
 }
 
 #[test]
