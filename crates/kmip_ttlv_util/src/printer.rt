@@ -98,6 +98,10 @@ impl<A: Allocator + Copy> PrettyPrinter<A> {
     /// The line `WARNING: TTLV structure length is zero` follows an empty structure that stays open.
     /// Where an item can't be read the text ends with `ERROR: ` and some words, and where content
     /// exceeds its structure's length with a line that says so.
+    ///
+    /// The text of n headers, each in the structure before it, has some n² bytes: of 256,000 bytes, which
+    /// are 32,000 such headers, it is a gigabyte. To print bytes of strangers, give the printer an
+    /// allocator with a bound.
     pub fn to_string(&self, bytes: &[u8]) -> Result<String<A>, AllocError>
         ensures printed { IfOk result (λ r. IsPrinted (names_of self.now) (closes_empty self.now)
             bytes.now (string_bytes r)) }
@@ -153,7 +157,8 @@ impl<A: Allocator + Copy> PrettyPrinter<A> {
     /// and `<redacted>` in place of any other.
     ///
     /// Reading stops where the text is no diagnostic, and gives the lines up to there. It takes time
-    /// linear in the text and in what is written.
+    /// linear in the text and in what is written: of n structures, each in the one before, that is some
+    /// n² bytes. To read texts of strangers, give the printer an allocator with a bound.
     pub fn from_diag_string(&self, text: &str) -> Result<String<A>, AllocError>
         ensures undiag { IfOk result (λ r. string_bytes r ≡ undiag (names_of self.now) (prefix_of self.now) text.now) }
         ensures longest { IfOk result (λ r. ReadsLongest (names_of self.now) (prefix_of self.now)

@@ -23,7 +23,7 @@ const DESTROY_RESPONSE: &str =
 type Row = (&'static str, &'static str, &'static str, usize);
 
 // Well-formed messages.
-const WHOLE: [Row; 16] = [
+const WHOLE: [Row; 17] = [
     ("4200", VERSION, "69[6Ai6Bi]", 3),
     ("4200", EMPTY_FIRST, "69[6A[6Bi]]", 3),
     ("4200", NESTED, "69[6A[6Bi]]", 3),
@@ -91,6 +91,12 @@ const WHOLE: [Row; 16] = [
         "",
         "AAAAAA0100000010BBBBBB0A000000040000000100000000",
         "AAAAAA[BBBBBBn]",
+        2,
+    ),
+    (
+        "",
+        "AAAAAA0100000010BBBBBB07000000016100000000000000",
+        "AAAAAA[BBBBBBt]",
         2,
     ),
     (

@@ -1,11 +1,15 @@
-//! Each growth refused in turn: a call answers want of memory, or what it answers with ample memory.
+//! Each growth refused in turn: a call answers want of memory, or what it answers with ample memory, and
+//! so does each call after it. And texts that are longer than memory is bounded.
 
-use crate::messages::{VERSION, VERSION_LINES};
+use crate::messages::{REDACTED_LINES, VERSION, VERSION_LINES};
 use crate::printers::{is_counted, is_diagnostic, is_read_back, is_readable, printer};
 use hex::FromHexError;
 use kmip_ttlv::PrettyPrinter;
-use refusing_allocator::RefusingAllocator;
+use refusing_allocator::{BoundedAllocator, RefusingAllocator};
 use std::alloc::{AllocError, Allocator, Global};
+
+// The diagnostic of the version, by a printer that takes the prefix 4200 from tags.
+const DIAGNOSTIC: &str = "69[6Ai6Bi]";
 
 // Which call of a printer.
 #[derive(Clone, Copy, Debug)]
@@ -31,19 +35,32 @@ fn is_cloned<A: Allocator + Copy>(
     bytes: &[u8],
 ) -> Result<bool, AllocError> {
     let clone = printer.clone()?;
-    is_diagnostic(&clone, bytes, "69[6Ai6Bi]")
+    is_diagnostic(&clone, bytes, DIAGNOSTIC)
 }
 
 // Whether the call's answer is the one that it has with ample memory.
-fn is_ample<A: Allocator + Copy>(alloc: A, call: Call, bytes: &[u8]) -> Result<bool, AllocError> {
-    let printer = printer(alloc, "4200", false)?;
+fn is_ample<A: Allocator + Copy>(
+    printer: &PrettyPrinter<A>,
+    call: Call,
+    bytes: &[u8],
+) -> Result<bool, AllocError> {
     match call {
-        Call::Diagnostic => is_diagnostic(&printer, bytes, "69[6Ai6Bi]"),
-        Call::Counted => is_counted(&printer, bytes, "69[6Ai6Bi]", 3),
-        Call::ReadBack => is_read_back(&printer, "69[", "Tag: 0x420069, Type: Structure (0x01)"),
-        Call::Lines => is_readable(&printer, bytes, VERSION_LINES),
-        Call::Clone => is_cloned(&printer, bytes),
+        Call::Diagnostic => is_diagnostic(printer, bytes, DIAGNOSTIC),
+        Call::Counted => is_counted(printer, bytes, DIAGNOSTIC, 3),
+        Call::ReadBack => is_read_back(printer, DIAGNOSTIC, REDACTED_LINES),
+        Call::Lines => is_readable(printer, bytes, VERSION_LINES),
+        Call::Clone => is_cloned(printer, bytes),
     }
+}
+
+// Whether each call's answer is the one that it has with ample memory.
+fn answers_all<A: Allocator + Copy>(printer: &PrettyPrinter<A>, bytes: &[u8]) -> bool {
+    for call in CALLS {
+        if is_ample(printer, call, bytes) != Ok(true) {
+            return false;
+        }
+    }
+    true
 }
 
 // What a call, or all calls of a kind, came to.
@@ -51,21 +68,32 @@ fn is_ample<A: Allocator + Copy>(alloc: A, call: Call, bytes: &[u8]) -> Result<b
 enum Outcome {
     // The ample answer, and no growth was refused; so many were granted.
     Whole(u64),
-    // Want of memory, and a growth was refused.
+    // Want of memory, and a growth was refused; asked again, the printer gave each ample answer.
     Refused,
     // Another answer, where this growth was refused.
     Wrong(u64),
 }
 
-fn one_outcome(alloc: Global, call: Call, bytes: &[u8], before: u64) -> Outcome {
-    let heap = RefusingAllocator::new(alloc, before);
-    let answer = is_ample(&heap, call, bytes);
-    if answer == Ok(true) && !heap.has_refused() {
-        Outcome::Whole(before)
-    } else if answer.is_err() && heap.has_refused() {
-        Outcome::Refused
+// This outcome, where it is right.
+fn right_or_wrong(is_right: bool, outcome: Outcome, before: u64) -> Outcome {
+    if is_right {
+        outcome
     } else {
         Outcome::Wrong(before)
+    }
+}
+
+fn one_outcome(alloc: Global, call: Call, bytes: &[u8], before: u64) -> Outcome {
+    let heap = RefusingAllocator::new(alloc, before);
+    let Ok(printer) = printer(&heap, "4200", false) else {
+        return right_or_wrong(heap.has_refused(), Outcome::Refused, before);
+    };
+    let answer = is_ample(&printer, call, bytes);
+    if heap.has_refused() {
+        let is_right = answer.is_err() && answers_all(&printer, bytes);
+        right_or_wrong(is_right, Outcome::Refused, before)
+    } else {
+        right_or_wrong(answer == Ok(true), Outcome::Whole(before), before)
     }
 }
 
@@ -92,26 +120,35 @@ fn each_growth_may_be_refused(rt: HostRuntime) -> Result<(), FromHexError> {
     Ok(())
 }
 
-// Whether a printer that met want of memory answers as before it.
-fn answers_again(alloc: Global, before: u64, bytes: &[u8]) -> bool {
-    let heap = RefusingAllocator::new(alloc, before);
-    let printer = PrettyPrinter::new(&heap);
-    let first = is_readable(&printer, bytes, VERSION_LINES);
-    first.is_err() == heap.has_refused()
-        && is_readable(&printer, bytes, VERSION_LINES) == Ok(true)
-        && is_diagnostic(&printer, bytes, "420069[42006Ai42006Bi]") == Ok(true)
+// So many headers, each in the structure before it: eight bytes a header.
+fn headers(alloc: Global, count: u32) -> Result<Vec<u8>, AllocError> {
+    let mut bytes = Vec::new(alloc);
+    for below in (0..count).rev() {
+        bytes.extend_from_slice(b"\x42\x00\x69\x01")?;
+        bytes.extend_from_slice(&below.wrapping_mul(8).to_be_bytes())?;
+    }
+    Ok(bytes)
+}
+
+// Whether the bytes have a diagnostic, and for want of memory no readable text, nor one when the
+// diagnostic is read back.
+fn has_diagnostic_alone<A: Allocator + Copy>(alloc: A, bytes: &[u8]) -> Result<bool, AllocError> {
+    let printer = printer(alloc, "4200", false)?;
+    let diagnostic = printer.to_diag_string(bytes)?;
+    Ok(printer.to_string(bytes).is_err() && printer.from_diag_string(diagnostic.as_str()).is_err())
+}
+
+// Whether so many headers have a diagnostic within a mebibyte, and no readable text: those grow by the
+// square of their number.
+fn is_bounded(alloc: Global, count: u32) -> Result<bool, AllocError> {
+    let bytes = headers(alloc, count)?;
+    let heap = BoundedAllocator::new(alloc, 1 << 20);
+    has_diagnostic_alone(&heap, bytes.as_slice())
 }
 
 #[test]
-fn a_printer_answers_after_want_of_memory(rt: HostRuntime) -> Result<(), FromHexError> {
-    let bytes = hex::decode(rt.alloc(), VERSION)?;
-    for before in 0..4u64 {
-        assert!(rt;
-            answers_again(rt.alloc(), before, bytes.as_slice()),
-            "at {before}"
-        );
-    }
-    Ok(())
+fn a_bound_on_memory_holds_for_deep_texts(rt: HostRuntime) {
+    assert!(rt; is_bounded(rt.alloc(), 32_000) == Ok(true));
 }
 
 fn is_refused(alloc: Global, before: u64, bytes: &[u8]) -> bool {

@@ -10,6 +10,10 @@ pub const VERSION: &str =
 pub const VERSION_LINES: &str =
     "Tag: 0x420069, Type: Structure (0x01), Data:\n  Tag: 0x42006A, Type: Integer (0x02), Data: 0x000001 (1)\n  Tag: 0x42006B, Type: Integer (0x02), Data: 0x000000 (0)\n";
 
+/// The lines that its diagnostic is read back as.
+pub const REDACTED_LINES: &str =
+    "Tag: 0x420069, Type: Structure (0x01), Data: \n  Tag: 0x42006A, Type: Integer (0x02), Data: <redacted>\n  Tag: 0x42006B, Type: Integer (0x02), Data: <redacted>";
+
 /// A structure whose first item is an empty structure.
 pub const EMPTY_FIRST: &str = "420069010000001842006A010000000042006B02000000040000000000000000";
 

@@ -2,7 +2,8 @@
 //! `kmip_ttlv`.
 //!
 //! A shape is put together from the types in `parts`, whose names are those in `names`. `Reading`
-//! reads by such a shape, and keeps the data that was read as text.
+//! reads by such a shape, and keeps the data that was read as text. In `streams` a message comes from a
+//! reader that is slow or fails.
 #![tactic(auto)]
 
 #[cfg(test)]
@@ -23,3 +24,5 @@ mod parts;
 mod reading;
 #[cfg(test)]
 mod response;
+#[cfg(test)]
+mod streams;

@@ -1,7 +1,9 @@
 //! A small type, a slow reader, and what a message is to be read as.
 
-ghost use Rattle.std.specs.Prelude.{Some};
-ghost use Rattle.stream_vectors.specs.StreamSamples.{single_form};
+ghost use Rattle.std.specs.Prelude.{◌≡◌, Some};
+ghost use Rattle.kmip_ttlv_base.specs.Values.{view, i32_value};
+ghost use Rattle.kmip_ttlv_base.specs.Gives.{IsI32};
+ghost use Rattle.stream_vectors.specs.StreamSamples.{single_form, read_single};
 
 use kmip_ttlv_base::error::{Error, ErrorKind, ErrorLocation, MalformedTtlvError, SerdeError};
 use kmip_ttlv_base::shape::{Data, Deserialize, FieldShape, Shape};
@@ -14,7 +16,7 @@ use std::io::Read;
 /// A Structure AAAAAA of one Integer BBBBBB, of 3.
 pub const MESSAGE: &str = "AAAAAA0100000010BBBBBB02000000040000000300000000";
 
-/// Structure AAAAAA of one Integer BBBBBB. Nothing is promised of its number: tests compare it.
+/// Structure AAAAAA of one Integer BBBBBB.
 #[derive(Clone, Copy)]
 pub struct Single {
     pub number: i32,
@@ -23,7 +25,7 @@ pub struct Single {
 impl<A: Allocator> Deserialize<A> for Single {
     ghost form = { single_form };
 
-    ghost is_value = { λ _ _. Unit {0} };
+    ghost is_value = { λ v s. v ≡ read_single s.number };
 
     fn shape(alloc: A) -> Result<Shape<A>, AllocError> {
         let mut fields = Vec::new(alloc);
@@ -39,14 +41,23 @@ impl<A: Allocator> Deserialize<A> for Single {
     }
 
     fn from_data(_alloc: A, value: &Data<A>) -> Result<Single, AllocError> {
-        let number = match value {
-            Data::Struct { name: _, fields } => match fields.first() {
-                Some(Data::I32(number)) => *number,
-                _ => 0,
-            },
-            _ => 0,
+        let Data::Struct { name: _, fields } = value else {
+            unreachable!()
         };
-        Ok(Single { number })
+        Ok(Single {
+            number: number_of(&fields[0]),
+        })
+    }
+}
+
+// The number that data is.
+fn number_of<A: Allocator>(value: &Data<A>) -> i32
+    requires { IsI32 (view value.now) }
+    ensures { view value.now ≡ i32_value result }
+{
+    match value {
+        Data::I32(number) => *number,
+        _ => unreachable!(),
     }
 }
 
