@@ -34,6 +34,10 @@ below (suc n) b t h =
 pub PAIRS_at : (b : ℕ) → b < 256 → (get_or PAIRS (b * 2) 0 ≡ digit_glyph true (b / 16)) × (get_or PAIRS (b * 2 + 1) 0 ≡ digit_glyph true (b % 16))
 PAIRS_at b h = below 256 b tt h
 
+-- as a list
+pub pairs_two : (b : ℕ) → b < 256 → get_or PAIRS (b * 2) 0 ∷ get_or PAIRS (b * 2 + 1) 0 ∷ [] ≡ digit_glyph true (b / 16) ∷ digit_glyph true (b % 16) ∷ []
+pairs_two b small = let p = PAIRS_at b small in rw (p.0, p.1) refl
+
 -- a list of eight numbers
 eight_same : (a b c d e f g h i j k l m n o p : ℕ) → a ≡ i → b ≡ j → c ≡ k → d ≡ l → e ≡ m → f ≡ n → g ≡ o → h ≡ p → a ∷ b ∷ c ∷ d ∷ e ∷ f ∷ g ∷ h ∷ [] ≡ i ∷ j ∷ k ∷ l ∷ m ∷ n ∷ o ∷ p ∷ []
 eight_same a b c d e f g h i j k l m n o p p1 p2 p3 p4 p5 p6 p7 p8 = cc
@@ -263,3 +267,7 @@ front_more s n number value lt small is before fits few =
 -- one digit is always there
 pub one_digit : (n : ℕ) → n < 2 ^ 32 → at_least 1 (hex_upper n) ≡ hex_upper n
 one_digit n small = let d = has_digits n small in not_padded 1 (hex_upper n) (omega (arith, hex_count d.more n (omega (arith, d.few)) d.low d.high))
+
+-- the two digits of a byte are ASCII
+pub two_ascii : (b : ℕ) → b < 256 → IsAscii (digit_glyph true (b / 16) ∷ digit_glyph true (b % 16) ∷ [])
+two_ascii b small = IsAscii-cons (digit_glyph true (b / 16)) (digit_glyph true (b % 16) ∷ []) (glyph_ascii (b / 16) (omega arith)) (IsAscii-cons (digit_glyph true (b % 16)) [] (glyph_ascii (b % 16) (omega arith)) IsAscii-nil)

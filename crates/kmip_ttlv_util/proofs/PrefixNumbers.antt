@@ -1,8 +1,8 @@
 -- Prefixes of tags as numbers.
 use Rattle.std.proofs.Common.{◌≡◌, ◌≢◌, ℕ, zero, suc, ◌+◌, ◌-◌, ◌*◌, ◌/◌, ◌%◌, ◌^◌, ◌<◌, ◌≤◌, List, [], ◌∷◌, ◌++◌, length, drop, refl, sym, ap, ◌∙◌, arith, true, Bool, cond, false, ltb}
 use Rattle.std.specs.Fmt.{digit_glyph}
-use Rattle.std.proofs.Math.Nat.{pow-suc}
-use Rattle.std.proofs.lemmas.Nat.{pow-add, shr_below}
+use Rattle.std.proofs.Math.Nat.{pow-suc, mul_assoc, le_refl}
+use Rattle.std.proofs.lemmas.Nat.{pow-add, shr_below, mul-le, div-mul-add}
 use Rattle.std.proofs.lemmas.Bool.{ltb-true, ltb-false}
 use Rattle.kmip_ttlv_types.specs.Digits.{six_digits}
 use Rattle.kmip_ttlv_util.specs.LastDigits.{last_digits}
@@ -91,3 +91,33 @@ module _ (text : List ℕ) (count number shift tag : ℕ) (few : count ≤ 6) (i
           let bound : tag < 2 ^ (4 * count + shift) = omega (arith, all, fits) in
           let quotient : tag / 2 ^ shift < 2 ^ (4 * count) = shr_below tag (4 * count) shift bound in
           omega (arith, quotient, four_bits count)
+
+-- a number in front of digits leaves them as they are
+last_add : (k a b : ℕ) → last_digits k (a * 16 ^ k + b) ≡ last_digits k b
+unfolding last_digits
+last_add zero a b = refl
+last_add (suc k) a b =
+    let e : a * 16 ^ suc k ≡ (a * 16 ^ k) * 16 = ap (λ (n : ℕ). a * n) (pow-suc 16 k) ∙ sym (mul_assoc a (16 ^ k) 16) in
+    let front : (a * 16 ^ suc k + b) / 16 ≡ a * 16 ^ k + b / 16 = omega (arith, e) in
+    let end : (a * 16 ^ suc k + b) % 16 ≡ b % 16 = omega (arith, e) in
+    ap (λ (n : ℕ). last_digits k n ++ (digit_glyph true ((a * 16 ^ suc k + b) % 16) ∷ [])) front ∙ ap (λ (s : List ℕ). s ++ (digit_glyph true ((a * 16 ^ suc k + b) % 16) ∷ [])) (last_add k a (b / 16))
+    ∙ ap (λ (d : ℕ). last_digits k (b / 16) ++ (digit_glyph true d ∷ [])) end
+
+-- the tag of a prefix's digits and of others
+module _ (text : List ℕ) (count number others low : ℕ) (six : count + others ≡ 6) (is : text ≡ last_digits count number) (small : number < 16 ^ count) (few : low < 16 ^ others) where
+  -- it has three bytes
+  pub joined_fits : number * 2 ^ (4 * others) + low < 2 ^ 24
+  joined_fits =
+      let bound : suc number * 16 ^ others ≤ 16 ^ count * 16 ^ others = mul-le (suc number) (16 ^ others) (16 ^ count) (16 ^ others) small (le_refl (16 ^ others)) in
+      let all : 16 ^ count * 16 ^ others ≡ 16 ^ 6 = sym (pow-add 16 count others) ∙ ap (λ (n : ℕ). 16 ^ n) six in
+      let bits : number * 2 ^ (4 * others) ≡ number * 16 ^ others = ap (λ (n : ℕ). number * n) (four_bits others) in
+      omega (arith, bound, all, bits, few)
+
+  -- and these digits
+  pub joined_digits : text ++ last_digits others low ≡ six_digits (number * 2 ^ (4 * others) + low)
+  joined_digits =
+      let t = number * 16 ^ others + low in
+      let left : 6 - others ≡ count = omega arith in
+      ap (λ (s : List ℕ). s ++ last_digits others low) is ∙ ap (λ (s : List ℕ). last_digits count number ++ s) (sym (last_add others number low))
+      ∙ ap (λ (n : ℕ). last_digits count n ++ last_digits others t) (sym (div-mul-add number (16 ^ others) low few)) ∙ ap (λ (k : ℕ). last_digits k (t / 16 ^ others) ++ last_digits others t) (sym left)
+      ∙ sym (last_split 6 others t (omega arith)) ∙ sym (six_last t) ∙ ap (λ (n : ℕ). six_digits (number * n + low)) (sym (four_bits others))

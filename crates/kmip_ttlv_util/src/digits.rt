@@ -6,6 +6,7 @@ ghost use Rattle.std.specs.List.{prefix_len};
 ghost use Rattle.kmip_ttlv_util.specs.Letters.{is_hex};
 ghost use Rattle.kmip_ttlv_util.specs.Lines.{at_least};
 ghost use Rattle.kmip_ttlv_util.specs.Outlines.{hex_upper};
+ghost use Rattle.kmip_ttlv_util.specs.Pretty.{two_digits};
 ghost use Rattle.kmip_ttlv_util.specs.LastDigits.{last_digits};
 
 use std::alloc::{AllocError, Allocator};
@@ -33,6 +34,24 @@ pub fn eight(n: u32) -> [u8; 8]
         PAIRS[d],
         PAIRS[d + 1],
     ]
+}
+
+/// The two digits of a byte.
+#[inline(always)]
+fn two(byte: u8) -> [u8; 2]
+    ensures { result ≡ two_digits byte }
+{
+    let n = byte as usize * 2;
+    [PAIRS[n], PAIRS[n + 1]]
+}
+
+/// A byte in hexadecimal.
+#[inline(always)]
+pub fn push_two<A: Allocator>(out: &mut String<A>, byte: u8) -> Result<(), AllocError>
+    ensures { OnOk result (string_bytes out.new ≡ string_bytes out.old ++ two_digits byte) }
+{
+    let digits = two(byte);
+    out.push_str(unsafe { str::from_utf8_unchecked(&digits) })
 }
 
 /// How many digits a number has, without zeros in front.
