@@ -1,5 +1,6 @@
 pub mod Entries
 pub mod Fronts
+pub mod HexDigits
 pub mod Letters
 pub mod Longest
 pub mod Loop
@@ -7,6 +8,7 @@ pub mod MapClones
 pub mod Message
 pub mod Padding
 pub mod Parts
+pub mod PrefixNumbers
 pub mod PrettyTexts
 pub mod ReadBack
 pub mod Reading

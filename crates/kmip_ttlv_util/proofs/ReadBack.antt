@@ -114,7 +114,7 @@ module _ (names : ℕ → Option (List ℕ)) where
       by (inr h) = omega (arith, e, h, g.0)
 
   -- six digits name their tag
-  six_tag : (n : ℕ) → n < 2 ^ 24 → tag_of (48 ∷ 120 ∷ six_digits n) ≡ Some n
+  pub six_tag : (n : ℕ) → n < 2 ^ 24 → tag_of (48 ∷ 120 ∷ six_digits n) ≡ Some n
   unfolding six_digits
   six_tag n small = named (digit_glyph true (n / 1048576 % 16)) (digit_glyph true (n / 65536 % 16)) n _ (glyph_ne (n / 1048576 % 16) 43 (omega arith) (inl (omega arith))) (glyph_ne (n / 65536 % 16) 120 (omega arith) (inr (omega arith))) (six_all_digits n) (six_value n small) small
 

@@ -7,8 +7,10 @@ pub mod Diagnostics
 pub mod PrintAnswers
 pub mod Walks
 pub mod Lending
+pub mod LastDigits
 pub mod Lines
 pub mod TagNames
+pub mod Prefixes
 pub mod Pretty
 pub mod Printers
 pub mod ReadBack

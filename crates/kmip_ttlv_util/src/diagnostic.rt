@@ -1,14 +1,15 @@
 //! The diagnostic of any bytes: its parts, and the loop that writes them.
 
-ghost use Rattle.std.specs.Prelude.{◌≡◌, ℕ, ◌+◌, ◌/◌, ◌<◌, ◌≤◌, ◌^◌, ◌++◌, ◌∷◌, List, [], length, IfOk, OnOk, IfSome};
+ghost use Rattle.std.specs.Prelude.{◌≡◌, ℕ, ◌+◌, ◌/◌, ◌<◌, ◌≤◌, ◌^◌, ◌++◌, ◌∷◌, List, [], length, IfOk, OnOk, drop};
 ghost use Rattle.std.specs.Prelude.{string_bytes};
-ghost use Rattle.std.specs.Prelude.{true};
 ghost use Rattle.kmip_ttlv_types.specs.Digits.{six_digits};
 ghost use Rattle.kmip_ttlv_util.specs.Outlines.{stripped, value_text, mark};
 ghost use Rattle.kmip_ttlv_util.specs.Letters.{letter};
 ghost use Rattle.kmip_ttlv_util.specs.Traces.{trace};
 ghost use Rattle.kmip_ttlv_util.specs.Diagnostics.{hostile};
+ghost use Rattle.kmip_ttlv_util.specs.Prefixes.{IsNumber};
 
+use crate::digits::{digits_in_front, eight, push_digits};
 use crate::item::item_at;
 use crate::walk::{Next, Walk};
 use kmip_ttlv_types::{TtlvTag, TtlvType};
@@ -17,6 +18,41 @@ use std::str;
 
 /// What stands where a structure's content exceeds its length.
 pub const EXCEEDED: &str = "\nERROR: TTLV structure content exceeds the structure length.";
+
+/// A prefix of tags: as the number that its digits are too, where it is at most six of them.
+#[derive(Clone, Copy)]
+pub struct Prefix<'p> {
+    /// The prefix itself.
+    pub text: &'p str,
+    /// How many digits it is, or seven where it is not digits or more of them.
+    pub count: usize,
+    /// The number that the digits are.
+    pub number: u32,
+    /// How many bits of a tag the digits leave.
+    pub shift: u32,
+}
+
+/// A prefix, with its number.
+pub fn prefix_of(text: &str) -> Prefix<'_>
+    ensures text { result.text.now ≡ text.now }
+    ensures number { IsNumber result }
+{
+    let (count, number) = digits_in_front(text);
+    if count < text.len() || 6 < count {
+        return Prefix {
+            text,
+            count: 7,
+            number,
+            shift: 0,
+        };
+    }
+    Prefix {
+        text,
+        count,
+        number,
+        shift: 24 - 4 * count as u32,
+    }
+}
 
 /// The text without the prefix, where it begins with it.
 fn strip<'t>(prefix: &str, text: &'t str) -> &'t str
@@ -28,16 +64,42 @@ fn strip<'t>(prefix: &str, text: &'t str) -> &'t str
     }
 }
 
-fn push_tag<A: Allocator>(out: &mut String<A>, prefix: &str, tag: TtlvTag) -> Result<(), AllocError>
-    ensures { OnOk result (string_bytes out.new ≡ string_bytes out.old ++ stripped prefix.now (six_digits tag)) }
+/// How many digits of a tag are left out by a prefix with a number.
+#[inline(always)]
+fn left_out(prefix: &Prefix<'_>, tag: TtlvTag) -> usize
+    requires number { IsNumber prefix.now }
+    requires few { prefix.now.count ≤ 6 }
+    ensures stripped { drop result (six_digits tag) ≡ stripped prefix.now.text.now (six_digits tag) }
+    ensures bounded { result ≤ 6 }
 {
-    let digits = tag.digits();
-    let Ok(text) = str::from_utf8(&digits) else {
-        unreachable!();
-    };
-    out.push_str(strip(prefix, text))
+    if *tag >> prefix.shift == prefix.number {
+        prefix.count
+    } else {
+        0
+    }
 }
 
+/// The digits of a tag that the prefix doesn't leave out.
+#[inline(always)]
+fn push_tag<A: Allocator>(
+    out: &mut String<A>,
+    prefix: &Prefix<'_>,
+    tag: TtlvTag,
+) -> Result<(), AllocError>
+    requires { IsNumber prefix.now }
+    ensures { OnOk result (string_bytes out.new
+        ≡ string_bytes out.old ++ stripped prefix.now.text.now (six_digits tag)) }
+{
+    let digits = eight(*tag);
+    if 6 < prefix.count {
+        let text = unsafe { str::from_utf8_unchecked(&digits[2..]) };
+        return out.push_str(strip(prefix.text, text));
+    }
+    let from = left_out(prefix, tag);
+    out.push_str(unsafe { str::from_utf8_unchecked(&digits[from + 2..]) })
+}
+
+#[inline(always)]
 fn letter(typ: TtlvType) -> char
     ensures letter { result ≡ letter typ }
     ensures ascii { result < 128 }
@@ -56,24 +118,28 @@ fn letter(typ: TtlvType) -> char
     }
 }
 
+#[inline(always)]
 fn push_value<A: Allocator>(out: &mut String<A>, value: Option<u32>) -> Result<(), AllocError>
     ensures { OnOk result (string_bytes out.new ≡ string_bytes out.old ++ value_text value) }
 {
     if let Some(n) = value {
-        write!(out, "{n:X}:")?;
+        push_digits(out, 1, n)?;
+        out.push_str(":")?;
     }
     Ok(())
 }
 
 /// A leaf, or the opening of a structure.
+#[inline(always)]
 fn push_mark<A: Allocator>(
     out: &mut String<A>,
-    prefix: &str,
+    prefix: &Prefix<'_>,
     tag: TtlvTag,
     typ: TtlvType,
     value: Option<u32>,
 ) -> Result<(), AllocError>
-    ensures { OnOk result (string_bytes out.new ≡ string_bytes out.old ++ mark prefix.now tag typ value) }
+    requires { IsNumber prefix.now }
+    ensures { OnOk result (string_bytes out.new ≡ string_bytes out.old ++ mark prefix.now.text.now tag typ value) }
 {
     push_tag(out, prefix, tag)?;
     out.push(letter(typ))?;
@@ -88,6 +154,12 @@ fn push_close<A: Allocator>(out: &mut String<A>) -> Result<(), AllocError>
     out.push(']')
 }
 
+/// An estimate of a diagnostic's length: a quarter of the bytes, and at most a page.
+fn room_for(bytes: &[u8]) -> usize {
+    let quarter = bytes.len() / 4;
+    16 + if quarter < 4096 { quarter } else { 4096 }
+}
+
 /// The diagnostic of any bytes, and how many items were tried.
 pub fn diagnose<A: Allocator + Copy>(
     alloc: A,
@@ -100,7 +172,8 @@ pub fn diagnose<A: Allocator + Copy>(
     ensures count { IfOk result (λ r. r.1 ≡ length (trace closed bytes.now)) }
     ensures bounded { IfOk result (λ r. r.1 ≤ length bytes.now / 8 + 1) }
 {
-    let mut out = String::new(alloc);
+    let numbered = prefix_of(prefix);
+    let mut out = String::with_capacity(alloc, room_for(bytes))?;
     let mut count = 0;
     let mut walk = Walk::new(alloc);
     'walk: loop {
@@ -122,7 +195,7 @@ pub fn diagnose<A: Allocator + Copy>(
                     out.push_str("ERR")?;
                     return Ok((out, count));
                 };
-                push_mark(&mut out, prefix, item.tag, item.typ, item.value)?;
+                push_mark(&mut out, &numbered, item.tag, item.typ, item.value)?;
                 walk.step(closed, item.typ, item.length, item.next)?;
             }
         }

@@ -111,6 +111,7 @@ fn is_valid(typ: TtlvType, content: &[u8]) -> bool
 }
 
 /// The item at a place, in bytes from the first, if it can be read.
+#[inline(always)]
 pub fn item_at(bytes: &[u8], pos: usize) -> Option<Item<'_>>
     requires { pos ≤ length bytes.now }
     ensures some { IfSome result (λ i. IsItem bytes.now pos i) }

@@ -7,6 +7,7 @@
 #![tactic(auto)]
 
 mod diagnostic;
+mod digits;
 mod item;
 pub mod laws;
 mod lines;

@@ -5,6 +5,7 @@ ghost use Rattle.kmip_ttlv_types.specs.TypeTexts.{type_text};
 ghost use Rattle.kmip_ttlv_util.specs.Lines.{indent, hex_padded, tag_named, tag_part, typ_part};
 ghost use Rattle.kmip_ttlv_util.specs.TagNames.{name_in};
 
+use crate::digits::{push_digits, push_wide};
 use kmip_ttlv_types::{TtlvTag, TtlvType};
 use std::alloc::{AllocError, Allocator, Global};
 use std::collections::HashMap;
@@ -14,6 +15,7 @@ use std::hash::{BuildHasherDefault, FoldHasher};
 pub type TagMap<A = Global> = HashMap<TtlvTag, &'static str, BuildHasherDefault<FoldHasher>, A>;
 
 /// Two spaces a level.
+#[inline(always)]
 fn push_indent<A: Allocator>(out: &mut String<A>, depth: usize) -> Result<(), AllocError>
     ensures { OnOk result (string_bytes out.new ≡ string_bytes out.old ++ indent depth) }
 {
@@ -24,20 +26,25 @@ fn push_indent<A: Allocator>(out: &mut String<A>, depth: usize) -> Result<(), Al
 }
 
 /// `0x` and at least six digits.
+#[inline(always)]
 pub fn push_six<A: Allocator>(out: &mut String<A>, n: u64) -> Result<(), AllocError>
     ensures { OnOk result (string_bytes out.new ≡ string_bytes out.old ++ hex_padded 6 n) }
 {
-    write!(out, "0x{n:06X}")
+    out.push_str("0x")?;
+    push_wide(out, n)
 }
 
 /// `0x` and at least four digits.
+#[inline(always)]
 fn push_four<A: Allocator>(out: &mut String<A>, n: u32) -> Result<(), AllocError>
     ensures { OnOk result (string_bytes out.new ≡ string_bytes out.old ++ hex_padded 4 n) }
 {
-    write!(out, "0x{n:04X}")
+    out.push_str("0x")?;
+    push_digits(out, 4, n)
 }
 
 /// A tag, behind its name where it has one.
+#[inline(always)]
 fn push_tag<A: Allocator>(
     out: &mut String<A>,
     names: &TagMap<A>,
@@ -57,6 +64,7 @@ fn push_tag<A: Allocator>(
 }
 
 /// The beginning of a line, up to the tag.
+#[inline(always)]
 pub fn push_tag_part<A: Allocator>(
     out: &mut String<A>,
     names: &TagMap<A>,
@@ -71,8 +79,20 @@ pub fn push_tag_part<A: Allocator>(
 }
 
 /// What follows the tag, up to the type.
+#[inline(always)]
 pub fn push_type_part<A: Allocator>(out: &mut String<A>, typ: TtlvType) -> Result<(), AllocError>
     ensures { OnOk result (string_bytes out.new ≡ string_bytes out.old ++ (codes ", Type: " ++ type_text typ)) }
 {
-    write!(out, ", Type: {typ}")
+    match typ {
+        TtlvType::Structure => out.push_str(", Type: Structure (0x01)"),
+        TtlvType::Integer => out.push_str(", Type: Integer (0x02)"),
+        TtlvType::LongInteger => out.push_str(", Type: LongInteger (0x03)"),
+        TtlvType::BigInteger => out.push_str(", Type: BigInteger (0x04)"),
+        TtlvType::Enumeration => out.push_str(", Type: Enumeration (0x05)"),
+        TtlvType::Boolean => out.push_str(", Type: Boolean (0x06)"),
+        TtlvType::TextString => out.push_str(", Type: TextString (0x07)"),
+        TtlvType::ByteString => out.push_str(", Type: ByteString (0x08)"),
+        TtlvType::DateTime => out.push_str(", Type: DateTime (0x09)"),
+        TtlvType::Interval => out.push_str(", Type: Interval (0x0A)"),
+    }
 }

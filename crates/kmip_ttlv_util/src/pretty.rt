@@ -3,24 +3,27 @@
 
 ghost use Rattle.std.specs.Prelude.{◌≡◌, ◌≢◌, ℕ, ◌<◌, ◌++◌, List, length, true, IfOk, OnOk, codes, string_bytes};
 ghost use Rattle.std.specs.Int.{w32, w64, from_be_bytes, cast_signed};
-ghost use Rattle.std.specs.Fmt.{digit_glyph, decimal, signed_decimal};
+ghost use Rattle.std.specs.Fmt.{decimal, signed_decimal};
 ghost use Rattle.std.specs.Str.{IsUtf8};
 ghost use Rattle.kmip_ttlv_types.specs.declared.typ.TtlvType.TheVariants.{Structure as TheStructure};
 ghost use Rattle.kmip_ttlv_types.specs.Leaves.{is_valid};
 ghost use Rattle.kmip_ttlv_util.specs.Lines.{hex_padded};
 ghost use Rattle.kmip_ttlv_util.specs.TagNames.{name_in};
-ghost use Rattle.kmip_ttlv_util.specs.Pretty.{bracketed, two_digits, hex_bytes, value_shown, data_shown, pretty_line};
-ghost use Rattle.kmip_ttlv_util.specs.Pretty.{warning, IsPrinted};
+ghost use Rattle.kmip_ttlv_util.specs.Pretty.{bracketed, hex_bytes, value_shown, data_shown, pretty_line, warning};
+ghost use Rattle.kmip_ttlv_util.specs.Pretty.{IsPrinted};
 
 use crate::diagnostic::EXCEEDED;
+use crate::digits::push_two;
 use crate::item::{Item, item_at};
 use crate::lines::{TagMap, push_six, push_tag_part, push_type_part};
 use crate::walk::{Next, Walk};
+use itoa::Buffer;
 use kmip_ttlv_types::TtlvType;
 use std::alloc::{AllocError, Allocator};
 use std::str;
 
 /// The number that four bytes are.
+#[inline(always)]
 fn four_bytes(content: &[u8]) -> u32
     requires { length content.now ≡ 4 }
     ensures { result ≡ from_be_bytes w32 content.now }
@@ -29,6 +32,7 @@ fn four_bytes(content: &[u8]) -> u32
 }
 
 /// The number that eight bytes are.
+#[inline(always)]
 fn eight_bytes(content: &[u8]) -> u64
     requires { length content.now ≡ 8 }
     ensures { result ≡ from_be_bytes w64 content.now }
@@ -39,15 +43,24 @@ fn eight_bytes(content: &[u8]) -> u64
     ])
 }
 
+/// A text behind a space, in brackets.
+#[inline(always)]
+fn push_bracketed<A: Allocator>(out: &mut String<A>, text: &str) -> Result<(), AllocError>
+    ensures { OnOk result (string_bytes out.new ≡ string_bytes out.old ++ bracketed text.now) }
+{
+    out.push_str(" (")?;
+    out.push_str(text)?;
+    out.push_str(")")
+}
+
 /// A signed number of four bytes.
 fn push_integer<A: Allocator>(out: &mut String<A>, n: u32) -> Result<(), AllocError>
     ensures { OnOk result (string_bytes out.new
         ≡ string_bytes out.old
         ++ (hex_padded 6 n ++ bracketed (signed_decimal (cast_signed w32 n)))) }
 {
-    let signed = n.cast_signed();
     push_six(out, n as u64)?;
-    write!(out, " ({signed})")
+    push_bracketed(out, Buffer::new().format(n.cast_signed()))
 }
 
 /// A signed number of eight bytes.
@@ -56,9 +69,8 @@ fn push_long_integer<A: Allocator>(out: &mut String<A>, n: u64) -> Result<(), Al
         ≡ string_bytes out.old
         ++ (hex_padded 6 n ++ bracketed (signed_decimal (cast_signed w64 n)))) }
 {
-    let signed = n.cast_signed();
     push_six(out, n)?;
-    write!(out, " ({signed})")
+    push_bracketed(out, Buffer::new().format(n.cast_signed()))
 }
 
 /// An unsigned number of four bytes.
@@ -66,24 +78,7 @@ fn push_unsigned<A: Allocator>(out: &mut String<A>, n: u32) -> Result<(), AllocE
     ensures { OnOk result (string_bytes out.new ≡ string_bytes out.old ++ (hex_padded 6 n ++ bracketed (decimal n))) }
 {
     push_six(out, n as u64)?;
-    write!(out, " ({n})")
-}
-
-fn digit(n: u8) -> char
-    requires { n < 16 }
-    ensures digit { result ≡ digit_glyph true n }
-    ensures ascii { result < 128 }
-{
-    char::from(if n < 10 { 48 + n } else { 55 + n })
-}
-
-/// A byte in hexadecimal.
-fn push_byte<A: Allocator>(out: &mut String<A>, byte: u8) -> Result<(), AllocError>
-    ensures { OnOk result (string_bytes out.new ≡ string_bytes out.old ++ two_digits byte) }
-{
-    out.push(digit(byte / 16))?;
-    out.push(digit(byte % 16))?;
-    Ok(())
+    push_bracketed(out, Buffer::new().format(n))
 }
 
 /// Bytes in hexadecimal, two digits each.
@@ -91,13 +86,14 @@ fn push_bytes<A: Allocator>(out: &mut String<A>, content: &[u8]) -> Result<(), A
     ensures { OnOk result (string_bytes out.new ≡ string_bytes out.old ++ hex_bytes content.now) }
 {
     for byte in content {
-        push_byte(out, *byte)?;
+        push_two(out, *byte)?;
     }
     Ok(())
 }
 
 /// The value of a leaf.
 #[tactic(auto, unfolding(crate::specs::Pretty::value_shown))]
+#[inline(always)]
 fn push_value<A: Allocator>(
     out: &mut String<A>,
     typ: TtlvType,
@@ -117,16 +113,14 @@ fn push_value<A: Allocator>(
             "true"
         }),
         TtlvType::DateTime => push_six(out, eight_bytes(content)),
-        TtlvType::TextString => match str::from_utf8(content) {
-            Ok(text) => out.push_str(text),
-            Err(_) => unreachable!(),
-        },
+        TtlvType::TextString => out.push_str(unsafe { str::from_utf8_unchecked(content) }),
         TtlvType::BigInteger | TtlvType::ByteString => push_bytes(out, content),
     }
 }
 
 /// What follows `Data:`.
 #[tactic(auto, unfolding(crate::specs::Pretty::data_shown))]
+#[inline(always)]
 fn push_data<A: Allocator>(
     out: &mut String<A>,
     typ: TtlvType,
@@ -144,6 +138,7 @@ fn push_data<A: Allocator>(
 
 /// The line of an item so deep.
 #[tactic(auto, unfolding(crate::specs::Pretty::pretty_line))]
+#[inline(always)]
 fn push_line<A: Allocator>(
     out: &mut String<A>,
     names: &TagMap<A>,
@@ -164,6 +159,7 @@ fn push_line<A: Allocator>(
 
 /// The line that follows an empty structure that stays open.
 #[tactic(auto, unfolding(crate::specs::Pretty::warning))]
+#[inline(always)]
 fn push_warning<A: Allocator>(
     out: &mut String<A>,
     closed: bool,
@@ -178,6 +174,12 @@ fn push_warning<A: Allocator>(
     Ok(())
 }
 
+/// An estimate of how long a readable text is: six bytes a byte, and at most some 24 KiB.
+fn room_for(bytes: &[u8]) -> usize {
+    let count = bytes.len();
+    64 + 6 * if count < 4096 { count } else { 4096 }
+}
+
 /// The readable text of any bytes.
 pub fn print<A: Allocator + Copy>(
     alloc: A,
@@ -187,7 +189,7 @@ pub fn print<A: Allocator + Copy>(
 ) -> Result<String<A>, AllocError>
     ensures { IfOk result (λ r. IsPrinted (name_in names.now) closed bytes.now (string_bytes r)) }
 {
-    let mut out = String::new(alloc);
+    let mut out = String::with_capacity(alloc, room_for(bytes))?;
     let mut walk = Walk::new(alloc);
     'walk: loop {
         match walk.next() {

@@ -1,53 +1,64 @@
 //! Diagnostics read back: a text is read from its front, a part at a time, in a loop.
 
-ghost use Rattle.std.specs.Prelude.{◌≡◌, ℕ, ◌+◌, ◌++◌, ◌∷◌, ◌<◌, ◌^◌, List, length, take, drop, Option, None, Some};
-ghost use Rattle.std.specs.Prelude.{IfOk, IfSome, IfNone, string_bytes};
-ghost use Rattle.std.specs.List.{prefix_len};
+ghost use Rattle.std.specs.Prelude.{◌≡◌, ℕ, ◌+◌, ◌++◌, ◌∷◌, ◌<◌, ◌≤◌, ◌^◌, List, length, Option, None, Some, IfOk};
+ghost use Rattle.std.specs.Prelude.{IfSome, IfNone, string_bytes};
 ghost use Rattle.std.specs.Str.{IsUtf8};
 ghost use Rattle.kmip_ttlv_types.specs.Names.{tag_of};
 ghost use Rattle.kmip_ttlv_util.specs.Lines.{typ_part};
 ghost use Rattle.kmip_ttlv_util.specs.TagNames.{name_in};
-ghost use Rattle.kmip_ttlv_util.specs.Letters.{is_hex, type_of_letter};
+ghost use Rattle.kmip_ttlv_util.specs.LastDigits.{last_digits};
+ghost use Rattle.kmip_ttlv_util.specs.Letters.{type_of_letter};
+ghost use Rattle.kmip_ttlv_util.specs.Prefixes.{IsNumber};
 ghost use Rattle.kmip_ttlv_util.specs.Undiag.{front_type, front_value, data_step, step, Reads, undiag, undiag_lines};
 
+use crate::diagnostic::{Prefix, prefix_of};
+use crate::digits::digits_in_front;
 use crate::lines::{TagMap, push_tag_part, push_type_part};
 use kmip_ttlv_types::{TtlvTag, TtlvType};
 use std::alloc::{AllocError, Allocator};
 
-fn is_hex(b: u8) -> bool
-    ensures { result ≡ is_hex b }
+/// The tag that digits in front give after `0x` and the prefix, where all of these are a tag's six digits.
+#[inline(always)]
+fn six_digits_tag(prefix: &Prefix<'_>, count: usize, number: u32) -> Option<TtlvTag>
+    requires prefix { IsNumber prefix.now }
+    requires small { count ≤ 8 → number < 16 ^ count }
+    ensures tag { IfSome result (λ t. tag_of (48 ∷ 120 ∷ (prefix.now.text.now ++ last_digits count number)) ≡ Some t) }
+    ensures few { IfSome result (λ _. count ≤ 6) }
 {
-    (48 <= b && b <= 57) || (65 <= b && b <= 70)
-}
-
-/// How many digits stand in front.
-fn digits_len(s: &str) -> usize
-    ensures { result ≡ prefix_len is_hex s.now }
-{
-    let bytes = s.as_bytes();
-    let mut n = 0;
-    while n < bytes.len() && is_hex(bytes[n]) {
-        n += 1;
+    if 6 < prefix.count || 6 < count || prefix.count + count != 6 {
+        return None;
     }
-    n
+    TtlvTag::from_number((prefix.number << (4 * count as u32)) + number)
 }
 
-/// The digits in front, and what follows.
-fn split_digits(s: &str) -> (&str, &str)
-    ensures digits { result.0.now ≡ take (prefix_len is_hex s.now) s.now }
-    ensures rest { result.1.now ≡ drop (prefix_len is_hex s.now) s.now }
+/// The tag that digits in front give after `0x` and the prefix.
+#[inline(always)]
+fn tag_of<A: Allocator>(
+    alloc: A,
+    prefix: &Prefix<'_>,
+    digits: &str,
+    number: u32,
+) -> Result<Option<TtlvTag>, AllocError>
+    requires prefix { IsNumber prefix.now }
+    requires number { length digits.now ≤ 8 → digits.now ≡ last_digits (length digits.now) number }
+    requires small { length digits.now ≤ 8 → number < 16 ^ length digits.now }
+    ensures { IfOk result (λ r. r ≡ tag_of (48 ∷ 120 ∷ (prefix.now.text.now ++ digits.now))) }
 {
-    s.split_at(digits_len(s))
+    if let Some(tag) = six_digits_tag(prefix, digits.len(), number) {
+        return Ok(Some(tag));
+    }
+    named(alloc, prefix.text, digits)
 }
 
-/// The tag that digits give after `0x` and the prefix.
-fn tag_of<A: Allocator>(alloc: A, prefix: &str, digits: &str) -> Result<Option<TtlvTag>, AllocError>
+/// The same, by the name that all of these are.
+fn named<A: Allocator>(alloc: A, prefix: &str, digits: &str) -> Result<Option<TtlvTag>, AllocError>
     ensures { IfOk result (λ r. r ≡ tag_of (48 ∷ 120 ∷ (prefix.now ++ digits.now))) }
 {
     let name = format!(in alloc; "0x{prefix}{digits}")?;
     Ok(TtlvTag::from_name(name.as_str()))
 }
 
+#[inline(always)]
 fn type_of_letter(b: u8) -> Option<TtlvType>
     ensures { result ≡ type_of_letter b }
 {
@@ -67,6 +78,7 @@ fn type_of_letter(b: u8) -> Option<TtlvType>
 }
 
 /// The type of a letter in front, and what follows.
+#[inline(always)]
 fn split_letter(s: &str) -> Option<(TtlvType, &str)>
     ensures some { IfSome result (λ r. front_type s.now ≡ Some (r.0, r.1.now)) }
     ensures none { IfNone result (front_type s.now ≡ None) }
@@ -81,6 +93,7 @@ fn split_letter(s: &str) -> Option<(TtlvType, &str)>
 }
 
 /// A value before a colon, not empty, and what follows the colon.
+#[inline(always)]
 fn split_value(s: &str) -> Option<(&str, &str)>
     ensures some { IfSome result (λ r. front_value s.now ≡ Some (r.0.now, r.1.now)) }
     ensures none { IfNone result (front_value s.now ≡ None) }
@@ -95,6 +108,7 @@ fn split_value(s: &str) -> Option<(&str, &str)>
 }
 
 /// The data that follows a type: the depth from there on, and the text that is left.
+#[inline(always)]
 fn read_data<'t, A: Allocator>(
     out: &mut String<A>,
     depth: usize,
@@ -131,16 +145,18 @@ fn read_data<'t, A: Allocator>(
 }
 
 /// The next part of a text: the depth from there on, and the text that is left.
+#[inline(always)]
 fn read_part<'t, A: Allocator + Copy>(
     alloc: A,
-    prefix: &str,
+    prefix: &Prefix<'_>,
     names: &TagMap<A>,
     out: &mut String<A>,
     depth: usize,
     s: &'t str,
 ) -> Result<Option<(usize, &'t str)>, AllocError>
     requires room { depth + 1 < 2 ^ 64 }
-    ensures { IfOk result (λ r. Reads (step (name_in names.now) prefix.now depth s.now)
+    requires prefix { IsNumber prefix.now }
+    ensures { IfOk result (λ r. Reads (step (name_in names.now) prefix.now.text.now depth s.now)
         (string_bytes out.old) (string_bytes out.new) r) }
 {
     if s.is_empty() {
@@ -152,8 +168,9 @@ fn read_part<'t, A: Allocator + Copy>(
         }
         return Ok(Some((depth - 1, rest)));
     }
-    let (digits, rest) = split_digits(s);
-    let Some(tag) = tag_of(alloc, prefix, digits)? else {
+    let (count, number) = digits_in_front(s);
+    let (digits, rest) = s.split_at(count);
+    let Some(tag) = tag_of(alloc, prefix, digits, number)? else {
         return Ok(None);
     };
     push_tag_part(out, names, depth, tag)?;
@@ -163,6 +180,12 @@ fn read_part<'t, A: Allocator + Copy>(
     push_type_part(out, typ)?;
     let part = read_data(out, depth, typ, rest)?;
     Ok(part)
+}
+
+/// An estimate of how long a diagnostic's lines are: sixteen bytes a character, and at most 64 KiB.
+fn room_for(s: &str) -> usize {
+    let count = s.len();
+    16 * if count < 4096 { count } else { 4096 }
 }
 
 /// The lines of a diagnostic.
@@ -175,13 +198,15 @@ pub fn read_back<A: Allocator + Copy>(
     ensures undiag { IfOk result (λ r. string_bytes r ≡ undiag (name_in names.now) prefix.now s.now) }
     ensures utf8 { IfOk result (λ _. IsUtf8 (undiag_lines (name_in names.now) prefix.now s.now)) }
 {
-    let mut out = String::new(alloc);
+    let numbered = prefix_of(prefix);
+    let mut out = String::with_capacity(alloc, room_for(s))?;
     let mut rest = s;
     let mut depth = 0;
-    while let Some((next, left)) = read_part(alloc, prefix, names, &mut out, depth, rest)? {
+    while let Some((next, left)) = read_part(alloc, &numbered, names, &mut out, depth, rest)? {
         depth = next;
         rest = left;
     }
-    let text = String::from_str(alloc, out.trim_end())?;
-    Ok(text)
+    let end = out.trim_end().len();
+    out.truncate(end);
+    Ok(out)
 }

@@ -57,6 +57,7 @@ impl<A: Allocator> Walk<A> {
     }
 
     /// How many structures are open.
+    #[inline(always)]
     pub fn depth(&self) -> usize
         requires { self.now.endless + length self.now.ends.items < 2 ^ 64 }
         ensures { result ≡ self.now.endless + length self.now.ends.items }
@@ -65,6 +66,7 @@ impl<A: Allocator> Walk<A> {
     }
 
     /// Finds what comes next, and takes away an end that is reached.
+    #[inline(always)]
     pub fn next(&mut self) -> Next
         ensures comes { Comes (place_of self.old) (place_of self.new) result }
         ensures pos { self.new.pos ≡ self.old.pos }
@@ -87,6 +89,7 @@ impl<A: Allocator> Walk<A> {
     }
 
     /// Goes on past an item: `len` is the length that it states, and `next` the place of the next.
+    #[inline(always)]
     pub fn step(
         &mut self,
         closed: bool,

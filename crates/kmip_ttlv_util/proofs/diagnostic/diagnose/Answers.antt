@@ -4,16 +4,17 @@ use Rattle.kmip_ttlv_util.specs.WalkPlaces.{Place}
 use Rattle.kmip_ttlv_util.specs.Entries.{type_read, entry_at}
 use Rattle.kmip_ttlv_util.specs.Diagnostics.{diag_style, exceeded, hostile}
 use Rattle.kmip_ttlv_util.proofs.Message.{item_mark}
+use Rattle.kmip_ttlv_util.specs.Outlines.{mark}
 use Rattle.kmip_ttlv_util.specs.Walks.{place_of, Ready}
 use Rattle.kmip_ttlv_util.proofs.Loop.{Walking, smaller, walking_start, walking_reads, walking_unreadable, walking_closes, walking_over, walking_past}
 use Rattle.kmip_ttlv_util.proofs.diagnostic.diagnose.Goals as goal
 
 pub walk-init : goal.walk-init
 walk-init g c =
-    rw (c.new-out.ensures.bytes, c.new-walk.ensures) (walking_start (diag_style c.args.prefix.now) c.args.closed c.args.bytes.now)
+    rw (c.in_ok-out.ensures.bytes, c.new-walk.ensures) (walking_start (diag_style c.args.prefix.now) c.args.closed c.args.bytes.now)
 
-pub walk-preserved-in-Continue-1 : goal.walk-preserved-in-Continue-1
-walk-preserved-in-Continue-1 g c =
+pub walk-preserved-in-Continue-branch-2 : goal.walk-preserved-in-Continue-branch-2
+walk-preserved-in-Continue-branch-2 g c =
     walking_closes (diag_style c.args.prefix.now) c.args.closed c.args.bytes.now (string_bytes c.walk.out) (string_bytes c.push_close.new.out) c.walk.count (place_of c.walk.walk) (place_of c.next.new.self) c.walk.invariant c.in-Closes.ensures.comes c.in_ok-push_close-in-Closes.ensures
 
 pub returns-in-Over-clause-text : goal.returns-in-Over-clause-text
@@ -60,4 +61,4 @@ walk-preserved g c =
     let h = c.in-Reads.ensures.comes in
     let at = subst (λ (s : Place). Walking (diag_style c.args.prefix.now) c.args.closed c.args.bytes.now (string_bytes c.walk.out) c.walk.count s) (sym h.0) c.walk.invariant in
     let ready = subst (λ (s : Place). Ready s) (sym h.0) h.1 in
-    walking_reads (diag_style c.args.prefix.now) c.args.closed c.args.bytes.now (string_bytes c.walk.out) (string_bytes c.push_mark.new.out) c.walk.count (place_of c.next.new.self) (place_of c.step.new.self) c.in-Some.item at ready c.in-Some.ensures.some (c.in_ok-push_mark-in-Reads.ensures ∙ ap (λ (m : List ℕ). string_bytes c.walk.out ++ m) (item_mark c.args.prefix.now c.args.bytes.now (c.next.new.self.endless + length (reverse c.next.new.self.ends.items)) c.next.new.self.pos c.in-Some.item c.in-Some.ensures.some)) c.in_ok-step-in-Reads.ensures.goes
+    walking_reads (diag_style c.args.prefix.now) c.args.closed c.args.bytes.now (string_bytes c.walk.out) (string_bytes c.push_mark.new.out) c.walk.count (place_of c.next.new.self) (place_of c.step.new.self) c.in-Some.item at ready c.in-Some.ensures.some (c.in_ok-push_mark-in-Reads.ensures ∙ ap (λ (p : List ℕ). string_bytes c.walk.out ++ mark p c.in-Some.item.tag c.in-Some.item.typ c.in-Some.item.value) c.prefix_of-numbered.ensures.text ∙ ap (λ (m : List ℕ). string_bytes c.walk.out ++ m) (item_mark c.args.prefix.now c.args.bytes.now (c.next.new.self.endless + length (reverse c.next.new.self.ends.items)) c.next.new.self.pos c.in-Some.item c.in-Some.ensures.some)) c.in_ok-step-in-Reads.ensures.goes

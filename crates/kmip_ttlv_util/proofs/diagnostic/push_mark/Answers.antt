@@ -12,4 +12,4 @@ pub returns : goal.returns
 unfolding mark
 returns g c =
     let h = c.in_ok-push.ensures in
-    marked (string_bytes c.push_value.new.out) (string_bytes c.push.new.self) (string_bytes c.push_tag.new.out) (string_bytes c.args.out.now) (stripped c.args.prefix.now (six_digits c.args.tag)) _ (value_text c.args.value) c.letter.result (letter c.args.typ) c.in_ok-push_value.ensures h.bytes (h.ascii c.letter.ensures.ascii) c.in_ok-push_tag.ensures c.letter.ensures.letter
+    marked (string_bytes c.push_value.new.out) (string_bytes c.push.new.self) (string_bytes c.push_tag.new.out) (string_bytes c.args.out.now) (stripped c.args.prefix.now.text.now (six_digits c.args.tag)) _ (value_text c.args.value) c.letter.result (letter c.args.typ) c.in_ok-push_value.ensures h.bytes (h.ascii c.letter.ensures.ascii) c.in_ok-push_tag.ensures c.letter.ensures.letter

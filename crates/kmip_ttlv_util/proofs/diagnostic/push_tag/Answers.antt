@@ -1,5 +1,33 @@
+use Rattle.std.proofs.Common.{rules, arith, ◌≡◌, ◌-◌, ◌+◌, ℕ, drop, ap, sym, subst, ◌∙◌}
+use Rattle.std.specs.Str.{IsUtf8}
 use Rattle.std.proofs.lemmas.Str.{IsUtf8-from_ascii}
+use Rattle.kmip_ttlv_util.specs.LastDigits.{last_digits}
+use Rattle.kmip_ttlv_util.specs.Outlines.{stripped}
+use Rattle.kmip_ttlv_util.proofs.HexDigits.{last_ascii, last_drop, end_of}
+use Rattle.kmip_ttlv_util.proofs.PrefixNumbers.{six_last}
 use Rattle.kmip_ttlv_util.proofs.diagnostic.push_tag.Goals as goal
 
-pub unreachable-requires : goal.unreachable-requires
-unreachable-requires g c = c.in_default.ensures.cases.0 (IsUtf8-from_ascii _ c.digits-digits.ensures.ascii)
+pub from_utf8_unchecked-text-requires : goal.from_utf8_unchecked-text-requires
+from_utf8_unchecked-text-requires g c =
+    subst IsUtf8 (sym (end_of 2 6 c.deref.result.now c.eight-digits.result (omega arith) c.eight-digits.ensures)) (IsUtf8-from_ascii _ (last_ascii 6 c.deref.result.now))
+
+pub returns-then-prefix-gt6 : goal.returns-then-prefix-gt6
+returns-then-prefix-gt6 g c =
+    let six = c.from_utf8_unchecked-text.ensures ∙ end_of 2 6 c.deref.result.now c.eight-digits.result (omega arith) c.eight-digits.ensures ∙ ap (last_digits 6) c.deref.ensures ∙ sym (six_last c.args.tag) in
+    let text = c.strip.ensures ∙ ap (stripped c.args.prefix.now.text.now) six in
+    rw (← text) (search rules)
+
+pub from_utf8_unchecked-requires : goal.from_utf8_unchecked-requires
+from_utf8_unchecked-requires g c =
+    let r = c.left_out-from.result in
+    subst IsUtf8 (sym (end_of (r + 2) (8 - (r + 2)) c.deref.result.now c.eight-digits.result (omega (arith, c.left_out-from.ensures.bounded)) c.eight-digits.ensures)) (IsUtf8-from_ascii _ (last_ascii (8 - (r + 2)) c.deref.result.now))
+
+pub returns : goal.returns
+returns g c =
+    let r = c.left_out-from.result in
+    let few : 8 - (r + 2) ≡ 6 - r = omega (arith, c.left_out-from.ensures.bounded) in
+    let back : 6 - (6 - r) ≡ r = omega (arith, c.left_out-from.ensures.bounded) in
+    let text = c.from_utf8_unchecked.ensures ∙ end_of (r + 2) (8 - (r + 2)) c.deref.result.now c.eight-digits.result (omega (arith, c.left_out-from.ensures.bounded)) c.eight-digits.ensures
+    ∙ ap (λ (k : ℕ). last_digits k c.deref.result.now) few ∙ ap (last_digits (6 - r)) c.deref.ensures
+    ∙ sym (last_drop 6 (6 - r) c.args.tag (omega arith)) ∙ ap (λ (k : ℕ). drop k (last_digits 6 c.args.tag)) back ∙ ap (drop r) (sym (six_last c.args.tag)) ∙ c.left_out-from.ensures.stripped in
+    rw (← text) (search rules)

@@ -14,7 +14,7 @@ use Rattle.kmip_ttlv_util.proofs.pretty.print.Goals as goal
 
 pub walk-init : goal.walk-init
 walk-init g c =
-    rw (c.new-out.ensures.bytes, c.new-walk.ensures) (0, λ wording. walking_start (pretty_style (name_in c.args.names.now) c.args.closed c.args.bytes.now wording) c.args.closed c.args.bytes.now)
+    rw (c.in_ok-out.ensures.bytes, c.new-walk.ensures) (0, λ wording. walking_start (pretty_style (name_in c.args.names.now) c.args.closed c.args.bytes.now wording) c.args.closed c.args.bytes.now)
 
 pub walk-preserved-in-Closes : goal.walk-preserved-in-Closes
 walk-preserved-in-Closes g c =

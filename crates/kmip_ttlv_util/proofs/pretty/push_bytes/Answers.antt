@@ -11,6 +11,6 @@ pub loop-byte-preserved : goal.loop-byte-preserved
 loop-byte-preserved g c =
     let i = c.loop-byte.byte-index in
     let xs = c.args.content.now in
-    c.in_ok-push_byte.ensures ∙ ap (λ (s : List ℕ). s ++ two_digits (get_or xs i 0)) c.loop-byte.invariant
+    c.in_ok-push_two.ensures ∙ ap (λ (s : List ℕ). s ++ two_digits (get_or xs i 0)) c.loop-byte.invariant
     ∙ append_assoc (string_bytes c.args.out.now) (hex_bytes (take i xs)) (two_digits (get_or xs i 0))
     ∙ ap (λ (s : List ℕ). string_bytes c.args.out.now ++ s) (sym (hex_more xs i c.loop-byte-test.true))

@@ -1,7 +1,0 @@
-use Rattle.std.proofs.Common.{[], ◌∷◌}
-use Rattle.std.specs.Prelude.{string_bytes}
-use Rattle.kmip_ttlv_util.proofs.Padding.{appended}
-use Rattle.kmip_ttlv_util.proofs.lines.push_four.Goals as goal
-
-pub returns : goal.returns
-returns g c = appended c.write.result (string_bytes c.args.out.now) (string_bytes c.write.new.self) (48 ∷ 120 ∷ []) _ 4 c.args.n c.in_radix.ensures (rw c.laid_out.ensures at c.write.ensures.bytes)
