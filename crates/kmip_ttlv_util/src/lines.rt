@@ -10,8 +10,11 @@ use std::alloc::{AllocError, Allocator, Global};
 use std::collections::HashMap;
 use std::hash::{BuildHasherDefault, FoldHasher};
 
-/// The names of tags, for [`crate::PrettyPrinter::with_tag_map`].
-pub type TagMap<A = Global> = HashMap<TtlvTag, &'static str, BuildHasherDefault<FoldHasher>, A>;
+/// The names of tags, lent as long as `'n`.
+pub type LentTagMap<'n, A = Global> = HashMap<TtlvTag, &'n str, BuildHasherDefault<FoldHasher>, A>;
+
+/// The names of tags that a printer keeps, for [`crate::PrettyPrinter::with_tag_map`].
+pub type TagMap<A = Global> = LentTagMap<'static, A>;
 
 /// Two spaces a level.
 fn push_indent<A: Allocator>(out: &mut String<A>, depth: usize) -> Result<(), AllocError>
@@ -40,7 +43,7 @@ fn push_four<A: Allocator>(out: &mut String<A>, n: u32) -> Result<(), AllocError
 /// A tag, behind its name where it has one.
 fn push_tag<A: Allocator>(
     out: &mut String<A>,
-    names: &TagMap<A>,
+    names: &LentTagMap<'_, A>,
     tag: TtlvTag,
 ) -> Result<(), AllocError>
     ensures { OnOk result (string_bytes out.new ≡ string_bytes out.old ++ tag_named (name_in names.now tag) tag) }
@@ -59,7 +62,7 @@ fn push_tag<A: Allocator>(
 /// The beginning of a line, up to the tag.
 pub fn push_tag_part<A: Allocator>(
     out: &mut String<A>,
-    names: &TagMap<A>,
+    names: &LentTagMap<'_, A>,
     depth: usize,
     tag: TtlvTag,
 ) -> Result<(), AllocError>

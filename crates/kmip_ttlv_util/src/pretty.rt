@@ -13,7 +13,7 @@ ghost use Rattle.kmip_ttlv_util.specs.Pretty.{bracketed, two_digits, hex_bytes, 
 
 use crate::diagnostic::EXCEEDED;
 use crate::item::{Item, item_at};
-use crate::lines::{TagMap, push_six, push_tag_part, push_type_part};
+use crate::lines::{LentTagMap, push_six, push_tag_part, push_type_part};
 use crate::walk::{Next, Walk};
 use kmip_ttlv_types::TtlvType;
 use std::alloc::{AllocError, Allocator};
@@ -141,7 +141,7 @@ fn push_data<A: Allocator>(
 #[tactic(auto, unfolding(crate::specs::Pretty::pretty_line))]
 fn push_line<A: Allocator>(
     out: &mut String<A>,
-    names: &TagMap<A>,
+    names: &LentTagMap<'_, A>,
     depth: usize,
     item: &Item<'_>,
 ) -> Result<(), AllocError>
@@ -174,7 +174,7 @@ fn push_warning<A: Allocator>(
 /// The readable text of any bytes.
 pub fn print<A: Allocator + Copy>(
     alloc: A,
-    names: &TagMap<A>,
+    names: &LentTagMap<'_, A>,
     closed: bool,
     bytes: &[u8],
 ) -> Result<String<A>, AllocError>

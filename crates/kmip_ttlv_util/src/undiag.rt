@@ -9,7 +9,7 @@ ghost use Rattle.kmip_ttlv_util.specs.TagNames.{name_in};
 ghost use Rattle.kmip_ttlv_util.specs.Letters.{is_hex, type_of_letter};
 ghost use Rattle.kmip_ttlv_util.specs.Undiag.{front_type, front_value, data_step, step, Reads, undiag, undiag_lines};
 
-use crate::lines::{TagMap, push_tag_part, push_type_part};
+use crate::lines::{LentTagMap, push_tag_part, push_type_part};
 use kmip_ttlv_types::{TtlvTag, TtlvType};
 use std::alloc::{AllocError, Allocator};
 
@@ -131,7 +131,7 @@ fn read_data<'t, A: Allocator>(
 fn read_part<'t, A: Allocator + Copy>(
     alloc: A,
     prefix: &str,
-    names: &TagMap<A>,
+    names: &LentTagMap<'_, A>,
     out: &mut String<A>,
     depth: usize,
     s: &'t str,
@@ -165,7 +165,7 @@ fn read_part<'t, A: Allocator + Copy>(
 pub fn read_back<A: Allocator + Copy>(
     alloc: A,
     prefix: &str,
-    names: &TagMap<A>,
+    names: &LentTagMap<'_, A>,
     s: &str,
 ) -> Result<String<A>, AllocError>
     ensures undiag { IfOk result (λ r. string_bytes r ≡ undiag (name_in names.now) prefix.now s.now) }
