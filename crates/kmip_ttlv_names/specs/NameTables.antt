@@ -54,7 +54,7 @@ names_after names [] = names
 names_after names (l ∷ ls) = names_after (with_name names (line_of l)) ls
 
 -- the names that a table gives
-abbrev pub names_of : List ℕ → ℕ → Option (List ℕ)
+unfoldable pub names_of : List ℕ → ℕ → Option (List ℕ)
 names_of table = names_after no_names (lines_of table)
 
 -- whether a line can be read
@@ -68,7 +68,7 @@ bad_from n [] = None
 bad_from n (l ∷ ls) = if is_good (line_of l) then bad_from (suc n) ls else Some n
 
 -- the first line of a table that can't be read
-abbrev pub bad_line : List ℕ → Option ℕ
+unfoldable pub bad_line : List ℕ → Option ℕ
 bad_line table = bad_from 1 (lines_of table)
 
 -- why a table was not read
