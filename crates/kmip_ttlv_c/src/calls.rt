@@ -4,7 +4,7 @@ ghost use Rattle.std.specs.Prelude.{◌≡◌, IfOk, IfErr, OnOk, string_bytes};
 ghost use Rattle.kmip_ttlv_util.specs.TagNames.{name_in};
 ghost use Rattle.kmip_ttlv_names.specs.NameTables.{names_of};
 ghost use Rattle.kmip_ttlv_c.specs.Buffers.{AnswersText};
-ghost use Rattle.kmip_ttlv_c.specs.Calls.{IsDiagnostic, PrefixRefused, IsReadable, NamesRefused, StandardRefused, IsReadLines, ReadingRefused, IsVersion, NeverRefused};
+ghost use Rattle.kmip_ttlv_c.specs.Calls.{IsDiagnostic, PrefixRefused, IsTable, IsReadable, IsNamedText, NamesRefused, StandardRefused, IsReadLines, ReadingRefused, IsVersion, NeverRefused};
 
 use crate::buffer::offer;
 use crate::status::{BAD_NAMES, NOT_UTF8, OUT_OF_MEMORY};
@@ -60,7 +60,8 @@ pub extern "C" fn kmip_ttlv_to_diag(
 /// can't be read goes out beside it.
 fn names_in<'t>(alloc: Global, table: &'t [u8], bad_line: &mut usize) -> Result<LentTagMap<'t>, u32>
     ensures names { IfOk result (λ names. name_in names ≡ names_of table.now) }
-    ensures good { OnOk result (bad_line.new ≡ 0) }
+    ensures good { OnOk result (IsTable table.now) }
+    ensures line { OnOk result (bad_line.new ≡ 0) }
     ensures refused { IfErr result (λ status. NamesRefused table.now bad_line.new status) }
 {
     *bad_line = 0;
@@ -88,7 +89,7 @@ pub extern "C" fn kmip_ttlv_to_text(
     length: &mut usize,
     bad_line: &mut usize,
 ) -> u32
-    ensures { AnswersText (IsReadable (names_of names.now) closed bytes.now) (NamesRefused names.now bad_line.new) result length.new out.old out.new }
+    ensures { AnswersText (IsNamedText names.now closed bytes.now) (NamesRefused names.now bad_line.new) result length.new out.old out.new }
 {
     *length = 0;
     let names = match names_in(alloc, names, bad_line) {
@@ -133,7 +134,7 @@ pub extern "C" fn kmip_ttlv_from_diag(
     length: &mut usize,
     bad_line: &mut usize,
 ) -> u32
-    ensures { AnswersText (IsReadLines (names_of names.now) prefix.now diagnostic.now) (ReadingRefused diagnostic.now prefix.now names.now bad_line.new) result length.new out.old out.new }
+    ensures { AnswersText (IsReadLines names.now prefix.now diagnostic.now) (ReadingRefused diagnostic.now prefix.now names.now bad_line.new) result length.new out.old out.new }
 {
     *length = 0;
     *bad_line = 0;
