@@ -11,10 +11,12 @@ mod digits;
 mod item;
 pub mod laws;
 mod lines;
+mod named;
 mod pretty;
 mod printer;
 mod undiag;
 mod walk;
 
-pub use lines::TagMap;
+pub use lines::{LentTagMap, TagMap};
+pub use named::{read_back_named, text_named};
 pub use printer::PrettyPrinter;

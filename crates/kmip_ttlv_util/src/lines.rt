@@ -11,8 +11,11 @@ use std::alloc::{AllocError, Allocator, Global};
 use std::collections::HashMap;
 use std::hash::{BuildHasherDefault, FoldHasher};
 
-/// The names of tags, for [`crate::PrettyPrinter::with_tag_map`].
-pub type TagMap<A = Global> = HashMap<TtlvTag, &'static str, BuildHasherDefault<FoldHasher>, A>;
+/// The names of tags, lent as long as `'n`.
+pub type LentTagMap<'n, A = Global> = HashMap<TtlvTag, &'n str, BuildHasherDefault<FoldHasher>, A>;
+
+/// The names of tags that a printer keeps, for [`crate::PrettyPrinter::with_tag_map`].
+pub type TagMap<A = Global> = LentTagMap<'static, A>;
 
 /// Two spaces a level.
 #[inline(always)]
@@ -47,7 +50,7 @@ fn push_four<A: Allocator>(out: &mut String<A>, n: u32) -> Result<(), AllocError
 #[inline(always)]
 fn push_tag<A: Allocator>(
     out: &mut String<A>,
-    names: &TagMap<A>,
+    names: &LentTagMap<'_, A>,
     tag: TtlvTag,
 ) -> Result<(), AllocError>
     ensures { OnOk result (string_bytes out.new ≡ string_bytes out.old ++ tag_named (name_in names.now tag) tag) }
@@ -67,7 +70,7 @@ fn push_tag<A: Allocator>(
 #[inline(always)]
 pub fn push_tag_part<A: Allocator>(
     out: &mut String<A>,
-    names: &TagMap<A>,
+    names: &LentTagMap<'_, A>,
     depth: usize,
     tag: TtlvTag,
 ) -> Result<(), AllocError>

@@ -15,7 +15,7 @@ ghost use Rattle.kmip_ttlv_util.specs.Pretty.{IsPrinted};
 use crate::diagnostic::EXCEEDED;
 use crate::digits::push_two;
 use crate::item::{Item, item_at};
-use crate::lines::{TagMap, push_six, push_tag_part, push_type_part};
+use crate::lines::{LentTagMap, push_six, push_tag_part, push_type_part};
 use crate::walk::{Next, Walk};
 use itoa::Buffer;
 use kmip_ttlv_types::TtlvType;
@@ -141,7 +141,7 @@ fn push_data<A: Allocator>(
 #[inline(always)]
 fn push_line<A: Allocator>(
     out: &mut String<A>,
-    names: &TagMap<A>,
+    names: &LentTagMap<'_, A>,
     depth: usize,
     item: &Item<'_>,
 ) -> Result<(), AllocError>
@@ -183,7 +183,7 @@ fn room_for(bytes: &[u8]) -> usize {
 /// The readable text of any bytes.
 pub fn print<A: Allocator + Copy>(
     alloc: A,
-    names: &TagMap<A>,
+    names: &LentTagMap<'_, A>,
     closed: bool,
     bytes: &[u8],
 ) -> Result<String<A>, AllocError>

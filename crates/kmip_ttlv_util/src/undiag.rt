@@ -13,7 +13,7 @@ ghost use Rattle.kmip_ttlv_util.specs.Undiag.{front_type, front_value, data_step
 
 use crate::diagnostic::{Prefix, prefix_of};
 use crate::digits::digits_in_front;
-use crate::lines::{TagMap, push_tag_part, push_type_part};
+use crate::lines::{LentTagMap, push_tag_part, push_type_part};
 use kmip_ttlv_types::{TtlvTag, TtlvType};
 use std::alloc::{AllocError, Allocator};
 
@@ -149,7 +149,7 @@ fn read_data<'t, A: Allocator>(
 fn read_part<'t, A: Allocator + Copy>(
     alloc: A,
     prefix: &Prefix<'_>,
-    names: &TagMap<A>,
+    names: &LentTagMap<'_, A>,
     out: &mut String<A>,
     depth: usize,
     s: &'t str,
@@ -192,7 +192,7 @@ fn room_for(s: &str) -> usize {
 pub fn read_back<A: Allocator + Copy>(
     alloc: A,
     prefix: &str,
-    names: &TagMap<A>,
+    names: &LentTagMap<'_, A>,
     s: &str,
 ) -> Result<String<A>, AllocError>
     ensures undiag { IfOk result (λ r. string_bytes r ≡ undiag (name_in names.now) prefix.now s.now) }

@@ -1,0 +1,198 @@
+//! Walks: items, faults and their places, and lists that are too short.
+
+use hex::FromHexError;
+use kmip_ttlv::items::{Fault, FaultKind, FoundItem, find_fault, walk_items};
+use kmip_ttlv::types::{TtlvTag, TtlvType};
+use refusing_allocator::RefusingAllocator;
+use std::alloc::Global;
+
+// A message as hexadecimal text, the place of its first fault, and what is wrong there.
+type Row = (&'static str, usize, FaultKind);
+
+// One row for each fault, and the first of several.
+const FAULTS: [Row; 20] = [
+    ("", 0, FaultKind::Cut),
+    ("42006901000000", 0, FaultKind::Cut),
+    ("4200690100000008", 0, FaultKind::Cut),
+    (
+        "420069010000001042006A020000000400000001000000",
+        0,
+        FaultKind::Cut,
+    ),
+    (
+        "42006A02000000040000000100000000",
+        0,
+        FaultKind::NoStructure,
+    ),
+    ("42006A0B00000000", 0, FaultKind::UnknownType),
+    ("42006A0000000000", 0, FaultKind::UnknownType),
+    (
+        "420069010000001042006A0B0000000400000001000000",
+        0,
+        FaultKind::Cut,
+    ),
+    (
+        "420069010000001042006A0B000000040000000100000000",
+        8,
+        FaultKind::UnknownType,
+    ),
+    ("420069010000000442006A02", 8, FaultKind::PartialHeader),
+    (
+        "420069010000001042006A020000000500000001000000FF",
+        8,
+        FaultKind::WrongLength,
+    ),
+    (
+        "420069010000001042006A030000000400000001000000FF",
+        8,
+        FaultKind::WrongLength,
+    ),
+    ("420069010000000842006A0200000004", 8, FaultKind::Overlong),
+    (
+        "420069010000000C42006A020000000400000001",
+        8,
+        FaultKind::Overlong,
+    ),
+    ("420069010000000842006A0100000008", 8, FaultKind::Overlong),
+    (
+        "420069010000001042006A06000000080000000000000002",
+        8,
+        FaultKind::InvalidValue,
+    ),
+    (
+        "420069010000001042006A0700000001FF00000000000000",
+        8,
+        FaultKind::InvalidValue,
+    ),
+    ("420069010000000000", 8, FaultKind::Surplus),
+    ("42006901000000004200690100000000", 8, FaultKind::Surplus),
+    (
+        "420069010000001842006A010000000842006B010000000842006C0100000000",
+        16,
+        FaultKind::Overlong,
+    ),
+];
+
+// Messages that are whole, with the number of their items.
+const WHOLE: [(&str, usize); 4] = [
+    ("4200690100000000", 1),
+    (
+        "420069010000002042006A0200000004000000010000000042006B02000000040000000000000000",
+        3,
+    ),
+    ("420069010000001042006A0200000004000000FFFFFFFFFF", 2),
+    (
+        "420069010000001842006A010000001042006B02000000040000000000000000",
+        3,
+    ),
+];
+
+// What a message's walk and its check answer, each alone, where memory is ample.
+fn judged(alloc: Global, message: &str) -> Option<(usize, Option<Fault>)> {
+    let bytes = hex::decode(alloc, message).ok()?;
+    let mut none: [FoundItem; 0] = [];
+    let end = walk_items(alloc, bytes.as_slice(), &mut none).ok()?;
+    let fault = find_fault(alloc, bytes.as_slice()).ok()?;
+    if fault == end.fault {
+        Some((end.count, fault))
+    } else {
+        None
+    }
+}
+
+fn is_faulty(alloc: Global, row: Row) -> bool {
+    let (message, offset, kind) = row;
+    match judged(alloc, message) {
+        Some((_, fault)) => fault == Some(Fault { offset, kind }),
+        None => false,
+    }
+}
+
+#[test]
+fn faults(rt: HostRuntime) {
+    for row in FAULTS {
+        assert!(rt; is_faulty(rt.alloc(), row), "{row:?}");
+    }
+    for (message, count) in WHOLE {
+        let found = judged(rt.alloc(), message);
+        assert!(rt; found == Some((count, None)), "{message}");
+    }
+}
+
+const NESTED: &str =
+    "4200690100000020 42006A010000001042006B0200000004000000000000000042006C0700000000";
+
+// Its items.
+const ITEMS: [(usize, usize, TtlvType, u32); 4] = [
+    (0, 0, TtlvType::Structure, 0x20),
+    (8, 1, TtlvType::Structure, 0x10),
+    (16, 2, TtlvType::Integer, 4),
+    (32, 1, TtlvType::TextString, 0),
+];
+
+// The parts of an item that the list above has.
+fn parts(item: FoundItem) -> (usize, usize, TtlvType, u32) {
+    (item.offset, item.depth, item.typ, item.length)
+}
+
+// Whether a list of so many items gets the first ones of the message, and the rest of it stays.
+fn is_listed(alloc: Global, room: usize) -> bool {
+    let Ok(bytes) = hex::decode(alloc, NESTED) else {
+        return false;
+    };
+    let Some(other) = unlike() else {
+        return false;
+    };
+    let mut out = [other; 6];
+    let Some(lent) = out.get_mut(..room) else {
+        return false;
+    };
+    let end = walk_items(alloc, bytes.as_slice(), lent);
+    let Ok(end) = end else {
+        return false;
+    };
+    let mut holds = end.count == 4 && end.fault.is_none();
+    for (index, found) in out.iter().enumerate() {
+        let wanted = ITEMS.get(index).copied().unwrap_or(parts(other));
+        let is_kept = index < room && index < 4;
+        holds = holds && parts(*found) == if is_kept { wanted } else { parts(other) };
+    }
+    holds
+}
+
+// An item that no message of these tests has.
+fn unlike() -> Option<FoundItem> {
+    Some(FoundItem {
+        offset: 7,
+        depth: 7,
+        tag: TtlvTag::from_number(7)?,
+        typ: TtlvType::Interval,
+        length: 7,
+    })
+}
+
+#[test]
+fn items(rt: HostRuntime) {
+    for room in 0..7 {
+        assert!(rt; is_listed(rt.alloc(), room), "{room}");
+    }
+}
+
+// Whether the walk and the check answer want of memory exactly where this growth is refused.
+fn refuses(alloc: Global, bytes: &[u8], before: u64) -> bool {
+    let heap = RefusingAllocator::new(alloc, before);
+    let mut none: [FoundItem; 0] = [];
+    let walked = walk_items(&heap, bytes, &mut none).is_err() == heap.has_refused();
+    let other = RefusingAllocator::new(alloc, before);
+    let checked = find_fault(&other, bytes).is_err() == other.has_refused();
+    walked && checked
+}
+
+#[test]
+fn each_growth_may_be_refused(rt: HostRuntime) -> Result<(), FromHexError> {
+    let bytes = hex::decode(rt.alloc(), NESTED)?;
+    for before in 0..4 {
+        assert!(rt; refuses(rt.alloc(), bytes.as_slice(), before), "{before}");
+    }
+    Ok(())
+}

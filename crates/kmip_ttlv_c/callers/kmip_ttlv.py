@@ -1,0 +1,147 @@
+"""TTLV, the encoding of OASIS KMIP: messages printed, redacted, walked and checked.
+
+Copy this file beside libkmip_ttlv.so, or set KMIP_TTLV_LIBRARY to the path of the library.
+"""
+import ctypes
+import os
+from collections import namedtuple
+
+__all__ = ["check", "from_diag", "items", "to_diag", "to_text", "version", "Fault", "Item", "Malformed", "BadNames"]
+
+_here = os.path.dirname(os.path.abspath(__file__))
+_library = ctypes.CDLL(os.environ.get("KMIP_TTLV_LIBRARY") or os.path.join(_here, "libkmip_ttlv.so"))
+
+OK, OUT_OF_MEMORY, NOT_UTF8, NO_ROOM, MALFORMED, BAD_NAMES = range(6)
+
+# What is wrong with a message, by the kind of its fault.
+FAULTS = (
+    "whole",
+    "the bytes end within the root",
+    "the root is no Structure",
+    "unknown type",
+    "fewer than eight bytes are left of the structure around",
+    "the length is none of a value of the type",
+    "the item goes past the end of the structure around",
+    "the content is no value of the type",
+    "further bytes follow the root",
+)
+
+# offset: of the header, in bytes from the first; depth: the structures around; length: of the value, in bytes
+Item = namedtuple("Item", "offset depth tag typ length")
+# offset: of the item that is wrong, in bytes from the first; kind: an index into FAULTS
+Fault = namedtuple("Fault", "offset kind")
+
+
+class Malformed(ValueError):
+    """The bytes are not one whole message; `fault` says what is wrong, `items` are those before it."""
+
+    def __init__(self, fault, found):
+        super().__init__(f"at byte {fault.offset}: {FAULTS[fault.kind]}")
+        self.fault, self.items = fault, found
+
+
+class BadNames(ValueError):
+    """A line of a table of names can't be read; `line` is its number, counted from 1."""
+
+    def __init__(self, line):
+        super().__init__(f"line {line} of the table of names can't be read")
+        self.line = line
+
+
+class _Item(ctypes.Structure):
+    _fields_ = [(name, ctypes.c_size_t) for name in ("offset", "depth")]
+    _fields_ += [(name, ctypes.c_uint32) for name in ("tag", "typ", "length")]
+
+
+class _Fault(ctypes.Structure):
+    _fields_ = [("offset", ctypes.c_size_t), ("kind", ctypes.c_uint32)]
+
+
+_size = ctypes.c_size_t
+_sizes = ctypes.POINTER(_size)
+_lent = [ctypes.c_char_p, _size]
+
+
+def _call(name, *kinds):
+    call = getattr(_library, "kmip_ttlv_" + name)
+    call.argtypes, call.restype = [it for kind in kinds for it in (kind if isinstance(kind, list) else [kind])], ctypes.c_uint32
+    return call
+
+
+_to_diag = _call("to_diag", _lent, _lent, ctypes.c_bool, _lent, _sizes, _sizes)
+_to_text = _call("to_text", _lent, _lent, ctypes.c_bool, _lent, _sizes, _sizes)
+_to_standard_text = _call("to_standard_text", _lent, ctypes.c_bool, _lent, _sizes)
+_from_diag = _call("from_diag", _lent, _lent, _lent, _lent, _sizes, _sizes)
+_items = _call("items", _lent, ctypes.POINTER(_Item), _size, _sizes, ctypes.POINTER(_Fault))
+_check = _call("check", _lent, ctypes.POINTER(_Fault))
+_version = _call("version", _lent, _sizes)
+
+
+def _text(call, room, *further):
+    """The text of a call, which takes a buffer of `room` bytes, a length and further places."""
+    length = _size()
+    while True:
+        out = ctypes.create_string_buffer(room + 1)
+        status = call(out, room, ctypes.byref(length), *(ctypes.byref(it) for it in further))
+        if status == OK:
+            return out.raw[: length.value].decode("utf-8")
+        if status != NO_ROOM:
+            _refuse(status, further)
+        room = length.value
+
+
+def _refuse(status, further=()):
+    if status == OUT_OF_MEMORY:
+        raise MemoryError
+    if status == NOT_UTF8:
+        raise UnicodeError("a text is not UTF-8")
+    raise BadNames(further[0].value)
+
+
+def to_diag(message, prefix="", closed=False):
+    """The redacted diagnostic of any bytes: tags without a prefix, types, nesting, enumeration values."""
+    prefix, count = prefix.encode(), _size()
+    return _text(lambda *out: _to_diag(message, len(message), prefix, len(prefix), closed, *out), len(message) + 64, count)
+
+
+def to_text(message, names=None, closed=False):
+    """Any bytes as readable text, every value shown, with KMIP's names of tags or those of a table of lines `TAG NAME`."""
+    room = 16 * len(message) + 256
+    if names is None:
+        return _text(lambda *out: _to_standard_text(message, len(message), closed, *out), room)
+    names, line = names.encode(), _size()
+    return _text(lambda *out: _to_text(message, len(message), names, len(names), closed, *out), room, line)
+
+
+def from_diag(diagnostic, prefix="", names=""):
+    """A diagnostic read back as lines, with `<redacted>` in place of values that it doesn't show."""
+    diagnostic, prefix, names, line = diagnostic.encode(), prefix.encode(), names.encode(), _size()
+    lent = (diagnostic, len(diagnostic), prefix, len(prefix), names, len(names))
+    return _text(lambda *out: _from_diag(*lent, *out), 32 * len(diagnostic) + 256, line)
+
+
+def items(message):
+    """The items of a message in document order. Malformed where the bytes are not one whole message."""
+    room = len(message) // 8 + 1
+    out, count, fault = (_Item * room)(), _size(), _Fault()
+    status = _items(message, len(message), out, room, ctypes.byref(count), ctypes.byref(fault))
+    found = [Item(it.offset, it.depth, it.tag, it.typ, it.length) for it in out[: count.value]]
+    if status == MALFORMED:
+        raise Malformed(Fault(fault.offset, fault.kind), found)
+    if status != OK:
+        _refuse(status)
+    return found
+
+
+def check(message):
+    """The first fault of bytes as one whole message, or None."""
+    fault = _Fault()
+    status = _check(message, len(message), ctypes.byref(fault))
+    if status not in (OK, MALFORMED):
+        _refuse(status)
+    return Fault(fault.offset, fault.kind) if status == MALFORMED else None
+
+
+def version():
+    """The version of the library."""
+    return _text(_version, 16)

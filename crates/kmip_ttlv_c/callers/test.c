@@ -1,0 +1,230 @@
+/* Tests of the library from C: worked messages, buffers that are one byte too small, refused memory, hostile bytes. */
+#include "kmip_ttlv.h"
+
+#include <stdio.h>
+#include <stdlib.h>
+#include <string.h>
+
+/* Memory of the test's own: the call of this number is refused, where it is not negative. */
+static long left = -1;
+
+void *kmip_ttlv_malloc(size_t size);
+void *kmip_ttlv_realloc(void *block, size_t size);
+void kmip_ttlv_free(void *block);
+
+static long blocks = 0;
+
+static bool is_refused(void) {
+    if (left < 0) {
+        return false;
+    }
+    if (left == 0) {
+        return true;
+    }
+    left--;
+    return false;
+}
+
+void *kmip_ttlv_malloc(size_t size) {
+    if (is_refused()) {
+        return NULL;
+    }
+    blocks++;
+    return malloc(size);
+}
+
+void *kmip_ttlv_realloc(void *block, size_t size) {
+    return is_refused() ? NULL : realloc(block, size);
+}
+
+void kmip_ttlv_free(void *block) {
+    blocks--;
+    free(block);
+}
+
+static int failed = 0;
+
+static void hold(bool holds, const char *what, int line) {
+    if (!holds) {
+        printf("test.c:%d: not so: %s\n", line, what);
+        failed++;
+    }
+}
+
+#define HOLD(it) hold((it), #it, __LINE__)
+
+/* The protocol version 1.0, in a structure of two integers. */
+static const uint8_t VERSION[40] = {
+    0x42, 0x00, 0x69, 0x01, 0, 0, 0, 0x20, 0x42, 0x00, 0x6A, 0x02, 0, 0, 0, 4, 0, 0, 0, 1, 0, 0, 0, 0,
+    0x42, 0x00, 0x6B, 0x02, 0,    0, 0, 4, 0,    0,    0,    0,    0, 0, 0, 0,
+};
+
+static const uint8_t PREFIX[] = "4200";
+static const uint8_t NAMES[] = "# two tags\n420069 Protocol Version\n\n42006A Major\n";
+static const char DIAGNOSTIC[] = "69[6Ai6Bi]";
+static const char TEXT[] = "Tag: Protocol Version (0x420069), Type: Structure (0x01), Data:\n"
+                           "  Tag: Major (0x42006A), Type: Integer (0x02), Data: 0x000001 (1)\n"
+                           "  Tag: 0x42006B, Type: Integer (0x02), Data: 0x000000 (0)\n";
+static const char STANDARD_TEXT[] = "Tag: Protocol Version (0x420069), Type: Structure (0x01), Data:\n"
+                                    "  Tag: Protocol Version Major (0x42006A), Type: Integer (0x02), Data: 0x000001 (1)\n"
+                                    "  Tag: Protocol Version Minor (0x42006B), Type: Integer (0x02), Data: 0x000000 (0)\n";
+static const char LINES[] = "Tag: Protocol Version (0x420069), Type: Structure (0x01), Data: \n"
+                            "  Tag: Major (0x42006A), Type: Integer (0x02), Data: <redacted>\n"
+                            "  Tag: 0x42006B, Type: Integer (0x02), Data: <redacted>";
+
+/* The calls that make a text of the worked message, each with the text that it has to make. */
+enum { TO_DIAG, TO_TEXT, TO_STANDARD_TEXT, FROM_DIAG, GET_VERSION, CALLS };
+static const char *const TEXTS[CALLS] = {DIAGNOSTIC, TEXT, STANDARD_TEXT, LINES, KMIP_TTLV_VERSION};
+
+static kmip_ttlv_status call(int which, uint8_t *out, size_t room, size_t *length) {
+    size_t other = 99;
+    switch (which) {
+    case TO_DIAG:
+        return kmip_ttlv_to_diag(VERSION, sizeof VERSION, PREFIX, 4, false, out, room, length, &other);
+    case TO_TEXT:
+        return kmip_ttlv_to_text(VERSION, sizeof VERSION, NAMES, sizeof NAMES - 1, false, out, room, length, &other);
+    case TO_STANDARD_TEXT:
+        return kmip_ttlv_to_standard_text(VERSION, sizeof VERSION, false, out, room, length);
+    case FROM_DIAG:
+        return kmip_ttlv_from_diag((const uint8_t *)DIAGNOSTIC, sizeof DIAGNOSTIC - 1, PREFIX, 4, NAMES, sizeof NAMES - 1,
+                                   out, room, length, &other);
+    default:
+        return kmip_ttlv_version(out, room, length);
+    }
+}
+
+/* Each text in a buffer of its exact size, and none of it in one that is a byte too small. */
+static void texts(void) {
+    for (int which = 0; which < CALLS; which++) {
+        const char *text = TEXTS[which];
+        size_t size = strlen(text), length = 99;
+        uint8_t *out = malloc(size + 1);
+        memset(out, '.', size + 1);
+        HOLD(call(which, out, size - 1, &length) == KMIP_TTLV_NO_ROOM);
+        HOLD(length == size && out[0] == '.' && out[size - 1] == '.');
+        HOLD(call(which, out, size, &length) == KMIP_TTLV_OK);
+        HOLD(length == size && memcmp(out, text, size) == 0 && out[size] == '.');
+        free(out);
+    }
+    size_t length, items = 99;
+    uint8_t none[1];
+    HOLD(kmip_ttlv_to_diag(none, 0, none, 0, true, none, 0, &length, &items) == KMIP_TTLV_NO_ROOM);
+    HOLD(length == 3 && items == 1);
+}
+
+/* Want of memory at every place, and all of it given back. */
+static void memory(void) {
+    for (int which = 0; which < CALLS; which++) {
+        uint8_t out[512];
+        for (long n = 0; n < 400; n++) {
+            size_t length = 99;
+            left = n;
+            kmip_ttlv_status status = call(which, out, sizeof out, &length);
+            left = -1;
+            HOLD(blocks == 0);
+            if (status == KMIP_TTLV_OK) {
+                break;
+            }
+            HOLD(status == KMIP_TTLV_OUT_OF_MEMORY && length == 0 && n < 399);
+        }
+    }
+    kmip_ttlv_fault fault;
+    size_t count = 99;
+    left = 0;
+    HOLD(kmip_ttlv_check(VERSION, sizeof VERSION, &fault) == KMIP_TTLV_OUT_OF_MEMORY && fault.kind == KMIP_TTLV_WHOLE);
+    kmip_ttlv_item item;
+    HOLD(kmip_ttlv_items(VERSION, sizeof VERSION, &item, 1, &count, &fault) == KMIP_TTLV_OUT_OF_MEMORY && count == 0);
+    left = -1;
+}
+
+static void refusals(void) {
+    static const uint8_t bad[] = {0xFF};
+    size_t length = 99, items = 99, line = 99;
+    uint8_t out[64];
+    HOLD(kmip_ttlv_to_diag(VERSION, 40, bad, 1, false, out, 64, &length, &items) == KMIP_TTLV_NOT_UTF8);
+    HOLD(length == 0 && items == 0);
+    HOLD(kmip_ttlv_to_text(VERSION, 40, bad, 1, false, out, 64, &length, &line) == KMIP_TTLV_NOT_UTF8 && line == 0);
+    static const uint8_t names[] = "42006A Major\n\nMinor";
+    HOLD(kmip_ttlv_to_text(VERSION, 40, names, sizeof names - 1, false, out, 64, &length, &line) == KMIP_TTLV_BAD_NAMES);
+    HOLD(length == 0 && line == 3);
+    HOLD(kmip_ttlv_from_diag(bad, 1, bad, 0, bad, 0, out, 64, &length, &line) == KMIP_TTLV_NOT_UTF8);
+}
+
+static void walks(void) {
+    kmip_ttlv_item items[4];
+    kmip_ttlv_fault fault;
+    size_t count = 99;
+    memset(items, 0x55, sizeof items);
+    HOLD(kmip_ttlv_items(VERSION, 40, items, 4, &count, &fault) == KMIP_TTLV_OK);
+    HOLD(count == 3 && fault.kind == KMIP_TTLV_WHOLE && fault.offset == 0);
+    HOLD(items[0].tag == 0x420069 && items[0].typ == KMIP_TTLV_STRUCTURE && items[0].length == 32);
+    HOLD(items[0].offset == 0 && items[0].depth == 0);
+    HOLD(items[2].tag == 0x42006B && items[2].typ == KMIP_TTLV_INTEGER && items[2].length == 4);
+    HOLD(items[2].offset == 24 && items[2].depth == 1);
+    HOLD(items[3].tag == 0x55555555);
+    memset(items, 0x55, sizeof items);
+    HOLD(kmip_ttlv_items(VERSION, 40, items, 2, &count, &fault) == KMIP_TTLV_NO_ROOM);
+    HOLD(count == 3 && items[1].offset == 8 && items[2].tag == 0x55555555);
+    uint8_t message[48];
+    memcpy(message, VERSION, 40);
+    message[31] = 5;
+    HOLD(kmip_ttlv_items(message, 40, items, 4, &count, &fault) == KMIP_TTLV_MALFORMED);
+    HOLD(count == 2 && fault.kind == KMIP_TTLV_WRONG_LENGTH && fault.offset == 24);
+    HOLD(kmip_ttlv_check(message, 40, &fault) == KMIP_TTLV_MALFORMED && fault.offset == 24);
+    HOLD(kmip_ttlv_check(VERSION, 40, &fault) == KMIP_TTLV_OK);
+    for (size_t cut = 0; cut < 40; cut++) {
+        HOLD(kmip_ttlv_check(VERSION, cut, &fault) == KMIP_TTLV_MALFORMED && fault.kind == KMIP_TTLV_CUT);
+    }
+    memcpy(message, VERSION, 40);
+    memset(message + 40, 0, 8);
+    HOLD(kmip_ttlv_check(message, 41, &fault) == KMIP_TTLV_MALFORMED);
+    HOLD(fault.kind == KMIP_TTLV_SURPLUS && fault.offset == 40);
+}
+
+/* Hostile bytes: the worked message with bits flipped, cut anywhere. Each block is as long as what is lent, so that a
+ * sanitizer sees what is read or written past it. */
+static void hostile(void) {
+    uint64_t seed = 20251123;
+    for (int round = 0; round < 10000; round++) {
+        seed = seed * 6364136223846793005u + 1442695040888963407u;
+        size_t size = (size_t)(seed >> 33) % 41, room = (size_t)(seed >> 40) % 200;
+        uint8_t *bytes = malloc(size + 1), *out = malloc(room + 1);
+        memcpy(bytes, VERSION, size);
+        for (int flip = 0; size > 0 && flip < (int)(seed >> 60); flip++) {
+            seed = seed * 6364136223846793005u + 1442695040888963407u;
+            bytes[(size_t)(seed >> 33) % size] ^= (uint8_t)(1u << (seed >> 61));
+        }
+        size_t length = 0, count = 0, line = 0;
+        kmip_ttlv_item *items = malloc(2 * sizeof *items);
+        kmip_ttlv_fault fault;
+        out[room] = 0x77;
+        kmip_ttlv_status walk = kmip_ttlv_items(bytes, size, items, 2, &count, &fault);
+        HOLD((walk == KMIP_TTLV_MALFORMED) == (fault.kind != KMIP_TTLV_WHOLE) && count <= size / 8);
+        kmip_ttlv_fault same;
+        HOLD((kmip_ttlv_check(bytes, size, &same) == KMIP_TTLV_MALFORMED) == (walk == KMIP_TTLV_MALFORMED));
+        HOLD(same.kind == fault.kind && same.offset == fault.offset && fault.offset <= size);
+        kmip_ttlv_status status = kmip_ttlv_to_diag(bytes, size, PREFIX, 4, true, out, room, &length, &count);
+        HOLD(status == (length > room ? KMIP_TTLV_NO_ROOM : KMIP_TTLV_OK) && count <= size / 8 + 1);
+        if (status == KMIP_TTLV_OK) {
+            uint8_t lines[4096];
+            size_t shown = 0;
+            HOLD(kmip_ttlv_from_diag(out, length, PREFIX, 4, NAMES, 0, lines, sizeof lines, &shown, &line) == KMIP_TTLV_OK);
+        }
+        status = kmip_ttlv_to_text(bytes, size, NAMES, 0, false, out, room, &length, &line);
+        HOLD(status == (length > room ? KMIP_TTLV_NO_ROOM : KMIP_TTLV_OK) && out[room] == 0x77);
+        free(items);
+        free(out);
+        free(bytes);
+    }
+}
+
+int main(void) {
+    texts();
+    memory();
+    refusals();
+    walks();
+    hostile();
+    HOLD(blocks == 0);
+    printf("C: %s\n", failed ? "failed" : "all held");
+    return failed ? 1 : 0;
+}

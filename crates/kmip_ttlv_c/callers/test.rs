@@ -1,0 +1,111 @@
+//! A safe wrapper of the library for Rust, with tests: worked messages, walks, refusals, hostile bytes.
+
+use std::os::raw::c_uchar;
+
+/// An item of a message: offsets, depth, tag, type's code, length of its value.
+#[repr(C)]
+#[derive(Clone, Copy, Debug, Default, PartialEq, Eq)]
+pub struct Item {
+    pub offset: usize,
+    pub depth: usize,
+    pub tag: u32,
+    pub typ: u32,
+    pub length: u32,
+}
+
+/// The first fault of bytes: where, and its kind as the header numbers them.
+#[repr(C)]
+#[derive(Clone, Copy, Debug, Default, PartialEq, Eq)]
+pub struct Fault {
+    pub offset: usize,
+    pub kind: u32,
+}
+
+const OK: u32 = 0;
+const NO_ROOM: u32 = 3;
+const MALFORMED: u32 = 4;
+
+extern "C" {
+    fn kmip_ttlv_to_diag(bytes: *const c_uchar, bytes_len: usize, prefix: *const c_uchar, prefix_len: usize, closed: bool,
+        out: *mut c_uchar, room: usize, length: *mut usize, items: *mut usize) -> u32;
+    fn kmip_ttlv_to_standard_text(bytes: *const c_uchar, bytes_len: usize, closed: bool, out: *mut c_uchar, room: usize,
+        length: *mut usize) -> u32;
+    fn kmip_ttlv_items(bytes: *const c_uchar, bytes_len: usize, items: *mut Item, room: usize, count: *mut usize,
+        fault: *mut Fault) -> u32;
+    fn kmip_ttlv_check(bytes: *const c_uchar, bytes_len: usize, fault: *mut Fault) -> u32;
+}
+
+/// Calls with a buffer until it is large enough; an error is the status.
+fn text(mut call: impl FnMut(&mut [u8], &mut usize) -> u32) -> Result<String, u32> {
+    let (mut out, mut length) = (vec![0; 64], 0);
+    loop {
+        match call(&mut out, &mut length) {
+            OK => break,
+            NO_ROOM => out.resize(length, 0),
+            status => return Err(status),
+        }
+    }
+    out.truncate(length);
+    String::from_utf8(out).map_err(|_| OK)
+}
+
+/// The redacted diagnostic of any bytes.
+pub fn to_diag(bytes: &[u8], prefix: &str, closed: bool) -> Result<String, u32> {
+    let mut items = 0;
+    text(|out, length| unsafe {
+        kmip_ttlv_to_diag(bytes.as_ptr(), bytes.len(), prefix.as_ptr(), prefix.len(), closed, out.as_mut_ptr(), out.len(),
+            length, &mut items)
+    })
+}
+
+/// Any bytes as readable text, with the names of KMIP's specifications.
+pub fn to_text(bytes: &[u8]) -> Result<String, u32> {
+    text(|out, length| unsafe {
+        kmip_ttlv_to_standard_text(bytes.as_ptr(), bytes.len(), false, out.as_mut_ptr(), out.len(), length)
+    })
+}
+
+/// The items of a message, or its first fault.
+pub fn items(bytes: &[u8]) -> Result<Vec<Item>, Fault> {
+    let mut items = vec![Item::default(); bytes.len() / 8 + 1];
+    let (mut count, mut fault) = (0, Fault::default());
+    let status = unsafe {
+        kmip_ttlv_items(bytes.as_ptr(), bytes.len(), items.as_mut_ptr(), items.len(), &mut count, &mut fault)
+    };
+    items.truncate(count);
+    if status == OK { Ok(items) } else { Err(fault) }
+}
+
+/// The first fault of bytes as one whole message, if any.
+pub fn check(bytes: &[u8]) -> Option<Fault> {
+    let mut fault = Fault::default();
+    let status = unsafe { kmip_ttlv_check(bytes.as_ptr(), bytes.len(), &mut fault) };
+    (status == MALFORMED).then_some(fault)
+}
+
+fn main() {
+    let digits = "420069010000002042006A0200000004000000010000000042006B02000000040000000000000000";
+    let message: Vec<u8> = (0..digits.len()).step_by(2).map(|at| u8::from_str_radix(&digits[at..at + 2], 16).unwrap()).collect();
+    assert_eq!(to_diag(&message, "4200", false).as_deref(), Ok("69[6Ai6Bi]"));
+    assert!(to_text(&message).unwrap().contains("Tag: Protocol Version Major (0x42006A), Type: Integer (0x02), Data: 0x000001 (1)\n"));
+    let found = items(&message).unwrap();
+    assert_eq!(found.len(), 3);
+    assert_eq!(found[2], Item { offset: 24, depth: 1, tag: 0x42006B, typ: 2, length: 4 });
+    assert_eq!(check(&message), None);
+    assert_eq!(check(&message[..39]), Some(Fault { offset: 0, kind: 1 }));
+    assert_eq!(to_diag(&[], "", true).as_deref(), Ok("ERR"));
+    let mut seed = 20251123u64;
+    for _ in 0..10_000 {
+        let mut bytes = message.clone();
+        seed = seed.wrapping_mul(6364136223846793005).wrapping_add(1442695040888963407);
+        bytes.truncate((seed >> 33) as usize % (message.len() + 1));
+        if !bytes.is_empty() {
+            let at = (seed >> 20) as usize % bytes.len();
+            bytes[at] ^= 1 << (seed >> 61);
+        }
+        assert_eq!(items(&bytes).is_err(), check(&bytes).is_some());
+        to_diag(&bytes, "4200", true).unwrap();
+        to_text(&bytes).unwrap();
+    }
+    println!("Rust: all held");
+}

@@ -1,0 +1,76 @@
+-- What the calls answer that make a text, and why they refuse.
+use Rattle.std.specs.Prelude.{◌≡◌, ◌⊎◌, ℕ, Bool, ◌+◌, ◌/◌, ◌≤◌, List, length, Option, Some, None}
+use Rattle.std.specs.Str.{IsUtf8}
+use Rattle.kmip_ttlv_util.specs.Traces.{trace}
+use Rattle.kmip_ttlv_util.specs.Diagnostics.{hostile}
+use Rattle.kmip_ttlv_util.specs.PrintAnswers.{IsExact}
+use Rattle.kmip_ttlv_util.specs.Pretty.{IsPrinted, IsPretty}
+use Rattle.kmip_ttlv_util.specs.Undiag.{undiag}
+use Rattle.kmip_ttlv_util.specs.ReadBack.{ReadsLongest, IsReadBack}
+use Rattle.kmip_ttlv_names.specs.NameTables.{names_of, bad_line}
+use Rattle.kmip_ttlv_c.specs.declared.status.TheConstants.{OUT_OF_MEMORY, NOT_UTF8, BAD_NAMES}
+
+-- the text is the diagnostic of bytes, and so many items were tried
+pub record IsDiagnostic (prefix : List ℕ) (closed : Bool) (bytes : List ℕ) (count : ℕ) (text : List ℕ) : Type 0 where
+  pub utf8 : IsUtf8 prefix
+  pub is : text ≡ hostile prefix closed (length bytes) (trace closed bytes)
+  pub exact : IsExact prefix closed bytes text
+  pub counted : count ≡ length (trace closed bytes)
+  pub bounded : count ≤ length bytes / 8 + 1
+
+-- a table of names that can be read
+pub record IsTable (table : List ℕ) : Type 0 where
+  pub utf8 : IsUtf8 table
+  pub good : bad_line table ≡ None
+
+-- the text is the readable text of bytes
+pub record IsReadable (names : ℕ → Option (List ℕ)) (closed : Bool) (bytes text : List ℕ) : Type 0 where
+  pub printed : IsPrinted names closed bytes text
+  pub pretty : IsPretty names closed bytes text
+
+-- the same with the names of a table
+pub record IsNamedText (table : List ℕ) (closed : Bool) (bytes text : List ℕ) : Type 0 where
+  pub table_is : IsTable table
+  pub readable : IsReadable (names_of table) closed bytes text
+
+-- the text is what a diagnostic under a prefix is read back as
+pub record IsReadBackAs (names : ℕ → Option (List ℕ)) (prefix diagnostic text : List ℕ) : Type 0 where
+  pub is : text ≡ undiag names prefix diagnostic
+  pub longest : ReadsLongest names prefix diagnostic text
+  pub redacted : IsReadBack names prefix diagnostic text
+
+-- the same with the names of a table
+pub record IsReadLines (table prefix diagnostic text : List ℕ) : Type 0 where
+  pub table_is : IsTable table
+  pub prefix_is : IsUtf8 prefix
+  pub diagnostic_is : IsUtf8 diagnostic
+  pub lines : IsReadBackAs (names_of table) prefix diagnostic text
+
+-- the text is the version
+abbrev pub IsVersion : List ℕ → List ℕ → Type 0
+IsVersion version text = text ≡ version
+
+-- a diagnostic is refused for want of memory, or where its prefix is not UTF-8
+pub data PrefixRefused (prefix : List ℕ) (count status : ℕ) : Type 0 where
+  no_memory : IsUtf8 prefix → status ≡ OUT_OF_MEMORY → count ≡ 0 → PrefixRefused prefix count status
+  no_prefix : status ≡ NOT_UTF8 → (IsUtf8 prefix → ⊥) → count ≡ 0 → PrefixRefused prefix count status
+
+-- a table of names is refused for want of memory, where it is not UTF-8, or for its first bad line
+pub data NamesRefused (table : List ℕ) (line status : ℕ) : Type 0 where
+  no_memory : IsUtf8 table → status ≡ OUT_OF_MEMORY → line ≡ 0 → NamesRefused table line status
+  no_table : status ≡ NOT_UTF8 → (IsUtf8 table → ⊥) → line ≡ 0 → NamesRefused table line status
+  bad_table : status ≡ BAD_NAMES → bad_line table ≡ Some line → NamesRefused table line status
+
+-- a readable text with the built-in names is refused for want of memory alone
+abbrev pub StandardRefused : ℕ → Type 0
+StandardRefused status = status ≡ OUT_OF_MEMORY
+
+-- reading a diagnostic back is refused for its table of names, or where a text is not UTF-8
+pub data ReadingRefused (diagnostic prefix table : List ℕ) (line status : ℕ) : Type 0 where
+  names_refused : IsUtf8 diagnostic → IsUtf8 prefix → NamesRefused table line status → ReadingRefused diagnostic prefix table line status
+  no_diagnostic : status ≡ NOT_UTF8 → (IsUtf8 diagnostic → ⊥) → line ≡ 0 → ReadingRefused diagnostic prefix table line status
+  no_prefix_text : status ≡ NOT_UTF8 → (IsUtf8 prefix → ⊥) → line ≡ 0 → ReadingRefused diagnostic prefix table line status
+
+-- nothing is refused
+abbrev pub NeverRefused : ℕ → Type 0
+NeverRefused status = ⊥

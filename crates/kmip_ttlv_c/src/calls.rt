@@ -1,0 +1,163 @@
+//! The calls that answer a text.
+
+ghost use Rattle.std.specs.Prelude.{◌≡◌, IfOk, IfErr, OnOk, string_bytes};
+ghost use Rattle.kmip_ttlv_util.specs.TagNames.{name_in};
+ghost use Rattle.kmip_ttlv_names.specs.NameTables.{names_of};
+ghost use Rattle.kmip_ttlv_c.specs.Buffers.{AnswersText};
+ghost use Rattle.kmip_ttlv_c.specs.Calls.{IsDiagnostic, PrefixRefused, IsTable, IsReadable, IsNamedText, NamesRefused, StandardRefused, IsReadLines, ReadingRefused, IsVersion, NeverRefused};
+
+use crate::buffer::offer;
+use crate::status::{BAD_NAMES, NOT_UTF8, OUT_OF_MEMORY};
+use kmip_ttlv_names::{STANDARD_TAGS, TableError, standard_names, tag_names};
+use kmip_ttlv_util::{LentTagMap, PrettyPrinter, read_back_named, text_named};
+use std::alloc::{AllocError, Global};
+use std::str;
+
+/// The library's version.
+pub const VERSION: &str = "0.1.0";
+
+/// The diagnostic under a prefix, and how many items were tried.
+fn diagnostic(
+    alloc: Global,
+    prefix: &str,
+    closed: bool,
+    bytes: &[u8],
+) -> Result<(String, usize), AllocError>
+    ensures { IfOk result (λ r. IsDiagnostic prefix.now closed bytes.now r.1 (string_bytes r.0)) }
+{
+    let mut printer = PrettyPrinter::new(alloc);
+    printer.with_tag_prefix(String::from_str(alloc, prefix)?);
+    printer.with_closed_empty(closed);
+    printer.to_diag_counted(bytes)
+}
+
+/// The redacted diagnostic of any bytes under a prefix of tags, and how many items were tried.
+#[unsafe(no_mangle)]
+pub extern "C" fn kmip_ttlv_to_diag(
+    alloc: Global,
+    bytes: &[u8],
+    prefix: &[u8],
+    closed: bool,
+    out: &mut [u8],
+    length: &mut usize,
+    items: &mut usize,
+) -> u32
+    ensures { AnswersText (IsDiagnostic prefix.now closed bytes.now items.new) (PrefixRefused prefix.now items.new) result length.new out.old out.new }
+{
+    *length = 0;
+    *items = 0;
+    let Ok(prefix) = str::from_utf8(prefix) else {
+        return NOT_UTF8;
+    };
+    let Ok((text, count)) = diagnostic(alloc, prefix, closed, bytes) else {
+        return OUT_OF_MEMORY;
+    };
+    *items = count;
+    offer(text.as_bytes(), out, length)
+}
+
+/// The names of a table, or the status that says why there are none; the number of a line that
+/// can't be read goes out beside it.
+fn names_in<'t>(alloc: Global, table: &'t [u8], bad_line: &mut usize) -> Result<LentTagMap<'t>, u32>
+    ensures names { IfOk result (λ names. name_in names ≡ names_of table.now) }
+    ensures good { OnOk result (IsTable table.now) }
+    ensures line { OnOk result (bad_line.new ≡ 0) }
+    ensures refused { IfErr result (λ status. NamesRefused table.now bad_line.new status) }
+{
+    *bad_line = 0;
+    let Ok(table) = str::from_utf8(table) else {
+        return Err(NOT_UTF8);
+    };
+    match tag_names(alloc, table) {
+        Ok(names) => Ok(names),
+        Err(TableError::OutOfMemory) => Err(OUT_OF_MEMORY),
+        Err(TableError::BadLine(line)) => {
+            *bad_line = line;
+            Err(BAD_NAMES)
+        }
+    }
+}
+
+/// Any bytes as readable text, with the names of a lent table.
+#[unsafe(no_mangle)]
+pub extern "C" fn kmip_ttlv_to_text(
+    alloc: Global,
+    bytes: &[u8],
+    names: &[u8],
+    closed: bool,
+    out: &mut [u8],
+    length: &mut usize,
+    bad_line: &mut usize,
+) -> u32
+    ensures { AnswersText (IsNamedText names.now closed bytes.now) (NamesRefused names.now bad_line.new) result length.new out.old out.new }
+{
+    *length = 0;
+    let names = match names_in(alloc, names, bad_line) {
+        Ok(names) => names,
+        Err(status) => return status,
+    };
+    let Ok(text) = text_named(alloc, &names, closed, bytes) else {
+        return OUT_OF_MEMORY;
+    };
+    offer(text.as_bytes(), out, length)
+}
+
+/// Any bytes as readable text, with the names of KMIP's specifications.
+#[unsafe(no_mangle)]
+pub extern "C" fn kmip_ttlv_to_standard_text(
+    alloc: Global,
+    bytes: &[u8],
+    closed: bool,
+    out: &mut [u8],
+    length: &mut usize,
+) -> u32
+    ensures { AnswersText (IsReadable (names_of STANDARD_TAGS.now) closed bytes.now) StandardRefused result length.new out.old out.new }
+{
+    *length = 0;
+    let Ok(names) = standard_names(alloc) else {
+        return OUT_OF_MEMORY;
+    };
+    let Ok(text) = text_named(alloc, &names, closed, bytes) else {
+        return OUT_OF_MEMORY;
+    };
+    offer(text.as_bytes(), out, length)
+}
+
+/// A diagnostic under a prefix read back as lines, with the names of a lent table.
+#[unsafe(no_mangle)]
+pub extern "C" fn kmip_ttlv_from_diag(
+    alloc: Global,
+    diagnostic: &[u8],
+    prefix: &[u8],
+    names: &[u8],
+    out: &mut [u8],
+    length: &mut usize,
+    bad_line: &mut usize,
+) -> u32
+    ensures { AnswersText (IsReadLines names.now prefix.now diagnostic.now) (ReadingRefused diagnostic.now prefix.now names.now bad_line.new) result length.new out.old out.new }
+{
+    *length = 0;
+    *bad_line = 0;
+    let Ok(diagnostic) = str::from_utf8(diagnostic) else {
+        return NOT_UTF8;
+    };
+    let Ok(prefix) = str::from_utf8(prefix) else {
+        return NOT_UTF8;
+    };
+    let names = match names_in(alloc, names, bad_line) {
+        Ok(names) => names,
+        Err(status) => return status,
+    };
+    let Ok(text) = read_back_named(alloc, prefix, &names, diagnostic) else {
+        return OUT_OF_MEMORY;
+    };
+    offer(text.as_bytes(), out, length)
+}
+
+/// The library's version.
+#[unsafe(no_mangle)]
+pub extern "C" fn kmip_ttlv_version(out: &mut [u8], length: &mut usize) -> u32
+    ensures { AnswersText (IsVersion VERSION.now) NeverRefused result length.new out.old out.new }
+{
+    offer(VERSION.as_bytes(), out, length)
+}

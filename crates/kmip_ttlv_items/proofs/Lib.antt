@@ -1,0 +1,5 @@
+pub mod Spans
+pub mod Leads
+pub mod Lefts
+pub mod Steps
+pub mod Ends

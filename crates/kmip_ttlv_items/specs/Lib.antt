@@ -1,0 +1,2 @@
+pub mod FoundItems
+pub mod ItemWalks

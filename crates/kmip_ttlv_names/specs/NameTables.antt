@@ -1,0 +1,88 @@
+-- What a table of names says: a line for each tag.
+use Rattle.std.specs.Prelude.{◌≡◌, ℕ, suc, ◌+◌, Bool, true, false, List, [], ◌∷◌, length, take, drop, Option, Some, None, if◌then◌else◌, ◌==◌, nat_lt}
+use Rattle.std.specs.List.{slice_split, position_or_len, before_first, after_first}
+use Rattle.std.specs.Str.{trim_end}
+use Rattle.kmip_ttlv_types.specs.Names.{tag_of}
+use Rattle.kmip_ttlv_util.specs.TagNames.{no_names}
+use Rattle.kmip_ttlv_names.specs.declared.table.Line.{Line}
+use Rattle.kmip_ttlv_names.specs.declared.table.Line.TheVariants as held
+use Rattle.kmip_ttlv_names.specs.declared.table.TableError.{TableError}
+use Rattle.kmip_ttlv_names.specs.declared.table.TableError.TheVariants.{BadLine, OutOfMemory}
+
+-- what a line says: nothing, a tag's name, or nothing that can be read
+pub data Said : Type 0 where
+  says_nothing : Said
+  says_name : (tag : ℕ) → (name : List ℕ) → Said
+  says_no_tag : Said
+
+-- what a name is that of, by the tag in front of it
+abbrev pub named : Option ℕ → List ℕ → Said
+named None name = says_no_tag
+named (Some tag) name = says_name tag name
+
+-- whether a byte is a space, or a line feed
+abbrev pub is_space : ℕ → Bool
+is_space b = b == 32
+
+abbrev pub is_line_feed : ℕ → Bool
+is_line_feed b = b == 10
+
+-- a tag, a space and a name
+abbrev pub entry_of : List ℕ → Said
+entry_of s = if nat_lt (position_or_len is_space s) (length s) then named (tag_of (before_first is_space s)) (after_first is_space s) else says_no_tag
+
+-- what a line says, but for white space at its end: nothing where it is empty or begins with `#`
+abbrev pub trimmed_line : List ℕ → Said
+trimmed_line [] = says_nothing
+trimmed_line (c ∷ s) = if c == 35 then says_nothing else entry_of (c ∷ s)
+
+unfoldable pub line_of : List ℕ → Said
+line_of s = trimmed_line (trim_end s)
+
+-- the lines of a text, without their line feeds
+abbrev pub lines_of : List ℕ → List (List ℕ)
+lines_of s = slice_split is_line_feed s
+
+-- names, and one more in front of them
+abbrev pub with_name : (ℕ → Option (List ℕ)) → Said → ℕ → Option (List ℕ)
+with_name names (says_name t name) tag = if t == tag then Some name else names tag
+with_name names _ tag = names tag
+
+-- names, and those of some lines: a later line's in front of an earlier one's
+abbrev pub names_after : (ℕ → Option (List ℕ)) → List (List ℕ) → ℕ → Option (List ℕ)
+names_after names [] = names
+names_after names (l ∷ ls) = names_after (with_name names (line_of l)) ls
+
+-- the names that a table gives
+unfoldable pub names_of : List ℕ → ℕ → Option (List ℕ)
+names_of table = names_after no_names (lines_of table)
+
+-- whether a line can be read
+abbrev pub is_good : Said → Bool
+is_good says_no_tag = false
+is_good _ = true
+
+-- the number of the first line that can't be read, from one on
+abbrev pub bad_from : ℕ → List (List ℕ) → Option ℕ
+bad_from n [] = None
+bad_from n (l ∷ ls) = if is_good (line_of l) then bad_from (suc n) ls else Some n
+
+-- the first line of a table that can't be read
+unfoldable pub bad_line : List ℕ → Option ℕ
+bad_line table = bad_from 1 (lines_of table)
+
+-- why a table was not read
+abbrev pub IsUnread : Option ℕ → TableError → Type 0
+IsUnread bad (BadLine n) = bad ≡ Some n
+IsUnread bad OutOfMemory = Unit {0}
+
+-- what the code sees of a line
+abbrev pub Means : Said → Line → Type 0
+Means said held.Blank = said ≡ says_nothing
+Means said (held.Name tag name) = said ≡ says_name tag name.now
+Means said held.Bad = said ≡ says_no_tag
+
+-- a line was added, if it can be read
+pub record AddsLine (old : ℕ → Option (List ℕ)) (line : List ℕ) (good : Bool) (new : ℕ → Option (List ℕ)) : Type 0 where
+  pub tells : good ≡ is_good (line_of line)
+  pub adds : new ≡ with_name old (line_of line)

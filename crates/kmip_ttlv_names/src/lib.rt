@@ -1,0 +1,12 @@
+//! Names of tags, read from a table that a user writes, and those of the KMIP specifications.
+//!
+//! A table is a text with a line for each tag: its hexadecimal digits, a space, its name. It lends
+//! its names, so that reading it takes memory for the map alone. `STANDARD_TAGS` is the table of the
+//! tags of KMIP 1.0 (9.1.3.1) and of the later versions. What a table says stands in specs/.
+#![tactic(auto)]
+
+mod standard;
+mod table;
+
+pub use standard::STANDARD_TAGS;
+pub use table::{TableError, standard_names, tag_names};
