@@ -105,7 +105,7 @@ fn answers_again(alloc: Global, before: u64, bytes: &[u8]) -> bool {
 #[test]
 fn a_printer_answers_after_want_of_memory(rt: HostRuntime) -> Result<(), FromHexError> {
     let bytes = hex::decode(rt.alloc(), VERSION)?;
-    for before in 0..4u64 {
+    for before in 0..2u64 {
         assert!(rt;
             answers_again(rt.alloc(), before, bytes.as_slice()),
             "at {before}"
