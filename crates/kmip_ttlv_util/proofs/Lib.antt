@@ -1,7 +1,9 @@
+pub mod Appending
 pub mod Entries
 pub mod Fronts
 pub mod HexDigits
 pub mod Letters
+pub mod LineParts
 pub mod Longest
 pub mod Loop
 pub mod MapClones

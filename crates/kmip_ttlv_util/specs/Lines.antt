@@ -1,6 +1,7 @@
 -- Lines of readable texts: indents, tags with their names, numbers with zeros in front.
 use Rattle.std.specs.Prelude.{ℕ, zero, suc, ◌-◌, List, [], ◌∷◌, ◌++◌, length, replicate, Option, Some, None, codes}
 use Rattle.kmip_ttlv_types.specs.declared.typ.TtlvType.{TtlvType}
+use Rattle.kmip_ttlv_types.specs.declared.typ.TtlvType.TheVariants.{Structure}
 use Rattle.kmip_ttlv_types.specs.TypeTexts.{type_text}
 use Rattle.kmip_ttlv_util.specs.Outlines.{hex_upper}
 
@@ -29,6 +30,11 @@ tag_part names depth tag = indent depth ++ (codes "Tag: " ++ tag_named (names ta
 -- and up to the type
 abbrev pub typ_part : (ℕ → Option (List ℕ)) → ℕ → ℕ → TtlvType → List ℕ
 typ_part names depth tag typ = tag_part names depth tag ++ (codes ", Type: " ++ type_text typ)
+
+-- what follows a tag, up to the value: behind a leaf's `Data:` a space
+abbrev pub data_part : TtlvType → List ℕ
+data_part Structure = codes ", Type: " ++ (type_text Structure ++ codes ", Data:")
+data_part typ = codes ", Type: " ++ (type_text typ ++ codes ", Data: ")
 
 -- a whole line, with its data
 unfoldable pub line : (ℕ → Option (List ℕ)) → ℕ → ℕ → TtlvType → List ℕ → List ℕ

@@ -88,6 +88,9 @@ fn push_last<A: Allocator>(out: &mut String<A>, count: usize, n: u32) -> Result<
     ensures { OnOk result (string_bytes out.new ≡ string_bytes out.old ++ last_digits count n) }
 {
     let digits = eight(n);
+    if count == 6 {
+        return out.push_str(unsafe { str::from_utf8_unchecked(&digits[2..]) });
+    }
     out.push_str(unsafe { str::from_utf8_unchecked(&digits[8 - count..]) })
 }
 

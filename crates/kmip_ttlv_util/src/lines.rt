@@ -2,7 +2,7 @@
 
 ghost use Rattle.std.specs.Prelude.{◌≡◌, ℕ, ◌++◌, OnOk, codes, string_bytes};
 ghost use Rattle.kmip_ttlv_types.specs.TypeTexts.{type_text};
-ghost use Rattle.kmip_ttlv_util.specs.Lines.{indent, hex_padded, tag_named, tag_part, typ_part};
+ghost use Rattle.kmip_ttlv_util.specs.Lines.{indent, hex_padded, tag_named, tag_part, typ_part, data_part};
 ghost use Rattle.kmip_ttlv_util.specs.TagNames.{name_in};
 
 use crate::digits::{push_digits, push_wide};
@@ -55,6 +55,9 @@ fn push_tag<A: Allocator>(
 ) -> Result<(), AllocError>
     ensures { OnOk result (string_bytes out.new ≡ string_bytes out.old ++ tag_named (name_in names.now tag) tag) }
 {
+    if names.is_empty() {
+        return push_four(out, *tag);
+    }
     match names.get(&tag).copied() {
         Some(name) => {
             out.push_str(name)?;
@@ -97,5 +100,24 @@ pub fn push_type_part<A: Allocator>(out: &mut String<A>, typ: TtlvType) -> Resul
         TtlvType::ByteString => out.push_str(", Type: ByteString (0x08)"),
         TtlvType::DateTime => out.push_str(", Type: DateTime (0x09)"),
         TtlvType::Interval => out.push_str(", Type: Interval (0x0A)"),
+    }
+}
+
+/// What follows the tag, up to the value: behind a leaf's `Data:` a space.
+#[inline(always)]
+pub fn push_data_part<A: Allocator>(out: &mut String<A>, typ: TtlvType) -> Result<(), AllocError>
+    ensures { OnOk result (string_bytes out.new ≡ string_bytes out.old ++ data_part typ) }
+{
+    match typ {
+        TtlvType::Structure => out.push_str(", Type: Structure (0x01), Data:"),
+        TtlvType::Integer => out.push_str(", Type: Integer (0x02), Data: "),
+        TtlvType::LongInteger => out.push_str(", Type: LongInteger (0x03), Data: "),
+        TtlvType::BigInteger => out.push_str(", Type: BigInteger (0x04), Data: "),
+        TtlvType::Enumeration => out.push_str(", Type: Enumeration (0x05), Data: "),
+        TtlvType::Boolean => out.push_str(", Type: Boolean (0x06), Data: "),
+        TtlvType::TextString => out.push_str(", Type: TextString (0x07), Data: "),
+        TtlvType::ByteString => out.push_str(", Type: ByteString (0x08), Data: "),
+        TtlvType::DateTime => out.push_str(", Type: DateTime (0x09), Data: "),
+        TtlvType::Interval => out.push_str(", Type: Interval (0x0A), Data: "),
     }
 }

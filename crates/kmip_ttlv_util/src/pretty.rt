@@ -9,13 +9,12 @@ ghost use Rattle.kmip_ttlv_types.specs.declared.typ.TtlvType.TheVariants.{Struct
 ghost use Rattle.kmip_ttlv_types.specs.Leaves.{is_valid};
 ghost use Rattle.kmip_ttlv_util.specs.Lines.{hex_padded};
 ghost use Rattle.kmip_ttlv_util.specs.TagNames.{name_in};
-ghost use Rattle.kmip_ttlv_util.specs.Pretty.{bracketed, hex_bytes, value_shown, data_shown, pretty_line, warning};
-ghost use Rattle.kmip_ttlv_util.specs.Pretty.{IsPrinted};
+ghost use Rattle.kmip_ttlv_util.specs.Pretty.{bracketed, hex_bytes, value_shown, pretty_line, warning, IsPrinted};
 
 use crate::diagnostic::EXCEEDED;
 use crate::digits::push_two;
 use crate::item::{Item, item_at};
-use crate::lines::{LentTagMap, push_six, push_tag_part, push_type_part};
+use crate::lines::{LentTagMap, push_data_part, push_six, push_tag_part};
 use crate::walk::{Next, Walk};
 use itoa::Buffer;
 use kmip_ttlv_types::TtlvType;
@@ -118,26 +117,7 @@ fn push_value<A: Allocator>(
     }
 }
 
-/// What follows `Data:`.
-#[tactic(auto, unfolding(crate::specs::Pretty::data_shown))]
-#[inline(always)]
-fn push_data<A: Allocator>(
-    out: &mut String<A>,
-    typ: TtlvType,
-    content: &[u8],
-) -> Result<(), AllocError>
-    requires { typ ≢ TheStructure → is_valid typ content.now ≡ true }
-    ensures { OnOk result (string_bytes out.new ≡ string_bytes out.old ++ data_shown typ content.now) }
-{
-    if typ == TtlvType::Structure {
-        return Ok(());
-    }
-    out.push_str(" ")?;
-    push_value(out, typ, content)
-}
-
 /// The line of an item so deep.
-#[tactic(auto, unfolding(crate::specs::Pretty::pretty_line))]
 #[inline(always)]
 fn push_line<A: Allocator>(
     out: &mut String<A>,
@@ -151,9 +131,11 @@ fn push_line<A: Allocator>(
         ++ pretty_line (name_in names.now) depth item.now.tag item.now.typ item.now.content.now) }
 {
     push_tag_part(out, names, depth, item.tag)?;
-    push_type_part(out, item.typ)?;
-    out.push_str(", Data:")?;
-    push_data(out, item.typ, item.content)?;
+    push_data_part(out, item.typ)?;
+    if item.typ == TtlvType::Structure {
+        return out.push_str("\n");
+    }
+    push_value(out, item.typ, item.content)?;
     out.push_str("\n")
 }
 
