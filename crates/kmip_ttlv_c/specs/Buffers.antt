@@ -21,6 +21,11 @@ abbrev pub Offers : List ℕ → ℕ → ℕ → List ℕ → List ℕ → Type 
 Offers text status len old new = Gives text status len old new ⊎ LacksRoom text status len old new
 
 -- a call answers a text of this kind; or it refuses with this status, answers no length, and the buffer stays
-pub data AnswersText (IsText : List ℕ → Type 0) (Refuses : ℕ → Type 0) (status len : ℕ) (old new : List ℕ) : Type 0 where
-  offers : (text : List ℕ) → IsText text → Offers text status len old new → AnswersText IsText Refuses status len old new
+pub data AnswersText (IsText : List ℕ → Type 0) (Refuses : ℕ → Type 0)
+    (status len : ℕ) (old new : List ℕ) : Type 0 where
+  offers :
+      (text : List ℕ)
+      → IsText text
+      → Offers text status len old new
+      → AnswersText IsText Refuses status len old new
   refuses : Refuses status → len ≡ 0 → new ≡ old → AnswersText IsText Refuses status len old new

@@ -67,9 +67,21 @@ StandardRefused status = status ≡ OUT_OF_MEMORY
 
 -- reading a diagnostic back is refused for its table of names, or where a text is not UTF-8
 pub data ReadingRefused (diagnostic prefix table : List ℕ) (line status : ℕ) : Type 0 where
-  names_refused : IsUtf8 diagnostic → IsUtf8 prefix → NamesRefused table line status → ReadingRefused diagnostic prefix table line status
-  no_diagnostic : status ≡ NOT_UTF8 → (IsUtf8 diagnostic → ⊥) → line ≡ 0 → ReadingRefused diagnostic prefix table line status
-  no_prefix_text : status ≡ NOT_UTF8 → (IsUtf8 prefix → ⊥) → line ≡ 0 → ReadingRefused diagnostic prefix table line status
+  names_refused :
+      IsUtf8 diagnostic
+      → IsUtf8 prefix
+      → NamesRefused table line status
+      → ReadingRefused diagnostic prefix table line status
+  no_diagnostic :
+      status ≡ NOT_UTF8
+      → (IsUtf8 diagnostic → ⊥)
+      → line ≡ 0
+      → ReadingRefused diagnostic prefix table line status
+  no_prefix_text :
+      status ≡ NOT_UTF8
+      → (IsUtf8 prefix → ⊥)
+      → line ≡ 0
+      → ReadingRefused diagnostic prefix table line status
 
 -- nothing is refused
 abbrev pub NeverRefused : ℕ → Type 0

@@ -4,7 +4,8 @@ use Rattle.kmip_ttlv_types.specs.ItemTypes.{code}
 use Rattle.kmip_ttlv_items.specs.declared.found.FoundItem.{FoundItem}
 use Rattle.kmip_ttlv_items.specs.declared.found.Fault.{Fault}
 use Rattle.kmip_ttlv_items.specs.declared.found.FaultKind.{FaultKind}
-use Rattle.kmip_ttlv_items.specs.declared.found.FaultKind.TheVariants.{Cut, NoStructure, UnknownType, PartialHeader, WrongLength, Overlong, InvalidValue, Surplus}
+use Rattle.kmip_ttlv_items.specs.declared.found.FaultKind.TheVariants.{Cut, NoStructure, UnknownType, PartialHeader}
+use Rattle.kmip_ttlv_items.specs.declared.found.FaultKind.TheVariants.{WrongLength, Overlong, InvalidValue, Surplus}
 use Rattle.kmip_ttlv_items.specs.declared.found.WalkEnd.{WalkEnd}
 use Rattle.kmip_ttlv_items.specs.ItemWalks.{Finds, Judges}
 use Rattle.kmip_ttlv_c.specs.declared.items.KmipTtlvItem.{KmipTtlvItem}
@@ -41,13 +42,25 @@ abbrev pub TellsCheck : Option Fault → ℕ → Type 0
 TellsCheck (Some f) status = status ≡ MALFORMED
 TellsCheck None status = status ≡ OK
 
--- a walk over bytes: its items lie in the lent list as far as it has room, and are counted, and its fault is answered; or
--- memory was refused, and the list's elements are any
-pub data AnswersWalk (bytes : List ℕ) (status count : ℕ) (fault : KmipTtlvFault) (old new : List KmipTtlvItem) : Type 0 where
-  walked : (end : WalkEnd) → Finds c_item bytes old new end → count ≡ end.count → fault ≡ c_fault end.fault → TellsWalk end.fault end.count (length old) status → AnswersWalk bytes status count fault old new
+-- a walk over bytes: its items lie in the lent list as far as it has room, and are counted, and its fault is
+-- answered; or memory was refused, and the list's elements are any
+pub data AnswersWalk (bytes : List ℕ) (status count : ℕ) (fault : KmipTtlvFault)
+    (old new : List KmipTtlvItem) : Type 0 where
+  walked :
+      (end : WalkEnd)
+      → Finds c_item bytes old new end
+      → count ≡ end.count
+      → fault ≡ c_fault end.fault
+      → TellsWalk end.fault end.count (length old) status
+      → AnswersWalk bytes status count fault old new
   no_memory : status ≡ OUT_OF_MEMORY → count ≡ 0 → fault ≡ c_fault None → AnswersWalk bytes status count fault old new
 
 -- a check of bytes: whether they are one whole message, or the first fault; or memory was refused
 pub data AnswersCheck (bytes : List ℕ) (status : ℕ) (fault : KmipTtlvFault) : Type 0 where
-  judged : (found : Option Fault) → Judges bytes found → fault ≡ c_fault found → TellsCheck found status → AnswersCheck bytes status fault
+  judged :
+      (found : Option Fault)
+      → Judges bytes found
+      → fault ≡ c_fault found
+      → TellsCheck found status
+      → AnswersCheck bytes status fault
   no_memory : status ≡ OUT_OF_MEMORY → fault ≡ c_fault None → AnswersCheck bytes status fault

@@ -4,7 +4,8 @@ ghost use Rattle.std.specs.Prelude.{◌≡◌, IfOk, IfErr, OnOk, string_bytes};
 ghost use Rattle.kmip_ttlv_util.specs.TagNames.{name_in};
 ghost use Rattle.kmip_ttlv_names.specs.NameTables.{names_of};
 ghost use Rattle.kmip_ttlv_c.specs.Buffers.{AnswersText};
-ghost use Rattle.kmip_ttlv_c.specs.Calls.{IsDiagnostic, PrefixRefused, IsTable, IsReadable, IsNamedText, NamesRefused, StandardRefused, IsReadLines, ReadingRefused, IsVersion, NeverRefused};
+ghost use Rattle.kmip_ttlv_c.specs.Calls.{IsDiagnostic, PrefixRefused, IsTable, IsReadable, IsNamedText, NamesRefused};
+ghost use Rattle.kmip_ttlv_c.specs.Calls.{StandardRefused, IsReadLines, ReadingRefused, IsVersion, NeverRefused};
 
 use crate::buffer::offer;
 use crate::status::{BAD_NAMES, NOT_UTF8, OUT_OF_MEMORY};

@@ -24,7 +24,8 @@ item offset depth tag typ len = record { offset = offset; depth = depth; tag = t
 abbrev mutual
   pub listed : ℕ → ℕ → Tree → List FoundItem
   listed offset depth (leaf tag typ content) = item offset depth tag typ (length content) ∷ []
-  listed offset depth (node tag below) = item offset depth tag Structure (span_all below) ∷ listed_all (offset + 8) (suc depth) below
+  listed offset depth (node tag below) =
+      item offset depth tag Structure (span_all below) ∷ listed_all (offset + 8) (suc depth) below
 
   pub listed_all : ℕ → ℕ → Trees → List FoundItem
   listed_all offset depth no_trees = []

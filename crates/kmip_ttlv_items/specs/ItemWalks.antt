@@ -1,5 +1,6 @@
 -- A walk over whole items, where it stops, and what it answers.
-use Rattle.std.specs.Prelude.{◌≡◌, ◌≢◌, ◌⊎◌, ℕ, ◌+◌, ◌<◌, ◌≤◌, Bool, true, false, ◌==◌, List, [], ◌∷◌, ◌++◌, length, map, take, drop, Option, Some, None}
+use Rattle.std.specs.Prelude.{◌≡◌, ◌≢◌, ◌⊎◌, ℕ, ◌+◌, ◌<◌, ◌≤◌, Bool, true, false, ◌==◌, List, [], ◌∷◌, ◌++◌, length}
+use Rattle.std.specs.Prelude.{map, take, drop, Option, Some, None}
 use Rattle.kmip_ttlv_types.specs.declared.typ.TtlvType.{TtlvType}
 use Rattle.kmip_ttlv_types.specs.declared.typ.TtlvType.TheVariants.{Structure}
 use Rattle.kmip_ttlv_types.specs.ItemTypes.{type_of, fixed_length}
@@ -8,7 +9,8 @@ use Rattle.kmip_ttlv_types.specs.Places.{tag_at, code_at, length_at, size}
 use Rattle.kmip_ttlv_items.specs.declared.found.FoundItem.{FoundItem}
 use Rattle.kmip_ttlv_items.specs.declared.found.Fault.{Fault}
 use Rattle.kmip_ttlv_items.specs.declared.found.FaultKind.{FaultKind}
-use Rattle.kmip_ttlv_items.specs.declared.found.FaultKind.TheVariants.{Cut, NoStructure, UnknownType, PartialHeader, WrongLength, Overlong, InvalidValue, Surplus}
+use Rattle.kmip_ttlv_items.specs.declared.found.FaultKind.TheVariants.{Cut, NoStructure, UnknownType, PartialHeader}
+use Rattle.kmip_ttlv_items.specs.declared.found.FaultKind.TheVariants.{WrongLength, Overlong, InvalidValue, Surplus}
 use Rattle.kmip_ttlv_items.specs.declared.found.WalkEnd.{WalkEnd}
 use Rattle.kmip_ttlv_items.specs.FoundItems.{Lists, overlaid}
 
@@ -44,14 +46,17 @@ pub record HasType (bytes : List ℕ) (p e : ℕ) (t : TtlvType) : Type 0 where
 abbrev pub Misfits : List ℕ → ℕ → ℕ → FaultKind → Type 0
 Misfits bytes p e PartialHeader = e < p + 8
 Misfits bytes p e UnknownType = (p + 8 ≤ e) × (type_at bytes p ≡ None)
-Misfits bytes p e WrongLength = (t : TtlvType) × HasType bytes p e t × (has_length (fixed_length t) (length_at bytes p) ≡ false)
+Misfits bytes p e WrongLength =
+    (t : TtlvType) × HasType bytes p e t × (has_length (fixed_length t) (length_at bytes p) ≡ false)
 Misfits bytes p e Overlong = (t : TtlvType) × HasType bytes p e t × (e < p + size t (length_at bytes p))
-Misfits bytes p e InvalidValue = (t : TtlvType) × HasType bytes p e t × (t ≢ Structure) × (is_valid t (content_at bytes p) ≡ false)
+Misfits bytes p e InvalidValue =
+    (t : TtlvType) × HasType bytes p e t × (t ≢ Structure) × (is_valid t (content_at bytes p) ≡ false)
 Misfits bytes p e _ = ⊥
 
 -- what is wrong with the root
 abbrev pub RootMisfits : List ℕ → FaultKind → Type 0
-RootMisfits bytes Cut = (length bytes < 8) ⊎ (HasType bytes 0 (length bytes) Structure × (length bytes < 8 + length_at bytes 0))
+RootMisfits bytes Cut =
+    (length bytes < 8) ⊎ (HasType bytes 0 (length bytes) Structure × (length bytes < 8 + length_at bytes 0))
 RootMisfits bytes UnknownType = (8 ≤ length bytes) × (type_at bytes 0 ≡ None)
 RootMisfits bytes NoStructure = (t : TtlvType) × HasType bytes 0 (length bytes) t × (t ≢ Structure)
 RootMisfits bytes _ = ⊥
@@ -59,10 +64,24 @@ RootMisfits bytes _ = ⊥
 -- a walk over whole items, one after the other, into structures and out of them at their ends: it has come to
 -- a place, within structures with these ends, the innermost first, and has met these items
 pub data WalksTo (bytes : List ℕ) : ℕ → List ℕ → List FoundItem → Type 0 where
-  enters_root : (q e : ℕ) (i : FoundItem) → IsWhole bytes 0 (length bytes) 0 i → i.typ ≡ Structure → q ≡ 8 → e ≡ size i.typ i.length → WalksTo bytes q (e ∷ []) (i ∷ [])
-  enters : (p q e f : ℕ) (es : List ℕ) (xs : List FoundItem) (i : FoundItem) → WalksTo bytes p (e ∷ es) xs → IsWhole bytes p e (length (e ∷ es)) i → i.typ ≡ Structure
+  enters_root :
+      (q e : ℕ) (i : FoundItem)
+      → IsWhole bytes 0 (length bytes) 0 i
+      → i.typ ≡ Structure
+      → q ≡ 8
+      → e ≡ size i.typ i.length
+      → WalksTo bytes q (e ∷ []) (i ∷ [])
+  enters :
+      (p q e f : ℕ) (es : List ℕ) (xs : List FoundItem) (i : FoundItem)
+      → WalksTo bytes p (e ∷ es) xs
+      → IsWhole bytes p e (length (e ∷ es)) i
+      → i.typ ≡ Structure
       → q ≡ p + 8 → f ≡ p + size i.typ i.length → WalksTo bytes q (f ∷ e ∷ es) (xs ++ (i ∷ []))
-  passes : (p q e : ℕ) (es : List ℕ) (xs : List FoundItem) (i : FoundItem) → WalksTo bytes p (e ∷ es) xs → IsWhole bytes p e (length (e ∷ es)) i → i.typ ≢ Structure
+  passes :
+      (p q e : ℕ) (es : List ℕ) (xs : List FoundItem) (i : FoundItem)
+      → WalksTo bytes p (e ∷ es) xs
+      → IsWhole bytes p e (length (e ∷ es)) i
+      → i.typ ≢ Structure
       → q ≡ p + size i.typ i.length → WalksTo bytes q (e ∷ es) (xs ++ (i ∷ []))
   leaves : (p e : ℕ) (es : List ℕ) (xs : List FoundItem) → WalksTo bytes p (e ∷ es) xs → p ≡ e → WalksTo bytes p es xs
 
@@ -70,7 +89,12 @@ pub data WalksTo (bytes : List ℕ) : ℕ → List ℕ → List FoundItem → Ty
 -- what follows the root
 pub data Stops (bytes : List ℕ) (xs : List FoundItem) (f : Fault) : Type 0 where
   at_root : xs ≡ [] → f.offset ≡ 0 → RootMisfits bytes f.kind → Stops bytes xs f
-  inside : (e : ℕ) (es : List ℕ) → WalksTo bytes f.offset (e ∷ es) xs → f.offset < e → Misfits bytes f.offset e f.kind → Stops bytes xs f
+  inside :
+      (e : ℕ) (es : List ℕ)
+      → WalksTo bytes f.offset (e ∷ es) xs
+      → f.offset < e
+      → Misfits bytes f.offset e f.kind
+      → Stops bytes xs f
   behind : WalksTo bytes f.offset [] xs → f.offset < length bytes → f.kind ≡ Surplus → Stops bytes xs f
 
 -- the bytes are one whole message with these items; or they are none, and a walk that met these stops there

@@ -1,7 +1,8 @@
 //! The item at a place, judged by what is around it. It takes no memory.
 
 ghost use Rattle.std.specs.Prelude.{◌≡◌, ℕ, ◌+◌, ◌<◌, ◌≤◌, length, IfOk, IfErr};
-ghost use Rattle.kmip_ttlv_types.specs.declared.typ.TtlvType.TheVariants.{Boolean as TheBoolean, Structure as TheStructure};
+ghost use Rattle.kmip_ttlv_types.specs.declared.typ.TtlvType.TheVariants.{Boolean as TheBoolean};
+ghost use Rattle.kmip_ttlv_types.specs.declared.typ.TtlvType.TheVariants.{Structure as TheStructure};
 ghost use Rattle.kmip_ttlv_types.specs.ItemTypes.{fixed_length, padding, type_of};
 ghost use Rattle.kmip_ttlv_types.specs.Leaves.{is_valid};
 ghost use Rattle.kmip_ttlv_types.specs.Places.{tag_at, code_at, length_at, size};

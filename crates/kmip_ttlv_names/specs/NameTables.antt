@@ -1,5 +1,6 @@
 -- What a table of names says: a line for each tag.
-use Rattle.std.specs.Prelude.{◌≡◌, ℕ, suc, ◌+◌, Bool, true, false, List, [], ◌∷◌, length, take, drop, Option, Some, None, if◌then◌else◌, ◌==◌, nat_lt}
+use Rattle.std.specs.Prelude.{◌≡◌, ℕ, suc, ◌+◌, Bool, true, false, List, [], ◌∷◌, length, take, drop, Option, Some}
+use Rattle.std.specs.Prelude.{None, if◌then◌else◌, ◌==◌, nat_lt}
 use Rattle.std.specs.List.{slice_split, position_or_len, before_first, after_first}
 use Rattle.std.specs.Str.{trim_end}
 use Rattle.kmip_ttlv_types.specs.Names.{tag_of}
@@ -29,7 +30,10 @@ is_line_feed b = b == 10
 
 -- a tag, a space and a name
 abbrev pub entry_of : List ℕ → Said
-entry_of s = if nat_lt (position_or_len is_space s) (length s) then named (tag_of (before_first is_space s)) (after_first is_space s) else says_no_tag
+entry_of s =
+    if nat_lt (position_or_len is_space s) (length s)
+    then named (tag_of (before_first is_space s)) (after_first is_space s)
+    else says_no_tag
 
 -- what a line says, but for white space at its end: nothing where it is empty or begins with `#`
 abbrev pub trimmed_line : List ℕ → Said
