@@ -9,7 +9,7 @@ use kmip_ttlv_types::{
     Error, SerializableTtlvType, TtlvBigInteger, TtlvByteString, TtlvTag, TtlvTextString,
 };
 use refusing_allocator::{BoundedAllocator, RefusingAllocator};
-use std::alloc::{AllocError, Global};
+use std::alloc::{AllocError, Allocator, Global};
 use std::io;
 use std::test::Fail;
 
@@ -34,29 +34,31 @@ fn ample_if(is_wanted: bool) -> Answer {
 }
 
 // A call that takes memory.
-trait Call {
-    fn answer(&self, memory: &RefusingAllocator<Global>) -> Answer;
+#[derive(Clone, Copy, Debug)]
+enum Call {
+    ReadText,
+    ReadBytes,
+    ReadNumber,
+    RefuseName,
+    KindOfName,
+    CloneText,
+    CloneBytes,
+    CloneNumber,
+    ClonePlace,
 }
 
-// How many growths the call asks for, where each one that is refused makes it answer OutOfMemory, and it
-// answers as with ample memory where none is.
-fn growths_of<C: Call>(heap: Global, call: &C) -> Option<u64> {
-    for before in 0..100u64 {
-        let memory = RefusingAllocator::new(heap, before);
-        let answer = call.answer(&memory);
-        if !memory.has_refused() {
-            return if answer == Answer::Ample {
-                Some(before)
-            } else {
-                None
-            };
-        }
-        if answer != Answer::OutOfMemory {
-            return None;
-        }
-    }
-    None
-}
+// Each call, and how many growths it asks for at least. Of a clone one is for the value itself.
+const CALLS: [(Call, u64); 9] = [
+    (Call::ReadText, 1),
+    (Call::ReadBytes, 1),
+    (Call::ReadNumber, 1),
+    (Call::RefuseName, 1),
+    (Call::KindOfName, 1),
+    (Call::CloneText, 2),
+    (Call::CloneBytes, 2),
+    (Call::CloneNumber, 2),
+    (Call::ClonePlace, 2),
+];
 
 // The length of a content of 150,000 bytes, and that content: three pieces, and no padding.
 fn long_leaf(heap: Global) -> Result<Vec<u8>, Fail> {
@@ -85,88 +87,46 @@ fn reading<T: SerializableTtlvType>(alloc: T::Alloc, leaf: &[u8]) -> Result<T, A
     }
 }
 
-#[derive(Drop)]
-struct ReadText<'a>(&'a [u8]);
-
-impl Call for ReadText<'_> {
-    fn answer(&self, memory: &RefusingAllocator<Global>) -> Answer {
-        match &reading::<TtlvTextString<_>>(memory, self.0) {
-            Ok(text) => ample_if(text.as_bytes() == content_of(self.0)),
-            Err(answer) => *answer,
-        }
+fn text_answer(memory: &RefusingAllocator<Global>, leaf: &[u8]) -> Answer {
+    match &reading::<TtlvTextString<_>>(memory, leaf) {
+        Ok(text) => ample_if(text.as_bytes() == content_of(leaf)),
+        Err(answer) => *answer,
     }
 }
 
-#[derive(Drop)]
-struct ReadBytes<'a>(&'a [u8]);
-
-impl Call for ReadBytes<'_> {
-    fn answer(&self, memory: &RefusingAllocator<Global>) -> Answer {
-        match &reading::<TtlvByteString<_>>(memory, self.0) {
-            Ok(bytes) => ample_if(bytes.as_slice() == content_of(self.0)),
-            Err(answer) => *answer,
-        }
+fn bytes_answer(memory: &RefusingAllocator<Global>, leaf: &[u8]) -> Answer {
+    match &reading::<TtlvByteString<_>>(memory, leaf) {
+        Ok(bytes) => ample_if(bytes.as_slice() == content_of(leaf)),
+        Err(answer) => *answer,
     }
 }
 
-#[derive(Drop)]
-struct ReadNumber<'a>(&'a [u8]);
-
-impl Call for ReadNumber<'_> {
-    fn answer(&self, memory: &RefusingAllocator<Global>) -> Answer {
-        match &reading::<TtlvBigInteger<_>>(memory, self.0) {
-            Ok(number) => ample_if(number.as_slice() == content_of(self.0)),
-            Err(answer) => *answer,
-        }
+fn number_answer(memory: &RefusingAllocator<Global>, leaf: &[u8]) -> Answer {
+    match &reading::<TtlvBigInteger<_>>(memory, leaf) {
+        Ok(number) => ample_if(number.as_slice() == content_of(leaf)),
+        Err(answer) => *answer,
     }
 }
 
-#[test]
-fn strings_that_are_read_grow(rt: HostRuntime) -> Result<(), Fail> {
-    let leaf = long_leaf(rt.alloc())?;
-    assert!(rt; growths_of(rt.alloc(), &ReadText(leaf.as_slice())) > Some(0));
-    assert!(rt; growths_of(rt.alloc(), &ReadBytes(leaf.as_slice())) > Some(0));
-    assert!(rt; growths_of(rt.alloc(), &ReadNumber(leaf.as_slice())) > Some(0));
-    Ok(())
-}
-
-struct NameTag;
-
-impl Call for NameTag {
-    fn answer(&self, memory: &RefusingAllocator<Global>) -> Answer {
-        match &TtlvTag::from_str(memory, "no tag") {
-            Err(Error::InvalidTtlvTag(text)) => ample_if(text.as_str() == "no tag"),
-            Err(Error::OutOfMemory) => Answer::OutOfMemory,
-            _ => Answer::Other,
-        }
+fn name_answer(memory: &RefusingAllocator<Global>) -> Answer {
+    match &TtlvTag::from_str(memory, "no tag") {
+        Err(Error::InvalidTtlvTag(text)) => ample_if(text.as_str() == "no tag"),
+        Err(Error::OutOfMemory) => Answer::OutOfMemory,
+        _ => Answer::Other,
     }
 }
 
 // The kind of a low-level refusal of a name.
-#[derive(Drop)]
-struct KindOfName(Global);
-
-impl Call for KindOfName {
-    fn answer(&self, memory: &RefusingAllocator<Global>) -> Answer {
-        let Ok(name) = String::from_str(self.0, "no tag") else {
-            return Answer::Other;
-        };
-        let low: Error = Error::InvalidTtlvTag(name);
-        match &ErrorKind::from_types(memory, low) {
-            ErrorKind::SerdeError(SerdeError::InvalidTag(name)) => {
-                ample_if(name.as_str() == "no tag")
-            }
-            ErrorKind::OutOfMemory => Answer::OutOfMemory,
-            _ => Answer::Other,
-        }
+fn kind_answer(heap: Global, memory: &RefusingAllocator<Global>) -> Answer {
+    let Ok(name) = String::from_str(heap, "no tag") else {
+        return Answer::Other;
+    };
+    let low: Error = Error::InvalidTtlvTag(name);
+    match &ErrorKind::from_types(memory, low) {
+        ErrorKind::SerdeError(SerdeError::InvalidTag(name)) => ample_if(name.as_str() == "no tag"),
+        ErrorKind::OutOfMemory => Answer::OutOfMemory,
+        _ => Answer::Other,
     }
-}
-
-#[test]
-fn refused_names_grow(rt: HostRuntime) -> Result<(), Fail> {
-    assert!(rt; growths_of(rt.alloc(), &NameTag) > Some(0));
-    assert!(rt; growths_of(rt.alloc(), &KindOfName(rt.alloc())) > Some(0));
-    Ok(())
 }
 
 // The answer of a call that refuses by an AllocError, or says whether its value is the wanted one.
@@ -184,81 +144,108 @@ fn place_is_cloned(memory: &RefusingAllocator<Global>) -> Result<bool, AllocErro
     Ok(is_whole_place(&copy))
 }
 
-struct CloneText;
-
-impl Call for CloneText {
-    fn answer(&self, memory: &RefusingAllocator<Global>) -> Answer {
-        answer_of(text_is_cloned(memory, "Hello World"))
+fn answer_to(heap: Global, memory: &RefusingAllocator<Global>, call: Call, leaf: &[u8]) -> Answer {
+    match call {
+        Call::ReadText => text_answer(memory, leaf),
+        Call::ReadBytes => bytes_answer(memory, leaf),
+        Call::ReadNumber => number_answer(memory, leaf),
+        Call::RefuseName => name_answer(memory),
+        Call::KindOfName => kind_answer(heap, memory),
+        Call::CloneText => answer_of(text_is_cloned(memory, "Hello World")),
+        Call::CloneBytes => answer_of(bytes_are_cloned(memory, b"\x01\x02\x03")),
+        Call::CloneNumber => answer_of(number_is_cloned(memory, b"\x80\x00")),
+        Call::ClonePlace => answer_of(place_is_cloned(memory)),
     }
 }
 
-struct CloneBytes;
-
-impl Call for CloneBytes {
-    fn answer(&self, memory: &RefusingAllocator<Global>) -> Answer {
-        answer_of(bytes_are_cloned(memory, b"\x01\x02\x03"))
+// How many growths the call asks for, where each one that is refused makes it answer OutOfMemory, and it
+// answers as with ample memory where none is.
+fn growths_of(heap: Global, call: Call, leaf: &[u8]) -> Option<u64> {
+    for before in 0..100u64 {
+        let memory = RefusingAllocator::new(heap, before);
+        let answer = answer_to(heap, &memory, call, leaf);
+        if !memory.has_refused() {
+            return if answer == Answer::Ample {
+                Some(before)
+            } else {
+                None
+            };
+        }
+        if answer != Answer::OutOfMemory {
+            return None;
+        }
     }
+    None
 }
 
-struct CloneNumber;
-
-impl Call for CloneNumber {
-    fn answer(&self, memory: &RefusingAllocator<Global>) -> Answer {
-        answer_of(number_is_cloned(memory, b"\x80\x00"))
-    }
-}
-
-struct ClonePlace;
-
-impl Call for ClonePlace {
-    fn answer(&self, memory: &RefusingAllocator<Global>) -> Answer {
-        answer_of(place_is_cloned(memory))
-    }
-}
-
-// One growth is for the value itself, so that of the clone comes after it.
 #[test]
-fn clones_grow(rt: HostRuntime) -> Result<(), Fail> {
-    assert!(rt; growths_of(rt.alloc(), &CloneText) > Some(1));
-    assert!(rt; growths_of(rt.alloc(), &CloneBytes) > Some(1));
-    assert!(rt; growths_of(rt.alloc(), &CloneNumber) > Some(1));
-    assert!(rt; growths_of(rt.alloc(), &ClonePlace) > Some(1));
+fn calls_grow(rt: HostRuntime) -> Result<(), Fail> {
+    let leaf = long_leaf(rt.alloc())?;
+    for (call, least) in CALLS {
+        let growths = growths_of(rt.alloc(), call, leaf.as_slice());
+        assert!(rt; growths >= Some(least), "{call:?}: {growths:?}");
+    }
     Ok(())
 }
 
+// The calls that read a string.
+const STRINGS: [Call; 3] = [Call::ReadText, Call::ReadBytes, Call::ReadNumber];
+
 // Whether a length of FFFFFFFF over three bytes makes an IoError of the kind UnexpectedEof.
-fn ends_early<T: SerializableTtlvType>(alloc: T::Alloc) -> bool {
+fn is_early_end<T: SerializableTtlvType>(alloc: T::Alloc) -> bool {
     let mut source: &[u8] = b"\xFF\xFF\xFF\xFFabc";
     is_failure(&T::read(alloc, &mut source), io::ErrorKind::UnexpectedEof)
 }
 
+fn ends_early<A: Allocator>(alloc: A, call: Call) -> bool {
+    match call {
+        Call::ReadText => is_early_end::<TtlvTextString<A>>(alloc),
+        Call::ReadBytes => is_early_end::<TtlvByteString<A>>(alloc),
+        Call::ReadNumber => is_early_end::<TtlvBigInteger<A>>(alloc),
+        _ => false,
+    }
+}
+
+// Whether such a length takes no more than one growth.
+fn takes_one_piece(heap: Global, call: Call) -> bool {
+    let memory = RefusingAllocator::new(heap, 1);
+    ends_early(&memory, call) && !memory.has_refused()
+}
+
 #[test]
 fn a_length_without_its_bytes_takes_one_piece(rt: HostRuntime) -> Result<(), Fail> {
-    let memory = RefusingAllocator::new(rt.alloc(), 1);
-    assert!(rt; ends_early::<TtlvTextString<_>>(&memory) && !memory.has_refused());
-    let memory = RefusingAllocator::new(rt.alloc(), 1);
-    assert!(rt; ends_early::<TtlvByteString<_>>(&memory) && !memory.has_refused());
-    let memory = RefusingAllocator::new(rt.alloc(), 1);
-    assert!(rt; ends_early::<TtlvBigInteger<_>>(&memory) && !memory.has_refused());
+    for call in STRINGS {
+        assert!(rt; takes_one_piece(rt.alloc(), call), "{call:?}");
+    }
     Ok(())
 }
 
 // Whether reading the leaf is refused for want of memory.
-fn is_out_of_memory<T: SerializableTtlvType>(alloc: T::Alloc, leaf: &[u8]) -> bool {
+fn is_refused<T: SerializableTtlvType>(alloc: T::Alloc, leaf: &[u8]) -> bool {
     let mut source = leaf;
     matches!(&T::read(alloc, &mut source), Err(Error::OutOfMemory))
+}
+
+fn wants_memory<A: Allocator>(alloc: A, call: Call, leaf: &[u8]) -> bool {
+    match call {
+        Call::ReadText => is_refused::<TtlvTextString<A>>(alloc, leaf),
+        Call::ReadBytes => is_refused::<TtlvByteString<A>>(alloc, leaf),
+        Call::ReadNumber => is_refused::<TtlvBigInteger<A>>(alloc, leaf),
+        _ => false,
+    }
+}
+
+// Whether a block of 65,536 bytes is enough for such a length, and not for this leaf.
+fn takes_pieces(heap: Global, call: Call, leaf: &[u8]) -> bool {
+    let memory = BoundedAllocator::new(heap, 65_536);
+    ends_early(&memory, call) && wants_memory(&memory, call, leaf)
 }
 
 #[test]
 fn a_piece_has_65_536_bytes(rt: HostRuntime) -> Result<(), Fail> {
     let leaf = long_leaf(rt.alloc())?;
-    let bytes = leaf.as_slice();
-    let memory = BoundedAllocator::new(rt.alloc(), 65_536);
-    assert!(rt; ends_early::<TtlvTextString<_>>(&memory));
-    assert!(rt; ends_early::<TtlvByteString<_>>(&memory));
-    assert!(rt; ends_early::<TtlvBigInteger<_>>(&memory));
-    assert!(rt; is_out_of_memory::<TtlvTextString<_>>(&memory, bytes));
-    assert!(rt; is_out_of_memory::<TtlvByteString<_>>(&memory, bytes));
-    assert!(rt; is_out_of_memory::<TtlvBigInteger<_>>(&memory, bytes));
+    for call in STRINGS {
+        assert!(rt; takes_pieces(rt.alloc(), call, leaf.as_slice()), "{call:?}");
+    }
     Ok(())
 }

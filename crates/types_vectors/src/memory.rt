@@ -1,12 +1,11 @@
 //! Reading from memory and writing into it, by vectors, slices and cursors.
 
-use crate::samples::{Sample, for_each_sample, is_failure, is_integer, is_tag, is_type, is_value};
+use crate::samples::{
+    PRIMITIVES, SAMPLES, Sample, Value, is_failure, is_integer, is_tag, is_type, is_value,
+};
 use kmip_ttlv_types::laws::reread;
 use kmip_ttlv_types::stream::{MemoryCursor, MemorySink, MemorySource};
-use kmip_ttlv_types::{
-    SerializableTtlvType, TtlvBigInteger, TtlvBoolean, TtlvByteString, TtlvDateTime,
-    TtlvEnumeration, TtlvInteger, TtlvInterval, TtlvLongInteger, TtlvTag, TtlvTextString, TtlvType,
-};
+use kmip_ttlv_types::{Error, SerializableTtlvType, TtlvInteger, TtlvTag, TtlvType};
 use std::alloc::Global;
 use std::io::{Cursor, ErrorKind};
 use std::test::Fail;
@@ -31,21 +30,27 @@ fn memory_with_room(rt: HostRuntime) -> Result<(), Fail> {
 }
 
 // Whether the value is written into a vector and read from there.
-fn goes_through_memory<T: Sample>(heap: Global) -> bool {
-    let Ok(value) = T::sample(heap) else {
+fn goes_through_memory(heap: Global, sample: Sample) -> bool {
+    let Ok(value) = sample.value(heap) else {
         return false;
     };
     let mut sink = MemorySink(Vec::new(heap));
-    if value.write_to(&mut sink).is_err() || sink.0.as_slice() != T::bytes() {
+    if value.write_to(&mut sink).is_err() || sink.0.as_slice() != sample.bytes {
         return false;
     }
     let mut source = MemorySource(sink.0.as_slice());
-    is_value(&T::read_from(heap, &mut source)) && source.0.is_empty()
+    is_value(&sample.read_from(heap, &mut source)) && source.0.is_empty()
 }
 
 #[test]
 fn vectors_of_memory(rt: HostRuntime) -> Result<(), Fail> {
-    assert!(rt; for_each_sample!(goes_through_memory(rt.alloc())));
+    for sample in SAMPLES {
+        assert!(rt;
+            goes_through_memory(rt.alloc(), sample),
+            "{:?}",
+            sample.kind
+        );
+    }
     Ok(())
 }
 
@@ -64,8 +69,8 @@ fn cursor_at<T>(bytes: T, at: u64) -> MemoryCursor<T> {
 }
 
 // Whether the value is written into a slice from this place on, up to that one.
-fn is_written_up_to<T: Sample>(heap: Global, buffer: &mut [u8], at: u64, end: u64) -> bool {
-    let Ok(value) = T::sample(heap) else {
+fn is_written_up_to(heap: Global, sample: Sample, buffer: &mut [u8], at: u64, end: u64) -> bool {
+    let Ok(value) = sample.value(heap) else {
         return false;
     };
     let mut sink = cursor_at(buffer, at);
@@ -73,45 +78,49 @@ fn is_written_up_to<T: Sample>(heap: Global, buffer: &mut [u8], at: u64, end: u6
 }
 
 // Whether the value is read from a slice from this place on, up to that one.
-fn is_read_up_to<T: Sample>(heap: Global, buffer: &[u8], at: u64, end: u64) -> bool {
+fn is_read_up_to(heap: Global, sample: Sample, buffer: &[u8], at: u64, end: u64) -> bool {
     let mut source = cursor_at(buffer, at);
-    is_value(&T::read_from(heap, &mut source)) && source.0.position() == end
+    is_value(&sample.read_from(heap, &mut source)) && source.0.position() == end
 }
 
 // Whether so many bytes EE stand before the value's.
-fn is_behind_filling<T: Sample>(buffer: &[u8], at: usize) -> bool {
+fn is_behind_filling(sample: Sample, buffer: &[u8], at: usize) -> bool {
     match buffer.split_at_checked(at) {
         Some((front, written)) => {
-            written == T::bytes() && front.iter().all(|byte| *byte == 0xEE)
+            written == sample.bytes && front.iter().all(|byte| *byte == 0xEE)
         }
         None => false,
     }
 }
 
 // Whether the value is written into a slice, where it just fits from this place on, and read from there.
-fn goes_through_a_slice<T: Sample>(heap: Global, at: usize) -> bool {
-    let len = T::bytes().len().saturating_add(at);
+fn goes_through_a_slice(heap: Global, sample: Sample, at: usize) -> bool {
+    let len = sample.bytes.len().saturating_add(at);
     let (at_byte, end) = (at as u64, len as u64);
     let Some(mut buffer) = filled(heap, len) else {
         return false;
     };
-    is_written_up_to::<T>(heap, &mut buffer[..], at_byte, end)
-        && is_read_up_to::<T>(heap, &buffer[..], at_byte, end)
-        && is_behind_filling::<T>(&buffer[..], at)
+    is_written_up_to(heap, sample, &mut buffer[..], at_byte, end)
+        && is_read_up_to(heap, sample, &buffer[..], at_byte, end)
+        && is_behind_filling(sample, &buffer[..], at)
 }
 
 // At the start of a slice, and from the middle on.
 #[test]
 fn slices(rt: HostRuntime) -> Result<(), Fail> {
-    assert!(rt; for_each_sample!(goes_through_a_slice(rt.alloc(), 0)));
-    assert!(rt; for_each_sample!(goes_through_a_slice(rt.alloc(), 5)));
+    for at in [0, 5] {
+        for sample in SAMPLES {
+            let is_right = goes_through_a_slice(rt.alloc(), sample, at);
+            assert!(rt; is_right, "{:?}, at {at}", sample.kind);
+        }
+    }
     Ok(())
 }
 
 // Where writing the value into a slice from this place on ends, where that makes an IoError of the kind
 // WriteZero.
-fn end_of_failed_writing<T: Sample>(heap: Global, buffer: &mut [u8], at: u64) -> Option<u64> {
-    let value = T::sample(heap).ok()?;
+fn end_of_failed_writing(heap: Global, sample: Sample, buffer: &mut [u8], at: u64) -> Option<u64> {
+    let value = sample.value(heap).ok()?;
     let mut sink = cursor_at(buffer, at);
     if is_failure(&value.write_to(&mut sink), ErrorKind::WriteZero) {
         Some(sink.0.position())
@@ -122,68 +131,84 @@ fn end_of_failed_writing<T: Sample>(heap: Global, buffer: &mut [u8], at: u64) ->
 
 // Whether a slice that is one byte too short takes a front of the value, and makes an IoError of the
 // kind WriteZero.
-fn is_one_byte_short<T: Sample>(heap: Global) -> bool {
-    let len = T::bytes().len().saturating_sub(1);
+fn is_one_byte_short(heap: Global, sample: Sample) -> bool {
+    let len = sample.bytes.len().saturating_sub(1);
     let Some(mut buffer) = filled(heap, len) else {
         return false;
     };
-    match end_of_failed_writing::<T>(heap, &mut buffer[..], 0).map(usize::try_from) {
-        Some(Ok(end)) => end <= len && buffer.get(..end) == T::bytes().get(..end),
+    match end_of_failed_writing(heap, sample, &mut buffer[..], 0).map(usize::try_from) {
+        Some(Ok(end)) => end <= len && buffer.get(..end) == sample.bytes.get(..end),
         _ => false,
     }
 }
 
 #[test]
 fn slices_one_byte_too_short(rt: HostRuntime) -> Result<(), Fail> {
-    assert!(rt; for_each_sample!(is_one_byte_short(rt.alloc())));
+    for sample in SAMPLES {
+        assert!(rt; is_one_byte_short(rt.alloc(), sample), "{:?}", sample.kind);
+    }
     Ok(())
 }
 
 // Whether no value is read from a slice from this place on, by an IoError of the kind UnexpectedEof.
-fn is_read_past_the_end<T: Sample>(heap: Global, buffer: &[u8], at: u64) -> bool {
+fn is_read_past_the_end(heap: Global, sample: Sample, buffer: &[u8], at: u64) -> bool {
     let mut source = cursor_at(buffer, at);
-    is_failure(&T::read_from(heap, &mut source), ErrorKind::UnexpectedEof)
+    is_failure(
+        &sample.read_from(heap, &mut source),
+        ErrorKind::UnexpectedEof,
+    )
 }
 
 // Whether a cursor past the end of a slice neither takes nor gives the value.
-fn is_past_the_end<T: Sample>(heap: Global, at: u64) -> bool {
+fn is_past_the_end(heap: Global, sample: Sample, at: u64) -> bool {
     let mut buffer = [0xEEu8; 5];
-    end_of_failed_writing::<T>(heap, &mut buffer, at).is_some()
-        && is_read_past_the_end::<T>(heap, &buffer, at)
+    end_of_failed_writing(heap, sample, &mut buffer, at).is_some()
+        && is_read_past_the_end(heap, sample, &buffer, at)
         && buffer == [0xEE; 5]
 }
 
 #[test]
 fn cursors_past_the_end(rt: HostRuntime) -> Result<(), Fail> {
     for at in [5u64, 6, 1_000, u64::MAX] {
-        assert!(rt;
-            for_each_sample!(is_past_the_end(rt.alloc(), at)),
-            "at {at}"
-        );
+        for sample in SAMPLES {
+            let is_right = is_past_the_end(rt.alloc(), sample, at);
+            assert!(rt; is_right, "{:?}, at {at}", sample.kind);
+        }
     }
     Ok(())
 }
 
-// Whether the value is written and read by `reread`.
-fn is_reread<T: Sample + SerializableTtlvType>(heap: Global, alloc: T::Alloc) -> bool {
-    match T::sample(heap) {
-        Ok(value) => is_value(&reread(heap, alloc, &value)),
-        Err(_) => false,
+// What a primitive's value is after `reread`; none for a part of a header.
+fn reread_value(heap: Global, value: &Value) -> Result<Option<Value>, Error> {
+    match value {
+        Value::Integer(number) => Ok(Some(Value::Integer(reread(heap, (), number)?))),
+        Value::LongInteger(number) => Ok(Some(Value::LongInteger(reread(heap, (), number)?))),
+        Value::BigInteger(number) => Ok(Some(Value::BigInteger(reread(heap, heap, number)?))),
+        Value::Enumeration(number) => Ok(Some(Value::Enumeration(reread(heap, (), number)?))),
+        Value::Boolean(truth) => Ok(Some(Value::Boolean(reread(heap, (), truth)?))),
+        Value::TextString(text) => Ok(Some(Value::TextString(reread(heap, heap, text)?))),
+        Value::ByteString(bytes) => Ok(Some(Value::ByteString(reread(heap, heap, bytes)?))),
+        Value::DateTime(seconds) => Ok(Some(Value::DateTime(reread(heap, (), seconds)?))),
+        Value::Interval(seconds) => Ok(Some(Value::Interval(reread(heap, (), seconds)?))),
+        Value::Tag(_) | Value::Type(_) | Value::Length(_) => Ok(None),
+    }
+}
+
+// Whether the sample is written and read by `reread`.
+fn is_reread(heap: Global, sample: Sample) -> bool {
+    let Ok(value) = sample.value(heap) else {
+        return false;
+    };
+    match &reread_value(heap, &value) {
+        Ok(Some(read)) => read.is_sample(),
+        _ => false,
     }
 }
 
 #[test]
 fn values_are_reread(rt: HostRuntime) -> Result<(), Fail> {
-    let heap = rt.alloc();
-    let are_reread = is_reread::<TtlvInteger>(heap, ())
-        & is_reread::<TtlvLongInteger>(heap, ())
-        & is_reread::<TtlvBigInteger>(heap, heap)
-        & is_reread::<TtlvEnumeration>(heap, ())
-        & is_reread::<TtlvBoolean>(heap, ())
-        & is_reread::<TtlvTextString>(heap, heap)
-        & is_reread::<TtlvByteString>(heap, heap)
-        & is_reread::<TtlvDateTime>(heap, ())
-        & is_reread::<TtlvInterval>(heap, ());
-    assert!(rt; are_reread);
+    for sample in SAMPLES.iter().take(PRIMITIVES) {
+        assert!(rt; is_reread(rt.alloc(), *sample), "{:?}", sample.kind);
+    }
     Ok(())
 }

@@ -12,26 +12,204 @@ use kmip_ttlv_types::{
 use std::alloc::{AllocError, Allocator, Global};
 use std::io::ErrorKind;
 
-/// What has a value for the tests.
-pub trait Sample: Sized + Drop {
-    /// The value.
-    fn sample(heap: Global) -> Result<Self, AllocError>;
-
-    /// Whether this is that value.
-    fn is_sample(&self) -> bool;
-
-    /// The bytes that it is written as: of a primitive its type, length, content and padding.
-    fn bytes() -> &'static [u8];
-
-    /// Takes these bytes.
-    fn read_from<S: Source>(heap: Global, source: &mut S) -> Result<Self, Error>;
-
-    /// Writes these bytes.
-    fn write_to<S: Sink>(&self, sink: &mut S) -> Result<(), Error>;
+/// What has a value for the tests: the primitives, and behind them the parts of a header.
+#[derive(Clone, Copy, Debug, PartialEq, Eq)]
+pub enum Kind {
+    Integer,
+    LongInteger,
+    BigInteger,
+    Enumeration,
+    Boolean,
+    TextString,
+    ByteString,
+    DateTime,
+    Interval,
+    Tag,
+    Type,
+    Length,
 }
 
-/// Whether the answer is the value.
-pub fn is_value<T: Sample>(answer: &Result<T, Error>) -> bool {
+/// A kind, and the bytes that its value is written as: of a primitive its type, length, content and
+/// padding.
+#[derive(Clone, Copy)]
+pub struct Sample {
+    pub kind: Kind,
+    pub bytes: &'static [u8],
+}
+
+/// How many of the samples are primitives: the first ones.
+pub const PRIMITIVES: usize = 9;
+
+/// A sample of each kind.
+pub const SAMPLES: [Sample; 12] = [
+    Sample {
+        kind: Kind::Integer,
+        bytes: b"\x02\x00\x00\x00\x04\x00\x00\x00\x08\x00\x00\x00\x00",
+    },
+    Sample {
+        kind: Kind::LongInteger,
+        bytes: b"\x03\x00\x00\x00\x08\x01\xB6\x9B\x4B\xA5\x74\x92\x00",
+    },
+    Sample {
+        kind: Kind::BigInteger,
+        bytes: b"\x04\x00\x00\x00\x10\x00\x00\x00\x00\x03\xFD\x35\xEB\x6B\xC2\xDF\x46\x18\x08\x00\x00",
+    },
+    Sample {
+        kind: Kind::Enumeration,
+        bytes: b"\x05\x00\x00\x00\x04\x00\x00\x00\xFF\x00\x00\x00\x00",
+    },
+    Sample {
+        kind: Kind::Boolean,
+        bytes: b"\x06\x00\x00\x00\x08\x00\x00\x00\x00\x00\x00\x00\x01",
+    },
+    Sample {
+        kind: Kind::TextString,
+        bytes: b"\x07\x00\x00\x00\x0BHello World\x00\x00\x00\x00\x00",
+    },
+    Sample {
+        kind: Kind::ByteString,
+        bytes: b"\x08\x00\x00\x00\x03\x01\x02\x03\x00\x00\x00\x00\x00",
+    },
+    Sample {
+        kind: Kind::DateTime,
+        bytes: b"\x09\x00\x00\x00\x08\x00\x00\x00\x00\x47\xDA\x67\xF8",
+    },
+    Sample {
+        kind: Kind::Interval,
+        bytes: b"\x0A\x00\x00\x00\x04\x00\x0D\x2F\x00\x00\x00\x00\x00",
+    },
+    Sample {
+        kind: Kind::Tag,
+        bytes: b"\x42\x00\x20",
+    },
+    Sample {
+        kind: Kind::Type,
+        bytes: b"\x0A",
+    },
+    Sample {
+        kind: Kind::Length,
+        bytes: b"\x01\x02\x03\xFF",
+    },
+];
+
+/// The number of the standard's example of a big integer, as it is written.
+const NUMBER: &[u8] = b"\x00\x00\x00\x00\x03\xFD\x35\xEB\x6B\xC2\xDF\x46\x18\x08\x00\x00";
+
+/// A value of one of these kinds.
+#[derive(Drop)]
+pub enum Value {
+    Integer(TtlvInteger),
+    LongInteger(TtlvLongInteger),
+    BigInteger(TtlvBigInteger),
+    Enumeration(TtlvEnumeration),
+    Boolean(TtlvBoolean),
+    TextString(TtlvTextString),
+    ByteString(TtlvByteString),
+    DateTime(TtlvDateTime),
+    Interval(TtlvInterval),
+    Tag(TtlvTag),
+    Type(TtlvType),
+    Length(TtlvLength),
+}
+
+impl Sample {
+    /// The sample's value.
+    pub fn value(&self, heap: Global) -> Result<Value, AllocError> {
+        match self.kind {
+            Kind::Integer => Ok(Value::Integer(TtlvInteger(8))),
+            Kind::LongInteger => Ok(Value::LongInteger(TtlvLongInteger(123_456_789_000_000_000))),
+            Kind::BigInteger => {
+                Ok(Value::BigInteger(TtlvBigInteger(Vec::from_slice(heap, NUMBER)?)))
+            }
+            Kind::Enumeration => Ok(Value::Enumeration(TtlvEnumeration(255))),
+            Kind::Boolean => Ok(Value::Boolean(TtlvBoolean(true))),
+            Kind::TextString => {
+                let text = String::from_str(heap, "Hello World")?;
+                Ok(Value::TextString(TtlvTextString(text)))
+            }
+            Kind::ByteString => {
+                let bytes = Vec::from_slice(heap, b"\x01\x02\x03")?;
+                Ok(Value::ByteString(TtlvByteString(bytes)))
+            }
+            Kind::DateTime => Ok(Value::DateTime(TtlvDateTime(1_205_495_800))),
+            Kind::Interval => Ok(Value::Interval(TtlvInterval(864_000))),
+            Kind::Tag => Ok(Value::Tag(TtlvTag::from([0x42, 0x00, 0x20]))),
+            Kind::Type => Ok(Value::Type(TtlvType::Interval)),
+            Kind::Length => Ok(Value::Length(TtlvLength::new(0x0102_03FF))),
+        }
+    }
+
+    /// Takes the sample's bytes, and gives the value that they are.
+    pub fn read_from<S: Source>(&self, heap: Global, source: &mut S) -> Result<Value, Error> {
+        match self.kind {
+            Kind::Integer => Ok(Value::Integer(read_leaf((), source)?)),
+            Kind::LongInteger => Ok(Value::LongInteger(read_leaf((), source)?)),
+            Kind::BigInteger => Ok(Value::BigInteger(read_leaf(heap, source)?)),
+            Kind::Enumeration => Ok(Value::Enumeration(read_leaf((), source)?)),
+            Kind::Boolean => Ok(Value::Boolean(read_leaf((), source)?)),
+            Kind::TextString => Ok(Value::TextString(read_leaf(heap, source)?)),
+            Kind::ByteString => Ok(Value::ByteString(read_leaf(heap, source)?)),
+            Kind::DateTime => Ok(Value::DateTime(read_leaf((), source)?)),
+            Kind::Interval => Ok(Value::Interval(read_leaf((), source)?)),
+            Kind::Tag => Ok(Value::Tag(TtlvTag::read(source)?)),
+            Kind::Type => Ok(Value::Type(TtlvType::read(source)?)),
+            Kind::Length => Ok(Value::Length(TtlvLength::read(source)?)),
+        }
+    }
+}
+
+impl Value {
+    /// Whether this is the sample's value.
+    pub fn is_sample(&self) -> bool {
+        match self {
+            Value::Integer(number) => number.0 == 8,
+            Value::LongInteger(number) => number.0 == 123_456_789_000_000_000,
+            Value::BigInteger(number) => number.as_slice() == NUMBER,
+            Value::Enumeration(number) => number.0 == 255,
+            Value::Boolean(truth) => truth.0,
+            Value::TextString(text) => text.as_str() == "Hello World",
+            Value::ByteString(bytes) => bytes.as_slice() == b"\x01\x02\x03".as_slice(),
+            Value::DateTime(seconds) => seconds.0 == 1_205_495_800,
+            Value::Interval(seconds) => seconds.0 == 864_000,
+            Value::Tag(tag) => **tag == 0x42_0020,
+            Value::Type(typ) => *typ == TtlvType::Interval,
+            Value::Length(length) => **length == 0x0102_03FF,
+        }
+    }
+
+    /// Writes the value's bytes.
+    pub fn write_to<S: Sink>(&self, sink: &mut S) -> Result<(), Error> {
+        match self {
+            Value::Integer(number) => number.write(sink),
+            Value::LongInteger(number) => number.write(sink),
+            Value::BigInteger(number) => number.write(sink),
+            Value::Enumeration(number) => number.write(sink),
+            Value::Boolean(truth) => truth.write(sink),
+            Value::TextString(text) => text.write(sink),
+            Value::ByteString(bytes) => bytes.write(sink),
+            Value::DateTime(seconds) => seconds.write(sink),
+            Value::Interval(seconds) => seconds.write(sink),
+            Value::Tag(tag) => tag.write(sink),
+            Value::Type(typ) => typ.write(sink),
+            Value::Length(length) => length.write(sink),
+        }
+    }
+}
+
+// Takes a type, and where it is that of `T` the rest of a leaf.
+fn read_leaf<T: SerializableTtlvType, S: Source>(
+    alloc: T::Alloc,
+    source: &mut S,
+) -> Result<T, Error> {
+    let typ = TtlvType::read(source)?;
+    if typ != T::TTLV_TYPE {
+        return Err(Error::InvalidTtlvValue(typ));
+    }
+    T::read(alloc, source)
+}
+
+/// Whether the answer is the sample's value.
+pub fn is_value(answer: &Result<Value, Error>) -> bool {
     match answer {
         Ok(value) => value.is_sample(),
         Err(_) => false,
@@ -123,303 +301,4 @@ pub fn is_whole_place<A: Allocator>(place: &ErrorLocation<A>) -> bool {
         && place.parent_tags() == tags.as_slice()
         && place.tag() == Some(TtlvTag::from([0xCC, 0xCC, 0xCC]))
         && place.typ() == Some(TtlvType::Integer)
-}
-
-/// A call for each type that has a value; it is true where each of them is.
-macro_rules! for_each_sample {
-    ($holds:ident($($argument:expr),*)) => {
-        $holds::<kmip_ttlv_types::TtlvInteger>($($argument),*)
-            & $holds::<kmip_ttlv_types::TtlvLongInteger>($($argument),*)
-            & $holds::<kmip_ttlv_types::TtlvBigInteger>($($argument),*)
-            & $holds::<kmip_ttlv_types::TtlvEnumeration>($($argument),*)
-            & $holds::<kmip_ttlv_types::TtlvBoolean>($($argument),*)
-            & $holds::<kmip_ttlv_types::TtlvTextString>($($argument),*)
-            & $holds::<kmip_ttlv_types::TtlvByteString>($($argument),*)
-            & $holds::<kmip_ttlv_types::TtlvDateTime>($($argument),*)
-            & $holds::<kmip_ttlv_types::TtlvInterval>($($argument),*)
-            & $holds::<kmip_ttlv_types::TtlvTag>($($argument),*)
-            & $holds::<kmip_ttlv_types::TtlvType>($($argument),*)
-            & $holds::<kmip_ttlv_types::TtlvLength>($($argument),*)
-    };
-}
-
-pub(crate) use for_each_sample;
-
-// Takes a type, and where it is that of `T` the rest of a leaf.
-fn read_leaf<T: SerializableTtlvType, S: Source>(
-    alloc: T::Alloc,
-    source: &mut S,
-) -> Result<T, Error> {
-    let typ = TtlvType::read(source)?;
-    if typ != T::TTLV_TYPE {
-        return Err(Error::InvalidTtlvValue(typ));
-    }
-    T::read(alloc, source)
-}
-
-impl Sample for TtlvInteger {
-    fn sample(_heap: Global) -> Result<TtlvInteger, AllocError> {
-        Ok(TtlvInteger(8))
-    }
-
-    fn is_sample(&self) -> bool {
-        *self == TtlvInteger(8)
-    }
-
-    fn bytes() -> &'static [u8] {
-        b"\x02\x00\x00\x00\x04\x00\x00\x00\x08\x00\x00\x00\x00"
-    }
-
-    fn read_from<S: Source>(_heap: Global, source: &mut S) -> Result<TtlvInteger, Error> {
-        read_leaf((), source)
-    }
-
-    fn write_to<S: Sink>(&self, sink: &mut S) -> Result<(), Error> {
-        self.write(sink)
-    }
-}
-
-impl Sample for TtlvLongInteger {
-    fn sample(_heap: Global) -> Result<TtlvLongInteger, AllocError> {
-        Ok(TtlvLongInteger(123_456_789_000_000_000))
-    }
-
-    fn is_sample(&self) -> bool {
-        *self == TtlvLongInteger(123_456_789_000_000_000)
-    }
-
-    fn bytes() -> &'static [u8] {
-        b"\x03\x00\x00\x00\x08\x01\xB6\x9B\x4B\xA5\x74\x92\x00"
-    }
-
-    fn read_from<S: Source>(_heap: Global, source: &mut S) -> Result<TtlvLongInteger, Error> {
-        read_leaf((), source)
-    }
-
-    fn write_to<S: Sink>(&self, sink: &mut S) -> Result<(), Error> {
-        self.write(sink)
-    }
-}
-
-impl Sample for TtlvEnumeration {
-    fn sample(_heap: Global) -> Result<TtlvEnumeration, AllocError> {
-        Ok(TtlvEnumeration(255))
-    }
-
-    fn is_sample(&self) -> bool {
-        *self == TtlvEnumeration(255)
-    }
-
-    fn bytes() -> &'static [u8] {
-        b"\x05\x00\x00\x00\x04\x00\x00\x00\xFF\x00\x00\x00\x00"
-    }
-
-    fn read_from<S: Source>(_heap: Global, source: &mut S) -> Result<TtlvEnumeration, Error> {
-        read_leaf((), source)
-    }
-
-    fn write_to<S: Sink>(&self, sink: &mut S) -> Result<(), Error> {
-        self.write(sink)
-    }
-}
-
-impl Sample for TtlvBoolean {
-    fn sample(_heap: Global) -> Result<TtlvBoolean, AllocError> {
-        Ok(TtlvBoolean(true))
-    }
-
-    fn is_sample(&self) -> bool {
-        *self == TtlvBoolean(true)
-    }
-
-    fn bytes() -> &'static [u8] {
-        b"\x06\x00\x00\x00\x08\x00\x00\x00\x00\x00\x00\x00\x01"
-    }
-
-    fn read_from<S: Source>(_heap: Global, source: &mut S) -> Result<TtlvBoolean, Error> {
-        read_leaf((), source)
-    }
-
-    fn write_to<S: Sink>(&self, sink: &mut S) -> Result<(), Error> {
-        self.write(sink)
-    }
-}
-
-impl Sample for TtlvDateTime {
-    fn sample(_heap: Global) -> Result<TtlvDateTime, AllocError> {
-        Ok(TtlvDateTime(1_205_495_800))
-    }
-
-    fn is_sample(&self) -> bool {
-        *self == TtlvDateTime(1_205_495_800)
-    }
-
-    fn bytes() -> &'static [u8] {
-        b"\x09\x00\x00\x00\x08\x00\x00\x00\x00\x47\xDA\x67\xF8"
-    }
-
-    fn read_from<S: Source>(_heap: Global, source: &mut S) -> Result<TtlvDateTime, Error> {
-        read_leaf((), source)
-    }
-
-    fn write_to<S: Sink>(&self, sink: &mut S) -> Result<(), Error> {
-        self.write(sink)
-    }
-}
-
-impl Sample for TtlvInterval {
-    fn sample(_heap: Global) -> Result<TtlvInterval, AllocError> {
-        Ok(TtlvInterval(864_000))
-    }
-
-    fn is_sample(&self) -> bool {
-        *self == TtlvInterval(864_000)
-    }
-
-    fn bytes() -> &'static [u8] {
-        b"\x0A\x00\x00\x00\x04\x00\x0D\x2F\x00\x00\x00\x00\x00"
-    }
-
-    fn read_from<S: Source>(_heap: Global, source: &mut S) -> Result<TtlvInterval, Error> {
-        read_leaf((), source)
-    }
-
-    fn write_to<S: Sink>(&self, sink: &mut S) -> Result<(), Error> {
-        self.write(sink)
-    }
-}
-
-impl Sample for TtlvTextString {
-    fn sample(heap: Global) -> Result<TtlvTextString, AllocError> {
-        Ok(TtlvTextString(String::from_str(heap, "Hello World")?))
-    }
-
-    fn is_sample(&self) -> bool {
-        self.as_str() == "Hello World"
-    }
-
-    fn bytes() -> &'static [u8] {
-        b"\x07\x00\x00\x00\x0BHello World\x00\x00\x00\x00\x00"
-    }
-
-    fn read_from<S: Source>(heap: Global, source: &mut S) -> Result<TtlvTextString, Error> {
-        read_leaf(heap, source)
-    }
-
-    fn write_to<S: Sink>(&self, sink: &mut S) -> Result<(), Error> {
-        self.write(sink)
-    }
-}
-
-impl Sample for TtlvByteString {
-    fn sample(heap: Global) -> Result<TtlvByteString, AllocError> {
-        Ok(TtlvByteString(Vec::from_slice(heap, b"\x01\x02\x03")?))
-    }
-
-    fn is_sample(&self) -> bool {
-        self.as_slice() == b"\x01\x02\x03".as_slice()
-    }
-
-    fn bytes() -> &'static [u8] {
-        b"\x08\x00\x00\x00\x03\x01\x02\x03\x00\x00\x00\x00\x00"
-    }
-
-    fn read_from<S: Source>(heap: Global, source: &mut S) -> Result<TtlvByteString, Error> {
-        read_leaf(heap, source)
-    }
-
-    fn write_to<S: Sink>(&self, sink: &mut S) -> Result<(), Error> {
-        self.write(sink)
-    }
-}
-
-// The number of the standard's example.
-const NUMBER: &[u8] = b"\x00\x00\x00\x00\x03\xFD\x35\xEB\x6B\xC2\xDF\x46\x18\x08\x00\x00";
-
-impl Sample for TtlvBigInteger {
-    fn sample(heap: Global) -> Result<TtlvBigInteger, AllocError> {
-        Ok(TtlvBigInteger(Vec::from_slice(heap, NUMBER)?))
-    }
-
-    fn is_sample(&self) -> bool {
-        self.as_slice() == NUMBER
-    }
-
-    fn bytes() -> &'static [u8] {
-        b"\x04\x00\x00\x00\x10\x00\x00\x00\x00\x03\xFD\x35\xEB\x6B\xC2\xDF\x46\x18\x08\x00\x00"
-    }
-
-    fn read_from<S: Source>(heap: Global, source: &mut S) -> Result<TtlvBigInteger, Error> {
-        read_leaf(heap, source)
-    }
-
-    fn write_to<S: Sink>(&self, sink: &mut S) -> Result<(), Error> {
-        self.write(sink)
-    }
-}
-
-impl Sample for TtlvTag {
-    fn sample(_heap: Global) -> Result<TtlvTag, AllocError> {
-        Ok(TtlvTag::from([0x42, 0x00, 0x20]))
-    }
-
-    fn is_sample(&self) -> bool {
-        **self == 0x42_0020
-    }
-
-    fn bytes() -> &'static [u8] {
-        b"\x42\x00\x20"
-    }
-
-    fn read_from<S: Source>(_heap: Global, source: &mut S) -> Result<TtlvTag, Error> {
-        TtlvTag::read(source)
-    }
-
-    fn write_to<S: Sink>(&self, sink: &mut S) -> Result<(), Error> {
-        self.write(sink)
-    }
-}
-
-impl Sample for TtlvType {
-    fn sample(_heap: Global) -> Result<TtlvType, AllocError> {
-        Ok(TtlvType::Interval)
-    }
-
-    fn is_sample(&self) -> bool {
-        *self == TtlvType::Interval
-    }
-
-    fn bytes() -> &'static [u8] {
-        b"\x0A"
-    }
-
-    fn read_from<S: Source>(_heap: Global, source: &mut S) -> Result<TtlvType, Error> {
-        TtlvType::read(source)
-    }
-
-    fn write_to<S: Sink>(&self, sink: &mut S) -> Result<(), Error> {
-        self.write(sink)
-    }
-}
-
-impl Sample for TtlvLength {
-    fn sample(_heap: Global) -> Result<TtlvLength, AllocError> {
-        Ok(TtlvLength::new(0x0102_03FF))
-    }
-
-    fn is_sample(&self) -> bool {
-        **self == 0x0102_03FF
-    }
-
-    fn bytes() -> &'static [u8] {
-        b"\x01\x02\x03\xFF"
-    }
-
-    fn read_from<S: Source>(_heap: Global, source: &mut S) -> Result<TtlvLength, Error> {
-        TtlvLength::read(source)
-    }
-
-    fn write_to<S: Sink>(&self, sink: &mut S) -> Result<(), Error> {
-        self.write(sink)
-    }
 }

@@ -2,7 +2,7 @@
 //! changes but that of the call that met the failure.
 
 use crate::faulty::{InterruptedReader, InterruptedWriter, SlowReader, SlowWriter};
-use crate::samples::{Sample, for_each_sample, is_failure, is_length, is_tag, is_type, is_value};
+use crate::samples::{SAMPLES, Sample, is_failure, is_length, is_tag, is_type, is_value};
 use kmip_ttlv_types::{SerializableTtlvType, TtlvByteString, TtlvLength, TtlvType};
 use std::alloc::Global;
 use std::io::ErrorKind;
@@ -11,15 +11,15 @@ use std::test::Fail;
 // Whether a reader of one byte a call that fails once, at any one call, with this kind, makes an IoError
 // of that kind and has given the bytes before that call; and one that does not fail before the end, or
 // is only interrupted, gives the value.
-fn is_read_or_failed<T: Sample>(heap: Global, kind: ErrorKind) -> bool {
-    let bytes = T::bytes();
+fn is_read_or_failed(heap: Global, sample: Sample, kind: ErrorKind) -> bool {
+    let bytes = sample.bytes;
     for count in 0..=bytes.len() {
         let mut reader = SlowReader {
             bytes,
             calls_before_fault: count as u64,
             kind,
         };
-        let read = T::read_from(heap, &mut reader);
+        let read = sample.read_from(heap, &mut reader);
         let is_right = if count < bytes.len() && kind != ErrorKind::Interrupted {
             is_failure(&read, kind) && reader.bytes == &bytes[count..]
         } else {
@@ -40,10 +40,10 @@ fn readers_that_fail_once(rt: HostRuntime) -> Result<(), Fail> {
         ErrorKind::TimedOut,
         ErrorKind::UnexpectedEof,
     ] {
-        assert!(rt;
-            for_each_sample!(is_read_or_failed(rt.alloc(), kind)),
-            "{kind:?}"
-        );
+        for sample in SAMPLES {
+            let is_right = is_read_or_failed(rt.alloc(), sample, kind);
+            assert!(rt; is_right, "{:?}, {kind:?}", sample.kind);
+        }
     }
     Ok(())
 }
@@ -63,11 +63,14 @@ fn a_reader_that_failed_once_goes_on(rt: HostRuntime) -> Result<(), Fail> {
 }
 
 // Whether the bytes, cut after any of them but the last, make an IoError of the kind UnexpectedEof.
-fn is_cut_short<T: Sample>(heap: Global) -> bool {
-    let bytes = T::bytes();
+fn is_cut_short(heap: Global, sample: Sample) -> bool {
+    let bytes = sample.bytes;
     for count in 0..bytes.len() {
         let mut front = &bytes[..count];
-        if !is_failure(&T::read_from(heap, &mut front), ErrorKind::UnexpectedEof) {
+        if !is_failure(
+            &sample.read_from(heap, &mut front),
+            ErrorKind::UnexpectedEof,
+        ) {
             return false;
         }
     }
@@ -76,23 +79,31 @@ fn is_cut_short<T: Sample>(heap: Global) -> bool {
 
 #[test]
 fn cut_inputs(rt: HostRuntime) -> Result<(), Fail> {
-    assert!(rt; for_each_sample!(is_cut_short(rt.alloc())));
+    for sample in SAMPLES {
+        assert!(rt; is_cut_short(rt.alloc(), sample), "{:?}", sample.kind);
+    }
     Ok(())
 }
 
 // Whether the value is read from a reader that is interrupted so many times before each byte.
-fn is_read_at_length<T: Sample>(heap: Global, interruptions: u64) -> bool {
+fn is_read_at_length(heap: Global, sample: Sample, interruptions: u64) -> bool {
     let mut reader = InterruptedReader {
-        bytes: T::bytes(),
+        bytes: sample.bytes,
         interruptions,
         met: 0,
     };
-    is_value(&T::read_from(heap, &mut reader)) && reader.bytes.is_empty()
+    is_value(&sample.read_from(heap, &mut reader)) && reader.bytes.is_empty()
 }
 
 #[test]
 fn readers_that_are_interrupted_often(rt: HostRuntime) -> Result<(), Fail> {
-    assert!(rt; for_each_sample!(is_read_at_length(rt.alloc(), 1_000)));
+    for sample in SAMPLES {
+        assert!(rt;
+            is_read_at_length(rt.alloc(), sample, 1_000),
+            "{:?}",
+            sample.kind
+        );
+    }
     Ok(())
 }
 
@@ -109,11 +120,11 @@ fn slow_writer(heap: Global, room: usize, calls_before_fault: u64, kind: ErrorKi
 // Whether a writer of one byte a call that fails once, at any one call, with this kind, makes an IoError
 // of that kind and has taken the bytes before that call; and one that does not fail before the end, or
 // is only interrupted, takes them all.
-fn is_written_or_failed<T: Sample>(heap: Global, kind: ErrorKind) -> bool {
-    let Ok(value) = T::sample(heap) else {
+fn is_written_or_failed(heap: Global, sample: Sample, kind: ErrorKind) -> bool {
+    let Ok(value) = sample.value(heap) else {
         return false;
     };
-    let bytes = T::bytes();
+    let bytes = sample.bytes;
     for count in 0..=bytes.len() {
         let mut writer = slow_writer(heap, 100, count as u64, kind);
         let written = value.write_to(&mut writer);
@@ -137,21 +148,21 @@ fn writers_that_fail_once(rt: HostRuntime) -> Result<(), Fail> {
         ErrorKind::TimedOut,
         ErrorKind::WriteZero,
     ] {
-        assert!(rt;
-            for_each_sample!(is_written_or_failed(rt.alloc(), kind)),
-            "{kind:?}"
-        );
+        for sample in SAMPLES {
+            let is_right = is_written_or_failed(rt.alloc(), sample, kind);
+            assert!(rt; is_right, "{:?}, {kind:?}", sample.kind);
+        }
     }
     Ok(())
 }
 
 // Whether a writer that takes no byte after any number of them makes an IoError of the kind WriteZero
 // and has taken those; and one that takes them all answers so.
-fn is_too_much<T: Sample>(heap: Global) -> bool {
-    let Ok(value) = T::sample(heap) else {
+fn is_too_much(heap: Global, sample: Sample) -> bool {
+    let Ok(value) = sample.value(heap) else {
         return false;
     };
-    let bytes = T::bytes();
+    let bytes = sample.bytes;
     for room in 0..=bytes.len() {
         let mut writer = slow_writer(heap, room, u64::MAX, ErrorKind::BrokenPipe);
         let written = value.write_to(&mut writer);
@@ -169,13 +180,15 @@ fn is_too_much<T: Sample>(heap: Global) -> bool {
 
 #[test]
 fn writers_without_room(rt: HostRuntime) -> Result<(), Fail> {
-    assert!(rt; for_each_sample!(is_too_much(rt.alloc())));
+    for sample in SAMPLES {
+        assert!(rt; is_too_much(rt.alloc(), sample), "{:?}", sample.kind);
+    }
     Ok(())
 }
 
 // Whether the value is written over a writer that is interrupted so many times before each byte.
-fn is_written_at_length<T: Sample>(heap: Global, interruptions: u64) -> bool {
-    let Ok(value) = T::sample(heap) else {
+fn is_written_at_length(heap: Global, sample: Sample, interruptions: u64) -> bool {
+    let Ok(value) = sample.value(heap) else {
         return false;
     };
     let mut writer = InterruptedWriter {
@@ -183,12 +196,18 @@ fn is_written_at_length<T: Sample>(heap: Global, interruptions: u64) -> bool {
         interruptions,
         met: 0,
     };
-    value.write_to(&mut writer).is_ok() && writer.taken.as_slice() == T::bytes()
+    value.write_to(&mut writer).is_ok() && writer.taken.as_slice() == sample.bytes
 }
 
 #[test]
 fn writers_that_are_interrupted_often(rt: HostRuntime) -> Result<(), Fail> {
-    assert!(rt; for_each_sample!(is_written_at_length(rt.alloc(), 1_000)));
+    for sample in SAMPLES {
+        assert!(rt;
+            is_written_at_length(rt.alloc(), sample, 1_000),
+            "{:?}",
+            sample.kind
+        );
+    }
     Ok(())
 }
 

@@ -25,6 +25,10 @@ fn big_integers_go_on_with_their_sign(rt: HostRuntime) -> Result<(), Fail> {
     assert!(rt; big_is_written_as(rt.alloc(), b"", b"\x04\x00\x00\x00\x00"));
     let seven = b"\x04\x00\x00\x00\x08\x00\x7F\x00\x00\x00\x00\x00\x01";
     assert!(rt; big_is_written_as(rt.alloc(), b"\x7F\x00\x00\x00\x00\x00\x01", seven));
+    let twelve = b"\x03\xFD\x35\xEB\x6B\xC2\xDF\x46\x18\x08\x00\x00";
+    let sixteen =
+        b"\x04\x00\x00\x00\x10\x00\x00\x00\x00\x03\xFD\x35\xEB\x6B\xC2\xDF\x46\x18\x08\x00\x00";
+    assert!(rt; big_is_written_as(rt.alloc(), twelve, sixteen));
     Ok(())
 }
 
