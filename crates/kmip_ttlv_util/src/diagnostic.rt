@@ -96,6 +96,10 @@ fn push_tag<A: Allocator>(
         return out.push_str(strip(prefix.text, text));
     }
     let from = left_out(prefix, tag);
+    if from == 4 {
+        // The standard's tags begin with four digits that are often left out: two are copied at once.
+        return out.push_str(unsafe { str::from_utf8_unchecked(&digits[6..]) });
+    }
     out.push_str(unsafe { str::from_utf8_unchecked(&digits[from + 2..]) })
 }
 

@@ -177,6 +177,17 @@ const CLOSED: [Row; 4] = [
     ),
 ];
 
+// Prefixes of any length, of digits and of other characters: only one that a tag begins with is left out.
+const PREFIXES: [Row; 7] = [
+    ("", VERSION, "420069[42006Ai42006Bi]", 3),
+    ("42", VERSION, "0069[006Ai006Bi]", 3),
+    ("00", VERSION, "420069[42006Ai42006Bi]", 3),
+    ("420069", VERSION, "[42006Ai42006Bi]", 3),
+    ("4200690", VERSION, "420069[42006Ai42006Bi]", 3),
+    ("42zz", VERSION, "420069[42006Ai42006Bi]", 3),
+    ("42006a", VERSION, "420069[42006Ai42006Bi]", 3),
+];
+
 // Whether a clone of the printer makes this diagnostic.
 fn is_cloned(printer: &PrettyPrinter, bytes: &[u8], text: &str) -> Result<bool, AllocError> {
     let clone = printer.clone()?;
@@ -206,6 +217,13 @@ fn diagnostics(rt: HostRuntime) {
     }
     for row in CLOSED {
         assert!(rt; shows(rt.alloc(), true, row), "{row:?}");
+    }
+}
+
+#[test]
+fn prefixes(rt: HostRuntime) {
+    for row in PREFIXES {
+        assert!(rt; shows(rt.alloc(), false, row), "{row:?}");
     }
 }
 
