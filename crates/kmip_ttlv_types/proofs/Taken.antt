@@ -1,10 +1,12 @@
 -- What several reads or writes, one after the other, did to known bytes.
-use Rattle.std.proofs.Common.{◌≡◌, ℕ, ◌+◌, ◌-◌, ◌<◌, ◌≤◌, List, ◌++◌, Option, None, Some, Result, Ok, Err, IfOk, length, take, drop, sym, ap, ◌∙◌, subst, arith, take-add, take_all, length-append, length-drop, append-nil, drop_at, refl, le_refl}
-use Rattle.std.proofs.lemmas.List.{take-append-le}
+use Rattle.std.proofs.Common.{◌≡◌, ℕ, ◌+◌, ◌-◌, ◌<◌, ◌≤◌, List, ◌++◌, Option, None, Some, Result, Ok, Err, IfOk, length, take, drop, sym, ap, ◌∙◌, subst, arith, take-add, take_all, length-append, length-drop, append-nil, drop_at, refl, le_refl, Bool, inl, inr, take-append-drop}
+use Rattle.std.proofs.lemmas.List.{take-append-le, take-take}
 use Rattle.std.specs.Io.{ReadsAtMost}
 use Rattle.std.specs.Io.KnownBytes.{Appends, Consumes, IsAtEnd}
 use Rattle.std.proofs.KnownBytes.{Consumes-trans, Appends-trans}
-use Rattle.kmip_ttlv_types.specs.Streams.{IsShort, AppendsFront, ConsumesUpTo}
+use Rattle.kmip_ttlv_types.specs.declared.error.Error.{Error}
+use Rattle.kmip_ttlv_types.specs.declared.error.Error.TheVariants as errors
+use Rattle.kmip_ttlv_types.specs.Streams.{IsShort, AppendsFront, ConsumesUpTo, Lacks, FillsAll, Behind, TakesMore}
 
 take-append_more : (xs ys : List ℕ) (n : ℕ) → take (length xs + n) (xs ++ ys) ≡ xs ++ take n ys
 take-append_more xs ys n =
@@ -67,3 +69,53 @@ ConsumesUpTo-after a b c bs m n taken more low = record {
   within = omega (arith, more.within, length-append bs more.bytes);
   consumes = Consumes-trans a b c _ _ taken more.consumes;
 }
+
+-- why more bytes did not come is why all of them did not
+Lacks-after : (can_fail : Bool) (a b : Option (List ℕ)) (bs : List ℕ) (m n : ℕ) (e : _) → Consumes a b bs → Lacks can_fail b m e → length bs + m ≤ n
+    → Lacks can_fail a n e
+Lacks-after can_fail a b bs m n e taken (inl fails) low = inl fails
+Lacks-after can_fail a b bs m n e taken (inr (eof, short)) low = inr (eof, IsShort-after a b bs m n taken short low)
+
+-- some bytes were taken, and then more did not come
+pub TakesMore-after : (T : Type 0) {A : Type 0} (can_fail : Bool) (a b c : Option (List ℕ)) (xs ys zs : List ℕ) (m n k : ℕ) (e : Error A) → Behind a b xs ys m
+    → TakesMore {T = T} can_fail b c ys zs n (Err e) → m + n ≤ k → TakesMore {T = T} can_fail a c xs zs k (Err e)
+TakesMore-after T can_fail a b c xs ys zs m n k (errors.IoError e) first (due, lacks, upto) low =
+    let len : length first.came + n ≤ k = omega (arith, first.count) in
+    (omega (arith, due), Lacks-after can_fail a b first.came n k e first.consumes lacks len, ConsumesUpTo-after a b c first.came n k first.consumes upto len)
+TakesMore-after T can_fail a b c xs ys zs m n k errors.OutOfMemory first (due, upto) low =
+    (omega (arith, due), ConsumesUpTo-after a b c first.came n k first.consumes upto (omega (arith, first.count)))
+TakesMore-after T can_fail a b c xs ys zs m n k (errors.InvalidTtlvTag text) first h low = absurd h
+TakesMore-after T can_fail a b c xs ys zs m n k (errors.UnexpectedTtlvField x y) first h low = absurd h
+TakesMore-after T can_fail a b c xs ys zs m n k (errors.UnsupportedTtlvType x) first h low = absurd h
+TakesMore-after T can_fail a b c xs ys zs m n k (errors.InvalidTtlvType x) first h low = absurd h
+TakesMore-after T can_fail a b c xs ys zs m n k (errors.InvalidTtlvValueLength x y z) first h low = absurd h
+TakesMore-after T can_fail a b c xs ys zs m n k (errors.InvalidTtlvValue x) first h low = absurd h
+TakesMore-after T can_fail a b c xs ys zs m n k errors.InvalidStateMachineOperation first h low = absurd h
+TakesMore-after T can_fail a b c xs ys zs m n k errors.LengthOverflow first h low = absurd h
+
+-- the bytes that were there stay in front
+pub Behind-front : (a b : Option (List ℕ)) (xs ys : List ℕ) (m : ℕ) → Behind a b xs ys m → take (length xs) ys ≡ xs
+Behind-front a b xs ys m more = ap (take (length xs)) more.parts ∙ take-append-le (length xs) xs more.came (le_refl _) ∙ take_all (length xs) xs (le_refl _)
+
+-- also where more is done behind them
+pub Behind-kept : (a b : Option (List ℕ)) (xs ys zs : List ℕ) (m : ℕ) → Behind a b xs ys m → take (length ys) zs ≡ ys → take (length xs) zs ≡ xs
+Behind-kept a b xs ys zs m more kept =
+    let short : length xs ≤ length ys = omega (arith, ap (λ (l : List ℕ). length l) more.parts, length-append xs more.came) in
+    sym (take-take (length xs) (length ys) zs short) ∙ ap (take (length xs)) kept ∙ Behind-front a b xs ys m more
+
+-- bytes that fill what stands behind those that were there
+pub TakesMore-filled : (T : Type 0) {A : Type 0} (can_fail : Bool) (a b : Option (List ℕ)) (xs ys : List ℕ) (at n : ℕ) (r : Result T (Error A))
+    → take at ys ≡ xs → length (drop at ys) ≡ n → 0 < n → FillsAll can_fail a b (drop at ys) r → TakesMore can_fail a b xs ys n r
+TakesMore-filled T can_fail a b xs ys at n (Ok v) front long due filled =
+    record { came = drop at ys; consumes = filled; count = long; parts = sym (take-append-drop at ys) ∙ ap (λ l. l ++ drop at ys) front }
+TakesMore-filled T can_fail a b xs ys at n (Err (errors.IoError e)) front long due (lacks, upto) =
+    (due, subst (λ m. Lacks can_fail a m e) long lacks, subst (ConsumesUpTo a b) long upto)
+TakesMore-filled T can_fail a b xs ys at n (Err (errors.InvalidTtlvTag text)) front long due h = absurd h
+TakesMore-filled T can_fail a b xs ys at n (Err (errors.UnexpectedTtlvField x y)) front long due h = absurd h
+TakesMore-filled T can_fail a b xs ys at n (Err (errors.UnsupportedTtlvType x)) front long due h = absurd h
+TakesMore-filled T can_fail a b xs ys at n (Err (errors.InvalidTtlvType x)) front long due h = absurd h
+TakesMore-filled T can_fail a b xs ys at n (Err (errors.InvalidTtlvValueLength x y z)) front long due h = absurd h
+TakesMore-filled T can_fail a b xs ys at n (Err (errors.InvalidTtlvValue x)) front long due h = absurd h
+TakesMore-filled T can_fail a b xs ys at n (Err errors.InvalidStateMachineOperation) front long due h = absurd h
+TakesMore-filled T can_fail a b xs ys at n (Err errors.OutOfMemory) front long due h = absurd h
+TakesMore-filled T can_fail a b xs ys at n (Err errors.LengthOverflow) front long due h = absurd h

@@ -1,6 +1,6 @@
 -- What a call over a reader or a writer did to its known bytes.
-use Rattle.std.specs.Prelude.{◌≡◌, ℕ, ◌<◌, ◌≤◌, ◌+◌, List, length, take, Bool, IsTrue, ◌⊎◌, IfSome, Option, None, Some}
-use Rattle.std.specs.Prelude.{Result, Ok, Err}
+use Rattle.std.specs.Prelude.{◌≡◌, ℕ, ◌<◌, ◌≤◌, ◌+◌, List, ◌++◌, length, take, Bool, IsTrue, ◌⊎◌, IfSome, Option, None}
+use Rattle.std.specs.Prelude.{Some, Result, Ok, Err}
 use Rattle.std.specs.Io.KnownBytes.{Appends, Consumes}
 use Rattle.std.specs.IoError.{error_kind}
 use Rattle.std.specs.declared.io.Error.{Error as IoFault}
@@ -52,6 +52,23 @@ Takes items can_fail old new n (Ok v) = Consumes old new (items v) × (length (i
 Takes items can_fail old new n (Err (errors.IoError e)) = Lacks can_fail old n e × ConsumesUpTo old new n
 Takes items can_fail old new n (Err errors.OutOfMemory) = (0 < n) × ConsumesUpTo old new n
 Takes items can_fail old new n (Err _) = ⊥
+
+-- n bytes were taken, and stand behind those that were there
+pub record Behind (old new : Option (List ℕ)) (had has : List ℕ) (n : ℕ) : Type 0 where
+  pub came : List ℕ
+  pub consumes : Consumes old new came
+  pub count : length came ≡ n
+  pub parts : has ≡ had ++ came
+
+-- n bytes were taken behind those that were there; or they did not come; or memory was refused; each of
+-- the two only where any are due
+abbrev pub TakesMore :
+    {T A : Type 0} → Bool → (old new : Option (List ℕ)) → (had has : List ℕ) → ℕ → Result T (Error A) → Type 0
+TakesMore can_fail old new had has n (Ok v) = Behind old new had has n
+TakesMore can_fail old new had has n (Err (errors.IoError e)) =
+    (0 < n) × Lacks can_fail old n e × ConsumesUpTo old new n
+TakesMore can_fail old new had has n (Err errors.OutOfMemory) = (0 < n) × ConsumesUpTo old new n
+TakesMore can_fail old new had has n (Err _) = ⊥
 
 -- the room, where it is known, is less by at most n bytes
 abbrev pub UsesRoom : Option ℕ → Option ℕ → ℕ → Type 0

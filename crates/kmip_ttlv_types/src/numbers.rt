@@ -1,10 +1,11 @@
 //! Numbers of the bytes that they are written as, the highest byte first.
 
-ghost use Rattle.std.specs.Prelude.{◌≡◌, ◌<◌, ◌^◌};
-ghost use Rattle.std.specs.Int.{w32, w64, to_be_bytes, bytes_high_first, cast_unsigned};
+ghost use Rattle.std.specs.Prelude.{◌≡◌, ◌<◌, ◌^◌, length};
+ghost use Rattle.std.specs.Int.{w32, w64, to_be_bytes, from_be_bytes, bytes_high_first, cast_unsigned};
+ghost use Rattle.kmip_ttlv_types.specs.Primitives.{sign_byte};
 
 // The number of three bytes.
-pub fn triple_of(bytes: &[u8; 3]) -> u32
+pub(crate) fn triple_of(bytes: &[u8; 3]) -> u32
     ensures value { bytes_high_first 3 result ≡ bytes.now }
     ensures small { result < 2 ^ 24 }
 {
@@ -13,29 +14,57 @@ pub fn triple_of(bytes: &[u8; 3]) -> u32
 }
 
 // The number of four bytes.
-pub fn word_of(bytes: &[u8; 4]) -> u32
+pub(crate) fn word_of(bytes: &[u8; 4]) -> u32
     ensures { to_be_bytes w32 result ≡ bytes.now }
 {
     u32::from_be_bytes(*bytes)
 }
 
 // The signed number of four bytes.
-pub fn signed_word_of(bytes: &[u8; 4]) -> i32
+pub(crate) fn signed_word_of(bytes: &[u8; 4]) -> i32
     ensures { to_be_bytes w32 (cast_unsigned w32 result) ≡ bytes.now }
 {
     word_of(bytes).cast_signed()
 }
 
 // The number of eight bytes.
-pub fn long_of(bytes: &[u8; 8]) -> u64
+pub(crate) fn long_of(bytes: &[u8; 8]) -> u64
     ensures { to_be_bytes w64 result ≡ bytes.now }
 {
     u64::from_be_bytes(*bytes)
 }
 
 // The signed number of eight bytes.
-pub fn signed_long_of(bytes: &[u8; 8]) -> i64
+pub(crate) fn signed_long_of(bytes: &[u8; 8]) -> i64
     ensures { to_be_bytes w64 (cast_unsigned w64 result) ≡ bytes.now }
 {
     long_of(bytes).cast_signed()
+}
+
+/// The number of a slice of four bytes.
+pub fn number_of_four(bytes: &[u8]) -> u32
+    requires { length bytes.now ≡ 4 }
+    ensures { result ≡ from_be_bytes w32 bytes.now }
+{
+    u32::from_be_bytes([bytes[0], bytes[1], bytes[2], bytes[3]])
+}
+
+/// The number of a slice of eight bytes.
+pub fn number_of_eight(bytes: &[u8]) -> u64
+    requires { length bytes.now ≡ 8 }
+    ensures { result ≡ from_be_bytes w64 bytes.now }
+{
+    u64::from_be_bytes([
+        bytes[0], bytes[1], bytes[2], bytes[3], bytes[4], bytes[5], bytes[6], bytes[7],
+    ])
+}
+
+/// The byte that goes on with the sign of a two's complement (KMIP 1.0, section 9.1.1.4).
+pub fn sign_of(bytes: &[u8]) -> u8
+    ensures { result ≡ sign_byte bytes.now }
+{
+    match bytes.first() {
+        Some(first) if *first >= 0x80 => 0xFF,
+        _ => 0,
+    }
 }

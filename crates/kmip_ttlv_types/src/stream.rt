@@ -11,7 +11,7 @@ ghost use Rattle.std.specs.Prelude.{length, take, drop, IfOk, IfErr, OnOk, OnErr
 ghost use Rattle.std.specs.Io.{ReadsAtMost, WritesAtMost};
 ghost use Rattle.std.specs.Io.Cursor.{cursor_position, cursor_inner, cursor_remaining};
 ghost use Rattle.std.specs.Io.KnownBytes.{Appends, Consumes, IsAtEnd, Keeps};
-ghost use Rattle.kmip_ttlv_types.specs.Streams.{AppendsFront, Fills, FillsAll, Takes, UsesRoom, IsTight};
+ghost use Rattle.kmip_ttlv_types.specs.Streams.{AppendsFront, Fills, FillsAll, Takes, TakesMore, UsesRoom, IsTight};
 
 use crate::error::Error;
 use std::alloc::{AllocError, Allocator, Global};
@@ -270,25 +270,67 @@ pub fn fill_all<S: Source>(source: &mut S, buf: &mut [u8]) -> Result<(), Error>
 /// The most bytes, 65,536, by which a buffer grows at once.
 pub const PIECE: usize = 65_536;
 
-// `more` zeros after the bytes.
+// `more` zeros behind the bytes.
 fn grow<A: Allocator>(bytes: &mut Vec<u8, A>, more: usize) -> Result<(), AllocError>
-    requires { vec_len bytes.old + more < 2 ^ 64 }
     ensures len { OnOk result (vec_len bytes.new ≡ vec_len bytes.old + more) }
-    ensures front { OnOk result (take (vec_len bytes.old) bytes.new.items ≡ bytes.old.items) }
+    ensures kept { take (vec_len bytes.old) bytes.new.items ≡ bytes.old.items }
 {
     bytes.reserve_exact(more)?;
     bytes.resize(bytes.len() + more, 0)
 }
 
 // Fills the bytes from `at` on.
-fn fill_rest<S: Source, A: Allocator>(source: &mut S, bytes: &mut Vec<u8, A>, at: usize) -> Filled
+fn fill_rest<S: Source, A: Allocator>(
+    source: &mut S,
+    bytes: &mut Vec<u8, A>,
+    at: usize,
+) -> Result<(), Error>
     requires { at ≤ vec_len bytes.old }
     ensures len { vec_len bytes.new ≡ vec_len bytes.old }
     ensures front { take at bytes.new.items ≡ take at bytes.old.items }
-    ensures rest { Fills S.can_fail (S.left source.old) (S.left source.new) result (drop at bytes.new.items) }
+    ensures rest { FillsAll S.can_fail (S.left source.old) (S.left source.new) (drop at bytes.new.items) result }
 {
     let all = bytes.as_mut_slice();
-    source.fill(&mut all[at..])
+    fill_all(source, &mut all[at..])
+}
+
+// Takes so many bytes, behind those that are there, in memory that grows once.
+fn append_piece<S: Source, A: Allocator>(
+    source: &mut S,
+    bytes: &mut Vec<u8, A>,
+    count: usize,
+) -> Result<(), Error>
+    requires { 0 < count }
+    ensures takes { TakesMore S.can_fail (S.left source.old) (S.left source.new)
+        bytes.old.items bytes.new.items count result }
+    ensures kept { take (vec_len bytes.old) bytes.new.items ≡ bytes.old.items }
+{
+    let at = bytes.len();
+    grow(bytes, count)?;
+    fill_rest(source, bytes, at)
+}
+
+/// Takes `count` bytes, behind those that are there, in memory that grows by pieces as they come.
+///
+/// IoError of the kind UnexpectedEof where the input ends before that, and of the reader's kind
+/// where reading fails; OutOfMemory where memory is refused. Then any bytes may stand behind those
+/// that were there.
+pub fn append_bytes<S: Source, A: Allocator>(
+    source: &mut S,
+    bytes: &mut Vec<u8, A>,
+    count: usize,
+) -> Result<(), Error>
+    ensures takes { TakesMore S.can_fail (S.left source.old) (S.left source.new)
+        bytes.old.items bytes.new.items count result }
+    ensures kept { take (vec_len bytes.old) bytes.new.items ≡ bytes.old.items }
+{
+    let mut due = count;
+    while 0 < due {
+        let piece = due.min(PIECE);
+        append_piece(source, bytes, piece)?;
+        due -= piece;
+    }
+    Ok(())
 }
 
 /// Takes `len` bytes, in memory that grows by pieces as they come.
@@ -303,16 +345,6 @@ pub fn take_bytes<S: Source, A: Allocator>(
     ensures { Takes vec_items S.can_fail (S.left source.old) (S.left source.new) len result }
 {
     let mut bytes = Vec::new(alloc);
-    while bytes.len() < len {
-        let at = bytes.len();
-        grow(&mut bytes, (len - at).min(PIECE))?;
-        match fill_rest(source, &mut bytes, at) {
-            Filled::Full => {}
-            Filled::Ended => {
-                return Err(Error::IoError(io::Error::from(ErrorKind::UnexpectedEof)));
-            }
-            Filled::Failed(e) => return Err(Error::IoError(e)),
-        }
-    }
+    append_bytes(source, &mut bytes, len)?;
     Ok(bytes)
 }

@@ -6,11 +6,12 @@ ghost use Rattle.std.proofs.lemmas.Str.{IsUtf8-string_bytes, is_utf8-from_IsUtf8
 ghost use Rattle.kmip_ttlv_types.specs.declared.typ.TtlvType.TheVariants.{BigInteger, TextString, ByteString};
 ghost use Rattle.kmip_ttlv_types.specs.ItemTypes.{pad_len};
 ghost use Rattle.kmip_ttlv_types.specs.Headers.{Writes};
-ghost use Rattle.kmip_ttlv_types.specs.Primitives.{IsLengthOf, sign_byte, sign_extended, length_and_content};
+ghost use Rattle.kmip_ttlv_types.specs.Primitives.{IsLengthOf, sign_extended, length_and_content};
 
 use crate::Result;
 use crate::error::Error;
 use crate::length::TtlvLength;
+use crate::numbers::sign_of;
 use crate::primitive::{HasTtlvType, SerializableTtlvType, send_both, write_slice};
 use crate::stream::{Sink, Source, take_bytes};
 use crate::typ::TtlvType;
@@ -177,16 +178,6 @@ fn sign_count(bytes: &[u8]) -> usize
     ensures small { result < 8 }
 {
     (8 - bytes.len() % 8) % 8
-}
-
-// The byte that goes on with the sign.
-fn sign_of(bytes: &[u8]) -> u8
-    ensures { result ≡ sign_byte bytes.now }
-{
-    match bytes.first() {
-        Some(first) if *first >= 0x80 => 0xFF,
-        _ => 0,
-    }
 }
 
 // How many bytes there are with the sign bytes.

@@ -5,6 +5,7 @@ use crate::samples::{
     bytes_are_cloned, is_failure, is_whole_place, number_is_cloned, text_is_cloned, whole_place,
 };
 use kmip_ttlv_base::error::{ErrorKind, SerdeError};
+use kmip_ttlv_types::stream::append_bytes;
 use kmip_ttlv_types::{
     Error, SerializableTtlvType, TtlvBigInteger, TtlvByteString, TtlvTag, TtlvTextString,
 };
@@ -39,6 +40,7 @@ enum Call {
     ReadText,
     ReadBytes,
     ReadNumber,
+    AppendBytes,
     RefuseName,
     KindOfName,
     CloneText,
@@ -48,10 +50,11 @@ enum Call {
 }
 
 // Each call, and how many growths it asks for at least. Of a clone one is for the value itself.
-const CALLS: [(Call, u64); 9] = [
+const CALLS: [(Call, u64); 10] = [
     (Call::ReadText, 1),
     (Call::ReadBytes, 1),
     (Call::ReadNumber, 1),
+    (Call::AppendBytes, 2),
     (Call::RefuseName, 1),
     (Call::KindOfName, 1),
     (Call::CloneText, 2),
@@ -108,6 +111,19 @@ fn number_answer(memory: &RefusingAllocator<Global>, leaf: &[u8]) -> Answer {
     }
 }
 
+// Appends all bytes of the leaf to two others.
+fn append_answer(memory: &RefusingAllocator<Global>, leaf: &[u8]) -> Answer {
+    let Ok(mut bytes) = Vec::from_slice(memory, b"\x01\x02") else {
+        return Answer::OutOfMemory;
+    };
+    let mut source = leaf;
+    match &append_bytes(&mut source, &mut bytes, leaf.len()) {
+        Ok(()) => ample_if(bytes.starts_with(b"\x01\x02") && &bytes[2..] == leaf),
+        Err(Error::OutOfMemory) => Answer::OutOfMemory,
+        Err(_) => Answer::Other,
+    }
+}
+
 fn name_answer(memory: &RefusingAllocator<Global>) -> Answer {
     match &TtlvTag::from_str(memory, "no tag") {
         Err(Error::InvalidTtlvTag(text)) => ample_if(text.as_str() == "no tag"),
@@ -149,6 +165,7 @@ fn answer_to(heap: Global, memory: &RefusingAllocator<Global>, call: Call, leaf:
         Call::ReadText => text_answer(memory, leaf),
         Call::ReadBytes => bytes_answer(memory, leaf),
         Call::ReadNumber => number_answer(memory, leaf),
+        Call::AppendBytes => append_answer(memory, leaf),
         Call::RefuseName => name_answer(memory),
         Call::KindOfName => kind_answer(heap, memory),
         Call::CloneText => answer_of(text_is_cloned(memory, "Hello World")),
