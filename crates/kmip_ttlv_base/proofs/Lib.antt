@@ -1,2 +1,4 @@
 pub mod Views
 pub mod Shapes
+pub mod Building
+pub mod Visiting

@@ -13,6 +13,8 @@ pub use Rattle.kmip_ttlv_types.specs.Primitives
 pub use Rattle.kmip_ttlv_types.specs.Machine
 pub use Rattle.kmip_ttlv_types.specs.Laws
 pub mod Values
+pub mod Visits
+pub mod Builds
 pub mod Forms
 pub mod Gives
 pub mod Errors

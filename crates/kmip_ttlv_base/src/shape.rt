@@ -1,11 +1,14 @@
 //! What a user's type says of itself: the data that it is written as, and the shape that it is
 //! read by.
 
-ghost use Rattle.std.specs.Prelude.{◌≡◌, IfOk};
+ghost use Rattle.std.specs.Prelude.{◌≡◌, IfOk, OnOk, OnErr};
 ghost use Rattle.kmip_ttlv_base.specs.Values.{Value, view};
 ghost use Rattle.kmip_ttlv_base.specs.Forms.{Form, form_of};
 ghost use Rattle.kmip_ttlv_base.specs.Gives.{Gives};
+ghost use Rattle.kmip_ttlv_base.specs.Visits.{Tells};
 
+use crate::build::data_of;
+use crate::visit::Visitor;
 use std::alloc::{AllocError, Allocator, Global};
 
 /// A value that is to be written, or that was read. A name is a tag where it is a number below 2^24,
@@ -157,9 +160,20 @@ pub trait Serialize {
     // The data that stands for a value.
     ghost stated: { Self → Value };
 
-    /// The data that stands for this value.
-    fn to_data<A: Allocator + Copy>(&self, alloc: A) -> Result<Data<A>, AllocError>
-        ensures { IfOk result (λ d. view d ≡ stated self.now) };
+    /// Tells a visitor what this value is: each group and leaf of the data that stands for it, in their
+    /// order. It ends with the first error that the visitor answers, and with no other.
+    fn visit<V: Visitor>(&self, visitor: &mut V) -> Result<(), AllocError>
+        ensures told { OnOk result (Tells V.knows V.step (stated self.now) visitor.old visitor.new) }
+        ensures stopped { OnErr result (V.stopped visitor.new) };
+
+    /// The data that stands for this value. An AllocError where memory is refused.
+    final fn to_data<A: Allocator + Copy>(&self, alloc: A) -> Result<Data<A>, AllocError>
+    where
+        Self: Sized,
+        ensures { IfOk result (λ d. view d ≡ stated self.now) }
+    {
+        data_of(alloc, self)
+    }
 }
 
 /// A type whose values are read.

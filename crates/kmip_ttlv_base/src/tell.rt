@@ -1,0 +1,112 @@
+//! What a leaf and data tell a visitor of themselves.
+
+ghost use Rattle.std.specs.Prelude.{OnOk, OnErr};
+ghost use Rattle.kmip_ttlv_base.specs.Values.{view, views};
+ghost use Rattle.kmip_ttlv_base.specs.Visits.{Tells, TellsEach, Encloses, leaf_value, around, visited, visited_in};
+
+use crate::shape::{Data, Serialize};
+use crate::visit::{Group, Leaf, Visitor};
+use std::alloc::{AllocError, Allocator};
+
+/// A leaf stands for the value that it is.
+impl<'a> Serialize for Leaf<'a> {
+    ghost stated = { λ l. leaf_value l };
+
+    #[inline]
+    #[tactic(auto, using(crate::proofs::Visiting::visited_leaf))]
+    fn visit<V: Visitor>(&self, visitor: &mut V) -> Result<(), AllocError> {
+        visitor.leaf(*self)
+    }
+}
+
+/// Data stands for itself.
+impl<A: Allocator> Serialize for Data<A> {
+    ghost stated = { λ d. view d };
+
+    fn visit<V: Visitor>(&self, visitor: &mut V) -> Result<(), AllocError> {
+        tell(self, visitor)
+    }
+}
+
+// What the data is.
+#[cycle(tell)]
+fn tell<A: Allocator, V: Visitor>(value: &Data<A>, visitor: &mut V) -> Result<(), AllocError>
+    ensures told { OnOk result (Tells V.knows V.step (view value.now) visitor.old visitor.new) }
+    ensures stopped { OnErr result (V.stopped visitor.new) }
+{
+    match value {
+        Data::Bool(b) => visitor.leaf(Leaf::Bool(*b)),
+        Data::I8(n) => visitor.leaf(Leaf::I8(*n)),
+        Data::I16(n) => visitor.leaf(Leaf::I16(*n)),
+        Data::I32(n) => visitor.leaf(Leaf::I32(*n)),
+        Data::U32(n) => visitor.leaf(Leaf::U32(*n)),
+        Data::I64(n) => visitor.leaf(Leaf::I64(*n)),
+        Data::U64(n) => visitor.leaf(Leaf::U64(*n)),
+        Data::Interval(n) => visitor.leaf(Leaf::Interval(*n)),
+        Data::Text(text) => visitor.leaf(Leaf::Text(text)),
+        Data::Bytes(bytes) => visitor.leaf(Leaf::Bytes(bytes)),
+        Data::BigInteger(bytes) => visitor.leaf(Leaf::BigInteger(bytes)),
+        Data::None => visitor.leaf(Leaf::None),
+        Data::Some(inner) => tell_one(inner, Group::Some, visitor),
+        Data::Seq(values) => tell_group(values, Group::Seq, visitor),
+        Data::Struct { name, fields } => tell_group(fields, Group::Struct { name }, visitor),
+        Data::Newtype { name, inner } => tell_one(inner, Group::Newtype { name }, visitor),
+        Data::UnitVariant { name, variant } => visitor.leaf(Leaf::UnitVariant { name, variant }),
+        Data::NewtypeVariant {
+            name,
+            variant,
+            inner,
+        } => tell_one(inner, Group::NewtypeVariant { name, variant }, visitor),
+        Data::TupleVariant {
+            name,
+            variant,
+            fields,
+        } => tell_group(fields, Group::TupleVariant { name, variant }, visitor),
+        Data::Unsupported(name) => visitor.leaf(Leaf::Unsupported(name)),
+    }
+}
+
+// The group with this one value.
+#[cycle(tell)]
+fn tell_one<A: Allocator, V: Visitor>(
+    inner: &Data<A>,
+    group: Group,
+    visitor: &mut V,
+) -> Result<(), AllocError>
+    ensures told { OnOk result (Encloses V.knows V.step (around group) (visited V.step (view inner.now)) visitor.old visitor.new) }
+    ensures stopped { OnErr result (V.stopped visitor.new) }
+{
+    visitor.begin(group)?;
+    tell(inner, visitor)?;
+    visitor.end(group)
+}
+
+// The group of these values.
+#[cycle(tell)]
+fn tell_group<A: Allocator, V: Visitor>(
+    values: &[Data<A>],
+    group: Group,
+    visitor: &mut V,
+) -> Result<(), AllocError>
+    ensures told { OnOk result (Encloses V.knows V.step (around group) (visited_in V.step (views values.now)) visitor.old visitor.new) }
+    ensures stopped { OnErr result (V.stopped visitor.new) }
+{
+    visitor.begin(group)?;
+    tell_each(values, visitor)?;
+    visitor.end(group)
+}
+
+// The values, one after the other.
+#[cycle(tell)]
+fn tell_each<A: Allocator, V: Visitor>(
+    values: &[Data<A>],
+    visitor: &mut V,
+) -> Result<(), AllocError>
+    ensures told { OnOk result (TellsEach V.knows V.step (views values.now) visitor.old visitor.new) }
+    ensures stopped { OnErr result (V.stopped visitor.new) }
+{
+    for value in values {
+        tell(value, visitor)?;
+    }
+    Ok(())
+}
