@@ -1,10 +1,12 @@
 mod Prefixes
 mod Leaves
+mod Parts
 mod Reaching
 mod Measuring
-mod Walking
-mod Emitting
+mod Finding
 mod Refusing
+mod Sending
+mod Outputs
 mod Telling
 mod Sound
 mod Rows

@@ -1,5 +1,5 @@
 -- From what the first pass answers to what the calls answer.
-use Rattle.std.proofs.Common.{◌≡◌, ℕ, ◌+◌, ◌≤◌, ◌^◌, Bool, true, false, List, [], ◌∷◌, ◌++◌, length, Option, Some, None, ◌⊎◌, inl, inr, refl, sym, ap, ◌∙◌, subst, arith, append-nil}
+use Rattle.std.proofs.Common.{◌≡◌, ℕ, ◌+◌, ◌≤◌, ◌^◌, Bool, true, false, List, [], ◌∷◌, ◌++◌, length, Option, Some, None, Result, Ok, Err, ◌<◌, ◌⊎◌, inl, inr, refl, sym, ap, ◌∙◌, subst, arith}
 use Rattle.std.specs.List.{AllByRecursion}
 use Rattle.kmip_ttlv_types.specs.declared.typ.TtlvType.{TtlvType}
 use Rattle.kmip_ttlv_types.specs.declared.typ.TtlvType.TheVariants.{BigInteger, TextString, ByteString}
@@ -15,15 +15,17 @@ use Rattle.kmip_ttlv_ser.specs.declared.held.Place.{Place}
 use Rattle.kmip_ttlv_ser.specs.declared.refusal.Cause.{Cause}
 use Rattle.kmip_ttlv_ser.specs.declared.refusal.Cause.TheVariants.{NoTag, TagUnused, InvalidTag, InvalidVariant, UnsupportedType}
 use Rattle.kmip_ttlv_ser.specs.declared.refusal.Refusal.{Refusal}
-use Rattle.kmip_ttlv_ser.specs.declared.refusal.Refusal.TheVariants.{OutOfMemory, LengthOverflow, Refused}
+use Rattle.kmip_ttlv_ser.specs.declared.refusal.Refusal.TheVariants.{LengthOverflow, Refused}
 use Rattle.kmip_ttlv_ser.specs.WrittenItems.{◌>>=◌, take_tag, held_tag, one_node, some_item, held_over, without_override, is_wrapper, left_over, newtype_row, variant_row, items, items_in}
-use Rattle.kmip_ttlv_ser.specs.Sizes.{sizes_all}
 use Rattle.kmip_ttlv_ser.specs.Faults.{Fault, place_after, opened_after, fault, fault_in}
 use Rattle.kmip_ttlv_ser.specs.Lengths.{HasLongLeaf, HaveLongLeaf, HasLongStructure, HaveLongStructure, IsLongContent, Under, After, content_start, newtype_long, variant_long}
-use Rattle.kmip_ttlv_ser.specs.Passes.{Measured, Planned, Emitted, Stops, Overlong, kind_of_cause, IsErrorOf}
+use Rattle.kmip_ttlv_ser.specs.Passes.{Measured, Overlong, kind_of_cause, IsErrorOf}
+use Rattle.kmip_ttlv_base.specs.Visits.{visited}
+use Rattle.kmip_ttlv_ser.specs.Measures.{Halt, halt_of, Going, from, known_by, measure_step}
+use Rattle.kmip_ttlv_ser.proofs.Finding.{Halts, Finds, finds}
 use Rattle.kmip_ttlv_ser.specs.WriteAnswers.{IsTooLongFor, IsRefusedAs, IsFirstRefusal, Refuses, AppendedTo}
 use Rattle.kmip_ttlv_ser.proofs.Leaves.{place_len, below_is, fits_each, each_front, each_back}
-use Rattle.kmip_ttlv_ser.proofs.Emitting.{some_same, split_of}
+use Rattle.kmip_ttlv_ser.proofs.Parts.{some_same, split_of}
 
 -- ---- a value that has items and a length too long: they don't fit
 
@@ -169,8 +171,7 @@ first_refusal v p (InvalidTag name) location h = h
 first_refusal v p (InvalidVariant name) location h = h
 first_refusal v p (UnsupportedType name) location h = h
 
-pub refused : {A : Type 0} (v : Value) (p : Place) (r : Refusal) (e : Error A) → Stops r (items v Nothing) (fault v Nothing p) (Overlong (HasLongLeaf v) (HasLongStructure v Nothing) (items v Nothing) (fault v Nothing p) p.offset) → IsErrorOf r e → Refuses v p e
-refused v p OutOfMemory e h is = memory_refuses v p e is
+pub refused : {A : Type 0} (v : Value) (p : Place) (r : Refusal) (e : Error A) → Halts (halt_of r) (items v Nothing) (fault v Nothing p) (Overlong (HasLongLeaf v) (HasLongStructure v Nothing) (items v Nothing) (fault v Nothing p) p.offset) → IsErrorOf r e → Refuses v p e
 refused v p LengthOverflow e h is = subst (λ k. IsRefusedAs v p k (view_of_location (location_of e))) (sym is.0) (is.1, too_long_at v p (items v Nothing) refl h)
 refused v p (Refused cause offset) e h (inl is) = memory_refuses v p e is
 refused v p (Refused cause offset) e h (inr is) =
@@ -180,22 +181,29 @@ refused v p (Refused cause offset) e h (inr is) =
       location_is = is.1 ∙ ap (λ f. only_offset f.offset) (sym h.1);
     })
 
--- ---- both passes
+-- ---- the first pass
 
-pub planned_by : (o : Option (List Tree)) (p q : Place) (plan : List ℕ) (room : ℕ) → Measured o p q [] plan → q.offset ≤ p.offset + room → Planned o plan room
-planned_by o p q plan room m le = record { trees = m.trees; back = []; are = m.are; each = m.each; starts = m.kept ∙ sym (append-nil (sizes_all m.trees)); fit = omega (arith, le, place_len p q m.trees m.reached) }
+found : (v : Value) (p : Place) (start : Going) (r : Result Going Halt) → p.offset < 2 ^ 64 → start ≡ from p Nothing [] [] → visited measure_step v (Ok start) ≡ r → Finds (HasLongLeaf v) (HasLongStructure v Nothing) (items v Nothing) (fault v Nothing p) Nothing p [] [] r
+found v p start r small fresh told =
+    subst (Finds (HasLongLeaf v) (HasLongStructure v Nothing) (items v Nothing) (fault v Nothing p) Nothing p [] []) (ap (λ s. visited measure_step v (Ok s)) (sym fresh) ∙ told) (finds v Nothing p [] [] small)
+
+pub refused_as : {A : Type 0} (v : Value) (p : Place) (why : Refusal) (g start : Going) (e : Error A) → p.offset < 2 ^ 64 → start ≡ from p Nothing [] [] → visited measure_step v (Ok start) ≡ known_by (Some why) g → IsErrorOf why e → Refuses v p e
+refused_as v p why g start e small fresh told error = refused v p why e (found v p start (Err (halt_of why)) small fresh told) error
+
+pub planned_as : (v : Value) (p : Place) (g start : Going) → p.offset < 2 ^ 64 → start ≡ from p Nothing [] [] → visited measure_step v (Ok start) ≡ known_by None g → Measured (items v Nothing) p g.place [] g.sizes
+planned_as v p g start small fresh told = let f = found v p start (Ok g) small fresh told in f.measured
+
+-- ---- both passes
 
 place_opened : (p q : Place) (ts : List Tree) → q ≡ place_after p ts → q.opened ≡ opened_after p.opened ts
 unfolding place_after
 place_opened p q ts e = ap (λ x. x.opened) e
 
-pub appended : (v : Value) (p q : Place) (plan rest old new : List ℕ) → p.offset ≡ length old → Measured (items v Nothing) p q [] plan → Emitted (items v Nothing) plan rest old new → AppendedTo v p.opened old new q.opened
-appended v p q plan rest old new here m e =
-    let same : m.trees ≡ e.trees = some_same m.trees e.trees (sym m.are ∙ e.are) in
-    record {
-      trees = m.trees;
-      are = m.are;
-      fit = record { each = m.each; total = omega (arith, m.small, here, place_len p q m.trees m.reached) };
-      bytes_are = e.wrote ∙ ap (λ ts. old ++ bytes_all ts) (sym same);
-      opened_is = place_opened p q m.trees m.reached;
-    }
+pub appended : (v : Value) (p q : Place) (plan old new : List ℕ) → p.offset ≡ length old → (m : Measured (items v Nothing) p q [] plan) → new ≡ old ++ bytes_all m.trees → AppendedTo v p.opened old new q.opened
+appended v p q plan old new here m wrote = record {
+  trees = m.trees;
+  are = m.are;
+  fit = record { each = m.each; total = omega (arith, m.small, here, place_len p q m.trees m.reached) };
+  bytes_are = wrote;
+  opened_is = place_opened p q m.trees m.reached;
+}

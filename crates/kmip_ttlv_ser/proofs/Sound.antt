@@ -15,7 +15,7 @@ use Rattle.kmip_ttlv_ser.specs.WrittenItems.{◌>>=◌, take_tag, held_tag, one_
 use Rattle.kmip_ttlv_ser.specs.WriteAnswers.{IsWrittenAs}
 use Rattle.kmip_ttlv_ser.specs.WriteLaws.{IsSound, AreSound}
 use Rattle.kmip_ttlv_ser.proofs.Leaves.{fits_each, each_front, each_back}
-use Rattle.kmip_ttlv_ser.proofs.Emitting.{some_same, split_of, unwrap}
+use Rattle.kmip_ttlv_ser.proofs.Parts.{some_same, split_of, unwrap}
 use Rattle.kmip_ttlv_ser.proofs.Telling.{all_same}
 
 abbrev Sound : List Tree → Type 0

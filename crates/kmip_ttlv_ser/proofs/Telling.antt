@@ -10,7 +10,7 @@ use Rattle.kmip_ttlv_types.specs.Items.{header}
 use Rattle.kmip_ttlv_types.specs.Trees.{Tree, leaf, node, Trees, no_trees, tree, trees_of, leaf_bytes, node_bytes, bytes, bytes_below, bytes_all}
 use Rattle.kmip_ttlv_ser.specs.WriteLaws.{IsSound, AreSound}
 use Rattle.kmip_ttlv_ser.proofs.Leaves.{below_is, tree_len}
-use Rattle.kmip_ttlv_ser.proofs.Emitting.{some_same}
+use Rattle.kmip_ttlv_ser.proofs.Parts.{some_same}
 
 -- ---- numbers
 

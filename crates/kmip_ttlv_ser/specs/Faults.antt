@@ -1,12 +1,17 @@
 -- Where a value has no items: the first step that has none, and its place.
 use Rattle.std.specs.Prelude.{ℕ, ◌+◌, Bool, true, false, List, [], ◌∷◌, Option, Some, None, length, codes}
 use Rattle.kmip_ttlv_types.specs.declared.field.FieldType.{FieldType}
-use Rattle.kmip_ttlv_types.specs.declared.field.FieldType.TheVariants.{Tag, Typ, Value as Content, TypeAndLengthAndValue}
+use Rattle.kmip_ttlv_types.specs.declared.field.FieldType.TheVariants.{Tag, Typ, Value as Content}
+use Rattle.kmip_ttlv_types.specs.declared.field.FieldType.TheVariants.{TypeAndLengthAndValue}
 use Rattle.kmip_ttlv_types.specs.Names.{tag_of, transparent_name}
 use Rattle.kmip_ttlv_types.specs.Trees.{Tree, leaf, node, Trees, no_trees, tree, bytes_all}
 use Rattle.kmip_ttlv_base.specs.declared.error.MalformedTtlvError.TheVariants.{UnexpectedTtlvField}
 use Rattle.kmip_ttlv_base.specs.Errors.{Kind, malformed, mismatch, invalid_tag, invalid_variant, unsupported_rust_type}
-use Rattle.kmip_ttlv_base.specs.Values.{Value, boolean_value, i8_value, i16_value, i32_value, u32_value, i64_value, u64_value, interval_value, text_value, bytes_value, big_integer_value, none_value as none, some_value as some, seq_value, struct_value, newtype_value, unit_variant_value, newtype_variant_value, tuple_variant_value, unsupported_value, Values, no_values, value}
+use Rattle.kmip_ttlv_base.specs.Values.{Value, boolean_value, i8_value, i16_value, i32_value, u32_value, i64_value}
+use Rattle.kmip_ttlv_base.specs.Values.{u64_value, interval_value, text_value, bytes_value, big_integer_value}
+use Rattle.kmip_ttlv_base.specs.Values.{none_value as none, some_value as some, seq_value, struct_value, newtype_value}
+use Rattle.kmip_ttlv_base.specs.Values.{unit_variant_value, newtype_variant_value, tuple_variant_value}
+use Rattle.kmip_ttlv_base.specs.Values.{unsupported_value, Values, no_values, value}
 use Rattle.kmip_ttlv_ser.specs.declared.held.Held.{Held}
 use Rattle.kmip_ttlv_ser.specs.declared.held.Held.TheVariants.{Nothing, Plain, Overriding}
 use Rattle.kmip_ttlv_ser.specs.declared.held.Place.{Place}
@@ -83,14 +88,19 @@ within None p below = below
 within (Some ts) p below = record { kind = tag_unused; offset = p.offset + 3 }
 
 -- what stops a newtype, by what follows `Transparent:` in its name
-abbrev pub newtype_fault : Option (List ℕ) → List ℕ → Held → Place → (Held → Option (List Tree)) → (Held → Place → Fault) → Fault
+abbrev pub newtype_fault :
+    Option (List ℕ) → List ℕ → Held → Place → (Held → Option (List Tree)) → (Held → Place → Fault) → Fault
 newtype_fault None name w p its stop = structure_fault w name p (stop Nothing (inside p))
-newtype_fault (Some n) name w p its stop = under_name (take_tag w n) n w p (λ t. within (its (Plain t)) p (stop (Plain t) p))
+newtype_fault (Some n) name w p its stop =
+    under_name (take_tag w n) n w p (λ t. within (its (Plain t)) p (stop (Plain t) p))
 
 -- what stops a newtype variant, by whether it is named `Transparent`
 abbrev pub variant_fault : Bool → List ℕ → Held → Place → (Held → Option (List Tree)) → (Held → Place → Fault) → Fault
-variant_fault true name w p its stop = let n = without_override name in under_name (take_tag w n) n w p (λ t. within (its (held_over w name t)) p (stop (held_over w name t) p))
-variant_fault false name w p its stop = structure_fault w (without_override (without_override name)) p (stop Nothing (inside p))
+variant_fault true name w p its stop =
+    let n = without_override name in
+    under_name (take_tag w n) n w p (λ t. within (its (held_over w name t)) p (stop (held_over w name t) p))
+variant_fault false name w p its stop =
+    structure_fault w (without_override (without_override name)) p (stop Nothing (inside p))
 
 -- the first value without items, or what follows
 abbrev pub in_turn : Option (List Tree) → Fault → (List Tree → Fault) → Fault
@@ -116,9 +126,11 @@ abbrev mutual
   fault (seq_value vs) w p = fault_in vs w p
   fault (struct_value name vs) w p = structure_fault w name p (fault_in vs Nothing (inside p))
   fault (newtype_value name v) w p = newtype_fault (transparent_name name) name w p (items v) (fault v)
-  fault (unit_variant_value name vname) w p = under_name (take_tag w name) name w p (λ t. fault_at (mismatch (invalid_variant vname)) (Plain t) p)
+  fault (unit_variant_value name vname) w p =
+      under_name (take_tag w name) name w p (λ t. fault_at (mismatch (invalid_variant vname)) (Plain t) p)
   fault (newtype_variant_value name vname v) w p = variant_fault (is_wrapper vname) name w p (items v) (fault v)
-  fault (tuple_variant_value name vname vs) w p = structure_fault w (without_override name) p (fault_in vs Nothing (inside p))
+  fault (tuple_variant_value name vname vs) w p =
+      structure_fault w (without_override name) p (fault_in vs Nothing (inside p))
   fault (unsupported_value name) w p = fault_at (mismatch (unsupported_rust_type name)) w p
 
   -- read only where a value has no items

@@ -3,11 +3,14 @@ use Rattle.std.specs.Prelude.{ℕ, ◌+◌, ◌≤◌, ◌^◌, Bool, true, fals
 use Rattle.kmip_ttlv_types.specs.Names.{transparent_name}
 use Rattle.kmip_ttlv_types.specs.Primitives.{sign_extended}
 use Rattle.kmip_ttlv_types.specs.Trees.{Tree, bytes_all}
-use Rattle.kmip_ttlv_base.specs.Values.{Value, text_value, bytes_value, big_integer_value, some_value as some, seq_value, struct_value, newtype_value, newtype_variant_value, tuple_variant_value, Values, no_values, value}
+use Rattle.kmip_ttlv_base.specs.Values.{Value, text_value, bytes_value, big_integer_value, some_value as some}
+use Rattle.kmip_ttlv_base.specs.Values.{seq_value, struct_value, newtype_value, newtype_variant_value}
+use Rattle.kmip_ttlv_base.specs.Values.{tuple_variant_value, Values, no_values, value}
 use Rattle.kmip_ttlv_ser.specs.declared.held.Held.{Held}
 use Rattle.kmip_ttlv_ser.specs.declared.held.Held.TheVariants.{Nothing, Plain}
 use Rattle.kmip_ttlv_ser.specs.declared.held.Place.{Place}
-use Rattle.kmip_ttlv_ser.specs.WrittenItems.{take_tag, held_over, without_override, is_wrapper, left_over, items, items_in}
+use Rattle.kmip_ttlv_ser.specs.WrittenItems.{take_tag, held_over, without_override, is_wrapper, left_over, items}
+use Rattle.kmip_ttlv_ser.specs.WrittenItems.{items_in}
 use Rattle.kmip_ttlv_ser.specs.Faults.{Fault, fault, fault_in}
 
 -- a text, a byte string or a sign-extended big integer anywhere in a value is too long
@@ -63,22 +66,32 @@ newtype_long (Some n) name w whole inside = Under (take_tag w n) (λ t. inside (
 -- a newtype variant, by whether it is named `Transparent`
 abbrev pub variant_long : Bool → List ℕ → Held → Type 0 → (Held → Type 0) → Type 0
 variant_long true name w whole inside = Under (take_tag w (without_override name)) (λ t. inside (held_over w name t))
-variant_long false name w whole inside = structure_long w (without_override (without_override name)) whole (inside Nothing)
+variant_long false name w whole inside =
+    structure_long w (without_override (without_override name)) whole (inside Nothing)
 
 -- a structure, counted up to the first refusal, is too long
 abbrev mutual
   pub HasLongStructure : Value → Held → Type 0
   HasLongStructure (some v) w = HasLongStructure v w
   HasLongStructure (seq_value vs) w = HaveLongStructure vs w
-  HasLongStructure (struct_value name vs) w = structure_long w name (IsLongContent (items_in vs Nothing) (fault_in vs Nothing content_start)) (HaveLongStructure vs Nothing)
-  HasLongStructure (newtype_value name v) w = newtype_long (transparent_name name) name w (IsLongContent (items v Nothing) (fault v Nothing content_start)) (HasLongStructure v)
-  HasLongStructure (newtype_variant_value name vname v) w = variant_long (is_wrapper vname) name w (IsLongContent (items v Nothing) (fault v Nothing content_start)) (HasLongStructure v)
-  HasLongStructure (tuple_variant_value name vname vs) w = structure_long w (without_override name) (IsLongContent (items_in vs Nothing) (fault_in vs Nothing content_start)) (HaveLongStructure vs Nothing)
+  HasLongStructure (struct_value name vs) w =
+      structure_long w name (IsLongContent (items_in vs Nothing) (fault_in vs Nothing content_start))
+      (HaveLongStructure vs Nothing)
+  HasLongStructure (newtype_value name v) w =
+      newtype_long (transparent_name name) name w (IsLongContent (items v Nothing) (fault v Nothing content_start))
+      (HasLongStructure v)
+  HasLongStructure (newtype_variant_value name vname v) w =
+      variant_long (is_wrapper vname) name w (IsLongContent (items v Nothing) (fault v Nothing content_start))
+      (HasLongStructure v)
+  HasLongStructure (tuple_variant_value name vname vs) w =
+      structure_long w (without_override name)
+      (IsLongContent (items_in vs Nothing) (fault_in vs Nothing content_start)) (HaveLongStructure vs Nothing)
   HasLongStructure _ w = ⊥
 
   pub HaveLongStructure : Values → Held → Type 0
   HaveLongStructure no_values w = ⊥
-  HaveLongStructure (value v vs) w = HasLongStructure v w ⊎ After (items v w) (λ ts. HaveLongStructure vs (left_over w ts))
+  HaveLongStructure (value v vs) w =
+      HasLongStructure v w ⊎ After (items v w) (λ ts. HaveLongStructure vs (left_over w ts))
 
 -- some length is too long, or the offset of the first refusal
 abbrev pub IsLong : Value → Place → Type 0

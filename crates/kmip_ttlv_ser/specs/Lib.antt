@@ -4,5 +4,10 @@ pub mod Faults
 pub mod Lengths
 pub mod WriteAnswers
 pub mod Passes
+pub mod Measures
+pub mod Outputs
+pub mod Waiting
+pub mod Gathers
+pub mod Emits
 pub mod WriteLaws
 pub mod Rows

@@ -2,7 +2,9 @@
 use Rattle.std.specs.Prelude.{◌≡◌, ℕ, pos, true, false, List, [], ◌∷◌, Some, None, codes}
 use Rattle.kmip_ttlv_types.specs.Trees.{bytes_all}
 use Rattle.kmip_ttlv_base.specs.Errors.{Kind, mismatch, invalid_tag, invalid_variant, unsupported_rust_type}
-use Rattle.kmip_ttlv_base.specs.Values.{Value, i32_value, u64_value, big_integer_value, interval_value, none_value as none, seq_value, struct_value, newtype_value, unit_variant_value, newtype_variant_value, Values, no_values, value}
+use Rattle.kmip_ttlv_base.specs.Values.{Value, i32_value, u64_value, big_integer_value, interval_value}
+use Rattle.kmip_ttlv_base.specs.Values.{none_value as none, seq_value, struct_value, newtype_value, unit_variant_value}
+use Rattle.kmip_ttlv_base.specs.Values.{newtype_variant_value, Values, no_values, value}
 use Rattle.kmip_ttlv_ser.specs.declared.held.Held.TheVariants.{Nothing}
 use Rattle.kmip_ttlv_ser.specs.WrittenItems.{◌>>=◌, items}
 use Rattle.kmip_ttlv_ser.specs.Faults.{fault, no_tag, tag_unused}
@@ -14,7 +16,8 @@ HasBytes v bytes = (items v Nothing >>= λ ts. Some (bytes_all ts)) ≡ Some byt
 
 -- the value has no items: its first refusal and its offset
 abbrev pub IsRefusedBy : Value → Kind → ℕ → Type 0
-IsRefusedBy v kind offset = (items v Nothing ≡ None) × (fault v Nothing origin ≡ record { kind = kind; offset = offset })
+IsRefusedBy v kind offset =
+    (items v Nothing ≡ None) × (fault v Nothing origin ≡ record { kind = kind; offset = offset })
 
 -- the number 3, of 32 bits
 abbrev pub three : Value
@@ -22,37 +25,55 @@ three = i32_value (pos 3)
 
 -- two unit variants
 abbrev pub two_modes : Values
-two_modes = value (unit_variant_value (codes "420028") (codes "0x1")) (value (unit_variant_value (codes "420028") (codes "0x2")) no_values)
+two_modes =
+    value (unit_variant_value (codes "420028") (codes "0x1"))
+    (value (unit_variant_value (codes "420028") (codes "0x2")) no_values)
 
 -- the rest of the name is the tag of the number
 abbrev pub a_transparent_newtype : Type 0
-a_transparent_newtype = HasBytes (newtype_value (codes "Transparent:0xAABBCC") three) (0xAA ∷ 0xBB ∷ 0xCC ∷ 2 ∷ 0 ∷ 0 ∷ 0 ∷ 4 ∷ 0 ∷ 0 ∷ 0 ∷ 3 ∷ 0 ∷ 0 ∷ 0 ∷ 0 ∷ [])
+a_transparent_newtype =
+    HasBytes (newtype_value (codes "Transparent:0xAABBCC") three)
+    (0xAA ∷ 0xBB ∷ 0xCC ∷ 2 ∷ 0 ∷ 0 ∷ 0 ∷ 4 ∷ 0 ∷ 0 ∷ 0 ∷ 3 ∷ 0 ∷ 0 ∷ 0 ∷ 0 ∷ [])
 
 -- the overriding tag stands in place of the unit variant's
 abbrev pub an_overriding_wrapper : Type 0
-an_overriding_wrapper = HasBytes (newtype_variant_value (codes "Override:0x42000B") (codes "Transparent") (unit_variant_value (codes "420028") (codes "0x00000003"))) (0x42 ∷ 0 ∷ 0x0B ∷ 5 ∷ 0 ∷ 0 ∷ 0 ∷ 4 ∷ 0 ∷ 0 ∷ 0 ∷ 3 ∷ 0 ∷ 0 ∷ 0 ∷ 0 ∷ [])
+an_overriding_wrapper =
+    HasBytes (newtype_variant_value (codes "Override:0x42000B") (codes "Transparent")
+    (unit_variant_value (codes "420028") (codes "0x00000003")))
+    (0x42 ∷ 0 ∷ 0x0B ∷ 5 ∷ 0 ∷ 0 ∷ 0 ∷ 4 ∷ 0 ∷ 0 ∷ 0 ∷ 3 ∷ 0 ∷ 0 ∷ 0 ∷ 0 ∷ [])
 
 -- only the first element stands under the overriding tag
 abbrev pub an_overriding_wrapper_over_two : Type 0
-an_overriding_wrapper_over_two = HasBytes (newtype_variant_value (codes "Override:0x42000B") (codes "Transparent") (seq_value two_modes))
-    (0x42 ∷ 0 ∷ 0x0B ∷ 5 ∷ 0 ∷ 0 ∷ 0 ∷ 4 ∷ 0 ∷ 0 ∷ 0 ∷ 1 ∷ 0 ∷ 0 ∷ 0 ∷ 0 ∷ 0x42 ∷ 0 ∷ 0x28 ∷ 5 ∷ 0 ∷ 0 ∷ 0 ∷ 4 ∷ 0 ∷ 0 ∷ 0 ∷ 2 ∷ 0 ∷ 0 ∷ 0 ∷ 0 ∷ [])
+an_overriding_wrapper_over_two =
+    HasBytes (newtype_variant_value (codes "Override:0x42000B") (codes "Transparent") (seq_value two_modes))
+    (0x42 ∷ 0 ∷ 0x0B ∷ 5 ∷ 0 ∷ 0 ∷ 0 ∷ 4 ∷ 0 ∷ 0 ∷ 0 ∷ 1 ∷ 0 ∷ 0 ∷ 0 ∷ 0
+    ∷ 0x42 ∷ 0 ∷ 0x28 ∷ 5 ∷ 0 ∷ 0 ∷ 0 ∷ 4 ∷ 0 ∷ 0 ∷ 0 ∷ 2 ∷ 0 ∷ 0 ∷ 0 ∷ 0 ∷ [])
 
 -- the prefix is taken off twice where the variant is a structure
 abbrev pub a_doubled_prefix : Type 0
-a_doubled_prefix = HasBytes (newtype_variant_value (codes "Override:Override:0xAABBCC") (codes "X") (newtype_value (codes "Transparent:0xBBBBBB") three))
-    (0xAA ∷ 0xBB ∷ 0xCC ∷ 1 ∷ 0 ∷ 0 ∷ 0 ∷ 0x10 ∷ 0xBB ∷ 0xBB ∷ 0xBB ∷ 2 ∷ 0 ∷ 0 ∷ 0 ∷ 4 ∷ 0 ∷ 0 ∷ 0 ∷ 3 ∷ 0 ∷ 0 ∷ 0 ∷ 0 ∷ [])
+a_doubled_prefix =
+    HasBytes (newtype_variant_value (codes "Override:Override:0xAABBCC") (codes "X")
+    (newtype_value (codes "Transparent:0xBBBBBB") three))
+    (0xAA ∷ 0xBB ∷ 0xCC ∷ 1 ∷ 0 ∷ 0 ∷ 0 ∷ 0x10
+    ∷ 0xBB ∷ 0xBB ∷ 0xBB ∷ 2 ∷ 0 ∷ 0 ∷ 0 ∷ 4 ∷ 0 ∷ 0 ∷ 0 ∷ 3 ∷ 0 ∷ 0 ∷ 0 ∷ 0 ∷ [])
 
 -- it is a Date-Time
 abbrev pub an_unsigned_number_of_64_bits : Type 0
-an_unsigned_number_of_64_bits = HasBytes (newtype_value (codes "Transparent:0xAABBCC") (u64_value 9223372036854775808)) (0xAA ∷ 0xBB ∷ 0xCC ∷ 9 ∷ 0 ∷ 0 ∷ 0 ∷ 8 ∷ 0x80 ∷ 0 ∷ 0 ∷ 0 ∷ 0 ∷ 0 ∷ 0 ∷ 0 ∷ [])
+an_unsigned_number_of_64_bits =
+    HasBytes (newtype_value (codes "Transparent:0xAABBCC") (u64_value 9223372036854775808))
+    (0xAA ∷ 0xBB ∷ 0xCC ∷ 9 ∷ 0 ∷ 0 ∷ 0 ∷ 8 ∷ 0x80 ∷ 0 ∷ 0 ∷ 0 ∷ 0 ∷ 0 ∷ 0 ∷ 0 ∷ [])
 
 -- its sign goes on with up to eight bytes
 abbrev pub a_negative_big_integer : Type 0
-a_negative_big_integer = HasBytes (newtype_value (codes "Transparent:0x420020") (big_integer_value (0x80 ∷ []))) (0x42 ∷ 0 ∷ 0x20 ∷ 4 ∷ 0 ∷ 0 ∷ 0 ∷ 8 ∷ 0xFF ∷ 0xFF ∷ 0xFF ∷ 0xFF ∷ 0xFF ∷ 0xFF ∷ 0xFF ∷ 0x80 ∷ [])
+a_negative_big_integer =
+    HasBytes (newtype_value (codes "Transparent:0x420020") (big_integer_value (0x80 ∷ [])))
+    (0x42 ∷ 0 ∷ 0x20 ∷ 4 ∷ 0 ∷ 0 ∷ 0 ∷ 8 ∷ 0xFF ∷ 0xFF ∷ 0xFF ∷ 0xFF ∷ 0xFF ∷ 0xFF ∷ 0xFF ∷ 0x80 ∷ [])
 
 -- it has the code 0A
 abbrev pub an_interval : Type 0
-an_interval = HasBytes (newtype_value (codes "Transparent:0x420020") (interval_value 5)) (0x42 ∷ 0 ∷ 0x20 ∷ 0x0A ∷ 0 ∷ 0 ∷ 0 ∷ 4 ∷ 0 ∷ 0 ∷ 0 ∷ 5 ∷ 0 ∷ 0 ∷ 0 ∷ 0 ∷ [])
+an_interval =
+    HasBytes (newtype_value (codes "Transparent:0x420020") (interval_value 5))
+    (0x42 ∷ 0 ∷ 0x20 ∷ 0x0A ∷ 0 ∷ 0 ∷ 0 ∷ 4 ∷ 0 ∷ 0 ∷ 0 ∷ 5 ∷ 0 ∷ 0 ∷ 0 ∷ 0 ∷ [])
 
 -- a header alone
 abbrev pub an_empty_structure : Type 0
@@ -76,20 +97,31 @@ a_wrapper_over_nothing = IsRefusedBy (newtype_value (codes "Transparent:0xAABBCC
 
 -- the name of a unit variant is a number, or is refused behind the tag
 abbrev pub a_variant_that_is_no_number : Type 0
-a_variant_that_is_no_number = IsRefusedBy (unit_variant_value (codes "0x42005C") (codes "Create")) (mismatch (invalid_variant (codes "Create"))) 3
+a_variant_that_is_no_number =
+    IsRefusedBy (unit_variant_value (codes "0x42005C") (codes "Create")) (mismatch (invalid_variant (codes "Create")))
+    3
 
 -- the outer tag finds no item, as the inner wrapper takes one of its own
 abbrev pub a_wrapper_in_a_wrapper : Type 0
-a_wrapper_in_a_wrapper = IsRefusedBy (struct_value (codes "0xAAAAAA") (value (newtype_variant_value (codes "Override:0xBBBBBB") (codes "Transparent") three) (value (newtype_value (codes "Transparent:0xCCCCCC") (newtype_value (codes "Transparent:0xDDDDDD") (i32_value (pos 4)))) no_values))) tag_unused 27
+a_wrapper_in_a_wrapper =
+    IsRefusedBy (struct_value (codes "0xAAAAAA") (value (newtype_variant_value (codes "Override:0xBBBBBB")
+    (codes "Transparent") three) (value (newtype_value (codes "Transparent:0xCCCCCC")
+    (newtype_value (codes "Transparent:0xDDDDDD") (i32_value (pos 4)))) no_values))) tag_unused 27
 
 -- the prefix is taken off once where the variant is a wrapper
 abbrev pub a_doubled_prefix_of_a_wrapper : Type 0
-a_doubled_prefix_of_a_wrapper = IsRefusedBy (newtype_variant_value (codes "Override:Override:0xAABBCC") (codes "Transparent") three) (mismatch (invalid_tag (codes "Override:0xAABBCC"))) 0
+a_doubled_prefix_of_a_wrapper =
+    IsRefusedBy (newtype_variant_value (codes "Override:Override:0xAABBCC") (codes "Transparent") three)
+    (mismatch (invalid_tag (codes "Override:0xAABBCC"))) 0
 
 -- none gives no item, and is refused behind the tag
 abbrev pub a_wrapper_over_none : Type 0
-a_wrapper_over_none = IsRefusedBy (newtype_value (codes "Transparent:0xAABBCC") none) (mismatch (unsupported_rust_type (codes "None"))) 3
+a_wrapper_over_none =
+    IsRefusedBy (newtype_value (codes "Transparent:0xAABBCC") none) (mismatch (unsupported_rust_type (codes "None")))
+    3
 
 -- the prefix is no part of a structure's tag
 abbrev pub a_structure_named_transparent : Type 0
-a_structure_named_transparent = IsRefusedBy (struct_value (codes "Transparent:0xAABBCC") (value (i32_value (pos 1)) no_values)) (mismatch (invalid_tag (codes "Transparent:0xAABBCC"))) 0
+a_structure_named_transparent =
+    IsRefusedBy (struct_value (codes "Transparent:0xAABBCC") (value (i32_value (pos 1)) no_values))
+    (mismatch (invalid_tag (codes "Transparent:0xAABBCC"))) 0

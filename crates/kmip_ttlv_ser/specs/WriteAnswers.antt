@@ -1,12 +1,15 @@
 -- What the writer's calls answer.
-use Rattle.std.specs.Prelude.{◌≡◌, ℕ, Bool, true, false, List, ◌++◌, length, Option, Some, None, Result, Ok, Err, IsErrAnd}
+use Rattle.std.specs.Prelude.{◌≡◌, ℕ, Bool, true, false, List, ◌++◌, length, Option, Some, None, Result, Ok, Err}
+use Rattle.std.specs.Prelude.{IsErrAnd}
 use Rattle.std.specs.declared.vec.Vec.{Vec}
 use Rattle.std.specs.Io.KnownBytes.{Appends, Keeps}
 use Rattle.kmip_ttlv_types.specs.Streams.{AppendsFront}
 use Rattle.kmip_ttlv_types.specs.Trees.{Tree, bytes_all}
 use Rattle.kmip_ttlv_base.specs.declared.error.Error.{Error}
 use Rattle.kmip_ttlv_base.specs.declared.error.MalformedTtlvError.TheVariants.{UnknownStructureLength}
-use Rattle.kmip_ttlv_base.specs.Errors.{Kind, io_error, exceeds_limit, malformed, mismatch, out_of_memory, length_overflow, Location, unknown, only_offset, kind_of, view_of_kind, location_of, view_of_location}
+use Rattle.kmip_ttlv_base.specs.Errors.{Kind, io_error, exceeds_limit, malformed, mismatch, out_of_memory}
+use Rattle.kmip_ttlv_base.specs.Errors.{length_overflow, Location, unknown, only_offset, kind_of, view_of_kind}
+use Rattle.kmip_ttlv_base.specs.Errors.{location_of, view_of_location}
 use Rattle.kmip_ttlv_base.specs.Values.{Value}
 use Rattle.kmip_ttlv_ser.specs.declared.held.Held.TheVariants.{Nothing}
 use Rattle.kmip_ttlv_ser.specs.declared.held.Place.{Place}
@@ -60,17 +63,19 @@ abbrev pub Writes : {A : Type 0} → Value → Result (Vec ℕ A) (Error A) → 
 Writes v (Ok out) = IsWrittenAs v 0 out.items
 Writes v (Err e) = Refuses v origin e
 
--- the value's bytes were appended to what a writer has
-pub record WrittenTo (v : Value) (old new : Option (List ℕ)) : Type 0 where
+-- the value's bytes, from the first one on, of which this is said
+pub record WrittenBytes (v : Value) (said : List ℕ → Type 0) : Type 0 where
   pub bytes : List ℕ
   pub written : IsWrittenAs v 0 bytes
-  pub appends : Appends old new bytes
+  pub appends : said bytes
+
+-- the value's bytes were appended to what a writer has
+abbrev pub WrittenTo : Value → Option (List ℕ) → Option (List ℕ) → Type 0
+WrittenTo v old new = WrittenBytes v (Appends old new)
 
 -- a writer failed, after a beginning of the value's bytes
-pub record PartlyWritten (v : Value) (old new : Option (List ℕ)) : Type 0 where
-  pub bytes : List ℕ
-  pub written : IsWrittenAs v 0 bytes
-  pub appends : AppendsFront old new bytes
+abbrev pub PartlyWritten : Value → Option (List ℕ) → Option (List ℕ) → Type 0
+PartlyWritten v old new = WrittenBytes v (AppendsFront old new)
 
 -- why a value is not written to a writer: it failed, or has what it had before
 abbrev pub IsNotWritten : Value → Option (List ℕ) → Option (List ℕ) → Kind → Location → Type 0
@@ -120,7 +125,8 @@ pub record Appended (v : Value) (old new : Progress) : Type 0 where
   pub trees : List Tree
   pub are : items v Nothing ≡ Some trees
   pub fit : FitsAfter (length old.bytes) trees
-  pub appended : new ≡ record { bytes = old.bytes ++ bytes_all trees; opened = opened_after old.opened trees; refused = false }
+  pub appended :
+      new ≡ record { bytes = old.bytes ++ bytes_all trees; opened = opened_after old.opened trees; refused = false }
 
 -- the value was refused at the place reached, and the accepted bytes stay
 pub record Refused {A : Type 0} (v : Value) (old new : Progress) (e : Error A) : Type 0 where

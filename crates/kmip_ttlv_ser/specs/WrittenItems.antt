@@ -1,12 +1,19 @@
 -- The items that a value is written as.
-use Rattle.std.specs.Prelude.{ℕ, Bool, true, false, List, [], ◌∷◌, ◌++◌, Option, Some, None, if◌then◌else◌, bytes_eq, codes, ◌==◌}
+use Rattle.std.specs.Prelude.{ℕ, Bool, true, false, List, [], ◌∷◌, ◌++◌, Option, Some, None, bytes_eq}
+use Rattle.std.specs.Prelude.{codes}
 use Rattle.std.specs.Int.{w32, w64, to_be_bytes, cast_unsigned, from_bool}
 use Rattle.kmip_ttlv_types.specs.declared.typ.TtlvType.{TtlvType}
-use Rattle.kmip_ttlv_types.specs.declared.typ.TtlvType.TheVariants.{Integer, LongInteger, BigInteger, Enumeration, Boolean, TextString, ByteString, DateTime, Interval}
+use Rattle.kmip_ttlv_types.specs.declared.typ.TtlvType.TheVariants.{Integer, LongInteger, BigInteger, Enumeration}
+use Rattle.kmip_ttlv_types.specs.declared.typ.TtlvType.TheVariants.{Boolean, TextString, ByteString, DateTime}
+use Rattle.kmip_ttlv_types.specs.declared.typ.TtlvType.TheVariants.{Interval}
 use Rattle.kmip_ttlv_types.specs.Names.{tag_of, number, transparent_name, override_name}
 use Rattle.kmip_ttlv_types.specs.Primitives.{sign_extended}
 use Rattle.kmip_ttlv_types.specs.Trees.{Tree, leaf, node, trees_of}
-use Rattle.kmip_ttlv_base.specs.Values.{Value, boolean_value, i8_value, i16_value, i32_value, u32_value, i64_value, u64_value, interval_value, text_value, bytes_value, big_integer_value, none_value as none, some_value as some, seq_value, struct_value, newtype_value, unit_variant_value, newtype_variant_value, tuple_variant_value, unsupported_value, Values, no_values, value}
+use Rattle.kmip_ttlv_base.specs.Values.{Value, boolean_value, i8_value, i16_value, i32_value, u32_value, i64_value}
+use Rattle.kmip_ttlv_base.specs.Values.{u64_value, interval_value, text_value, bytes_value, big_integer_value}
+use Rattle.kmip_ttlv_base.specs.Values.{none_value as none, some_value as some, seq_value, struct_value, newtype_value}
+use Rattle.kmip_ttlv_base.specs.Values.{unit_variant_value, newtype_variant_value, tuple_variant_value}
+use Rattle.kmip_ttlv_base.specs.Values.{unsupported_value, Values, no_values, value}
 use Rattle.kmip_ttlv_ser.specs.declared.held.Held.{Held}
 use Rattle.kmip_ttlv_ser.specs.declared.held.Held.TheVariants.{Nothing, Plain, Overriding}
 
@@ -44,10 +51,6 @@ one_structure w name below = take_tag w name >>= λ t. one_node t below
 unfoldable pub some_item : List Tree → Option (List Tree)
 some_item [] = None
 some_item (t ∷ ts) = Some (t ∷ ts)
-
--- what waits after items of n bytes
-abbrev pub held_after : Held → ℕ → Held
-held_after w n = if n == 0 then w else Nothing
 
 -- what waits after these items
 abbrev pub left_over : Held → List Tree → Held

@@ -1,12 +1,10 @@
 //! The tag that waits for the next item, and the place that writing has reached.
 
 ghost use Rattle.std.specs.Prelude.{◌≡◌};
-ghost use Rattle.kmip_ttlv_ser.specs.WrittenItems.{take_tag, held_tag, held_after, held_over};
+ghost use Rattle.kmip_ttlv_ser.specs.WrittenItems.{take_tag, held_tag, held_over};
 ghost use Rattle.kmip_ttlv_ser.specs.Faults.{held_len};
-ghost use Rattle.kmip_ttlv_ser.specs.Passes.{Advances, IsBeforeField};
 
 use crate::names::override_name;
-use crate::refusal::Refusal;
 use kmip_ttlv_types::TtlvTag;
 
 /// The tag that the next item gets.
@@ -22,6 +20,7 @@ pub enum Held {
 
 impl Held {
     /// The tag of a leaf.
+    #[inline(always)]
     pub fn tag(&self) -> Option<TtlvTag>
         ensures { result ≡ held_tag self.now }
     {
@@ -33,6 +32,7 @@ impl Held {
     }
 
     /// The bytes of the tag that waits, which stand before the field that comes next.
+    #[inline(always)]
     pub fn len(&self) -> u64
         ensures { result ≡ held_len self.now }
     {
@@ -45,6 +45,7 @@ impl Held {
 
     /// The tag that stands after a name was taken.
     #[tactic(auto, unfolding(crate::specs::WrittenItems::take_tag))]
+    #[inline(always)]
     pub fn take(&self, name: &str) -> Option<TtlvTag>
         ensures { result ≡ take_tag self.now name.now }
     {
@@ -61,6 +62,7 @@ impl Held {
     /// What waits for a wrapper's content: the taken tag overrides where nothing was held before
     /// and the wrapper's name begins with `Override:`.
     #[tactic(auto, unfolding(crate::specs::WrittenItems::held_over))]
+    #[inline(always)]
     pub fn over(&self, name: &'static str, tag: TtlvTag) -> Held
         ensures { result ≡ held_over self.now name.now tag }
     {
@@ -72,13 +74,6 @@ impl Held {
             _ => Held::Plain(tag),
         }
     }
-
-    /// What waits after items of this many bytes.
-    pub fn after(&self, bytes: u64) -> Held
-        ensures { result ≡ held_after self.now bytes }
-    {
-        if bytes == 0 { *self } else { Held::Nothing }
-    }
 }
 
 /// The place that writing has reached: the number of bytes written, and whether the field last
@@ -87,26 +82,4 @@ impl Held {
 pub struct Place {
     pub offset: u64,
     pub opened: bool,
-}
-
-impl Place {
-    /// The place after some more bytes. LengthOverflow from 2^64 bytes on.
-    pub fn after(self, bytes: u64, opened: bool) -> Result<Place, Refusal>
-        ensures { Advances self bytes opened result }
-    {
-        match self.offset.checked_add(bytes) {
-            Some(offset) => Ok(Place { offset, opened }),
-            None => Err(Refusal::LengthOverflow),
-        }
-    }
-
-    /// The number of bytes before the field that comes next. LengthOverflow from 2^64 on.
-    pub fn before_field(self, held: &Held) -> Result<u64, Refusal>
-        ensures { IsBeforeField self held.now result }
-    {
-        match self.offset.checked_add(held.len()) {
-            Some(offset) => Ok(offset),
-            None => Err(Refusal::LengthOverflow),
-        }
-    }
 }

@@ -9,7 +9,13 @@ ghost use Rattle.kmip_ttlv_ser.specs.declared.held.Held.TheVariants.{Nothing};
 ghost use Rattle.kmip_ttlv_ser.specs.WrittenItems.{items};
 ghost use Rattle.kmip_ttlv_ser.specs.WriteAnswers.{IsWrittenAs};
 ghost use Rattle.kmip_ttlv_ser.specs.WriteLaws.{IsSound};
-ghost use Rattle.kmip_ttlv_ser.specs.Rows.{a_transparent_newtype, an_overriding_wrapper, an_overriding_wrapper_over_two, a_doubled_prefix, an_unsigned_number_of_64_bits, a_negative_big_integer, an_interval, an_empty_structure, an_empty_sequence, a_bare_field, a_bare_value, a_wrapper_over_nothing, a_variant_that_is_no_number, a_wrapper_in_a_wrapper, a_doubled_prefix_of_a_wrapper, a_wrapper_over_none, a_structure_named_transparent};
+ghost use Rattle.kmip_ttlv_ser.specs.Rows.{a_transparent_newtype, an_overriding_wrapper};
+ghost use Rattle.kmip_ttlv_ser.specs.Rows.{an_overriding_wrapper_over_two, a_doubled_prefix};
+ghost use Rattle.kmip_ttlv_ser.specs.Rows.{an_unsigned_number_of_64_bits, a_negative_big_integer};
+ghost use Rattle.kmip_ttlv_ser.specs.Rows.{an_interval, an_empty_structure, an_empty_sequence, a_bare_field};
+ghost use Rattle.kmip_ttlv_ser.specs.Rows.{a_bare_value, a_wrapper_over_nothing, a_variant_that_is_no_number};
+ghost use Rattle.kmip_ttlv_ser.specs.Rows.{a_wrapper_in_a_wrapper, a_doubled_prefix_of_a_wrapper};
+ghost use Rattle.kmip_ttlv_ser.specs.Rows.{a_wrapper_over_none, a_structure_named_transparent};
 
 /// Trees are told apart by their canonical bytes: tags of three bytes, lengths of four, and no leaf
 /// of type Structure.

@@ -1,18 +1,21 @@
 //! The calls that write values: `to_vec`, `to_writer` and `TtlvSerializer`.
 
 ghost use Rattle.std.specs.Prelude.{◌≡◌, [], false};
-ghost use Rattle.kmip_ttlv_base.specs.Values.{view};
-ghost use Rattle.kmip_ttlv_ser.specs.WriteAnswers.{Writes, WritesTo, progress, Serializes, GivesAll, IsClosed, AppendsValue};
+ghost use Rattle.kmip_ttlv_ser.specs.WriteAnswers.{Writes, WritesTo, progress, Serializes, GivesAll};
+ghost use Rattle.kmip_ttlv_ser.specs.WriteAnswers.{IsClosed, AppendsValue};
 
-use crate::emit::emit;
-use crate::held::{Held, Place};
-use crate::measure::measure;
+use crate::emitter::emit;
+use crate::gathered::Gathered;
+use crate::held::Place;
+use crate::measurer::measure;
+use crate::output::Direct;
 use kmip_ttlv_base::error::{Error, ErrorKind, ErrorLocation, MalformedTtlvError, Result};
-use kmip_ttlv_base::shape::{Data, Serialize};
+use kmip_ttlv_base::shape::Serialize;
 use kmip_ttlv_types::ByteOffset;
-use kmip_ttlv_types::stream::Sink;
+use kmip_ttlv_types::stream::MemorySink;
 use std::alloc::{Allocator, Global};
 use std::io::Write;
+use std::mem;
 
 /// The canonical bytes of a value's items, one after the other (KMIP 1.0, section 9.1).
 ///
@@ -23,18 +26,18 @@ use std::io::Write;
 /// unknown location, comes only where a length is above 2^32 - 1 or all bytes are more than
 /// 2^64 - 1, and OutOfMemory only where memory was refused.
 ///
-/// The call recurses as the value nests: a stack of 8 MiB carries some 10,000 structures in one
-/// another.
+/// The call recurses as the value tells what it is: a stack of 8 MiB carries some 9,000 structures,
+/// sequences or options in one another.
 pub fn to_vec<A: Allocator + Copy, T: Serialize>(alloc: A, value: &T) -> Result<Vec<u8, A>, A>
     ensures { Writes (T.stated value.now) result }
 {
-    let data = value.to_data(alloc)?;
     let mut out = Vec::new(alloc);
-    append(alloc, &data, false, &mut out)?;
+    append(alloc, value, false, &mut out)?;
     Ok(out)
 }
 
-/// Writes the bytes of `to_vec` to a writer.
+/// Writes the bytes of `to_vec` to a writer, as it goes: no vector of them is made. Small pieces are
+/// gathered, up to 8,192 bytes on the stack, and long ones go out as they lie.
 ///
 /// It refuses as `to_vec` does, and the writer is as it was then. IoError, of unknown location,
 /// comes where the writer failed, or took no byte: it has received a beginning of the bytes.
@@ -46,10 +49,16 @@ pub fn to_writer<A: Allocator + Copy, T: Serialize, W: Write>(
 ) -> Result<(), A>
     ensures { WritesTo (T.stated value.now) (W.contents writer.old) (W.contents writer.new) result }
 {
-    let bytes = to_vec(alloc, value)?;
-    match writer.send(&bytes) {
-        Ok(()) => Ok(()),
-        Err(error) => Err(Error::new(ErrorKind::IoError(error), ErrorLocation::unknown())),
+    let place = Place {
+        offset: 0,
+        opened: false,
+    };
+    let plan = measure(alloc, value, place)?;
+    let mut gathered = emit(value, &plan.sizes, Gathered::new(writer));
+    gathered.flush();
+    match gathered.failure {
+        None => Ok(()),
+        Some(error) => Err(Error::new(ErrorKind::IoError(error), ErrorLocation::unknown())),
     }
 }
 
@@ -81,8 +90,8 @@ impl<A: Allocator + Copy> TtlvSerializer<A> {
 
     /// Appends the items of a value, refused as by `to_vec`. Offsets, and what is due, count the
     /// bytes of the calls that were accepted before.
-    pub fn serialize<B: Allocator>(&mut self, value: &Data<B>) -> Result<(), A>
-        ensures { Serializes (view value.now) (progress self.old) (progress self.new) result }
+    pub fn serialize<T: Serialize>(&mut self, value: &T) -> Result<(), A>
+        ensures { Serializes (T.stated value.now) (progress self.old) (progress self.new) result }
     {
         if self.refused {
             return Err(closed());
@@ -136,24 +145,25 @@ fn closed<A: Allocator>() -> Error<A>
 /// Appends a value's items, and gives whether the field last written is a structure's length.
 ///
 /// What refuses it is found first, and all room is made before the first byte is written.
-fn append<A: Allocator + Copy, B: Allocator>(
+fn append<A: Allocator + Copy, T: Serialize>(
     alloc: A,
-    value: &Data<B>,
+    value: &T,
     opened: bool,
     out: &mut Vec<u8, A>,
 ) -> Result<bool, A>
-    ensures { AppendsValue (view value.now) opened out.old.items out.new.items result }
+    ensures { AppendsValue (T.stated value.now) opened out.old.items out.new.items result }
 {
     let place = Place {
         offset: out.len() as u64,
         opened,
     };
-    let mut sizes = Vec::new(alloc);
-    let end = match measure(value, &Held::Nothing, place, &mut sizes) {
-        Ok(end) => end,
-        Err(refusal) => return Err(refusal.into_error(alloc)),
-    };
-    out.reserve((end.offset - place.offset) as usize)?;
-    emit(value, &Held::Nothing, out, &sizes);
-    Ok(end.opened)
+    let plan = measure(alloc, value, place)?;
+    out.reserve((plan.end.offset - place.offset) as usize)?;
+    let sink = MemorySink(mem::replace(out, Vec::new(alloc)));
+    let whole = emit(value, &plan.sizes, Direct::new(sink));
+    if let Some(_) = whole.failure {
+        unreachable!();
+    }
+    *out = whole.sink.0;
+    Ok(plan.end.opened)
 }

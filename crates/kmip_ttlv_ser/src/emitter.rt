@@ -1,0 +1,226 @@
+//! The second pass: gives a value's bytes to an output, forward, by the lengths of the structures.
+
+ghost use Rattle.std.specs.Prelude.{◌≡◌, ℕ, List, [], ◌<◌, replicate, Some as SpecSome};
+ghost use Rattle.kmip_ttlv_types.specs.declared.typ.TtlvType.TheVariants.{BigInteger as SpecBigInteger};
+ghost use Rattle.kmip_ttlv_types.specs.Items.{header};
+ghost use Rattle.kmip_ttlv_types.specs.Names.{transparent_name};
+ghost use Rattle.kmip_ttlv_types.specs.Primitives.{sign_extended};
+ghost use Rattle.kmip_ttlv_types.specs.Trees.{Tree, bytes_all};
+ghost use Rattle.kmip_ttlv_base.specs.Values.{unit_variant_value};
+ghost use Rattle.kmip_ttlv_base.specs.Visits.{Knows};
+ghost use Rattle.kmip_ttlv_ser.specs.WrittenItems.{take_tag, one_leaf, items, is_wrapper};
+ghost use Rattle.kmip_ttlv_ser.specs.Sizes.{sizes_all};
+ghost use Rattle.kmip_ttlv_ser.specs.Outputs.{Given};
+ghost use Rattle.kmip_ttlv_ser.specs.declared.held.Held.TheVariants.{Plain as SpecPlain};
+ghost use Rattle.kmip_ttlv_ser.specs.declared.held.Held.TheVariants.{Nothing as SpecNothing};
+ghost use Rattle.kmip_ttlv_ser.specs.Emits.{Written, HasWritten, wrote, began, waits, began_newtype};
+ghost use Rattle.kmip_ttlv_ser.specs.Emits.{began_variant, emit_step};
+
+use crate::held::Held;
+use crate::measurer::padding;
+use crate::names::{is_wrapper, transparent_name, without_override};
+use crate::output::Output;
+use kmip_ttlv_base::shape::Serialize;
+use kmip_ttlv_base::visit::{Group, Leaf, Visitor};
+use kmip_ttlv_types::numbers::sign_of;
+use kmip_ttlv_types::{TtlvTag, TtlvType, number};
+use std::alloc::AllocError;
+
+/// What gives the bytes of a value. The plan has the lengths of the structures that are to come.
+#[derive(Drop)]
+pub struct Emitter<'a, O: Output> {
+    out: O,
+    plan: &'a [u32],
+    held: Held,
+}
+
+/// Gives an item's header: its tag, its type and its length (KMIP 1.0, section 9.1.1).
+#[inline(always)]
+fn put_header<O: Output>(out: &mut O, tag: TtlvTag, typ: TtlvType, len: u64)
+    ensures { Given O.given (header tag typ len) out.old out.new }
+{
+    let [a, b, c] = <[u8; 3]>::from(tag);
+    let [_, _, _, _, d, e, f, g] = len.to_be_bytes();
+    out.give(&[a, b, c, typ.code(), d, e, f, g]);
+}
+
+/// Gives fewer than eight bytes of one value.
+#[inline(always)]
+fn put_filling<O: Output>(out: &mut O, byte: u8, count: usize)
+    requires { count < 8 }
+    ensures { Given O.given (replicate count byte) out.old out.new }
+{
+    out.give(&[byte; 8][..count]);
+}
+
+impl<'a, O: Output> Emitter<'a, O> {
+    /// A leaf under the tag that waits.
+    #[inline(always)]
+    fn put_leaf(&mut self, typ: TtlvType, content: &[u8])
+        ensures { Knows (HasWritten O.given)
+            (λ s. wrote (one_leaf s.held typ content.now) s) self.old self.new }
+    {
+        let Some(tag) = self.held.tag() else {
+            return;
+        };
+        let len = content.len() as u64;
+        put_header(&mut self.out, tag, typ, len);
+        self.out.give(content);
+        put_filling(&mut self.out, 0, padding(len) as usize);
+        self.held = Held::Nothing;
+    }
+
+    /// A big integer under the tag that waits, sign bytes in front up to a multiple of eight.
+    #[inline(always)]
+    fn put_big_integer(&mut self, bytes: &[u8])
+        ensures { Knows (HasWritten O.given)
+            (λ s. wrote (one_leaf s.held SpecBigInteger (sign_extended bytes.now)) s) self.old self.new }
+    {
+        let Some(tag) = self.held.tag() else {
+            return;
+        };
+        let len = bytes.len() as u64;
+        let extending = padding(len);
+        put_header(&mut self.out, tag, TtlvType::BigInteger, extending + len);
+        put_filling(&mut self.out, sign_of(bytes), extending as usize);
+        self.out.give(bytes);
+        self.held = Held::Nothing;
+    }
+
+    /// A unit variant: the leaf of its number, under its enum's tag.
+    #[inline(always)]
+    fn put_unit_variant(&mut self, name: &'static str, variant: &'static str)
+        ensures { Knows (HasWritten O.given)
+            (λ s. wrote (items (unit_variant_value name.now variant.now) s.held) s) self.old self.new }
+    {
+        let Some(tag) = self.held.take(name) else {
+            return;
+        };
+        let Some(value) = number(variant) else {
+            return;
+        };
+        self.held = Held::Plain(tag);
+        self.put_leaf(TtlvType::Enumeration, &value.to_be_bytes());
+    }
+
+    /// A structure's header, its length the next of the plan.
+    #[inline(always)]
+    fn put_structure(&mut self, name: &'static str)
+        ensures { Knows (HasWritten O.given) (λ s. began (take_tag s.held name.now) s) self.old self.new }
+    {
+        let Some(tag) = self.held.take(name) else {
+            return;
+        };
+        let Some((len, rest)) = self.plan.split_first() else {
+            return;
+        };
+        put_header(&mut self.out, tag, TtlvType::Structure, u64::from(*len));
+        self.plan = rest;
+        self.held = Held::Nothing;
+    }
+
+    /// The beginning of a wrapper: its tag waits.
+    #[inline(always)]
+    fn wait(&mut self, name: &'static str)
+        ensures { Knows (HasWritten O.given)
+            (λ s. waits (take_tag s.held name.now) SpecPlain s) self.old self.new }
+    {
+        if let Some(tag) = self.held.take(name) {
+            self.held = Held::Plain(tag);
+        }
+    }
+
+    /// The beginning of a newtype: a wrapper where its name begins with `Transparent:`, else a structure.
+    #[inline(always)]
+    fn begin_newtype(&mut self, name: &'static str)
+        ensures { Knows (HasWritten O.given)
+            (λ s. began_newtype (transparent_name name.now) name.now s) self.old self.new }
+    {
+        match transparent_name(name) {
+            None => self.put_structure(name),
+            Some(rest) => self.wait(rest),
+        }
+    }
+
+    /// The beginning of a newtype variant: a wrapper where it is named `Transparent`, else a structure.
+    #[inline(always)]
+    fn begin_variant(&mut self, name: &'static str, variant: &'static str)
+        ensures { Knows (HasWritten O.given)
+            (λ s. began_variant (is_wrapper variant.now) name.now s) self.old self.new }
+    {
+        let rest = without_override(name);
+        if !is_wrapper(variant) {
+            return self.put_structure(without_override(rest));
+        }
+        if let Some(tag) = self.held.take(rest) {
+            self.held = self.held.over(name, tag);
+        }
+    }
+}
+
+impl<'a, O: Output> Visitor for Emitter<'a, O> {
+    ghost State = { Written O.Start };
+
+    ghost knows = { λ e s. HasWritten O.given e s };
+
+    ghost step = { emit_step };
+
+    // It never answers an error: an output keeps its failures.
+    ghost stopped = { λ _. ⊥ };
+
+    #[inline(always)]
+    fn leaf(&mut self, leaf: Leaf<'_>) -> Result<(), AllocError> {
+        match leaf {
+            Leaf::Bool(b) => self.put_leaf(TtlvType::Boolean, &u64::from(b).to_be_bytes()),
+            Leaf::I8(n) => self.put_leaf(TtlvType::Integer, &i32::from(n).to_be_bytes()),
+            Leaf::I16(n) => self.put_leaf(TtlvType::Integer, &i32::from(n).to_be_bytes()),
+            Leaf::I32(n) => self.put_leaf(TtlvType::Integer, &n.to_be_bytes()),
+            Leaf::U32(n) => self.put_leaf(TtlvType::Enumeration, &n.to_be_bytes()),
+            Leaf::I64(n) => self.put_leaf(TtlvType::LongInteger, &n.to_be_bytes()),
+            Leaf::U64(n) => self.put_leaf(TtlvType::DateTime, &n.to_be_bytes()),
+            Leaf::Interval(n) => self.put_leaf(TtlvType::Interval, &n.to_be_bytes()),
+            Leaf::Text(text) => self.put_leaf(TtlvType::TextString, text.as_bytes()),
+            Leaf::Bytes(bytes) => self.put_leaf(TtlvType::ByteString, bytes),
+            Leaf::BigInteger(bytes) => self.put_big_integer(bytes),
+            Leaf::UnitVariant { name, variant } => self.put_unit_variant(name, variant),
+            Leaf::Unsupported(_) => {}
+            Leaf::None => {}
+        }
+        Ok(())
+    }
+
+    #[inline(always)]
+    fn begin(&mut self, group: Group) -> Result<(), AllocError> {
+        match group {
+            Group::Some => {}
+            Group::Seq => {}
+            Group::Struct { name } => self.put_structure(name),
+            Group::Newtype { name } => self.begin_newtype(name),
+            Group::NewtypeVariant { name, variant } => self.begin_variant(name, variant),
+            Group::TupleVariant { name, variant: _ } => self.put_structure(without_override(name)),
+        }
+        Ok(())
+    }
+
+    #[inline(always)]
+    fn end(&mut self, _group: Group) -> Result<(), AllocError> {
+        Ok(())
+    }
+}
+
+/// Gives a value's bytes to an output, by the lengths of its structures.
+#[inline(always)]
+pub fn emit<T: Serialize, O: Output>(value: &T, plan: &[u32], out: O) -> O
+    ensures { (ts : List Tree) (start : O.Start) → items (T.stated value.now) SpecNothing ≡ SpecSome ts
+        → plan.now ≡ sizes_all ts → O.given start [] out → O.given start (bytes_all ts) result }
+{
+    let mut emitter = Emitter {
+        out,
+        plan,
+        held: Held::Nothing,
+    };
+    let Ok(()) = value.visit(&mut emitter) else {
+        unreachable!();
+    };
+    emitter.out
+}

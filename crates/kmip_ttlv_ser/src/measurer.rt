@@ -1,0 +1,360 @@
+//! The first pass: finds the first refusal, or lists each structure's length.
+
+ghost use Rattle.std.specs.Prelude.{◌≡◌, ◌+◌, ◌<◌, OnOk, reverse, None as SpecNone, Result as SpecResult};
+ghost use Rattle.kmip_ttlv_types.specs.ItemTypes.{pad_len};
+ghost use Rattle.kmip_ttlv_types.specs.Names.{tag_of, transparent_name};
+ghost use Rattle.kmip_ttlv_base.specs.Values.{unit_variant_value};
+ghost use Rattle.kmip_ttlv_ser.specs.Faults.{name_kind};
+ghost use Rattle.kmip_ttlv_ser.specs.WrittenItems.{take_tag, held_tag, held_over, is_wrapper};
+ghost use Rattle.kmip_ttlv_ser.specs.Passes.{kind_of_cause};
+ghost use Rattle.kmip_ttlv_ser.specs.declared.held.Held.TheVariants.{Plain as SpecPlain};
+ghost use Rattle.kmip_ttlv_ser.specs.Measures.{Going, Halt, going, known, halt_before, halt_at, after_leaf};
+ghost use Rattle.kmip_ttlv_ser.specs.Measures.{after_unit, into, wrapped, into_newtype, into_variant, out_of};
+ghost use Rattle.kmip_ttlv_ser.specs.Measures.{unwrapped, out_of_newtype, out_of_variant, measure_step};
+ghost use Rattle.kmip_ttlv_ser.specs.Measures.{Plans};
+
+use crate::held::{Held, Place};
+use crate::names::{is_wrapper, transparent_name, without_override};
+use crate::refusal::{Cause, Refusal};
+use kmip_ttlv_base::error::Result as Answer;
+use kmip_ttlv_base::shape::Serialize;
+use kmip_ttlv_base::visit::{Group, Leaf, Visitor};
+use kmip_ttlv_types::{TtlvTag, number};
+use std::alloc::{AllocError, Allocator};
+
+/// How many bytes pad a leaf's content of this length.
+#[inline(always)]
+pub(crate) fn padding(len: u64) -> u64
+    ensures value { result ≡ pad_len len }
+    ensures low { result < 8 }
+{
+    (8 - len % 8) % 8
+}
+
+/// A structure that isn't ended: which it is, and where its content begins.
+#[derive(Clone, Copy)]
+pub struct Open {
+    at: usize,
+    start: u64,
+}
+
+/// What finds the first refusal: the place that is reached, the tag that waits, the lengths so far, the
+/// structures that aren't ended, and the refusal, behind which nothing is counted.
+#[derive(Drop)]
+pub struct Measurer<A: Allocator> {
+    place: Place,
+    held: Held,
+    sizes: Vec<u32, A>,
+    nest: Vec<Open, A>,
+    refusal: Option<Refusal>,
+}
+
+impl<A: Allocator> Measurer<A> {
+    /// Refuses the field that this many bytes stand before, and some more.
+    fn refuse(&mut self, cause: Cause, more: u64)
+        requires { self.old.refusal ≡ SpecNone }
+        ensures { known self.new ≡ halt_before (kind_of_cause cause) (self.old.place.offset + more) }
+    {
+        self.refusal = match self.place.offset.checked_add(more) {
+            Some(offset) => Some(Refusal::Refused { cause, offset }),
+            None => Some(Refusal::LengthOverflow),
+        };
+    }
+
+    /// A leaf whose content has this length.
+    #[inline(always)]
+    fn item(&mut self, len: usize)
+        requires { self.old.refusal ≡ SpecNone }
+        ensures { known self.new ≡ after_leaf (held_tag self.old.held) len (going self.old) }
+    {
+        if self.held.tag().is_none() {
+            let waits = self.held.len();
+            return self.refuse(Cause::NoTag(self.place.opened), waits);
+        }
+        if len as u64 > 0xFFFF_FFFF {
+            self.refusal = Some(Refusal::LengthOverflow);
+            return;
+        }
+        match self
+            .place
+            .offset
+            .checked_add(8 + len as u64 + padding(len as u64))
+        {
+            Some(offset) => {
+                self.place = Place {
+                    offset,
+                    opened: false,
+                };
+                self.held = Held::Nothing;
+            }
+            None => self.refusal = Some(Refusal::LengthOverflow),
+        }
+    }
+
+    /// A name that isn't taken: it is no tag, or a tag waits.
+    fn refuse_name(&mut self, name: &'static str)
+        requires { self.old.refusal ≡ SpecNone }
+        ensures { known self.new
+            ≡ halt_at (name_kind (tag_of name.now) name.now) self.old.held (going self.old) }
+    {
+        let waits = self.held.len();
+        if TtlvTag::from_name(name).is_none() {
+            return self.refuse(Cause::InvalidTag(name), waits);
+        }
+        self.refuse(Cause::TagUnused, waits)
+    }
+
+    /// A unit variant: the leaf of its number, under its enum's tag.
+    #[inline(always)]
+    fn unit_variant(&mut self, name: &'static str, variant: &'static str)
+        requires { self.old.refusal ≡ SpecNone }
+        ensures { known self.new
+            ≡ after_unit (take_tag self.old.held name.now) name.now variant.now (going self.old) }
+    {
+        let Some(tag) = self.held.take(name) else {
+            return self.refuse_name(name);
+        };
+        self.held = Held::Plain(tag);
+        if number(variant).is_none() {
+            return self.refuse(Cause::InvalidVariant(variant), 3);
+        }
+        self.item(4)
+    }
+
+    /// Into a structure.
+    #[inline(always)]
+    fn enter(&mut self, name: &'static str) -> Result<(), AllocError>
+        requires { self.old.refusal ≡ SpecNone }
+        ensures { OnOk result (known self.new
+            ≡ into (take_tag self.old.held name.now) name.now (going self.old)) }
+    {
+        if self.held.take(name).is_none() {
+            self.refuse_name(name);
+            return Ok(());
+        }
+        let Some(start) = self.place.offset.checked_add(8) else {
+            self.refusal = Some(Refusal::LengthOverflow);
+            return Ok(());
+        };
+        let at = self.sizes.len();
+        self.sizes.push(0)?;
+        self.nest.push(Open { at, start })?;
+        self.place = Place {
+            offset: start,
+            opened: true,
+        };
+        self.held = Held::Nothing;
+        Ok(())
+    }
+
+    /// Into a wrapper: its tag waits.
+    #[inline(always)]
+    fn wrap(&mut self, name: &'static str)
+        requires { self.old.refusal ≡ SpecNone }
+        ensures { known self.new
+            ≡ wrapped (take_tag self.old.held name.now) name.now SpecPlain (going self.old) }
+    {
+        match self.held.take(name) {
+            Some(tag) => self.held = Held::Plain(tag),
+            None => self.refuse_name(name),
+        }
+    }
+
+    /// Into a newtype: a wrapper where its name begins with `Transparent:`, else a structure.
+    #[inline(always)]
+    fn enter_newtype(&mut self, name: &'static str) -> Result<(), AllocError>
+        requires { self.old.refusal ≡ SpecNone }
+        ensures { OnOk result (known self.new
+            ≡ into_newtype (transparent_name name.now) name.now (going self.old)) }
+    {
+        match transparent_name(name) {
+            None => self.enter(name),
+            Some(rest) => {
+                self.wrap(rest);
+                Ok(())
+            }
+        }
+    }
+
+    /// Into a newtype variant: a wrapper where it is named `Transparent`, else a structure.
+    #[inline(always)]
+    fn enter_variant(&mut self, name: &'static str, variant: &'static str) -> Result<(), AllocError>
+        requires { self.old.refusal ≡ SpecNone }
+        ensures { OnOk result (known self.new
+            ≡ into_variant (is_wrapper variant.now) name.now (going self.old)) }
+    {
+        let rest = without_override(name);
+        if !is_wrapper(variant) {
+            return self.enter(without_override(rest));
+        }
+        match self.held.take(rest) {
+            Some(tag) => self.held = self.held.over(name, tag),
+            None => self.refuse_name(rest),
+        }
+        Ok(())
+    }
+
+    /// Out of a wrapper, whose tag has to be used.
+    #[inline(always)]
+    fn unwrap(&mut self)
+        requires { self.old.refusal ≡ SpecNone }
+        ensures { known self.new ≡ unwrapped self.old.held (going self.old) }
+    {
+        match self.held {
+            Held::Nothing => {}
+            Held::Plain(_) => self.refuse(Cause::TagUnused, 3),
+            Held::Overriding(_) => self.refuse(Cause::TagUnused, 3),
+        }
+    }
+
+    /// Out of a structure, whose length is noted.
+    #[inline(always)]
+    fn leave(&mut self) -> Result<(), AllocError>
+        requires { self.old.refusal ≡ SpecNone }
+        ensures { OnOk result (known self.new ≡ out_of (reverse self.old.nest.items) (going self.old)) }
+    {
+        let Some(Open { at, start }) = self.nest.pop() else {
+            return Err(AllocError);
+        };
+        if at >= self.sizes.len() {
+            return Err(AllocError);
+        }
+        match u32::try_from(self.place.offset.saturating_sub(start)) {
+            Ok(len) => {
+                self.sizes[at] = len;
+                self.held = Held::Nothing;
+            }
+            Err(_) => self.refusal = Some(Refusal::LengthOverflow),
+        }
+        Ok(())
+    }
+
+    /// Out of a newtype.
+    #[inline(always)]
+    fn leave_newtype(&mut self, name: &'static str) -> Result<(), AllocError>
+        requires { self.old.refusal ≡ SpecNone }
+        ensures { OnOk result (known self.new ≡ out_of_newtype (transparent_name name.now) (going self.old)) }
+    {
+        match transparent_name(name) {
+            None => self.leave(),
+            Some(_) => {
+                self.unwrap();
+                Ok(())
+            }
+        }
+    }
+
+    /// Out of a newtype variant.
+    #[inline(always)]
+    fn leave_variant(&mut self, variant: &'static str) -> Result<(), AllocError>
+        requires { self.old.refusal ≡ SpecNone }
+        ensures { OnOk result (known self.new ≡ out_of_variant (is_wrapper variant.now) (going self.old)) }
+    {
+        if !is_wrapper(variant) {
+            return self.leave();
+        }
+        self.unwrap();
+        Ok(())
+    }
+}
+
+impl<A: Allocator> Visitor for Measurer<A> {
+    ghost State = { SpecResult Going Halt };
+
+    ghost knows = { λ m s. s ≡ known m };
+
+    ghost step = { measure_step };
+
+    ghost stopped = { λ _. Unit {0} };
+
+    #[inline(always)]
+    fn leaf(&mut self, leaf: Leaf<'_>) -> Result<(), AllocError> {
+        if self.refusal.is_some() {
+            return Ok(());
+        }
+        let waits = self.held.len();
+        match leaf {
+            Leaf::Bool(_) => self.item(8),
+            Leaf::I8(_) => self.item(4),
+            Leaf::I16(_) => self.item(4),
+            Leaf::I32(_) => self.item(4),
+            Leaf::U32(_) => self.item(4),
+            Leaf::I64(_) => self.item(8),
+            Leaf::U64(_) => self.item(8),
+            Leaf::Interval(_) => self.item(4),
+            Leaf::Text(text) => self.item(text.len()),
+            Leaf::Bytes(bytes) => self.item(bytes.len()),
+            Leaf::BigInteger(bytes) => {
+                let sign = padding(bytes.len() as u64) as usize;
+                self.item(sign + bytes.len())
+            }
+            Leaf::UnitVariant { name, variant } => self.unit_variant(name, variant),
+            Leaf::Unsupported(name) => self.refuse(Cause::UnsupportedType(name), waits),
+            Leaf::None => self.refuse(Cause::UnsupportedType("None"), waits),
+        }
+        Ok(())
+    }
+
+    #[inline(always)]
+    fn begin(&mut self, group: Group) -> Result<(), AllocError> {
+        if self.refusal.is_some() {
+            return Ok(());
+        }
+        match group {
+            Group::Some => Ok(()),
+            Group::Seq => Ok(()),
+            Group::Struct { name } => self.enter(name),
+            Group::Newtype { name } => self.enter_newtype(name),
+            Group::NewtypeVariant { name, variant } => self.enter_variant(name, variant),
+            Group::TupleVariant { name, variant: _ } => self.enter(without_override(name)),
+        }
+    }
+
+    #[inline(always)]
+    fn end(&mut self, group: Group) -> Result<(), AllocError> {
+        if self.refusal.is_some() {
+            return Ok(());
+        }
+        match group {
+            Group::Some => Ok(()),
+            Group::Seq => Ok(()),
+            Group::Struct { .. } => self.leave(),
+            Group::Newtype { name } => self.leave_newtype(name),
+            Group::NewtypeVariant { name: _, variant } => self.leave_variant(variant),
+            Group::TupleVariant { .. } => self.leave(),
+        }
+    }
+}
+
+/// What the first pass finds of a value that isn't refused: the lengths of its structures in document
+/// order, and the place behind its last byte.
+#[derive(Drop)]
+pub struct Plan<A: Allocator> {
+    pub sizes: Vec<u32, A>,
+    pub end: Place,
+}
+
+/// Measures a value that is to be written at this place.
+pub fn measure<A: Allocator + Copy, T: Serialize>(
+    alloc: A,
+    value: &T,
+    place: Place,
+) -> Answer<Plan<A>, A>
+    ensures { Plans (T.stated value.now) place result }
+{
+    let mut measurer = Measurer {
+        place,
+        held: Held::Nothing,
+        sizes: Vec::new(alloc),
+        nest: Vec::new(alloc),
+        refusal: None,
+    };
+    value.visit(&mut measurer)?;
+    if let Some(refusal) = measurer.refusal {
+        return Err(refusal.into_error(alloc));
+    }
+    Ok(Plan {
+        sizes: measurer.sizes,
+        end: measurer.place,
+    })
+}
