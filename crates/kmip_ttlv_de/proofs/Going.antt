@@ -88,7 +88,8 @@ front_more : {A : Type 0} (ds : List (Data A)) (d : Data A) (o : Option (Got Val
 front_more ds d None = refl
 front_more ds d (Some vs) = ap (λ w. got w vs.kept vs.rest) (sym (join_more ds d vs.value))
 
-fields_at : {A : Type 0} (fs : List (FieldShape A)) (i : ℕ) (f : FieldShape A) → i < length fs → f ≡ get_or fs i f → fields_of (drop i fs) ≡ field f.name.now (form_of f.shape) (fields_of (drop (i + 1) fs))
+-- the fields from an index on
+pub fields_at : {A : Type 0} (fs : List (FieldShape A)) (i : ℕ) (f : FieldShape A) → i < length fs → f ≡ get_or fs i f → fields_of (drop i fs) ≡ field f.name.now (form_of f.shape) (fields_of (drop (i + 1) fs))
 fields_at fs i f lt is = ap fields_of (drop_more fs i f lt) ∙ ap (λ g. field g.name.now (form_of g.shape) (fields_of (drop (i + 1) fs))) (sym is)
 
 left_is : {A : Type 0} (ds : List (Data A)) (fs : List (FieldShape A)) (i : ℕ) (f : FieldShape A) → i < length fs → f ≡ get_or fs i f → (k : List Keep) (ys : List Raw) → fields_left ds i fs k ys ≡ field_then (views ds) (fields_of (drop (i + 1) fs)) (read_field f.name.now (form_of f.shape) (read_of (form_of f.shape)) k ys)

@@ -1,8 +1,7 @@
 -- What a reader may say of all items that bytes may be, from the first of them.
 use Rattle.std.proofs.Common.{◌≡◌, ℕ, ◌+◌, ◌<◌, ◌≤◌, true, false, cond, ◌⊎◌, inl, inr, List, [], ◌∷◌, ◌++◌, length, get_or, take, drop, Option, None, refl, sym, ap, subst, ◌∙◌, arith}
-use Rattle.std.proofs.lemmas.List.{append-nil, take-append-le, drop-append-le, get_or_append_left, length-append, length-drop, length-take-le, map_push}
+use Rattle.std.proofs.lemmas.List.{append-nil, take-append-le, drop-append-le, get_or_append_left, length-append, length-drop, length-take-le}
 use Rattle.std.proofs.Common.{◌&&◌}
-use Rattle.std.specs.Prelude.{string_bytes}
 use Rattle.kmip_ttlv_types.specs.ItemTypes.{code, type_of}
 use Rattle.kmip_ttlv_types.specs.Items.{Raw}
 use Rattle.kmip_ttlv_types.specs.Leaves.{is_valid}
@@ -13,11 +12,10 @@ use Rattle.kmip_ttlv_base.specs.Values.{Value}
 use Rattle.kmip_ttlv_types.proofs.PlaceLemmas.{code_one, item_one, plain_bytes, raw_with, type_of-code}
 use Rattle.kmip_ttlv_de.specs.ReadAnswers.{Sort, early_end, memory, other}
 use Rattle.kmip_ttlv_de.specs.ReaderSteps.{Accepted, Goes, ReadsNothing}
-use Rattle.kmip_ttlv_de.specs.Keeps.{Keep, keep_of, keeps}
+use Rattle.kmip_ttlv_de.specs.Keeps.{Keep}
 use Rattle.kmip_ttlv_de.specs.ReadPlaces.{LeafAt}
 use Rattle.kmip_ttlv_de.specs.Reading.{Got, any_leaf, got, read_leaf}
 use Rattle.kmip_ttlv_de.specs.Reads.{leaf_value, takes, with_leaf}
-use Rattle.kmip_ttlv_de.specs.declared.keep.Kept.{Kept}
 
 -- ---- bytes that go on
 
@@ -162,7 +160,3 @@ refused_leaf read b p e k typ n content q lt fits l none after zs items =
     let f = first_of_items (b ++ after) p e zs lt items in
     let same : f.item ≡ raw_with (tag_at b p) typ content = item_one (b ++ after) p f.item _ f.at (item_more b after p _ (item_of_leaf b p typ n content q fits l)) in
     ap (read k) (f.are ∙ ap (λ (y : Raw). y ∷ f.others) same) ∙ none f.others
-
--- one more text kept
-pub keeps_more : {A : Type 0} (ks : List (Kept A)) (x : Kept A) (t : ℕ) (text : List ℕ) → x.tag ≡ t → string_bytes x.text ≡ text → keeps (ks ++ x ∷ []) ≡ keeps ks ++ record { tag = t; text = text } ∷ []
-keeps_more ks x t text et ex = map_push keep_of ks x ∙ rw (et, ex) refl

@@ -1,16 +1,13 @@
 -- Leaves: whether their content is valid, and what is read of them.
-use Rattle.std.proofs.Common.{◌≡◌, ◌≢◌, ℕ, ◌+◌, ◌<◌, ◌≤◌, true, false, List, [], ◌∷◌, ◌++◌, length, get_or, take, drop, Some, refl, sym, ap, subst, ◌∙◌, arith}
-use Rattle.std.proofs.lemmas.Bool.{eq-eqb, ne_eqb}
-use Rattle.std.proofs.lemmas.List.{take_all}
-use Rattle.std.specs.Str.{IsUtf8, is_utf8}
-use Rattle.std.proofs.lemmas.Str.{IsUtf8-from_is_utf8}
+use Rattle.std.proofs.Common.{◌≡◌, ◌≢◌, ℕ, ◌+◌, ◌<◌, ◌≤◌, true, false, List, ◌++◌, length, take, drop, Some, refl, sym, ap, subst, ◌∙◌, arith}
+use Rattle.std.proofs.lemmas.Bool.{ne_eqb}
 use Rattle.kmip_ttlv_types.specs.ItemTypes.{code, fixed_length, is_structure}
 use Rattle.kmip_ttlv_types.specs.Leaves.{is_valid}
 use Rattle.kmip_ttlv_types.specs.Places.{code_at, length_at}
 use Rattle.kmip_ttlv_types.specs.declared.typ.TtlvType.{TtlvType}
 use Rattle.kmip_ttlv_types.specs.declared.typ.TtlvType.TheVariants.{BigInteger, Boolean, ByteString, DateTime, Enumeration, Integer, Interval, LongInteger, Structure, TextString}
 use Rattle.kmip_ttlv_de.proofs.Heads.{code_more, length_more, part_more, refused_first}
-use Rattle.kmip_ttlv_types.proofs.PlaceLemmas.{code_one, eight}
+use Rattle.kmip_ttlv_types.proofs.PlaceLemmas.{code_one}
 use Rattle.kmip_ttlv_de.specs.ReadAnswers.{Sort}
 use Rattle.kmip_ttlv_de.specs.ReaderSteps.{ReadsNothing}
 use Rattle.kmip_ttlv_de.specs.Keeps.{Keep}
@@ -49,33 +46,6 @@ leaf_invalid b p e k t n content r lt le typ-is len-is content-is bad =
     let same : x.content ≡ content = item.content ∙ ap (λ m. take m (drop (p + 8) (b ++ after))) (length_more b after p (omega arith) ∙ sym len-is) ∙ part_more b after (p + 8) n le ∙ sym content-is in
     let invalid : is_valid x.typ x.content ≡ false = ap (is_valid x.typ) same ∙ ap (λ y. is_valid y content) typ ∙ bad in
     rw invalid refl)
-
--- a leaf of fixed length, or of any
-pub valid_default : (t : TtlvType) (content : List ℕ) → (t ≡ Boolean → ⊥) → (t ≡ TextString → ⊥) → t ≢ Structure → ((w : ℕ) → fixed_length t ≡ Some w → length content ≡ w) → true ≡ is_valid t content
-valid_default Structure content b x s h = absurd (s refl)
-valid_default Integer content b x s h = sym (eq-eqb (length content) 4 (h 4 refl))
-valid_default LongInteger content b x s h = sym (eq-eqb (length content) 8 (h 8 refl))
-valid_default BigInteger content b x s h = refl
-valid_default Enumeration content b x s h = sym (eq-eqb (length content) 4 (h 4 refl))
-valid_default Boolean content b x s h = absurd (b refl)
-valid_default TextString content b x s h = absurd (x refl)
-valid_default ByteString content b x s h = refl
-valid_default DateTime content b x s h = sym (eq-eqb (length content) 8 (h 8 refl))
-valid_default Interval content b x s h = sym (eq-eqb (length content) 4 (h 4 refl))
-
-pub not_utf8 : (c : List ℕ) → (IsUtf8 c → ⊥) → false ≡ is_utf8 c
-not_utf8 c bad = elim (is_utf8 c) as (λ b. is_utf8 c ≡ b → false ≡ b) [ true ↦ λ e. absurd (bad (IsUtf8-from_is_utf8 c e)) | false ↦ λ e. refl ] refl
-
-pub four_cells : (c : List ℕ) → length c ≡ 4 → get_or c 0 0 ∷ get_or c 1 0 ∷ get_or c 2 0 ∷ get_or c 3 0 ∷ [] ≡ c
-four_cells (a ∷ b ∷ c ∷ d ∷ []) e = refl
-four_cells [] e = absurd (omega arith)
-four_cells (a ∷ []) e = absurd (omega arith)
-four_cells (a ∷ b ∷ []) e = absurd (omega arith)
-four_cells (a ∷ b ∷ c ∷ []) e = absurd (omega arith)
-four_cells (a ∷ b ∷ c ∷ d ∷ x ∷ r) e = absurd (omega arith)
-
-pub eight_cells : (c : List ℕ) → length c ≡ 8 → get_or c 0 0 ∷ get_or c 1 0 ∷ get_or c 2 0 ∷ get_or c 3 0 ∷ get_or c 4 0 ∷ get_or c 5 0 ∷ get_or c 6 0 ∷ get_or c 7 0 ∷ [] ≡ c
-eight_cells c e = sym (eight c (omega arith)) ∙ take_all 8 c (omega arith)
 
 -- a leaf takes the type that it names where it refuses another
 pub first_taken_type : (x : Leaf) (t : TtlvType) → takes (form_of_leaf x) t ≡ false → first_type x ≢ t

@@ -15,3 +15,5 @@ pub mod PartLemmas
 pub mod SayLemmas
 pub mod RootLemmas
 pub mod MessageLemmas
+pub mod FieldTagLemmas
+mod Walks

@@ -1,7 +1,9 @@
 pub mod Keeps
+pub mod Kept
 pub mod Rules
 pub mod Parts
 pub mod Reads
+pub mod FieldTags
 pub mod Reading
 pub mod ReadPlaces
 pub mod ReadLeaves

@@ -1,8 +1,8 @@
 -- Rules in the names of variants: what they say of the texts that were read, and which variant they choose.
 use Rattle.std.specs.Prelude.{ℕ, ◌+◌, Bool, true, false, List, [], ◌∷◌, take, length, ◌-◌, codes, eqb, nat_le, ◌==◌}
-use Rattle.std.specs.Prelude.{if◌then◌else◌, Option, Some, None, option_map, option_and_then, Result, Ok, Err, filter}
+use Rattle.std.specs.Prelude.{if◌then◌else◌, Option, Some, None, option_map, option_and_then, Result, Ok, Err}
 use Rattle.std.specs.Option.{option_or}
-use Rattle.std.specs.List.{last_or, list_any, slice_split, ends_with}
+use Rattle.std.specs.List.{list_any, slice_split, ends_with}
 use Rattle.std.specs.Str.{bytes_eq, trim}
 use Rattle.kmip_ttlv_types.specs.declared.typ.TtlvType.{TtlvType}
 use Rattle.kmip_ttlv_types.specs.declared.typ.TtlvType.TheVariants.{Structure, Integer, LongInteger, BigInteger}
@@ -11,6 +11,7 @@ use Rattle.kmip_ttlv_types.specs.declared.typ.TtlvType.TheVariants.{DateTime, In
 use Rattle.kmip_ttlv_types.specs.Names.{after_prefix, number, tag_of}
 use Rattle.kmip_ttlv_base.specs.Errors.{Mismatch, invalid_rule, invalid_tag}
 use Rattle.kmip_ttlv_base.specs.Forms.{Variants, no_variants, variant}
+pub use Rattle.kmip_ttlv_de.specs.Keeps.{last}
 use Rattle.kmip_ttlv_de.specs.Keeps.{Keep}
 use Rattle.kmip_ttlv_de.specs.declared.rules.RuleError.{RuleError}
 use Rattle.kmip_ttlv_de.specs.declared.rules.RuleError.TheVariants as faults
@@ -29,10 +30,6 @@ pub data Choice : Type 0 where
   chosen : ℕ → Choice
   by_value : Choice
   choice_refused : Mismatch → Choice
-
--- the last text that was kept under a tag
-abbrev pub last : List Keep → ℕ → Option (List ℕ)
-last ks t = option_map (λ k. k.text) (last_or None (filter (λ k. k.tag == t) ks))
 
 -- the name of a type
 abbrev pub type_name : TtlvType → List ℕ

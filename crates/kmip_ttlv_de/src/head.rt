@@ -1,9 +1,10 @@
-//! The fields of an item, at its place among the bytes.
+//! An item's header and content at a place among the bytes, as far as they are there: what is missing or wrong is
+//! refused in the order of reading.
 
 ghost use Rattle.std.specs.Prelude.{◌≡◌, ◌≢◌, ℕ, Bool, ◌+◌, ◌<◌, ◌≤◌, ◌⊎◌, length, take, drop, None, Some, IfOk, IfErr};
 ghost use Rattle.std.specs.Prelude.{IfSome, IfNone};
-ghost use Rattle.kmip_ttlv_types.specs.ItemTypes.{code, type_of, padding, is_structure};
-ghost use Rattle.kmip_ttlv_types.specs.Places.{tag_at, code_at, length_at, size};
+ghost use Rattle.kmip_ttlv_types.specs.ItemTypes.{code, type_of, is_structure};
+ghost use Rattle.kmip_ttlv_types.specs.Places.{code_at, length_at};
 ghost use Rattle.kmip_ttlv_base.specs.Errors.{malformed};
 ghost use Rattle.kmip_ttlv_base.specs.declared.error.MalformedTtlvError.TheVariants as malformeds;
 ghost use Rattle.kmip_ttlv_base.specs.Forms.{Form};
@@ -13,16 +14,9 @@ ghost use Rattle.kmip_ttlv_de.specs.Facts.{Says, cause_of, place_of, code_place}
 
 use crate::refuse::{bad_code, early};
 use kmip_ttlv_base::error::Result;
-use kmip_ttlv_base::types::{TtlvTag, TtlvType};
+pub use kmip_ttlv_base::types::places::{end_of, tag_at};
+use kmip_ttlv_base::types::{TtlvType, places};
 use std::alloc::Allocator;
-
-/// The tag at a place.
-pub fn tag_at(bytes: &[u8], pos: usize) -> TtlvTag
-    requires { pos + 4 ≤ length bytes.now }
-    ensures { result ≡ tag_at bytes.now pos }
-{
-    TtlvTag::from([bytes[pos], bytes[pos + 1], bytes[pos + 2]])
-}
 
 /// The type at a place.
 ///
@@ -44,7 +38,7 @@ pub fn type_at<A: Allocator>(bytes: &[u8], pos: usize) -> Result<TtlvType, A>
     if bytes.len() - pos < 4 {
         return Err(early());
     }
-    match TtlvType::from_code(bytes[pos + 3]) {
+    match places::type_at(bytes, pos) {
         Some(typ) => Ok(typ),
         None => Err(bad_code(bytes, pos)),
     }
@@ -65,22 +59,7 @@ pub fn length_at(bytes: &[u8], pos: usize) -> Option<u32>
     if bytes.len() - pos < 8 {
         return None;
     }
-    Some(u32::from_be_bytes([
-        bytes[pos + 4],
-        bytes[pos + 5],
-        bytes[pos + 6],
-        bytes[pos + 7],
-    ]))
-}
-
-// How many bytes pad a value.
-fn padding(typ: TtlvType, n: usize) -> usize
-    ensures { result ≡ padding typ n }
-{
-    match typ {
-        TtlvType::Structure => 0,
-        _ => (8 - n % 8) % 8,
-    }
+    Some(places::length_at(bytes, pos))
 }
 
 /// The content of an item, if its bytes are there without the padding.
@@ -89,24 +68,8 @@ pub fn content_at(bytes: &[u8], pos: usize, n: u32) -> Option<&[u8]>
     ensures some { IfSome result (λ r. (r.now ≡ take n (drop (pos + 8) bytes.now)) × (pos + 8 + n ≤ length bytes.now)) }
     ensures none { IfNone result (length bytes.now < pos + 8 + n) }
 {
-    let n = n as usize;
-    let rest = &bytes[pos + 8..];
-    if rest.len() < n {
+    if bytes.len() - pos - 8 < n as usize {
         return None;
     }
-    Some(&rest[..n])
-}
-
-/// The place behind an item, if all of it is there.
-pub fn end_of(bytes: &[u8], pos: usize, typ: TtlvType, n: u32) -> Option<usize>
-    requires { pos + 8 ≤ length bytes.now }
-    ensures some { IfSome result (λ q. (q ≡ pos + size typ n) × (q ≤ length bytes.now)) }
-    ensures none { IfNone result (length bytes.now < pos + size typ n) }
-{
-    let n = n as usize;
-    let taken = 8 + n + padding(typ, n);
-    if bytes.len() - pos < taken {
-        return None;
-    }
-    Some(pos + taken)
+    Some(places::content_at(bytes, pos, n))
 }

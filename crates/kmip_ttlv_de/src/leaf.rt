@@ -2,7 +2,7 @@
 
 ghost use Rattle.std.specs.Prelude.{◌≡◌, ◌≢◌, ℕ, Bool, ◌+◌, ◌<◌, ◌≤◌, ◌++◌, length, take, drop, None, Some, true};
 ghost use Rattle.std.specs.Prelude.{false, IfOk, IfErr, List, string_bytes};
-ghost use Rattle.kmip_ttlv_types.specs.ItemTypes.{code, fixed_length};
+ghost use Rattle.kmip_ttlv_types.specs.ItemTypes.{code};
 ghost use Rattle.kmip_ttlv_types.specs.Leaves.{is_valid};
 ghost use Rattle.kmip_ttlv_types.specs.Places.{tag_at, code_at, length_at};
 ghost use Rattle.kmip_ttlv_types.specs.Items.{Raw};
@@ -10,7 +10,7 @@ ghost use Rattle.kmip_ttlv_base.specs.Values.{view};
 ghost use Rattle.kmip_ttlv_base.specs.Errors.{IsMemory};
 ghost use Rattle.kmip_ttlv_base.specs.Forms.{Form};
 ghost use Rattle.kmip_ttlv_de.specs.ReadPlaces.{LeafAt, IsItem, PartAt};
-ghost use Rattle.kmip_ttlv_de.specs.Keeps.{Keep, keeps};
+ghost use Rattle.kmip_ttlv_de.specs.Keeps.{Keep};
 ghost use Rattle.kmip_ttlv_de.specs.Reads.{takes, leaf_value, with_leaf, byte_digits, number_text};
 ghost use Rattle.kmip_ttlv_de.specs.Reading.{any_leaf, read_leaf};
 ghost use Rattle.kmip_ttlv_de.specs.ReadLeaves.{form_of_leaf, first_type};
@@ -19,10 +19,12 @@ ghost use Rattle.kmip_ttlv_de.specs.ReaderSteps.{Answers, ReadsNothing};
 ghost use Rattle.kmip_ttlv_de.specs.Facts.{Says, WrongLength, WrongValue, LeafRead};
 
 use crate::head::{content_at, end_of, length_at, tag_at, type_at};
-use crate::keep::Kept;
+use crate::keep::KeptTexts;
 use crate::refuse::{bad_length, bad_value, early, other_type};
 use kmip_ttlv_base::error::Result;
 use kmip_ttlv_base::shape::Data;
+use kmip_ttlv_base::types::numbers::{number_of_eight, number_of_four};
+use kmip_ttlv_base::types::places::{fixed_length, is_valid};
 use kmip_ttlv_base::types::{TtlvTag, TtlvType};
 use std::alloc::{AllocError, Allocator};
 use std::str;
@@ -68,48 +70,6 @@ impl Leaf {
             Leaf::Interval => TtlvType::Interval,
             Leaf::BigInteger => TtlvType::BigInteger,
         }
-    }
-}
-
-/// How long a value of this type is, in bytes, if that is fixed.
-fn fixed_length(typ: TtlvType) -> Option<u32>
-    ensures { result ≡ fixed_length typ }
-{
-    match typ {
-        TtlvType::Integer | TtlvType::Enumeration | TtlvType::Interval => Some(4),
-        TtlvType::LongInteger | TtlvType::Boolean | TtlvType::DateTime => Some(8),
-        TtlvType::Structure | TtlvType::BigInteger | TtlvType::TextString | TtlvType::ByteString =>
-            None,
-    }
-}
-
-fn four(content: &[u8]) -> [u8; 4]
-    requires { length content.now ≡ 4 }
-    ensures { result ≡ content.now }
-{
-    [content[0], content[1], content[2], content[3]]
-}
-
-fn eight(content: &[u8]) -> [u8; 8]
-    requires { length content.now ≡ 8 }
-    ensures { result ≡ content.now }
-{
-    [
-        content[0], content[1], content[2], content[3], content[4], content[5], content[6],
-        content[7],
-    ]
-}
-
-// Whether content of its type's length is a value of the type.
-fn is_valid(typ: TtlvType, content: &[u8]) -> bool
-    requires long { (w : ℕ) → fixed_length typ ≡ Some w → length content.now ≡ w }
-    requires leaf { typ ≢ TtlvType.Structure }
-    ensures { result ≡ is_valid typ content.now }
-{
-    match typ {
-        TtlvType::Boolean => u64::from_be_bytes(eight(content)) < 2,
-        TtlvType::TextString => matches!(str::from_utf8(content), Ok(_)),
-        _ => true,
     }
 }
 
@@ -173,54 +133,52 @@ fn leaf_data<A: Allocator + Copy>(
     ensures { IfOk result (λ d. view d ≡ leaf_value (form_of_leaf leaf) content.now) }
 {
     Ok(match leaf {
-        Leaf::I32 => Data::I32(i32::from_be_bytes(four(content))),
-        Leaf::I64 => Data::I64(i64::from_be_bytes(eight(content))),
-        Leaf::Bool => Data::Bool(u64::from_be_bytes(eight(content)) == 1),
+        Leaf::I32 => Data::I32(number_of_four(content).cast_signed()),
+        Leaf::I64 => Data::I64(number_of_eight(content).cast_signed()),
+        Leaf::Bool => Data::Bool(number_of_eight(content) == 1),
         Leaf::Text => Data::Text(String::from_str(alloc, text_of(content))?),
         Leaf::Bytes => Data::Bytes(Vec::from_slice(alloc, content)?),
-        Leaf::Interval => Data::Interval(u32::from_be_bytes(four(content))),
+        Leaf::Interval => Data::Interval(number_of_four(content)),
         Leaf::BigInteger => Data::BigInteger(Vec::from_slice(alloc, content)?),
     })
 }
 
 // A text is kept under its item's tag, and no other leaf is.
-fn keep_leaf<A: Allocator + Copy>(
-    alloc: A,
+fn keep_leaf<'b, A: Allocator + Copy>(
     leaf: Leaf,
     tag: TtlvTag,
     typ: TtlvType,
-    content: &[u8],
-    kept: &mut Vec<Kept<A>, A>,
+    content: &'b [u8],
+    kept: &mut KeptTexts<'b, A>,
 ) -> Result<(), A>
     requires takes { takes (form_of_leaf leaf) typ ≡ true }
     requires valid { is_valid typ content.now ≡ true }
     ensures ok { IfOk result (λ _. (x : Raw)
         → x.tag ≡ tag
         → x.content ≡ content.now
-        → keeps kept.new.items ≡ with_leaf (form_of_leaf leaf) x (keeps kept.old.items)) }
+        → kept.new ≡ with_leaf (form_of_leaf leaf) x kept.old) }
     ensures err { IfErr result (λ e. IsMemory e) }
 {
     if let Leaf::Text = leaf {
-        let text = String::from_str(alloc, text_of(content))?;
-        kept.push(Kept { tag, text })?;
+        kept.keep(tag, text_of(content))?;
     }
     Ok(())
 }
 
 /// A leaf by its shape, within a structure that ends at `end`.
 #[tactic(auto, using(crate::proofs::FactLemmas::memory_says))]
-pub fn read_leaf<A: Allocator + Copy>(
+pub fn read_leaf<'b, A: Allocator + Copy>(
     alloc: A,
     leaf: Leaf,
-    bytes: &[u8],
+    bytes: &'b [u8],
     pos: usize,
     end: usize,
-    kept: &mut Vec<Kept<A>, A>,
+    kept: &mut KeptTexts<'b, A>,
 ) -> Result<(Data<A>, usize), A>
     requires before_end { pos < end }
     requires inside { pos ≤ length bytes.now }
     ensures answers { Answers view (read_leaf (form_of_leaf leaf)) bytes.now pos end
-        (keeps kept.old.items) (keeps kept.new.items) result }
+        kept.old kept.new result }
     ensures further { IfOk result (λ r. pos + 8 ≤ r.1) }
     ensures says { IfErr result (λ r. (f : Form) (o : ℕ)
         → PartAt f bytes.now (form_of_leaf leaf) pos o end
@@ -233,6 +191,6 @@ pub fn read_leaf<A: Allocator + Copy>(
     }
     let (content, next) = leaf_at(bytes, pos, typ)?;
     let data = leaf_data(alloc, leaf, typ, content)?;
-    keep_leaf(alloc, leaf, tag_at(bytes, pos), typ, content, kept)?;
+    keep_leaf(leaf, tag_at(bytes, pos), typ, content, kept)?;
     Ok((data, next))
 }

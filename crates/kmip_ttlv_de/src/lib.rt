@@ -20,7 +20,9 @@ ghost use Rattle.kmip_ttlv_de.specs.Messages.{may_lack_first, lacks_first_value,
 ghost use Rattle.kmip_ttlv_de.specs.Messages.{chosen_by_first_value, integers};
 ghost use Rattle.kmip_ttlv_de.specs.RootFacts.{root_fault, RefusalFacts};
 
+mod field_tags;
 mod head;
+mod history;
 mod keep;
 mod leaf;
 mod number;

@@ -9,14 +9,13 @@ ghost use Rattle.kmip_ttlv_base.specs.Values.{view};
 ghost use Rattle.kmip_ttlv_base.specs.Forms.{Form, enum, unit, variants_of, content_of};
 ghost use Rattle.kmip_ttlv_de.specs.ReadPlaces.{IsItem, PartAt, content_at};
 ghost use Rattle.kmip_ttlv_de.specs.Parts.{NumberChooses};
-ghost use Rattle.kmip_ttlv_de.specs.Keeps.{keeps};
 ghost use Rattle.kmip_ttlv_de.specs.Reads.{is_number_type, byte_digits, number_text, first_named};
 ghost use Rattle.kmip_ttlv_de.specs.Reading.{read_number};
 ghost use Rattle.kmip_ttlv_de.specs.ReaderSteps.{Answers};
 ghost use Rattle.kmip_ttlv_de.specs.Facts.{Says};
 
 use crate::head::{length_at, tag_at};
-use crate::keep::Kept;
+use crate::keep::KeptTexts;
 use crate::leaf::leaf_at;
 use crate::refuse::{bad_number_length, named_content, other_type, unknown_variant};
 use kmip_ttlv_base::error::Result;
@@ -108,22 +107,22 @@ fn named_unit<A: Allocator + Copy>(
 
 /// The variant that a number names, within a structure that ends at `end`.
 #[tactic(auto, using(crate::proofs::FactLemmas::memory_says))]
-pub fn read_number<A: Allocator + Copy>(
+pub fn read_number<'b, A: Allocator + Copy>(
     alloc: A,
     owner: TtlvTag,
     name: &'static str,
     variants: &[VariantShape<A>],
     typ: TtlvType,
-    bytes: &[u8],
+    bytes: &'b [u8],
     pos: usize,
     end: usize,
-    kept: &mut Vec<Kept<A>, A>,
+    kept: &mut KeptTexts<'b, A>,
 ) -> Result<(Data<A>, usize), A>
     requires before_end { pos < end }
     requires there { pos + 4 ≤ length bytes.now }
     requires typ_is { code_at bytes.now pos ≡ code typ }
     ensures answers { Answers view (read_number name.now (variants_of variants.now)) bytes.now pos end
-        (keeps kept.old.items) (keeps kept.new.items) result }
+        kept.old kept.new result }
     ensures further { IfOk result (λ r. pos + 8 ≤ r.1) }
     ensures says { IfErr result (λ r. (f : Form)
         → PartAt f bytes.now (enum name.now (variants_of variants.now)) pos owner end
@@ -142,9 +141,7 @@ pub fn read_number<A: Allocator + Copy>(
     let (content, next) = leaf_at(bytes, pos, typ)?;
     let text = number_text(alloc, content)?;
     let variant = named_unit(alloc, owner, variants, typ, bytes, pos, &text)?;
-    kept.push(Kept {
-        tag: tag_at(bytes, pos),
-        text,
-    })?;
+    let lent: &'b str = variant;
+    kept.keep(tag_at(bytes, pos), lent)?;
     Ok((Data::UnitVariant { name, variant }, next))
 }

@@ -15,9 +15,10 @@ ghost use Rattle.kmip_ttlv_base.specs.Forms.{variants_of, content_of, forms_of};
 ghost use Rattle.kmip_ttlv_de.specs.Parts.{HasField, RuleChooses};
 ghost use Rattle.kmip_ttlv_de.specs.ReadPlaces.{IsItem, IsLast, WholeItems, InContent, IsInside, PartAt, StructRead};
 ghost use Rattle.kmip_ttlv_de.specs.ReadPlaces.{TupleRead, StructAt, stated_end};
-ghost use Rattle.kmip_ttlv_de.specs.Keeps.{Keep, keeps};
+ghost use Rattle.kmip_ttlv_de.specs.Keeps.{Keep};
 ghost use Rattle.kmip_ttlv_de.specs.Rules.{choice};
-ghost use Rattle.kmip_ttlv_de.specs.Reads.{is_option, is_root, is_struct, names_tag, Begins};
+ghost use Rattle.kmip_ttlv_de.specs.Reads.{is_option, is_root, is_struct, Begins};
+ghost use Rattle.kmip_ttlv_de.specs.FieldTags.{HasTagsOf};
 ghost use Rattle.kmip_ttlv_de.specs.Reading.{FieldsReader, read_of, read_fields, read_all, rest_of, read_field};
 ghost use Rattle.kmip_ttlv_de.specs.Reading.{read_struct, read_seq, read_enum, read_variant, read_content, read_tuple};
 ghost use Rattle.kmip_ttlv_de.specs.Reading.{read_used, read_forms};
@@ -27,8 +28,9 @@ ghost use Rattle.kmip_ttlv_de.specs.Facts.{NameWanted, Says};
 ghost use Rattle.kmip_ttlv_de.specs.RootFacts.{root_fault, named_fault, RootFacts, RefusalFacts};
 ghost use Rattle.kmip_ttlv_de.specs.Wholes.{BeginsWhole};
 
+use crate::field_tags::{is_field, tags_of};
 use crate::head::{end_of, is_structure, length_at, tag_at, type_at};
-use crate::keep::Kept;
+use crate::keep::KeptTexts;
 use crate::leaf::{Leaf, leaf_at, read_leaf};
 use crate::number::read_number;
 use crate::refuse::{
@@ -40,6 +42,7 @@ use kmip_ttlv_base::error::{Error, Result};
 use kmip_ttlv_base::shape::{Data, FieldShape, Shape, VariantContent, VariantShape};
 use kmip_ttlv_base::types::{TtlvTag, TtlvType};
 use std::alloc::Allocator;
+use std::collections::BTreeSet;
 
 fn is_option<A: Allocator>(shape: &Shape<A>) -> bool
     ensures { result ≡ is_option (form_of shape.now) }
@@ -58,35 +61,23 @@ fn is_struct<A: Allocator>(shape: &Shape<A>) -> bool
     }
 }
 
-// Whether the tag is that of some field's name.
-fn is_field<A: Allocator>(fields: &[FieldShape<A>], tag: TtlvTag) -> bool
-    ensures { result ≡ names_tag (fields_of fields.now) tag }
-{
-    for field in fields {
-        if TtlvTag::from_name(field.name) == Some(tag) {
-            return true;
-        }
-    }
-    false
-}
-
 /// What a shape reads from the items that begin at `pos`, within a structure that ends at `end`.
 /// The innermost struct around has the tag `owner`.
 #[cycle(reader)]
 #[tactic(auto, using(crate::proofs::FactLemmas::memory_says))]
-fn read_shape<A: Allocator + Copy>(
+fn read_shape<'b, A: Allocator + Copy>(
     alloc: A,
     owner: TtlvTag,
     shape: &Shape<A>,
-    bytes: &[u8],
+    bytes: &'b [u8],
     pos: usize,
     end: usize,
-    kept: &mut Vec<Kept<A>, A>,
+    kept: &mut KeptTexts<'b, A>,
 ) -> Result<(Data<A>, usize), A>
     requires before_end { pos < end }
     requires inside { pos ≤ length bytes.now }
     ensures answers { Answers view (read_of (form_of shape.now)) bytes.now pos end
-        (keeps kept.old.items) (keeps kept.new.items) result }
+        kept.old kept.new result }
     ensures further { IfOk result (λ r. pos + 8 ≤ r.1) }
     ensures says { IfErr result (λ r. (f : Form)
         → PartAt f bytes.now (form_of shape.now) pos owner end
@@ -171,21 +162,21 @@ fn open_struct<A: Allocator + Copy>(
 /// A structure's header, its fields, and its end.
 #[cycle(reader)]
 #[tactic(auto, using(crate::proofs::FactLemmas::memory_says))]
-fn read_struct<A: Allocator + Copy>(
+fn read_struct<'b, A: Allocator + Copy>(
     alloc: A,
     name: &str,
     fields: &[FieldShape<A>],
     deny: bool,
-    bytes: &[u8],
+    bytes: &'b [u8],
     pos: usize,
-    kept: &mut Vec<Kept<A>, A>,
+    kept: &mut KeptTexts<'b, A>,
 ) -> Result<(Vec<Data<A>, A>, usize), A>
     requires inside { pos ≤ length bytes.now }
     ensures answers { (e : ℕ)
         → pos < e
         → Answers (λ v. struct_value name.now (views v.items))
         (read_struct name.now (fields_of fields.now) deny (read_fields (fields_of fields.now)))
-        bytes.now pos e (keeps kept.old.items) (keeps kept.new.items) result }
+        bytes.now pos e kept.old kept.new result }
     ensures further { IfOk result (λ r. pos + 8 ≤ r.1) }
     ensures says { IfErr result (λ r. (f : Form) (o e : ℕ)
         → pos < e
@@ -205,20 +196,20 @@ fn read_struct<A: Allocator + Copy>(
 /// The items of a structure with this tag: the fields, and what may follow.
 #[cycle(reader)]
 #[tactic(auto, using(crate::proofs::FactLemmas::memory_says))]
-fn read_content<A: Allocator + Copy>(
+fn read_content<'b, A: Allocator + Copy>(
     alloc: A,
     tag: TtlvTag,
     fields: &[FieldShape<A>],
     deny: bool,
-    bytes: &[u8],
+    bytes: &'b [u8],
     pos: usize,
     end: usize,
-    kept: &mut Vec<Kept<A>, A>,
+    kept: &mut KeptTexts<'b, A>,
 ) -> Result<Vec<Data<A>, A>, A>
     requires inside { pos ≤ length bytes.now }
     ensures answers { AnswersAll (λ v. views v.items)
         (read_all (fields_of fields.now) deny (read_fields (fields_of fields.now)))
-        bytes.now pos end (keeps kept.old.items) (keeps kept.new.items) result }
+        bytes.now pos end kept.old kept.new result }
     ensures says { IfErr result (λ r. (f : Form) (name : List ℕ) (p : ℕ)
         → StructRead f bytes.now name (fields_of fields.now) deny p
         → tag ≡ tag_at bytes.now p
@@ -234,18 +225,18 @@ fn read_content<A: Allocator + Copy>(
 /// The fields, one after the other; where they end, and where the last item began.
 #[cycle(reader)]
 #[tactic(auto, using(crate::proofs::FactLemmas::memory_says))]
-fn read_fields<A: Allocator + Copy>(
+fn read_fields<'b, A: Allocator + Copy>(
     alloc: A,
     tag: TtlvTag,
     fields: &[FieldShape<A>],
-    bytes: &[u8],
+    bytes: &'b [u8],
     pos: usize,
     end: usize,
-    kept: &mut Vec<Kept<A>, A>,
+    kept: &mut KeptTexts<'b, A>,
 ) -> Result<(Vec<Data<A>, A>, usize, usize), A>
     requires inside { pos ≤ length bytes.now }
     ensures answers { Answers3 (λ v. views v.items) (read_fields (fields_of fields.now))
-        bytes.now pos end (keeps kept.old.items) (keeps kept.new.items) result }
+        bytes.now pos end kept.old kept.new result }
     ensures says { IfErr result (λ r. (deny : Bool) (f : Form) (name : List ℕ) (p : ℕ)
         → StructRead f bytes.now name (fields_of fields.now) deny p
         → tag ≡ tag_at bytes.now p
@@ -298,10 +289,44 @@ fn read_rest<A: Allocator + Copy>(
         → (end < pos → IsLast bytes.now (p + 8) last pos end)
         → Says f bytes.now pos end r) }
 {
+    if pos < end {
+        let tags = tags_of(alloc, fields)?;
+        return read_others(alloc, tag, fields, &tags, deny, bytes, last, pos, end);
+    }
+    if end < pos {
+        return Err(overflow(bytes, last, pos, end));
+    }
+    Ok(())
+}
+
+/// The items that follow the fields, held against the tags of these.
+#[tactic(auto, using(crate::proofs::FactLemmas::memory_says))]
+fn read_others<A: Allocator + Copy>(
+    alloc: A,
+    tag: TtlvTag,
+    fields: &[FieldShape<A>],
+    tags: &BTreeSet<u32, A>,
+    deny: bool,
+    bytes: &[u8],
+    last: usize,
+    pos: usize,
+    end: usize,
+) -> Result<(), A>
+    requires inside { pos ≤ length bytes.now }
+    requires tags { HasTagsOf (fields_of fields.now) tags.now }
+    ensures answers { (k : List Keep)
+        → AnswersAll (λ u. tt) (rest_of (fields_of fields.now) deny) bytes.now pos end k k result }
+    ensures says { IfErr result (λ r. (f : Form) (name : List ℕ) (p : ℕ)
+        → StructRead f bytes.now name (fields_of fields.now) deny p
+        → tag ≡ tag_at bytes.now p
+        → IsInside bytes.now p pos end
+        → (end < pos → IsLast bytes.now (p + 8) last pos end)
+        → Says f bytes.now pos end r) }
+{
     let mut last = last;
     let mut next = pos;
     while next < end {
-        let after = read_ignored(alloc, tag, fields, deny, bytes, next)?;
+        let after = read_ignored(alloc, tag, fields, tags, deny, bytes, next)?;
         last = next;
         next = after;
     }
@@ -317,11 +342,13 @@ fn read_ignored<A: Allocator + Copy>(
     alloc: A,
     tag: TtlvTag,
     fields: &[FieldShape<A>],
+    tags: &BTreeSet<u32, A>,
     deny: bool,
     bytes: &[u8],
     pos: usize,
 ) -> Result<usize, A>
     requires inside { pos ≤ length bytes.now }
+    requires tags { HasTagsOf (fields_of fields.now) tags.now }
     ensures answers { (k : List Keep) (e : ℕ) → pos < e → Ignores (fields_of fields.now) deny bytes.now pos e k result }
     ensures says { IfErr result (λ r. (f : Form) (name : List ℕ) (p e : ℕ)
         → pos < e
@@ -335,7 +362,7 @@ fn read_ignored<A: Allocator + Copy>(
     if fields.is_empty() {
         return Err(no_fields(bytes, pos, typ));
     }
-    if is_field(fields, tag_at(bytes, pos)) {
+    if is_field(tags, tag_at(bytes, pos)) {
         return Err(closed(alloc, bytes, pos, tag, "duplicate field"));
     }
     if deny {
@@ -357,20 +384,20 @@ fn read_ignored<A: Allocator + Copy>(
 /// One field of the struct with this tag. The item before it began at `last`.
 #[cycle(reader)]
 #[tactic(auto, using(crate::proofs::FactLemmas::memory_says))]
-fn read_field<A: Allocator + Copy>(
+fn read_field<'b, A: Allocator + Copy>(
     alloc: A,
     tag: TtlvTag,
     name: &str,
     shape: &Shape<A>,
-    bytes: &[u8],
+    bytes: &'b [u8],
     last: usize,
     pos: usize,
     end: usize,
-    kept: &mut Vec<Kept<A>, A>,
+    kept: &mut KeptTexts<'b, A>,
 ) -> Result<(Data<A>, usize), A>
     requires inside { pos ≤ length bytes.now }
     ensures answers { Answers view (read_field name.now (form_of shape.now) (read_of (form_of shape.now)))
-        bytes.now pos end (keeps kept.old.items) (keeps kept.new.items) result }
+        bytes.now pos end kept.old kept.new result }
     ensures says { IfErr result (λ r. (fs : Fields) (deny : Bool) (f : Form) (struct_name : List ℕ) (p : ℕ)
         → StructRead f bytes.now struct_name fs deny p
         → tag ≡ tag_at bytes.now p
@@ -423,19 +450,19 @@ fn wrong_tag<A: Allocator + Copy>(
 /// A sequence: the first item, and then as long as the next has its tag and type.
 #[cycle(reader)]
 #[tactic(auto, using(crate::proofs::FactLemmas::memory_says))]
-fn read_seq<A: Allocator + Copy>(
+fn read_seq<'b, A: Allocator + Copy>(
     alloc: A,
     owner: TtlvTag,
     shape: &Shape<A>,
-    bytes: &[u8],
+    bytes: &'b [u8],
     pos: usize,
     end: usize,
-    kept: &mut Vec<Kept<A>, A>,
+    kept: &mut KeptTexts<'b, A>,
 ) -> Result<(Vec<Data<A>, A>, usize), A>
     requires before_end { pos < end }
     requires inside { pos ≤ length bytes.now }
     ensures answers { Answers (λ v. seq_value (views v.items)) (read_seq (read_of (form_of shape.now)))
-        bytes.now pos end (keeps kept.old.items) (keeps kept.new.items) result }
+        bytes.now pos end kept.old kept.new result }
     ensures further { IfOk result (λ r. pos + 8 ≤ r.1) }
     ensures says { IfErr result (λ r. (f : Form)
         → PartAt f bytes.now (seq (form_of shape.now)) pos owner end
@@ -495,17 +522,17 @@ fn goes_on<A: Allocator>(
 }
 
 /// The index of the variant that is chosen by rule at an item of this type, if one is.
-fn chosen<A: Allocator + Copy>(
+fn chosen<'b, A: Allocator + Copy>(
     alloc: A,
     variants: &[VariantShape<A>],
-    kept: &[Kept<A>],
+    kept: &KeptTexts<'b, A>,
     typ: TtlvType,
     bytes: &[u8],
     pos: usize,
 ) -> Result<Option<usize>, A>
     requires there { pos + 4 ≤ length bytes.now }
     requires typ_is { code_at bytes.now pos ≡ code typ }
-    ensures answers { Chooses (choice (variants_of variants.now) (keeps kept.now) typ) result }
+    ensures answers { Chooses (choice (variants_of variants.now) kept.now typ) result }
     ensures inside { IfOk result (λ o. IfSome o (λ i. i < length variants.now)) }
     ensures says { IfErr result (λ r. (f : Form) (name : List ℕ) (o e : ℕ)
         → PartAt f bytes.now (enum name (variants_of variants.now)) pos o e
@@ -520,21 +547,21 @@ fn chosen<A: Allocator + Copy>(
 /// An enum, by the rules of its variants, or else by a number.
 #[cycle(reader)]
 #[tactic(auto, using(crate::proofs::FactLemmas::memory_says))]
-fn read_enum<A: Allocator + Copy>(
+fn read_enum<'b, A: Allocator + Copy>(
     alloc: A,
     owner: TtlvTag,
     name: &'static str,
     variants: &[VariantShape<A>],
-    bytes: &[u8],
+    bytes: &'b [u8],
     pos: usize,
     end: usize,
-    kept: &mut Vec<Kept<A>, A>,
+    kept: &mut KeptTexts<'b, A>,
 ) -> Result<(Data<A>, usize), A>
     requires before_end { pos < end }
     requires inside { pos ≤ length bytes.now }
     ensures answers { Answers view
         (read_enum name.now (variants_of variants.now) (read_variant name.now (variants_of variants.now)))
-        bytes.now pos end (keeps kept.old.items) (keeps kept.new.items) result }
+        bytes.now pos end kept.old kept.new result }
     ensures further { IfOk result (λ r. pos + 8 ≤ r.1) }
     ensures says { IfErr result (λ r. (f : Form)
         → PartAt f bytes.now (enum name.now (variants_of variants.now)) pos owner end
@@ -562,23 +589,23 @@ fn read_enum<A: Allocator + Copy>(
 /// What a variant contains.
 #[cycle(reader)]
 #[tactic(auto, using(crate::proofs::FactLemmas::memory_says))]
-fn read_variant<A: Allocator + Copy>(
+fn read_variant<'b, A: Allocator + Copy>(
     alloc: A,
     owner: TtlvTag,
     name: &'static str,
     variant: &'static str,
     content: &VariantContent<A>,
     typ: TtlvType,
-    bytes: &[u8],
+    bytes: &'b [u8],
     pos: usize,
     end: usize,
-    kept: &mut Vec<Kept<A>, A>,
+    kept: &mut KeptTexts<'b, A>,
 ) -> Result<(Data<A>, usize), A>
     requires before_end { pos < end }
     requires there { pos + 4 ≤ length bytes.now }
     requires typ_is { code_at bytes.now pos ≡ code typ }
     ensures answers { Answers view (read_content name.now variant.now (content_of content.now))
-        bytes.now pos end (keeps kept.old.items) (keeps kept.new.items) result }
+        bytes.now pos end kept.old kept.new result }
     ensures further { IfOk result (λ r. pos + 8 ≤ r.1) }
     ensures says { IfErr result (λ r. (f : Form) (vs : Variants)
         → PartAt f bytes.now (enum name.now vs) pos owner end
@@ -613,21 +640,21 @@ fn read_variant<A: Allocator + Copy>(
 /// A structure whose items the shapes use up.
 #[cycle(reader)]
 #[tactic(auto, using(crate::proofs::FactLemmas::memory_says))]
-fn read_tuple<A: Allocator + Copy>(
+fn read_tuple<'b, A: Allocator + Copy>(
     alloc: A,
     owner: TtlvTag,
     shapes: &[Shape<A>],
     typ: TtlvType,
-    bytes: &[u8],
+    bytes: &'b [u8],
     pos: usize,
-    kept: &mut Vec<Kept<A>, A>,
+    kept: &mut KeptTexts<'b, A>,
 ) -> Result<(Vec<Data<A>, A>, usize), A>
     requires there { pos + 4 ≤ length bytes.now }
     requires typ_is { code_at bytes.now pos ≡ code typ }
     ensures answers { (e : ℕ)
         → pos < e
         → Answers (λ v. views v.items) (read_tuple (read_forms (forms_of shapes.now)))
-        bytes.now pos e (keeps kept.old.items) (keeps kept.new.items) result }
+        bytes.now pos e kept.old kept.new result }
     ensures further { IfOk result (λ r. pos + 8 ≤ r.1) }
     ensures says { IfErr result (λ r. (f : Form) (name : List ℕ) (vs : Variants) (e : ℕ)
         → pos < e
@@ -651,18 +678,18 @@ fn read_tuple<A: Allocator + Copy>(
 /// The items of a structure, one for each shape.
 #[cycle(reader)]
 #[tactic(auto, using(crate::proofs::FactLemmas::memory_says))]
-fn read_parts<A: Allocator + Copy>(
+fn read_parts<'b, A: Allocator + Copy>(
     alloc: A,
     owner: TtlvTag,
     shapes: &[Shape<A>],
-    bytes: &[u8],
+    bytes: &'b [u8],
     pos: usize,
     end: usize,
-    kept: &mut Vec<Kept<A>, A>,
+    kept: &mut KeptTexts<'b, A>,
 ) -> Result<Vec<Data<A>, A>, A>
     requires inside { pos ≤ length bytes.now }
     ensures answers { AnswersAll (λ v. views v.items) (read_used (read_forms (forms_of shapes.now)))
-        bytes.now pos end (keeps kept.old.items) (keeps kept.new.items) result }
+        bytes.now pos end kept.old kept.new result }
     ensures says { IfErr result (λ r. (f : Form) (p : ℕ)
         → TupleRead f bytes.now (forms_of shapes.now) p owner
         → IsInside bytes.now p pos end
@@ -712,7 +739,7 @@ fn read_first<A: Allocator + Copy>(
     ensures whole { IfErr result (λ e. BeginsWhole bytes.now → sort_of e ≡ early_end → ⊥) }
 {
     let (tag, n) = open_struct(alloc, name, bytes, 0)?;
-    let mut kept = Vec::new(alloc);
+    let mut kept = KeptTexts::new(alloc);
     let stop = 8 + n as usize;
     match read_content(alloc, tag, fields, deny, bytes, 8, stop, &mut kept) {
         Ok(values) => Ok(values),

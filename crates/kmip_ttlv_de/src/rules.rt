@@ -2,14 +2,12 @@
 //! `if TAG in [TEXT, ..]` say of the texts that were read, or of an item's type, whether a variant
 //! is read. Nothing here takes memory: a refusal borrows the text that it names.
 
-ghost use Rattle.std.specs.Prelude.{◌≡◌, ◌<◌, ◌==◌, length, reverse, IfOk, IfSome, option_map};
-ghost use Rattle.std.specs.List.{find};
+ghost use Rattle.std.specs.Prelude.{◌≡◌, ◌<◌, length, IfOk, IfSome, option_map};
 ghost use Rattle.std.specs.Option.{option_copied};
 ghost use Rattle.kmip_ttlv_base.specs.Forms.{variants_of};
-ghost use Rattle.kmip_ttlv_de.specs.Keeps.{keeps};
-ghost use Rattle.kmip_ttlv_de.specs.Rules.{rule, choice, last, type_name, sides, in_brackets, equal, at_least, member, verdict_of, choice_of, says};
+ghost use Rattle.kmip_ttlv_de.specs.Rules.{rule, choice, type_name, sides, in_brackets, equal, at_least, member, verdict_of, choice_of, says};
 
-use crate::keep::Kept;
+use crate::keep::KeptTexts;
 use kmip_ttlv_base::shape::VariantShape;
 use kmip_ttlv_base::types::{TtlvTag, TtlvType, number};
 use std::alloc::Allocator;
@@ -53,8 +51,12 @@ pub enum Verdict<'n> {
 /// refused with the first side where it is no tag; `>=` where a text is kept, with that text or
 /// else the second side, where it is no number.
 #[tactic(auto, unfolding(crate::specs::Rules::rule))]
-pub fn rule<'n, A: Allocator>(name: &'n str, kept: &'n [Kept<A>], typ: TtlvType) -> Verdict<'n>
-    ensures { verdict_of result ≡ rule name.now (keeps kept.now) typ }
+pub fn rule<'n, 'b, A: Allocator + Copy>(
+    name: &'n str,
+    kept: &'n KeptTexts<'b, A>,
+    typ: TtlvType,
+) -> Verdict<'n>
+    ensures { verdict_of result ≡ rule name.now kept.now typ }
 {
     let Some(body) = name.strip_prefix("if ") else {
         return Verdict::NoRule;
@@ -73,12 +75,12 @@ pub fn rule<'n, A: Allocator>(name: &'n str, kept: &'n [Kept<A>], typ: TtlvType)
 
 /// The index of the first variant whose rule holds, and none where no rule does: the item's number
 /// chooses then. A rule that is refused before ends the search with its refusal.
-pub fn choose<'n, A: Allocator, B: Allocator>(
+pub fn choose<'n, 'b, A: Allocator + Copy, B: Allocator>(
     variants: &'n [VariantShape<B>],
-    kept: &'n [Kept<A>],
+    kept: &'n KeptTexts<'b, A>,
     typ: TtlvType,
 ) -> Result<Option<usize>, RuleError<'n>>
-    ensures choice { choice_of result ≡ choice (variants_of variants.now) (keeps kept.now) typ }
+    ensures choice { choice_of result ≡ choice (variants_of variants.now) kept.now typ }
     ensures inside { IfOk result (λ o. IfSome o (λ i. i < length variants.now)) }
 {
     for (i, variant) in variants.iter().enumerate() {
@@ -110,20 +112,6 @@ fn sides<'n>(operator: &str, body: &'n str) -> Option<(&'n str, &'n str)>
     Some((left.trim(), right.trim()))
 }
 
-// The last text that was kept under a tag.
-fn last<A: Allocator>(kept: &[Kept<A>], tag: TtlvTag) -> Option<&str>
-    ensures { option_copied result ≡ last (keeps kept.now) tag }
-{
-    Some(last_under(kept, tag)?.text.as_str())
-}
-
-// What was kept last under a tag.
-fn last_under<A: Allocator>(kept: &[Kept<A>], tag: TtlvTag) -> Option<&Kept<A>>
-    ensures { option_copied result ≡ find (λ k. k.tag == tag) (reverse kept.now) }
-{
-    kept.iter().rev().find(|k| k.tag == tag)
-}
-
 // The name by which a rule asks for a type.
 fn type_name(typ: TtlvType) -> &'static str
     ensures { result.now ≡ type_name typ }
@@ -144,8 +132,13 @@ fn type_name(typ: TtlvType) -> &'static str
 
 // `==`
 #[tactic(auto, unfolding(crate::specs::Rules::equal))]
-fn equal<'n, A: Allocator>(left: &str, right: &str, kept: &[Kept<A>], typ: TtlvType) -> Verdict<'n>
-    ensures { verdict_of result ≡ equal (keeps kept.now) typ left.now right.now }
+fn equal<'n, 'b, A: Allocator + Copy>(
+    left: &str,
+    right: &str,
+    kept: &KeptTexts<'b, A>,
+    typ: TtlvType,
+) -> Verdict<'n>
+    ensures { verdict_of result ≡ equal kept.now typ left.now right.now }
 {
     if left == "type" {
         return told(right == type_name(typ));
@@ -153,7 +146,7 @@ fn equal<'n, A: Allocator>(left: &str, right: &str, kept: &[Kept<A>], typ: TtlvT
     let Some(tag) = TtlvTag::from_name(left) else {
         return Verdict::Fails;
     };
-    let Some(text) = last(kept, tag) else {
+    let Some(text) = kept.last(tag) else {
         return Verdict::Fails;
     };
     told(text == right)
@@ -161,13 +154,17 @@ fn equal<'n, A: Allocator>(left: &str, right: &str, kept: &[Kept<A>], typ: TtlvT
 
 // `>=`
 #[tactic(auto, unfolding(crate::specs::Rules::at_least))]
-fn at_least<'n, A: Allocator>(left: &'n str, right: &'n str, kept: &'n [Kept<A>]) -> Verdict<'n>
-    ensures { verdict_of result ≡ at_least (keeps kept.now) left.now right.now }
+fn at_least<'n, 'b, A: Allocator + Copy>(
+    left: &'n str,
+    right: &'n str,
+    kept: &'n KeptTexts<'b, A>,
+) -> Verdict<'n>
+    ensures { verdict_of result ≡ at_least kept.now left.now right.now }
 {
     let Some(tag) = TtlvTag::from_name(left) else {
         return Verdict::Refused(RuleError::InvalidTag(left));
     };
-    let Some(text) = last(kept, tag) else {
+    let Some(text) = kept.last(tag) else {
         return Verdict::Fails;
     };
     let Some(seen) = number(text) else {
@@ -181,8 +178,12 @@ fn at_least<'n, A: Allocator>(left: &'n str, right: &'n str, kept: &'n [Kept<A>]
 
 // `in`
 #[tactic(auto, unfolding(crate::specs::Rules::member))]
-fn member<'n, A: Allocator>(left: &'n str, right: &str, kept: &[Kept<A>]) -> Verdict<'n>
-    ensures { verdict_of result ≡ member (keeps kept.now) left.now right.now }
+fn member<'n, 'b, A: Allocator + Copy>(
+    left: &'n str,
+    right: &str,
+    kept: &KeptTexts<'b, A>,
+) -> Verdict<'n>
+    ensures { verdict_of result ≡ member kept.now left.now right.now }
 {
     let Some(all) = in_brackets(right) else {
         return Verdict::Fails;
@@ -190,7 +191,7 @@ fn member<'n, A: Allocator>(left: &'n str, right: &str, kept: &[Kept<A>]) -> Ver
     let Some(tag) = TtlvTag::from_name(left) else {
         return Verdict::Refused(RuleError::InvalidTag(left));
     };
-    let Some(text) = last(kept, tag) else {
+    let Some(text) = kept.last(tag) else {
         return Verdict::Fails;
     };
     told(all.split(',').any(|one| one.trim() == text))

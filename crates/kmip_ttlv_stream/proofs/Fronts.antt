@@ -1,12 +1,13 @@
 -- A header, and the message that begins with it.
-use Rattle.std.proofs.Common.{◌≡◌, ℕ, ◌+◌, ◌<◌, ◌≤◌, List, [], ◌++◌, length, get_or, Option, None, Some, sym, ap, ◌∙◌, subst, arith}
+use Rattle.std.proofs.Common.{◌≡◌, ℕ, ◌+◌, ◌-◌, ◌<◌, ◌≤◌, List, [], ◌++◌, length, get_or, Option, None, Some, sym, ap, ◌∙◌, subst, arith, length-append}
 use Rattle.std.proofs.Math.ListN.{get_or-append}
 use Rattle.std.specs.Io.KnownBytes.{Consumes}
 use Rattle.std.proofs.KnownBytes.{Consumes-trans}
 use Rattle.kmip_ttlv_types.specs.declared.typ.TtlvType.{TtlvType}
 use Rattle.kmip_ttlv_types.specs.ItemTypes.{type_of}
 use Rattle.kmip_ttlv_types.specs.Places.{tag_at, code_at, length_at}
-use Rattle.kmip_ttlv_stream.specs.StreamMessages.{message_size, Allows, Forbids, IsTakenUpTo, HasSize, IsFilled, Comes}
+use Rattle.kmip_ttlv_types.specs.Streams.{Behind}
+use Rattle.kmip_ttlv_stream.specs.StreamMessages.{message_size, Allows, Forbids, IsTakenUpTo, HasSize, Comes}
 
 -- the fields of the header are those of the whole
 pub record SameHeader (xs ys : List ℕ) : Type 0 where
@@ -78,17 +79,22 @@ HasSize-allowed limit xs t n is h f = taken_allowed (type_of (code_at xs 0)) t l
 -- a header, and behind it the body that it states
 pub comes_whole : (limit : Option ℕ) (a b c : Option (List ℕ)) (head message : List ℕ) (n : ℕ) → Consumes a b head
     → length head ≡ 8 → HasSize limit head n
-    → IsFilled b c head message n → Comes limit a c message
-comes_whole limit a b c head message n taken long size f = record {
-  consumes = subst (Consumes a c) (sym f.parts) (Consumes-trans a b c _ _ taken f.consumes);
-  size =
-      let same : SameHeader message head =
-      subst (λ (l : List ℕ). SameHeader l head) (sym f.parts) (same_header head f.came (omega arith)) in
-      subst (HasSize limit message) (sym f.long) (HasSize-along limit head message n
-      (SameHeader-sym message head same) size);
-}
+    → Behind b c head message (n - 8) → Comes limit a c message
+comes_whole limit a b c head message n taken long size body =
+    let least = HasSize-least limit head n size in
+    let total : length message ≡ n =
+    ap (λ (l : List ℕ). length l) body.parts ∙ omega (arith, length-append head body.came, body.count) in
+    let same : SameHeader message head =
+    subst (λ (l : List ℕ). SameHeader l head) (sym body.parts) (same_header head body.came (omega arith)) in
+    record {
+      consumes = subst (Consumes a c) (sym body.parts) (Consumes-trans a b c _ _ taken body.consumes);
+      size = subst (HasSize limit message) (sym total) (HasSize-along limit head message n
+          (SameHeader-sym message head same) size);
+    }
 
--- what an empty buffer was filled with
-pub header_came : (a b : Option (List ℕ)) (had head : List ℕ) (n : ℕ) → had ≡ [] → IsFilled a b had head n
-    → Consumes a b head
-header_came a b had head n none f = subst (Consumes a b) (sym (f.parts ∙ ap (λ l. l ++ f.came) none)) f.consumes
+-- what an empty buffer has is what was taken
+pub header_came : (a b : Option (List ℕ)) (had head : List ℕ) (n : ℕ) → had ≡ [] → Behind a b had head n
+    → Consumes a b head × (length head ≡ n)
+header_came a b had head n none more =
+    let is : head ≡ more.came = more.parts ∙ ap (λ l. l ++ more.came) none in
+    (subst (Consumes a b) (sym is) more.consumes, ap (λ (l : List ℕ). length l) is ∙ more.count)

@@ -1,46 +1,43 @@
 -- Why there is no message, and what is answered of one.
 use Rattle.std.proofs.Common.{◌≡◌, ℕ, ◌+◌, ◌-◌, ◌≤◌, Bool, true, false, List, [], Option, None, Some, Result, Ok, Err, sym, subst, arith, refl, inl, inr}
 use Rattle.std.specs.Prelude.{if◌then◌else◌}
+use Rattle.kmip_ttlv_types.specs.Streams.{Behind}
 use Rattle.kmip_ttlv_base.specs.declared.error.Error.{Error}
-use Rattle.kmip_ttlv_stream.specs.StreamMessages.{HasSize, IsOver, LacksBytes, IsFilled, Comes, Stops, in_header, over_limit, in_body, Gives, Ends}
+use Rattle.kmip_ttlv_stream.specs.StreamMessages.{HasSize, IsOver, LacksBytes, Comes, Stops, in_header, over_limit, in_body, Gives, Ends}
 use Rattle.kmip_ttlv_stream.proofs.Fronts.{HasSize-least, header_came, comes_whole}
-
--- the header did not come
-pub stops_in_header : {A : Type 0} (can_fail : Bool) (limit : Option ℕ) (old new kept : Option (List ℕ)) (n : ℕ)
-    (e : Error A) → n ≡ 8 → LacksBytes can_fail old new n e
-    → Stops can_fail limit old new kept e
-stops_in_header can_fail limit old new kept n e long lacks =
-    in_header (subst (λ (k : ℕ). LacksBytes can_fail old new k e) long lacks)
 
 -- the message is larger than the limit
 pub stops_over : {A : Type 0} (can_fail : Bool) (limit : Option ℕ) (old new : Option (List ℕ))
-    (had head seen : List ℕ) (e : Error A) → had ≡ [] → IsFilled old new had head 8
+    (had head seen : List ℕ) (e : Error A) → had ≡ [] → Behind old new had head 8
     → seen ≡ head → IsOver limit seen e → Stops can_fail limit old new (Some head) e
-stops_over can_fail limit old new had head seen e none f same over =
+stops_over can_fail limit old new had head seen e none more same over =
+    let came = header_came old new had head 8 none more in
     over_limit head record {
-      consumes = header_came old new had head 8 none f;
-      length_is = f.long;
+      consumes = came.0;
+      length_is = came.1;
       over = subst
           (λ (l : List ℕ). IsOver limit l e) same over;
     } refl
 
 -- the message came
 pub message_comes : (limit : Option ℕ) (old mid new : Option (List ℕ)) (had head seen message : List ℕ) (n : ℕ)
-    → had ≡ [] → IsFilled old mid had head 8 → seen ≡ head
-    → HasSize limit seen n → IsFilled mid new head message n → Comes limit old new message
-message_comes limit old mid new had head seen message n none f same size more =
-    comes_whole limit old mid new head message n (header_came old mid had head 8 none f) f.long
-    (subst (λ (l : List ℕ). HasSize limit l n) same size) more
+    → had ≡ [] → Behind old mid had head 8 → seen ≡ head
+    → HasSize limit seen n → Behind mid new head message (n - 8) → Comes limit old new message
+message_comes limit old mid new had head seen message n none more same size body =
+    let came = header_came old mid had head 8 none more in
+    comes_whole limit old mid new head message n came.0 came.1
+    (subst (λ (l : List ℕ). HasSize limit l n) same size) body
 
 -- the body did not come
 pub stops_in_body : {A : Type 0} (can_fail : Bool) (limit : Option ℕ) (old mid new kept : Option (List ℕ))
-    (had head seen : List ℕ) (n k : ℕ) (e : Error A) → had ≡ [] → IsFilled old mid had head 8
-    → seen ≡ head → HasSize limit seen n → k ≡ 8 → LacksBytes can_fail mid new (n - k) e
+    (had head seen : List ℕ) (n : ℕ) (e : Error A) → had ≡ [] → Behind old mid had head 8
+    → seen ≡ head → HasSize limit seen n → LacksBytes can_fail mid new (n - 8) e
     → Stops can_fail limit old new kept e
-stops_in_body can_fail limit old mid new kept had head seen n k e none f same size eight lacks =
+stops_in_body can_fail limit old mid new kept had head seen n e none more same size lacks =
+    let came = header_came old mid had head 8 none more in
     let least : 8 ≤ n = HasSize-least limit seen n size in
-    let long : n ≡ 8 + (n - k) = omega arith in
-    in_body head mid (n - k) (header_came old mid had head 8 none f) f.long
+    let long : n ≡ 8 + (n - 8) = omega arith in
+    in_body head mid (n - 8) came.0 came.1
     (subst (HasSize limit head) long (subst (λ (l : List ℕ). HasSize limit l n) same size)) lacks
 
 -- what is answered of a message that came

@@ -80,13 +80,6 @@ pub record LacksBytes {A : Type 0} (can_fail : Bool) (old new : Option (List ℕ
   pub within : ConsumesUpTo old new n
   pub cause : LackCause can_fail old n e
 
--- a buffer was filled up to this length, behind what it had
-pub record IsFilled (old new : Option (List ℕ)) (had now : List ℕ) (end : ℕ) : Type 0 where
-  pub came : List ℕ
-  pub consumes : Consumes old new came
-  pub parts : now ≡ had ++ came
-  pub long : length now ≡ end
-
 -- the bytes of one message were taken: all of it, or its header
 pub record Comes (limit : Option ℕ) (old new : Option (List ℕ)) (message : List ℕ) : Type 0 where
   pub consumes : Consumes old new message

@@ -2,8 +2,9 @@
 //! `kmip_ttlv`.
 //!
 //! A shape is put together from the types in `parts`, whose names are those in `names`. `Reading`
-//! reads by such a shape, and keeps the data that was read as text. In `streams` a message comes from a
-//! reader that is slow or fails.
+//! reads by such a shape, and keeps the data that was read as text; `Run` keeps of a sequence its
+//! length. In `streams` a message comes from a reader that is slow or fails. The program `ttlv_times`
+//! reads by such shapes too, so these modules are public.
 #![tactic(auto)]
 
 #[cfg(test)]
@@ -15,14 +16,15 @@ mod growing;
 #[cfg(test)]
 mod leaves;
 #[cfg(test)]
-mod names;
+mod many;
+pub mod names;
 #[cfg(test)]
 mod nested;
-#[cfg(test)]
-mod parts;
+pub mod parts;
 #[cfg(test)]
 mod reading;
 #[cfg(test)]
 mod response;
+pub mod run;
 #[cfg(test)]
 mod streams;

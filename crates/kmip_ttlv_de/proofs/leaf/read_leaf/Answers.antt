@@ -1,7 +1,6 @@
 use Rattle.std.proofs.Common.{◌≡◌, refl, sym, ap, inr, ◌∙◌, arith, rules, false}
 use Rattle.std.proofs.lemmas.Result.{err_from_is_err_and}
 use Rattle.kmip_ttlv_types.specs.Places.{tag_at, length_at}
-use Rattle.kmip_ttlv_de.specs.Keeps.{keeps}
 use Rattle.kmip_ttlv_de.specs.Reads.{takes, leaf_value, with_leaf}
 use Rattle.kmip_ttlv_de.specs.Reading.{any_leaf, read_leaf}
 use Rattle.kmip_ttlv_de.specs.ReadLeaves.{first_type, form_of_leaf}
@@ -25,7 +24,7 @@ returns-in_err-typ-clause-says g c =
 pub returns-then-not-takes-clause-answers : goal.returns-then-not-takes-clause-answers
 returns-then-not-takes-clause-answers g c =
     let other : takes (form_of_leaf c.args.leaf) c.in_ok-typ.typ ≡ false = search rules in
-    leaf_not_type (form_of_leaf c.args.leaf) c.args.bytes.now c.args.pos c.args.end (keeps c.args.kept.now.items) c.in_ok-typ.typ (sort_of c.other_type.result) c.requires.before_end c.in_ok-typ.ensures.ok.0 c.in_ok-typ.ensures.ok.1 other
+    leaf_not_type (form_of_leaf c.args.leaf) c.args.bytes.now c.args.pos c.args.end c.args.kept.now c.in_ok-typ.typ (sort_of c.other_type.result) c.requires.before_end c.in_ok-typ.ensures.ok.0 c.in_ok-typ.ensures.ok.1 other
 
 pub returns-then-not-takes-clause-says : goal.returns-then-not-takes-clause-says
 returns-then-not-takes-clause-says g c =
@@ -41,7 +40,7 @@ returns-then-not-takes-clause-says g c =
 pub returns-in_err-content-clause-answers : goal.returns-in_err-content-clause-answers
 returns-in_err-content-clause-answers g c =
     let p = err_from_is_err_and c.from_residual-in_err-content.result c.from_residual-in_err-content.ensures.1 in
-    let k = keeps c.args.kept.now.items in
+    let k = c.args.kept.now in
     rw (p.1, p.2) (refused_by any_leaf (read_leaf (form_of_leaf c.args.leaf)) c.args.bytes.now c.args.pos c.args.end k k (sort_of c.in_err-content.field-0.0) (leaf_no_value (form_of_leaf c.args.leaf) k k) (c.in_err-content.ensures.err k c.args.end c.requires.before_end))
 
 pub returns-in_err-content-clause-says : goal.returns-in_err-content-clause-says
@@ -54,5 +53,5 @@ returns-clause-answers g c =
     let s = form_of_leaf c.args.leaf in
     let content = c.in_ok-content.content.now in
     let x = raw_with (tag_at c.args.bytes.now c.args.pos) c.in_ok-typ.typ content in
-    let kept : keeps c.keep_leaf.new.kept.items ≡ with_leaf s x (keeps c.args.kept.now.items) = c.in_ok-keep_leaf.ensures.ok x (sym c.tag_at.ensures) refl in
-    rw (kept, c.in_ok-data.ensures) (accepted_leaf (read_leaf s) c.args.bytes.now c.args.pos c.args.end (keeps c.args.kept.now.items) (with_leaf s x (keeps c.args.kept.now.items)) (leaf_value s content) c.in_ok-typ.typ (length_at c.args.bytes.now c.args.pos) content c.in_ok-content.next c.requires.before_end c.requires.inside (λ i. omega (arith, c.type_inv.bytes i)) c.in_ok-content.ensures.ok.0 (leaf_reads s (tag_at c.args.bytes.now c.args.pos) c.in_ok-typ.typ content (search rules) c.in_ok-content.ensures.ok.1 (keeps c.args.kept.now.items)))
+    let kept : c.keep_leaf.new.kept ≡ with_leaf s x c.args.kept.now = c.in_ok-keep_leaf.ensures.ok x (sym c.tag_at.ensures) refl in
+    rw (kept, c.in_ok-data.ensures) (accepted_leaf (read_leaf s) c.args.bytes.now c.args.pos c.args.end c.args.kept.now (with_leaf s x c.args.kept.now) (leaf_value s content) c.in_ok-typ.typ (length_at c.args.bytes.now c.args.pos) content c.in_ok-content.next c.requires.before_end c.requires.inside (λ i. omega (arith, c.type_inv.bytes i)) c.in_ok-content.ensures.ok.0 (leaf_reads s (tag_at c.args.bytes.now c.args.pos) c.in_ok-typ.typ content (search rules) c.in_ok-content.ensures.ok.1 c.args.kept.now))

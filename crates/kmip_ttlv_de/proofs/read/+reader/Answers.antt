@@ -23,7 +23,6 @@ use Rattle.kmip_ttlv_de.proofs.WholeLemmas.{early_header, early_says}
 use Rattle.kmip_ttlv_de.specs.ReadAnswers.{sort_of}
 use Rattle.kmip_ttlv_de.specs.Facts.{for_tuple as wanted_tuple, missing_field, missing_part, of_field, ruled_unit, struct_place, surplus_item}
 use Rattle.kmip_ttlv_de.specs.Parts.{RuleChooses}
-use Rattle.kmip_ttlv_de.specs.Keeps.{keeps}
 use Rattle.kmip_ttlv_de.specs.ReadPlaces.{HasType, IsFieldItem, IsLast, TupleRead, WholeItems, first_of_seq, for_struct, for_tuple, in_newtype, in_option, in_variant, inner_item, later_of_seq, stated_end}
 use Rattle.kmip_ttlv_de.specs.Reading.{got, mapped, read_content, read_enum, read_field, read_fields, read_forms, read_of, read_seq, read_struct, read_tuple, read_used, read_variant, ◌>>=◌}
 use Rattle.kmip_ttlv_de.specs.Reads.{is_option, is_struct, names}
@@ -32,24 +31,24 @@ use Rattle.kmip_ttlv_de.specs.Rules.{by_value, choice, chosen}
 pub read_field-returns-then-end-pos-clause-answers : goal.read_field-returns-then-end-pos-clause-answers
 read_field-returns-then-end-pos-clause-answers g t c =
     let within : c.args.pos ≤ length c.args.bytes.now = omega arith in
-    refused_any (read_field c.args.name.now (form_of c.args.shape.now) (read_of (form_of c.args.shape.now))) c.args.bytes.now c.args.pos c.args.end (keeps c.args.kept.now.items) (sort_of c.overflow.result) (λ after zs items. absurd (past_end c.args.bytes.now after c.args.pos c.args.end zs c.if-end-pos.true within items))
+    refused_any (read_field c.args.name.now (form_of c.args.shape.now) (read_of (form_of c.args.shape.now))) c.args.bytes.now c.args.pos c.args.end c.args.kept.now (sort_of c.overflow.result) (λ after zs items. absurd (past_end c.args.bytes.now after c.args.pos c.args.end zs c.if-end-pos.true within items))
 
 pub read_field-returns-then-is_option-clause-answers : goal.read_field-returns-then-is_option-clause-answers
 read_field-returns-then-is_option-clause-answers g t c =
     let within : c.args.pos ≤ length c.args.bytes.now = omega arith in
-    rw (view-None g.row.A.Denot) (goes_none c.args.name.now (form_of c.args.shape.now) c.args.bytes.now c.args.pos c.args.end (keeps c.args.kept.now.items) within (sym c.if-is_option.ensures) (λ after zs items. ap (names c.args.name.now) (names_end c.args.name.now c.args.bytes.now after c.args.pos c.args.end zs c.if-pos-end.true within items)))
+    rw (view-None g.row.A.Denot) (goes_none c.args.name.now (form_of c.args.shape.now) c.args.bytes.now c.args.pos c.args.end c.args.kept.now within (sym c.if-is_option.ensures) (λ after zs items. ap (names c.args.name.now) (names_end c.args.name.now c.args.bytes.now after c.args.pos c.args.end zs c.if-pos-end.true within items)))
 
 pub read_field-returns-then-pos-end-clause-answers : goal.read_field-returns-then-pos-end-clause-answers
 read_field-returns-then-pos-end-clause-answers g t c =
     let within : c.args.pos ≤ length c.args.bytes.now = omega arith in
-    refused_any (read_field c.args.name.now (form_of c.args.shape.now) (read_of (form_of c.args.shape.now))) c.args.bytes.now c.args.pos c.args.end (keeps c.args.kept.now.items) (sort_of c.at_end.result) (λ after zs items. ap (read_field c.args.name.now (form_of c.args.shape.now) (read_of (form_of c.args.shape.now)) (keeps c.args.kept.now.items)) (names_end c.args.name.now c.args.bytes.now after c.args.pos c.args.end zs c.if-pos-end.true within items) ∙ field_missing c.args.name.now (form_of c.args.shape.now) (keeps c.args.kept.now.items) (sym c.if-is_option.ensures))
+    refused_any (read_field c.args.name.now (form_of c.args.shape.now) (read_of (form_of c.args.shape.now))) c.args.bytes.now c.args.pos c.args.end c.args.kept.now (sort_of c.at_end.result) (λ after zs items. ap (read_field c.args.name.now (form_of c.args.shape.now) (read_of (form_of c.args.shape.now)) c.args.kept.now) (names_end c.args.name.now c.args.bytes.now after c.args.pos c.args.end zs c.if-pos-end.true within items) ∙ field_missing c.args.name.now (form_of c.args.shape.now) c.args.kept.now (sym c.if-is_option.ensures))
 
 pub read_field-returns-then-is_option-2-clause-answers : goal.read_field-returns-then-is_option-2-clause-answers
 read_field-returns-then-is_option-2-clause-answers g t c =
     let within : c.args.pos ≤ length c.args.bytes.now = omega arith in
     let lt : c.args.pos < c.args.end = omega arith in
     let differ : tag_of c.args.name.now ≡ Some (tag_at c.args.bytes.now c.args.pos) → ⊥ = search rules in
-    rw (view-None g.row.A.Denot) (goes_none c.args.name.now (form_of c.args.shape.now) c.args.bytes.now c.args.pos c.args.end (keeps c.args.kept.now.items) within (sym c.if-is_option-2.ensures) (λ after zs items. names_not_at c.args.name.now c.args.bytes.now after c.args.pos c.args.end zs lt c.in_ok-typ.ensures.ok.0 differ items))
+    rw (view-None g.row.A.Denot) (goes_none c.args.name.now (form_of c.args.shape.now) c.args.bytes.now c.args.pos c.args.end c.args.kept.now within (sym c.if-is_option-2.ensures) (λ after zs items. names_not_at c.args.name.now c.args.bytes.now after c.args.pos c.args.end zs lt c.in_ok-typ.ensures.ok.0 differ items))
 
 pub read_field-returns-clause-answers : goal.read_field-returns-clause-answers
 read_field-returns-clause-answers g t c =
@@ -58,70 +57,70 @@ read_field-returns-clause-answers g t c =
       | read_field-then-not-is_struct+in_ok-typ+else-ne w ↦
           let no_struct : is_struct (form_of c.args.shape.now) ≡ false = search rules in
           let same : tag_of c.args.name.now ≡ Some (tag_at c.args.bytes.now c.args.pos) = search rules in
-          answers_via view (read_of (form_of c.args.shape.now)) (read_field c.args.name.now (form_of c.args.shape.now) (read_of (form_of c.args.shape.now))) c.args.bytes.now c.args.pos c.args.end (keeps c.args.kept.now.items) (keeps c.read_shape.new.kept.items) c.read_shape.result (λ after zs items. let n = names_at c.args.name.now c.args.bytes.now after c.args.pos c.args.end zs lt w.in_ok-typ.ensures.ok.0 same items in rw (no_struct, n) refl) c.read_shape.ensures.answers
+          answers_via view (read_of (form_of c.args.shape.now)) (read_field c.args.name.now (form_of c.args.shape.now) (read_of (form_of c.args.shape.now))) c.args.bytes.now c.args.pos c.args.end c.args.kept.now c.read_shape.new.kept c.read_shape.result (λ after zs items. let n = names_at c.args.name.now c.args.bytes.now after c.args.pos c.args.end zs lt w.in_ok-typ.ensures.ok.0 same items in rw (no_struct, n) refl) c.read_shape.ensures.answers
       | read_field-else-not-is_struct w ↦
           let struct_itself : is_struct (form_of c.args.shape.now) ≡ true = search rules in
-          answers_via view (read_of (form_of c.args.shape.now)) (read_field c.args.name.now (form_of c.args.shape.now) (read_of (form_of c.args.shape.now))) c.args.bytes.now c.args.pos c.args.end (keeps c.args.kept.now.items) (keeps c.read_shape.new.kept.items) c.read_shape.result (λ after zs items. rw struct_itself refl) c.read_shape.ensures.answers
+          answers_via view (read_of (form_of c.args.shape.now)) (read_field c.args.name.now (form_of c.args.shape.now) (read_of (form_of c.args.shape.now))) c.args.bytes.now c.args.pos c.args.end c.args.kept.now c.read_shape.new.kept c.read_shape.result (λ after zs items. rw struct_itself refl) c.read_shape.ensures.answers
     ]
 
 pub read_fields-returns-in_err-value-clause-answers : goal.read_fields-returns-in_err-value-clause-answers
 read_fields-returns-in_err-value-clause-answers g t c =
     let p = err_from_is_err_and c.from_residual.result c.from_residual.ensures.1 in
-    rw (p.1, p.2) (fields_refused (read_fields (fields_of c.args.fields.now)) c.args.fields.now c.loop-field.field-index c.field-item.result c.loop-field.values.items (sort_of c.in_err-value.field-0.0) c.args.bytes.now c.args.pos c.loop-field.next c.args.end (keeps c.args.kept.now.items) (keeps c.loop-field.kept.items) c.loop-field-test.true c.field-item.is c.loop-field.invariant.0 c.in_err-value.ensures.answers)
+    rw (p.1, p.2) (fields_refused (read_fields (fields_of c.args.fields.now)) c.args.fields.now c.loop-field.field-index c.field-item.result c.loop-field.values.items (sort_of c.in_err-value.field-0.0) c.args.bytes.now c.args.pos c.loop-field.next c.args.end c.args.kept.now c.loop-field.kept c.loop-field-test.true c.field-item.is c.loop-field.invariant.0 c.in_err-value.ensures.answers)
 
 pub read_fields-loop-field-preserved : goal.read_fields-loop-field-preserved
 read_fields-loop-field-preserved g t c =
     let vs : c.push.new.self.items ≡ c.loop-field.values.items ++ c.in_ok-value.value ∷ [] = c.in_ok-push.ensures.items in
     let goes = c.loop-field.invariant.0 in
     let last = λ (ord : c.args.pos ≤ c.args.end) (lt : c.args.end < c.in_ok-value.after). let r : IsLast c.args.bytes.now c.args.pos c.loop-field.next c.in_ok-value.after c.args.end = record { before = whole_goes goes; inside = (c.in_ok-value.ensures.item lt).0; item = (c.in_ok-value.ensures.item lt).1 } in r in
-    rw vs (fields_step (read_fields (fields_of c.args.fields.now)) c.args.fields.now c.loop-field.field-index c.field-item.result c.loop-field.values.items c.in_ok-value.value c.args.bytes.now c.args.pos c.loop-field.next c.in_ok-value.after c.args.end (keeps c.args.kept.now.items) (keeps c.loop-field.kept.items) (keeps c.read_field.new.kept.items) c.loop-field-test.true c.field-item.is c.loop-field.invariant.0 c.in_ok-value.ensures.answers, last)
+    rw vs (fields_step (read_fields (fields_of c.args.fields.now)) c.args.fields.now c.loop-field.field-index c.field-item.result c.loop-field.values.items c.in_ok-value.value c.args.bytes.now c.args.pos c.loop-field.next c.in_ok-value.after c.args.end c.args.kept.now c.loop-field.kept c.read_field.new.kept c.loop-field-test.true c.field-item.is c.loop-field.invariant.0 c.in_ok-value.ensures.answers, last)
 
 pub read_fields-returns-clause-answers : goal.read_fields-returns-clause-answers
 read_fields-returns-clause-answers g t c =
-    fields_done (read_fields (fields_of c.args.fields.now)) c.args.fields.now c.loop-field.field-index c.loop-field.values.items c.args.bytes.now c.args.pos c.loop-field.next c.args.end (keeps c.args.kept.now.items) (keeps c.loop-field.kept.items) c.loop-field-test.false c.loop-field.invariant.0
+    fields_done (read_fields (fields_of c.args.fields.now)) c.args.fields.now c.loop-field.field-index c.loop-field.values.items c.args.bytes.now c.args.pos c.loop-field.next c.args.end c.args.kept.now c.loop-field.kept c.loop-field-test.false c.loop-field.invariant.0
 
 pub read_seq-loop-values-init : goal.read_seq-loop-values-init
 read_seq-loop-values-init g t c =
     let a = c.in_ok-first.ensures.answers in
     let ft = first_taken c.args.bytes.now c.args.pos c.in_ok-first.after a.taken (omega (arith, c.in_ok-first.ensures.further)) a.are_taken in
     let vs : c.push.new.self.items ≡ c.in_ok-first.first ∷ [] = c.in_ok-push.ensures.items ∙ ap (λ l. l ++ c.in_ok-first.first ∷ []) c.new-values.ensures.items in
-    rw vs (ft.0, ft.1, c.in_ok-first.ensures.further, seq_start (form_of c.args.shape.now) ft.0 c.in_ok-first.first c.args.bytes.now c.args.pos c.in_ok-first.after c.args.end (keeps c.args.kept.now.items) (keeps c.read_shape.new.kept.items) c.requires.before_end ft.1 a, λ lt. record { before = no_items c.args.bytes.now c.args.pos; inside = c.requires.before_end; item = c.in_ok-first.ensures.item lt })
+    rw vs (ft.0, ft.1, c.in_ok-first.ensures.further, seq_start (form_of c.args.shape.now) ft.0 c.in_ok-first.first c.args.bytes.now c.args.pos c.in_ok-first.after c.args.end c.args.kept.now c.read_shape.new.kept c.requires.before_end ft.1 a, λ lt. record { before = no_items c.args.bytes.now c.args.pos; inside = c.requires.before_end; item = c.in_ok-first.ensures.item lt })
 
 pub read_seq-returns-in_err-goes_on-clause-answers :
     goal.read_seq-returns-in_err-goes_on-clause-answers
 read_seq-returns-in_err-goes_on-clause-answers g t c =
     let p = err_from_is_err_and c.from_residual-in_err-goes_on.result c.from_residual-in_err-goes_on.ensures.1 in
-    rw (p.1, p.2) (goes_refused (read_seq (read_of (form_of c.args.shape.now))) (seq_left c.loop-values.values.items c.loop-values.invariant.0 (form_of c.args.shape.now)) c.args.bytes.now c.args.pos c.loop-values.next c.args.end (keeps c.args.kept.now.items) (keeps c.loop-values.kept.items) (sort_of c.in_err-goes_on.field-0.0) c.loop-values.invariant.3 (not_there (seq_left c.loop-values.values.items c.loop-values.invariant.0 (form_of c.args.shape.now)) c.args.bytes.now c.loop-values.next c.args.end (keeps c.loop-values.kept.items) (sort_of c.in_err-goes_on.field-0.0) (c.in_err-goes_on.ensures.answers c.loop-values.invariant.0 c.loop-values.invariant.1)))
+    rw (p.1, p.2) (goes_refused (read_seq (read_of (form_of c.args.shape.now))) (seq_left c.loop-values.values.items c.loop-values.invariant.0 (form_of c.args.shape.now)) c.args.bytes.now c.args.pos c.loop-values.next c.args.end c.args.kept.now c.loop-values.kept (sort_of c.in_err-goes_on.field-0.0) c.loop-values.invariant.3 (not_there (seq_left c.loop-values.values.items c.loop-values.invariant.0 (form_of c.args.shape.now)) c.args.bytes.now c.loop-values.next c.args.end c.loop-values.kept (sort_of c.in_err-goes_on.field-0.0) (c.in_err-goes_on.ensures.answers c.loop-values.invariant.0 c.loop-values.invariant.1)))
 
 pub read_seq-returns-in_err-value-clause-answers :
     goal.read_seq-returns-in_err-value-clause-answers
 read_seq-returns-in_err-value-clause-answers g t c =
     let p = err_from_is_err_and c.from_residual-in_err-value.result c.from_residual-in_err-value.ensures.1 in
-    rw (p.1, p.2) (seq_refused (read_seq (read_of (form_of c.args.shape.now))) (form_of c.args.shape.now) c.loop-values.invariant.0 c.loop-values.values.items (sort_of c.in_err-value.field-0.0) c.args.bytes.now c.args.pos c.loop-values.next c.args.end (keeps c.args.kept.now.items) (keeps c.loop-values.kept.items) (λ after zs items. (c.in_ok-goes_on.ensures.answers c.loop-values.invariant.0 c.loop-values.invariant.1).1 after zs items ∙ c.if-branch.true) c.loop-values.invariant.3 c.in_err-value.ensures.answers)
+    rw (p.1, p.2) (seq_refused (read_seq (read_of (form_of c.args.shape.now))) (form_of c.args.shape.now) c.loop-values.invariant.0 c.loop-values.values.items (sort_of c.in_err-value.field-0.0) c.args.bytes.now c.args.pos c.loop-values.next c.args.end c.args.kept.now c.loop-values.kept (λ after zs items. (c.in_ok-goes_on.ensures.answers c.loop-values.invariant.0 c.loop-values.invariant.1).1 after zs items ∙ c.if-branch.true) c.loop-values.invariant.3 c.in_err-value.ensures.answers)
 
 pub read_seq-loop-values-preserved : goal.read_seq-loop-values-preserved
 read_seq-loop-values-preserved g t c =
     let vs : c.push-in-loop-values.new.self.items ≡ c.loop-values.values.items ++ c.in_ok-value.value ∷ [] = c.in_ok-push-2.ensures.items in
     let more : c.args.pos + 8 ≤ c.in_ok-value.after = omega (arith, c.loop-values.invariant.2, c.in_ok-value.ensures.further) in
-    rw vs (c.loop-values.invariant.0, c.loop-values.invariant.1, more, seq_step (read_seq (read_of (form_of c.args.shape.now))) (form_of c.args.shape.now) c.loop-values.invariant.0 c.loop-values.values.items c.in_ok-value.value c.args.bytes.now c.args.pos c.loop-values.next c.in_ok-value.after c.args.end (keeps c.args.kept.now.items) (keeps c.loop-values.kept.items) (keeps c.read_shape-in-loop-values.new.kept.items) (λ after zs items. (c.in_ok-goes_on.ensures.answers c.loop-values.invariant.0 c.loop-values.invariant.1).1 after zs items ∙ c.if-branch.true) c.loop-values.invariant.3 c.in_ok-value.ensures.answers, λ lt. record { before = whole_goes c.loop-values.invariant.3; inside = (c.in_ok-goes_on.ensures.alike c.if-branch.true).0; item = c.in_ok-value.ensures.item lt })
+    rw vs (c.loop-values.invariant.0, c.loop-values.invariant.1, more, seq_step (read_seq (read_of (form_of c.args.shape.now))) (form_of c.args.shape.now) c.loop-values.invariant.0 c.loop-values.values.items c.in_ok-value.value c.args.bytes.now c.args.pos c.loop-values.next c.in_ok-value.after c.args.end c.args.kept.now c.loop-values.kept c.read_shape-in-loop-values.new.kept (λ after zs items. (c.in_ok-goes_on.ensures.answers c.loop-values.invariant.0 c.loop-values.invariant.1).1 after zs items ∙ c.if-branch.true) c.loop-values.invariant.3 c.in_ok-value.ensures.answers, λ lt. record { before = whole_goes c.loop-values.invariant.3; inside = (c.in_ok-goes_on.ensures.alike c.if-branch.true).0; item = c.in_ok-value.ensures.item lt })
 
 pub read_seq-returns-clause-answers : goal.read_seq-returns-clause-answers
 read_seq-returns-clause-answers g t c =
-    seq_done (read_seq (read_of (form_of c.args.shape.now))) (form_of c.args.shape.now) c.loop-values.invariant.0 c.loop-values.values.items c.args.bytes.now c.args.pos c.loop-values.next c.args.end (keeps c.args.kept.now.items) (keeps c.loop-values.kept.items) (λ after zs items. (c.in_ok-goes_on.ensures.answers c.loop-values.invariant.0 c.loop-values.invariant.1).1 after zs items ∙ c.if-branch.false) c.loop-values.invariant.3
+    seq_done (read_seq (read_of (form_of c.args.shape.now))) (form_of c.args.shape.now) c.loop-values.invariant.0 c.loop-values.values.items c.args.bytes.now c.args.pos c.loop-values.next c.args.end c.args.kept.now c.loop-values.kept (λ after zs items. (c.in_ok-goes_on.ensures.answers c.loop-values.invariant.0 c.loop-values.invariant.1).1 after zs items ∙ c.if-branch.false) c.loop-values.invariant.3
 
 pub read_shape-returns-in_err-data-in-Option-clause-answers :
     goal.read_shape-returns-in_err-data-in-Option-clause-answers
 unfolding read_of
 read_shape-returns-in_err-data-in-Option-clause-answers g t c =
     let p = err_from_is_err_and c.from_residual.result c.from_residual.ensures.1 in
-    rw (p.1, p.2, c.in-Option.is) (refused_map (mapped some_value) (read_of (form_of c.in-Option.inner.value)) c.args.bytes.now c.args.pos c.args.end (keeps c.args.kept.now.items) (sort_of c.in_err-data-in-Option.field-0.0) refl (rw c.deref-in-Option.ensures at c.in_err-data-in-Option.ensures.answers))
+    rw (p.1, p.2, c.in-Option.is) (refused_map (mapped some_value) (read_of (form_of c.in-Option.inner.value)) c.args.bytes.now c.args.pos c.args.end c.args.kept.now (sort_of c.in_err-data-in-Option.field-0.0) refl (rw c.deref-in-Option.ensures at c.in_err-data-in-Option.ensures.answers))
 
 pub read_shape-returns-in_err-data-in-Newtype-clause-answers :
     goal.read_shape-returns-in_err-data-in-Newtype-clause-answers
 unfolding read_of
 read_shape-returns-in_err-data-in-Newtype-clause-answers g t c =
     let p = err_from_is_err_and c.from_residual-in_err-data-in-Newtype.result c.from_residual-in_err-data-in-Newtype.ensures.1 in
-    rw (p.1, p.2, c.in-Newtype.is) (refused_map (mapped (newtype_value c.in-Newtype.name.now)) (read_of (form_of c.in-Newtype.inner.value)) c.args.bytes.now c.args.pos c.args.end (keeps c.args.kept.now.items) (sort_of c.in_err-data-in-Newtype.field-0.0) refl (rw c.deref-in-Newtype.ensures at c.in_err-data-in-Newtype.ensures.answers))
+    rw (p.1, p.2, c.in-Newtype.is) (refused_map (mapped (newtype_value c.in-Newtype.name.now)) (read_of (form_of c.in-Newtype.inner.value)) c.args.bytes.now c.args.pos c.args.end c.args.kept.now (sort_of c.in_err-data-in-Newtype.field-0.0) refl (rw c.deref-in-Newtype.ensures at c.in_err-data-in-Newtype.ensures.answers))
 
 pub read_shape-returns-in_err-all-in-Seq-clause-answers :
     goal.read_shape-returns-in_err-all-in-Seq-clause-answers
@@ -142,14 +141,14 @@ pub read_shape-returns-in_ok-new-in-Option-clause-answers :
 unfolding read_of
 read_shape-returns-in_ok-new-in-Option-clause-answers g t c =
     let made : view c.in_ok-new-in-Option.field-0.value ≡ view c.in_ok-data-in-Option.data = ap view (search rules) in
-    rw (c.in-Option.is, view-Some c.in_ok-new-in-Option.field-0, made) (goes_map (mapped some_value) (read_of (form_of c.in-Option.inner.value)) (got (view c.in_ok-data-in-Option.data)) c.args.bytes.now c.args.pos c.args.end (keeps c.args.kept.now.items) (keeps c.read_shape.new.kept.items) c.in_ok-data-in-Option.next (rw c.deref-in-Option.ensures at c.in_ok-data-in-Option.ensures.answers))
+    rw (c.in-Option.is, view-Some c.in_ok-new-in-Option.field-0, made) (goes_map (mapped some_value) (read_of (form_of c.in-Option.inner.value)) (got (view c.in_ok-data-in-Option.data)) c.args.bytes.now c.args.pos c.args.end c.args.kept.now c.read_shape.new.kept c.in_ok-data-in-Option.next (rw c.deref-in-Option.ensures at c.in_ok-data-in-Option.ensures.answers))
 
 pub read_shape-returns-in_ok-inner-in-Newtype-clause-answers :
     goal.read_shape-returns-in_ok-inner-in-Newtype-clause-answers
 unfolding read_of
 read_shape-returns-in_ok-inner-in-Newtype-clause-answers g t c =
     let made : view c.in_ok-inner-in-Newtype.inner.value ≡ view c.in_ok-data-in-Newtype.data = ap view (search rules) in
-    rw (c.in-Newtype.is, view-Newtype c.in-Newtype.name c.in_ok-inner-in-Newtype.inner, made) (goes_map (mapped (newtype_value c.in-Newtype.name.now)) (read_of (form_of c.in-Newtype.inner.value)) (got (view c.in_ok-data-in-Newtype.data)) c.args.bytes.now c.args.pos c.args.end (keeps c.args.kept.now.items) (keeps c.read_shape-in-Newtype.new.kept.items) c.in_ok-data-in-Newtype.next (rw c.deref-in-Newtype.ensures at c.in_ok-data-in-Newtype.ensures.answers))
+    rw (c.in-Newtype.is, view-Newtype c.in-Newtype.name c.in_ok-inner-in-Newtype.inner, made) (goes_map (mapped (newtype_value c.in-Newtype.name.now)) (read_of (form_of c.in-Newtype.inner.value)) (got (view c.in_ok-data-in-Newtype.data)) c.args.bytes.now c.args.pos c.args.end c.args.kept.now c.read_shape-in-Newtype.new.kept c.in_ok-data-in-Newtype.next (rw c.deref-in-Newtype.ensures at c.in_ok-data-in-Newtype.ensures.answers))
 
 pub read_shape-returns-in_ok-all-in-Seq-clause-answers :
     goal.read_shape-returns-in_ok-all-in-Seq-clause-answers
@@ -167,7 +166,7 @@ pub read_field-returns-in_err-typ-clause-answers : goal.read_field-returns-in_er
 read_field-returns-in_err-typ-clause-answers g t c =
     let p = err_from_is_err_and c.from_residual.result c.from_residual.ensures.1 in
     let lt : c.args.pos < c.args.end = omega arith in
-    rw (p.1, p.2) (refused_type (read_field c.args.name.now (form_of c.args.shape.now) (read_of (form_of c.args.shape.now))) c.args.bytes.now c.args.pos c.args.end (keeps c.args.kept.now.items) (sort_of c.in_err-typ.field-0.0) lt c.in_err-typ.ensures.err)
+    rw (p.1, p.2) (refused_type (read_field c.args.name.now (form_of c.args.shape.now) (read_of (form_of c.args.shape.now))) c.args.bytes.now c.args.pos c.args.end c.args.kept.now (sort_of c.in_err-typ.field-0.0) lt c.in_err-typ.ensures.err)
 
 pub read_field-returns-then-ne-clause-answers : goal.read_field-returns-then-ne-clause-answers
 read_field-returns-then-ne-clause-answers g t c =
@@ -175,18 +174,18 @@ read_field-returns-then-ne-clause-answers g t c =
     let no_struct : is_struct (form_of c.args.shape.now) ≡ false = search rules in
     let no_option : is_option (form_of c.args.shape.now) ≡ false = search rules in
     let differ : tag_of c.args.name.now ≡ Some (tag_at c.args.bytes.now c.args.pos) → ⊥ = search rules in
-    field_not_named c.args.name.now (form_of c.args.shape.now) (read_of (form_of c.args.shape.now)) c.args.bytes.now c.args.pos c.args.end (keeps c.args.kept.now.items) (sort_of c.wrong_tag.result) lt c.in_ok-typ.ensures.ok.0 no_struct no_option differ
+    field_not_named c.args.name.now (form_of c.args.shape.now) (read_of (form_of c.args.shape.now)) c.args.bytes.now c.args.pos c.args.end c.args.kept.now (sort_of c.wrong_tag.result) lt c.in_ok-typ.ensures.ok.0 no_struct no_option differ
 
 pub read_content-returns-in_err-read_rest-clause-answers : goal.read_content-returns-in_err-read_rest-clause-answers
 read_content-returns-in_err-read_rest-clause-answers g t c =
     let p = err_from_is_err_and c.from_residual-in_err-read_rest.result c.from_residual-in_err-read_rest.ensures.1 in
-    let k' = keeps c.read_fields.new.kept.items in
-    rw (p.1, p.2) (all_refused (fields_of c.args.fields.now) c.args.deny (read_fields (fields_of c.args.fields.now)) c.args.bytes.now c.args.pos c.in_ok-values.next c.args.end (keeps c.args.kept.now.items) k' (views c.in_ok-values.values.items) (sort_of c.in_err-read_rest.field-0.0) c.in_ok-values.ensures.answers (c.in_err-read_rest.ensures.answers k'))
+    let k' = c.read_fields.new.kept in
+    rw (p.1, p.2) (all_refused (fields_of c.args.fields.now) c.args.deny (read_fields (fields_of c.args.fields.now)) c.args.bytes.now c.args.pos c.in_ok-values.next c.args.end c.args.kept.now k' (views c.in_ok-values.values.items) (sort_of c.in_err-read_rest.field-0.0) c.in_ok-values.ensures.answers (c.in_err-read_rest.ensures.answers k'))
 
 pub read_content-returns-clause-answers : goal.read_content-returns-clause-answers
 read_content-returns-clause-answers g t c =
-    let k' = keeps c.read_fields.new.kept.items in
-    all_accepted (fields_of c.args.fields.now) c.args.deny (read_fields (fields_of c.args.fields.now)) c.args.bytes.now c.args.pos c.in_ok-values.next c.args.end (keeps c.args.kept.now.items) k' (views c.in_ok-values.values.items) c.in_ok-values.ensures.answers (c.in_ok-read_rest.ensures.answers k')
+    let k' = c.read_fields.new.kept in
+    all_accepted (fields_of c.args.fields.now) c.args.deny (read_fields (fields_of c.args.fields.now)) c.args.bytes.now c.args.pos c.in_ok-values.next c.args.end c.args.kept.now k' (views c.in_ok-values.values.items) c.in_ok-values.ensures.answers (c.in_ok-read_rest.ensures.answers k')
 
 pub read_shape-returns-in-Enum-clause-answers : goal.read_shape-returns-in-Enum-clause-answers
 unfolding read_of
@@ -197,56 +196,56 @@ pub read_variant-returns-in_err-data-in-Newtype-clause-answers : goal.read_varia
 unfolding read_content
 read_variant-returns-in_err-data-in-Newtype-clause-answers g t c =
     let p = err_from_is_err_and c.from_residual.result c.from_residual.ensures.1 in
-    rw (p.1, p.2, c.in-Newtype.is) (refused_map (mapped (newtype_variant_value c.args.name.now c.args.variant.now)) (read_of (form_of c.in-Newtype.inner.value)) c.args.bytes.now c.args.pos c.args.end (keeps c.args.kept.now.items) (sort_of c.in_err-data-in-Newtype.field-0.0) refl (rw c.deref.ensures at c.in_err-data-in-Newtype.ensures.answers))
+    rw (p.1, p.2, c.in-Newtype.is) (refused_map (mapped (newtype_variant_value c.args.name.now c.args.variant.now)) (read_of (form_of c.in-Newtype.inner.value)) c.args.bytes.now c.args.pos c.args.end c.args.kept.now (sort_of c.in_err-data-in-Newtype.field-0.0) refl (rw c.deref.ensures at c.in_err-data-in-Newtype.ensures.answers))
 
 pub read_variant-returns-in_err-fields-in-Tuple-clause-answers : goal.read_variant-returns-in_err-fields-in-Tuple-clause-answers
 unfolding read_content
 read_variant-returns-in_err-fields-in-Tuple-clause-answers g t c =
     let p = err_from_is_err_and c.from_residual-in_err-fields-in-Tuple.result c.from_residual-in_err-fields-in-Tuple.ensures.1 in
-    rw (p.1, p.2, c.in-Tuple.is, content_of-Tuple c.in-Tuple.shapes) (refused_map (λ o. o >>= λ vs. got (tuple_variant_value c.args.name.now c.args.variant.now vs.value) vs.kept vs.rest) (read_tuple (read_forms (forms_of c.in-Tuple.shapes.items))) c.args.bytes.now c.args.pos c.args.end (keeps c.args.kept.now.items) (sort_of c.in_err-fields-in-Tuple.field-0.0) refl (rw c.deref-in-Tuple.ensures.value at (c.in_err-fields-in-Tuple.ensures.answers c.args.end (omega arith))))
+    rw (p.1, p.2, c.in-Tuple.is, content_of-Tuple c.in-Tuple.shapes) (refused_map (λ o. o >>= λ vs. got (tuple_variant_value c.args.name.now c.args.variant.now vs.value) vs.kept vs.rest) (read_tuple (read_forms (forms_of c.in-Tuple.shapes.items))) c.args.bytes.now c.args.pos c.args.end c.args.kept.now (sort_of c.in_err-fields-in-Tuple.field-0.0) refl (rw c.deref-in-Tuple.ensures.value at (c.in_err-fields-in-Tuple.ensures.answers c.args.end (omega arith))))
 
 pub read_variant-returns-in_ok-inner-in-Newtype-clause-answers : goal.read_variant-returns-in_ok-inner-in-Newtype-clause-answers
 unfolding read_content
 read_variant-returns-in_ok-inner-in-Newtype-clause-answers g t c =
     let made : view c.in_ok-inner-in-Newtype.inner.value ≡ view c.in_ok-data-in-Newtype.data = ap view (search rules) in
-    rw (c.in-Newtype.is, view-NewtypeVariant c.args.name c.args.variant c.in_ok-inner-in-Newtype.inner, made) (goes_map (mapped (newtype_variant_value c.args.name.now c.args.variant.now)) (read_of (form_of c.in-Newtype.inner.value)) (got (view c.in_ok-data-in-Newtype.data)) c.args.bytes.now c.args.pos c.args.end (keeps c.args.kept.now.items) (keeps c.read_shape.new.kept.items) c.in_ok-data-in-Newtype.next (rw c.deref.ensures at c.in_ok-data-in-Newtype.ensures.answers))
+    rw (c.in-Newtype.is, view-NewtypeVariant c.args.name c.args.variant c.in_ok-inner-in-Newtype.inner, made) (goes_map (mapped (newtype_variant_value c.args.name.now c.args.variant.now)) (read_of (form_of c.in-Newtype.inner.value)) (got (view c.in_ok-data-in-Newtype.data)) c.args.bytes.now c.args.pos c.args.end c.args.kept.now c.read_shape.new.kept c.in_ok-data-in-Newtype.next (rw c.deref.ensures at c.in_ok-data-in-Newtype.ensures.answers))
 
 pub read_variant-returns-in_ok-fields-in-Tuple-clause-answers : goal.read_variant-returns-in_ok-fields-in-Tuple-clause-answers
 unfolding read_content
 read_variant-returns-in_ok-fields-in-Tuple-clause-answers g t c =
-    rw (c.in-Tuple.is, content_of-Tuple c.in-Tuple.shapes, view-TupleVariant c.args.name c.args.variant c.in_ok-fields-in-Tuple.fields) (goes_map (λ o. o >>= λ vs. got (tuple_variant_value c.args.name.now c.args.variant.now vs.value) vs.kept vs.rest) (read_tuple (read_forms (forms_of c.in-Tuple.shapes.items))) (got (views c.in_ok-fields-in-Tuple.fields.items)) c.args.bytes.now c.args.pos c.args.end (keeps c.args.kept.now.items) (keeps c.read_tuple.new.kept.items) c.in_ok-fields-in-Tuple.next (rw c.deref-in-Tuple.ensures.value at (c.in_ok-fields-in-Tuple.ensures.answers c.args.end (omega arith))))
+    rw (c.in-Tuple.is, content_of-Tuple c.in-Tuple.shapes, view-TupleVariant c.args.name c.args.variant c.in_ok-fields-in-Tuple.fields) (goes_map (λ o. o >>= λ vs. got (tuple_variant_value c.args.name.now c.args.variant.now vs.value) vs.kept vs.rest) (read_tuple (read_forms (forms_of c.in-Tuple.shapes.items))) (got (views c.in_ok-fields-in-Tuple.fields.items)) c.args.bytes.now c.args.pos c.args.end c.args.kept.now c.read_tuple.new.kept c.in_ok-fields-in-Tuple.next (rw c.deref-in-Tuple.ensures.value at (c.in_ok-fields-in-Tuple.ensures.answers c.args.end (omega arith))))
 
 pub read_tuple-returns-then-not-is_structure-clause-answers : goal.read_tuple-returns-then-not-is_structure-clause-answers
 read_tuple-returns-then-not-is_structure-clause-answers g t c =
     let plain : c.args.typ ≡ Structure → ⊥ = not_structure c.args.typ (search rules) in
-    λ e lt. tuple_not_type (read_forms (forms_of c.args.shapes.now)) c.args.bytes.now c.args.pos e (keeps c.args.kept.now.items) c.args.typ (sort_of c.no_structure.result) lt c.requires.there c.requires.typ_is plain
+    λ e lt. tuple_not_type (read_forms (forms_of c.args.shapes.now)) c.args.bytes.now c.args.pos e c.args.kept.now c.args.typ (sort_of c.no_structure.result) lt c.requires.there c.requires.typ_is plain
 
 pub read_tuple-returns-in_default-clause-answers : goal.read_tuple-returns-in_default-clause-answers
 read_tuple-returns-in_default-clause-answers g t c =
-    λ e lt. refused_end (read_tuple (read_forms (forms_of c.args.shapes.now))) c.args.bytes.now c.args.pos e (keeps c.args.kept.now.items) (sort_of c.early.result) c.early.ensures.sort lt (λ x item. omega (arith, c.in_default.ensures.none, item.there))
+    λ e lt. refused_end (read_tuple (read_forms (forms_of c.args.shapes.now))) c.args.bytes.now c.args.pos e c.args.kept.now (sort_of c.early.result) c.early.ensures.sort lt (λ x item. omega (arith, c.in_default.ensures.none, item.there))
 
 pub read_tuple-returns-in_err-values-clause-answers : goal.read_tuple-returns-in_err-values-clause-answers
 read_tuple-returns-in_err-values-clause-answers g t c =
     let p = err_from_is_err_and c.from_residual.result c.from_residual.ensures.1 in
-    λ e lt. rw (p.1, p.2) (tuple_refused (read_forms (forms_of c.args.shapes.now)) c.args.bytes.now c.args.pos e c.in-Some.n (keeps c.args.kept.now.items) (sort_of c.in_err-values.field-0.0) lt c.in-Some.ensures.some.0 c.in-Some.ensures.some.1 c.in_err-values.ensures.answers)
+    λ e lt. rw (p.1, p.2) (tuple_refused (read_forms (forms_of c.args.shapes.now)) c.args.bytes.now c.args.pos e c.in-Some.n c.args.kept.now (sort_of c.in_err-values.field-0.0) lt c.in-Some.ensures.some.0 c.in-Some.ensures.some.1 c.in_err-values.ensures.answers)
 
 pub read_tuple-returns-clause-answers : goal.read_tuple-returns-clause-answers
 read_tuple-returns-clause-answers g t c =
     let structure : c.args.typ ≡ Structure = is_structure_is c.args.typ (search rules) in
-    λ e lt. tuple_accepted (read_forms (forms_of c.args.shapes.now)) c.args.bytes.now c.args.pos e c.in-Some.n (keeps c.args.kept.now.items) (keeps c.read_parts.new.kept.items) (views c.in_ok-values.values.items) lt (λ i. omega (arith, c.type_inv.bytes i)) (c.requires.typ_is ∙ ap code structure) c.in-Some.ensures.some.1 c.in-Some.ensures.some.0 c.in_ok-values.ensures.answers
+    λ e lt. tuple_accepted (read_forms (forms_of c.args.shapes.now)) c.args.bytes.now c.args.pos e c.in-Some.n c.args.kept.now c.read_parts.new.kept (views c.in_ok-values.values.items) lt (λ i. omega (arith, c.type_inv.bytes i)) (c.requires.typ_is ∙ ap code structure) c.in-Some.ensures.some.1 c.in-Some.ensures.some.0 c.in_ok-values.ensures.answers
 
 pub read_parts-returns-then-end-next-clause-answers : goal.read_parts-returns-then-end-next-clause-answers
 read_parts-returns-then-end-next-clause-answers g t c =
-    goes_refused (read_used (read_forms (forms_of c.args.shapes.now))) (forms_left c.loop-shape.values.items c.loop-shape.shape-index c.args.shapes.now) c.args.bytes.now c.args.pos c.loop-shape.next c.args.end (keeps c.args.kept.now.items) (keeps c.loop-shape.kept.items) (sort_of c.overflow.result) c.loop-shape.invariant.0 (refused_any (forms_left c.loop-shape.values.items c.loop-shape.shape-index c.args.shapes.now) c.args.bytes.now c.loop-shape.next c.args.end (keeps c.loop-shape.kept.items) (sort_of c.overflow.result) (λ after zs items. absurd (past_end c.args.bytes.now after c.loop-shape.next c.args.end zs c.if-end-next.true c.loop-shape.invariant.0.within items)))
+    goes_refused (read_used (read_forms (forms_of c.args.shapes.now))) (forms_left c.loop-shape.values.items c.loop-shape.shape-index c.args.shapes.now) c.args.bytes.now c.args.pos c.loop-shape.next c.args.end c.args.kept.now c.loop-shape.kept (sort_of c.overflow.result) c.loop-shape.invariant.0 (refused_any (forms_left c.loop-shape.values.items c.loop-shape.shape-index c.args.shapes.now) c.args.bytes.now c.loop-shape.next c.args.end c.loop-shape.kept (sort_of c.overflow.result) (λ after zs items. absurd (past_end c.args.bytes.now after c.loop-shape.next c.args.end zs c.if-end-next.true c.loop-shape.invariant.0.within items)))
 
 pub read_parts-returns-then-next-end-clause-answers : goal.read_parts-returns-then-next-end-clause-answers
 read_parts-returns-then-next-end-clause-answers g t c =
-    forms_few (read_used (read_forms (forms_of c.args.shapes.now))) c.args.shapes.now c.loop-shape.shape-index c.shape-item.result c.loop-shape.values.items (sort_of c.at_end.result) c.args.bytes.now c.args.pos c.loop-shape.next c.args.end (keeps c.args.kept.now.items) (keeps c.loop-shape.kept.items) c.loop-shape-test.true c.shape-item.is c.if-next-end.true c.loop-shape.invariant.0
+    forms_few (read_used (read_forms (forms_of c.args.shapes.now))) c.args.shapes.now c.loop-shape.shape-index c.shape-item.result c.loop-shape.values.items (sort_of c.at_end.result) c.args.bytes.now c.args.pos c.loop-shape.next c.args.end c.args.kept.now c.loop-shape.kept c.loop-shape-test.true c.shape-item.is c.if-next-end.true c.loop-shape.invariant.0
 
 pub read_parts-returns-in_err-value-clause-answers : goal.read_parts-returns-in_err-value-clause-answers
 read_parts-returns-in_err-value-clause-answers g t c =
     let p = err_from_is_err_and c.from_residual.result c.from_residual.ensures.1 in
-    rw (p.1, p.2) (forms_refused (read_used (read_forms (forms_of c.args.shapes.now))) c.args.shapes.now c.loop-shape.shape-index c.shape-item.result c.loop-shape.values.items (sort_of c.in_err-value.field-0.0) c.args.bytes.now c.args.pos c.loop-shape.next c.args.end (keeps c.args.kept.now.items) (keeps c.loop-shape.kept.items) c.loop-shape-test.true c.shape-item.is c.loop-shape.invariant.0 c.in_err-value.ensures.answers)
+    rw (p.1, p.2) (forms_refused (read_used (read_forms (forms_of c.args.shapes.now))) c.args.shapes.now c.loop-shape.shape-index c.shape-item.result c.loop-shape.values.items (sort_of c.in_err-value.field-0.0) c.args.bytes.now c.args.pos c.loop-shape.next c.args.end c.args.kept.now c.loop-shape.kept c.loop-shape-test.true c.shape-item.is c.loop-shape.invariant.0 c.in_err-value.ensures.answers)
 
 pub read_parts-loop-shape-preserved : goal.read_parts-loop-shape-preserved
 read_parts-loop-shape-preserved g t c =
@@ -254,22 +253,22 @@ read_parts-loop-shape-preserved g t c =
     let goes = c.loop-shape.invariant.0 in
     let lt : c.loop-shape.next < c.args.end = omega arith in
     let last = λ (ord : c.args.pos ≤ c.args.end) (past : c.args.end < c.in_ok-value.after). let r : IsLast c.args.bytes.now c.args.pos c.loop-shape.next c.in_ok-value.after c.args.end = record { before = whole_goes goes; inside = lt; item = c.in_ok-value.ensures.item past } in r in
-    rw vs (forms_step (read_used (read_forms (forms_of c.args.shapes.now))) c.args.shapes.now c.loop-shape.shape-index c.shape-item.result c.loop-shape.values.items c.in_ok-value.value c.args.bytes.now c.args.pos c.loop-shape.next c.in_ok-value.after c.args.end (keeps c.args.kept.now.items) (keeps c.loop-shape.kept.items) (keeps c.read_shape.new.kept.items) c.loop-shape-test.true c.shape-item.is c.loop-shape.invariant.0 c.in_ok-value.ensures.answers, last)
+    rw vs (forms_step (read_used (read_forms (forms_of c.args.shapes.now))) c.args.shapes.now c.loop-shape.shape-index c.shape-item.result c.loop-shape.values.items c.in_ok-value.value c.args.bytes.now c.args.pos c.loop-shape.next c.in_ok-value.after c.args.end c.args.kept.now c.loop-shape.kept c.read_shape.new.kept c.loop-shape-test.true c.shape-item.is c.loop-shape.invariant.0 c.in_ok-value.ensures.answers, last)
 
 pub read_parts-returns-then-end-next-2-clause-answers : goal.read_parts-returns-then-end-next-2-clause-answers
 read_parts-returns-then-end-next-2-clause-answers g t c =
-    goes_refused (read_used (read_forms (forms_of c.args.shapes.now))) (forms_left c.loop-shape.values.items c.loop-shape.shape-index c.args.shapes.now) c.args.bytes.now c.args.pos c.loop-shape.next c.args.end (keeps c.args.kept.now.items) (keeps c.loop-shape.kept.items) (sort_of c.overflow-then-end-next-2.result) c.loop-shape.invariant.0 (refused_any (forms_left c.loop-shape.values.items c.loop-shape.shape-index c.args.shapes.now) c.args.bytes.now c.loop-shape.next c.args.end (keeps c.loop-shape.kept.items) (sort_of c.overflow-then-end-next-2.result) (λ after zs items. absurd (past_end c.args.bytes.now after c.loop-shape.next c.args.end zs c.if-end-next-2.true c.loop-shape.invariant.0.within items)))
+    goes_refused (read_used (read_forms (forms_of c.args.shapes.now))) (forms_left c.loop-shape.values.items c.loop-shape.shape-index c.args.shapes.now) c.args.bytes.now c.args.pos c.loop-shape.next c.args.end c.args.kept.now c.loop-shape.kept (sort_of c.overflow-then-end-next-2.result) c.loop-shape.invariant.0 (refused_any (forms_left c.loop-shape.values.items c.loop-shape.shape-index c.args.shapes.now) c.args.bytes.now c.loop-shape.next c.args.end c.loop-shape.kept (sort_of c.overflow-then-end-next-2.result) (λ after zs items. absurd (past_end c.args.bytes.now after c.loop-shape.next c.args.end zs c.if-end-next-2.true c.loop-shape.invariant.0.within items)))
 
 pub read_parts-returns-then-next-end-2-clause-answers : goal.read_parts-returns-then-next-end-2-clause-answers
 read_parts-returns-then-next-end-2-clause-answers g t c =
-    forms_surplus (read_used (read_forms (forms_of c.args.shapes.now))) c.args.shapes.now c.loop-shape.shape-index c.loop-shape.values.items (sort_of c.surplus.result) c.args.bytes.now c.args.pos c.loop-shape.next c.args.end (keeps c.args.kept.now.items) (keeps c.loop-shape.kept.items) c.loop-shape-test.false (λ h. omega (arith, h)) c.loop-shape.invariant.0
+    forms_surplus (read_used (read_forms (forms_of c.args.shapes.now))) c.args.shapes.now c.loop-shape.shape-index c.loop-shape.values.items (sort_of c.surplus.result) c.args.bytes.now c.args.pos c.loop-shape.next c.args.end c.args.kept.now c.loop-shape.kept c.loop-shape-test.false (λ h. omega (arith, h)) c.loop-shape.invariant.0
 
 pub read_parts-returns-clause-answers : goal.read_parts-returns-clause-answers
 read_parts-returns-clause-answers g t c =
-    forms_done (read_used (read_forms (forms_of c.args.shapes.now))) c.args.shapes.now c.loop-shape.shape-index c.loop-shape.values.items c.args.bytes.now c.args.pos c.loop-shape.next c.args.end (keeps c.args.kept.now.items) (keeps c.loop-shape.kept.items) c.loop-shape-test.false (omega arith) c.loop-shape.invariant.0
+    forms_done (read_used (read_forms (forms_of c.args.shapes.now))) c.args.shapes.now c.loop-shape.shape-index c.loop-shape.values.items c.args.bytes.now c.args.pos c.loop-shape.next c.args.end c.args.kept.now c.loop-shape.kept c.loop-shape-test.false (omega arith) c.loop-shape.invariant.0
 
 pub read_parts-loop-shape-init : goal.read_parts-loop-shape-init
-read_parts-loop-shape-init g t c = (forms_begin c.args.shapes.now c.new-values.result.items c.args.bytes.now c.args.pos c.args.end (keeps c.args.kept.now.items) c.new-values.ensures.items (search rules), λ ord lt. absurd (omega (arith, ord, lt)))
+read_parts-loop-shape-init g t c = (forms_begin c.args.shapes.now c.new-values.result.items c.args.bytes.now c.args.pos c.args.end c.args.kept.now c.new-values.ensures.items (search rules), λ ord lt. absurd (omega (arith, ord, lt)))
 
 pub read_shape-returns-in-I32-clause-answers : goal.read_shape-returns-in-I32-clause-answers
 unfolding read_of
@@ -357,7 +356,7 @@ read_shape-returns-in_err-fields-in-Struct-clause-says g t c =
 pub read_struct-returns-in_err-tag-clause-answers : goal.read_struct-returns-in_err-tag-clause-answers
 read_struct-returns-in_err-tag-clause-answers g t c =
     let p = err_from_is_err_and c.from_residual.result c.from_residual.ensures.1 in
-    rw (p.1, p.2) (λ e lt. c.in_err-tag.ensures.err (fields_of c.args.fields.now) c.args.deny (read_fields (fields_of c.args.fields.now)) (keeps c.args.kept.now.items) e lt)
+    rw (p.1, p.2) (λ e lt. c.in_err-tag.ensures.err (fields_of c.args.fields.now) c.args.deny (read_fields (fields_of c.args.fields.now)) c.args.kept.now e lt)
 
 pub read_struct-returns-in_err-tag-clause-says : goal.read_struct-returns-in_err-tag-clause-says
 read_struct-returns-in_err-tag-clause-says g t c =
@@ -367,13 +366,13 @@ read_struct-returns-in_err-tag-clause-says g t c =
 pub read_struct-returns-in-Ok-clause-answers : goal.read_struct-returns-in-Ok-clause-answers
 read_struct-returns-in-Ok-clause-answers g t c =
     let n = c.in_ok-tag.n in
-    λ e lt. struct_accepted c.args.name.now (fields_of c.args.fields.now) c.args.deny (read_fields (fields_of c.args.fields.now)) c.args.bytes.now c.args.pos e c.in_ok-tag.tag n (c.args.pos + 8 + n) (keeps c.args.kept.now.items) (keeps c.read_content.new.kept.items) (views c.in-Ok.values.items) lt (λ i. omega (arith, c.type_inv.bytes i)) c.in_ok-tag.ensures.ok c.in-Ok.ensures.answers refl
+    λ e lt. struct_accepted c.args.name.now (fields_of c.args.fields.now) c.args.deny (read_fields (fields_of c.args.fields.now)) c.args.bytes.now c.args.pos e c.in_ok-tag.tag n (c.args.pos + 8 + n) c.args.kept.now c.read_content.new.kept (views c.in-Ok.values.items) lt (λ i. omega (arith, c.type_inv.bytes i)) c.in_ok-tag.ensures.ok c.in-Ok.ensures.answers refl
 
 pub read_struct-returns-in-Err-clause-answers : goal.read_struct-returns-in-Err-clause-answers
 read_struct-returns-in-Err-clause-answers g t c =
     let fs = fields_of c.args.fields.now in
     let n = c.in_ok-tag.n in
-    λ e lt. refused_widened (read_struct c.args.name.now fs c.args.deny (read_fields fs)) c.args.bytes.now c.args.pos e (keeps c.args.kept.now.items) (sort_of c.in-Err.e) (sort_of c.within.result) (sort_widened c.in-Err.e c.within.result c.within.ensures) (struct_refused c.args.name.now fs c.args.deny (read_fields fs) c.args.bytes.now c.args.pos e n (keeps c.args.kept.now.items) (sort_of c.in-Err.e) lt c.in_ok-tag.ensures.ok.header_there c.in_ok-tag.ensures.ok.len_is c.in-Err.ensures.answers)
+    λ e lt. refused_widened (read_struct c.args.name.now fs c.args.deny (read_fields fs)) c.args.bytes.now c.args.pos e c.args.kept.now (sort_of c.in-Err.e) (sort_of c.within.result) (sort_widened c.in-Err.e c.within.result c.within.ensures) (struct_refused c.args.name.now fs c.args.deny (read_fields fs) c.args.bytes.now c.args.pos e n c.args.kept.now (sort_of c.in-Err.e) lt c.in_ok-tag.ensures.ok.header_there c.in_ok-tag.ensures.ok.len_is c.in-Err.ensures.answers)
 
 pub read_struct-returns-in-Err-clause-says : goal.read_struct-returns-in-Err-clause-says
 read_struct-returns-in-Err-clause-says g t c =
@@ -403,7 +402,7 @@ read_content-returns-in_err-read_rest-clause-says g t c =
     says_goes f b c.args.pos next c.args.end c.in_err-read_rest.field-0.0 (search rules) goes (c.in_err-read_rest.ensures.says f name start read tag (inside_then b start c.args.pos next c.args.end inside (whole_goes goes)) late))
 
 pub read_fields-loop-field-init : goal.read_fields-loop-field-init
-read_fields-loop-field-init g t c = (fields_begin c.args.fields.now c.new-values.result.items c.args.bytes.now c.args.pos c.args.end (keeps c.args.kept.now.items) c.new-values.ensures.items (search rules), λ ord lt. absurd (omega (arith, ord, lt)))
+read_fields-loop-field-init g t c = (fields_begin c.args.fields.now c.new-values.result.items c.args.bytes.now c.args.pos c.args.end c.args.kept.now c.new-values.ensures.items (search rules), λ ord lt. absurd (omega (arith, ord, lt)))
 
 pub read_fields-returns-in_err-value-clause-says : goal.read_fields-returns-in_err-value-clause-says
 read_fields-returns-in_err-value-clause-says g t c =
@@ -523,7 +522,7 @@ read_seq-returns-in_err-value-clause-says g t c =
 pub read_variant-returns-in-Unit-clause-answers : goal.read_variant-returns-in-Unit-clause-answers
 unfolding read_content
 read_variant-returns-in-Unit-clause-answers g t c =
-    refused_any (read_content c.args.name.now c.args.variant.now (content_of c.args.content.now)) c.args.bytes.now c.args.pos c.args.end (keeps c.args.kept.now.items) (sort_of c.chosen_unit.result) (λ after zs items. rw c.in-Unit.is refl)
+    refused_any (read_content c.args.name.now c.args.variant.now (content_of c.args.content.now)) c.args.bytes.now c.args.pos c.args.end c.args.kept.now (sort_of c.chosen_unit.result) (λ after zs items. rw c.in-Unit.is refl)
 
 pub read_variant-returns-in-Unit-clause-says : goal.read_variant-returns-in-Unit-clause-says
 read_variant-returns-in-Unit-clause-says g t c =
@@ -582,7 +581,7 @@ read_tuple-returns-in_err-values-clause-says g t c =
 pub read_enum-returns-in_err-typ-clause-answers : goal.read_enum-returns-in_err-typ-clause-answers
 read_enum-returns-in_err-typ-clause-answers g t c =
     let p = err_from_is_err_and c.from_residual.result c.from_residual.ensures.1 in
-    rw (p.1, p.2) (refused_type (read_enum c.args.name.now (variants_of c.args.variants.now) (read_variant c.args.name.now (variants_of c.args.variants.now))) c.args.bytes.now c.args.pos c.args.end (keeps c.args.kept.now.items) (sort_of c.in_err-typ.field-0.0) (omega arith) c.in_err-typ.ensures.err)
+    rw (p.1, p.2) (refused_type (read_enum c.args.name.now (variants_of c.args.variants.now) (read_variant c.args.name.now (variants_of c.args.variants.now))) c.args.bytes.now c.args.pos c.args.end c.args.kept.now (sort_of c.in_err-typ.field-0.0) (omega arith) c.in_err-typ.ensures.err)
 
 pub read_enum-returns-in_err-typ-clause-says : goal.read_enum-returns-in_err-typ-clause-says
 read_enum-returns-in_err-typ-clause-says g t c =
@@ -592,8 +591,8 @@ read_enum-returns-in_err-typ-clause-says g t c =
 pub read_enum-returns-in_err-i-clause-answers : goal.read_enum-returns-in_err-i-clause-answers
 read_enum-returns-in_err-i-clause-answers g t c =
     let p = err_from_is_err_and c.from_residual-in_err-i.result c.from_residual-in_err-i.ensures.1 in
-    let refused = rw c.deref.ensures.value at c.in_err-i.ensures.answers in
-    rw (p.1, p.2) (enum_refused c.args.name.now (variants_of c.args.variants.now) (read_variant c.args.name.now (variants_of c.args.variants.now)) c.args.bytes.now c.args.pos c.args.end (keeps c.args.kept.now.items) c.in_ok-typ.typ refused.0 (sort_of c.in_err-i.field-0.0) (omega arith) c.in_ok-typ.ensures.ok.0 c.in_ok-typ.ensures.ok.1 refused.1)
+    let refused = c.in_err-i.ensures.answers in
+    rw (p.1, p.2) (enum_refused c.args.name.now (variants_of c.args.variants.now) (read_variant c.args.name.now (variants_of c.args.variants.now)) c.args.bytes.now c.args.pos c.args.end c.args.kept.now c.in_ok-typ.typ refused.0 (sort_of c.in_err-i.field-0.0) (omega arith) c.in_ok-typ.ensures.ok.0 c.in_ok-typ.ensures.ok.1 refused.1)
 
 pub read_enum-returns-in_err-i-clause-says : goal.read_enum-returns-in_err-i-clause-says
 read_enum-returns-in_err-i-clause-says g t c =
@@ -602,20 +601,20 @@ read_enum-returns-in_err-i-clause-says g t c =
 
 pub read_enum-returns-in-None-clause-answers : goal.read_enum-returns-in-None-clause-answers
 read_enum-returns-in-None-clause-answers g t c =
-    let chosen_none : choice (variants_of c.args.variants.now) (keeps c.args.kept.now.items) c.in_ok-typ.typ ≡ by_value = rw (c.in-None.is, c.deref.ensures.value) at c.in_ok-i.ensures.answers in
-    enum_number view c.args.name.now (variants_of c.args.variants.now) (read_variant c.args.name.now (variants_of c.args.variants.now)) c.args.bytes.now c.args.pos c.args.end (keeps c.args.kept.now.items) (keeps c.read_number.new.kept.items) c.in_ok-typ.typ c.read_number.result (omega arith) c.in_ok-typ.ensures.ok.0 c.in_ok-typ.ensures.ok.1 chosen_none c.read_number.ensures.answers
+    let chosen_none : choice (variants_of c.args.variants.now) c.args.kept.now c.in_ok-typ.typ ≡ by_value = rw c.in-None.is at c.in_ok-i.ensures.answers in
+    enum_number view c.args.name.now (variants_of c.args.variants.now) (read_variant c.args.name.now (variants_of c.args.variants.now)) c.args.bytes.now c.args.pos c.args.end c.args.kept.now c.read_number.new.kept c.in_ok-typ.typ c.read_number.result (omega arith) c.in_ok-typ.ensures.ok.0 c.in_ok-typ.ensures.ok.1 chosen_none c.read_number.ensures.answers
 
 pub read_enum-returns-in-Some-clause-answers : goal.read_enum-returns-in-Some-clause-answers
 read_enum-returns-in-Some-clause-answers g t c =
-    let is_chosen : choice (variants_of c.args.variants.now) (keeps c.args.kept.now.items) c.in_ok-typ.typ ≡ chosen c.in-Some.i = rw (c.in-Some.is, c.deref.ensures.value) at c.in_ok-i.ensures.answers in
+    let is_chosen : choice (variants_of c.args.variants.now) c.args.kept.now c.in_ok-typ.typ ≡ chosen c.in-Some.i = rw c.in-Some.is at c.in_ok-i.ensures.answers in
     let in_list : c.in-Some.i < length c.args.variants.now = rw c.in-Some.is at c.in_ok-i.ensures.inside in
-    enum_chosen_at c.args.name.now c.args.variants.now c.in-Some.i c.index-variants-i.result c.index-variants-i-in-Some.result c.args.bytes.now c.args.pos c.args.end (keeps c.args.kept.now.items) (keeps c.read_variant.new.kept.items) c.in_ok-typ.typ c.read_variant.result (omega arith) c.in_ok-typ.ensures.ok.0 c.in_ok-typ.ensures.ok.1 is_chosen in_list c.read_variant.ensures.answers
+    enum_chosen_at c.args.name.now c.args.variants.now c.in-Some.i c.index-variants-i.result c.index-variants-i-in-Some.result c.args.bytes.now c.args.pos c.args.end c.args.kept.now c.read_variant.new.kept c.in_ok-typ.typ c.read_variant.result (omega arith) c.in_ok-typ.ensures.ok.0 c.in_ok-typ.ensures.ok.1 is_chosen in_list c.read_variant.ensures.answers
 
 pub read_enum-returns-in-None-clause-says : goal.read_enum-returns-in-None-clause-says
 read_enum-returns-in-None-clause-says g t c =
     let vs = variants_of c.args.variants.now in
-    let ks = keeps c.args.kept.now.items in
-    let chosen_none : choice vs ks c.in_ok-typ.typ ≡ by_value = rw (c.in-None.is, c.deref.ensures.value) at c.in_ok-i.ensures.answers in
+    let ks = c.args.kept.now in
+    let chosen_none : choice vs ks c.in_ok-typ.typ ≡ by_value = rw c.in-None.is at c.in_ok-i.ensures.answers in
     number_says c.read_number.result c.args.bytes.now c.args.name.now vs c.in_ok-typ.typ c.args.pos c.args.owner c.args.end record { kept = ks; no_rule = chosen_none } c.read_number.ensures.says
 
 pub read_seq-read_shape-requires-in-loop-values : goal.read_seq-read_shape-requires-in-loop-values
@@ -679,8 +678,8 @@ read_enum-returns-in-None-clause-item g t c =
 pub read_enum-returns-in-Some-clause-says : goal.read_enum-returns-in-Some-clause-says
 read_enum-returns-in-Some-clause-says g t c =
     let vs = variants_of c.args.variants.now in
-    let ks = keeps c.args.kept.now.items in
-    let is_chosen : choice vs ks c.in_ok-typ.typ ≡ chosen c.in-Some.i = rw (c.in-Some.is, c.deref.ensures.value) at c.in_ok-i.ensures.answers in
+    let ks = c.args.kept.now in
+    let is_chosen : choice vs ks c.in_ok-typ.typ ≡ chosen c.in-Some.i = rw c.in-Some.is at c.in_ok-i.ensures.answers in
     let in_list : c.in-Some.i < length c.args.variants.now = rw c.in-Some.is at c.in_ok-i.ensures.inside in
     variant_says c.read_variant.result c.args.bytes.now c.args.name.now vs c.in_ok-typ.typ _ c.args.pos c.args.owner c.args.end record { kept = ks; index = c.in-Some.i; is_chosen = is_chosen; contains = variant_in c.args.variants.now c.in-Some.i c.index-variants-i-in-Some.result in_list } c.read_variant.ensures.says
 

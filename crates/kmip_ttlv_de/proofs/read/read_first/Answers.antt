@@ -1,4 +1,4 @@
-use Rattle.std.proofs.Common.{◌≡◌, ◌+◌, [], refl, ap, arith, Some}
+use Rattle.std.proofs.Common.{◌≡◌, ◌+◌, [], refl, arith, Some}
 use Rattle.std.proofs.lemmas.Result.{err_from_is_err_and}
 use Rattle.kmip_ttlv_de.proofs.read.read_first.Goals as goal
 use Rattle.kmip_ttlv_base.specs.Forms.{fields_of, struct}
@@ -10,7 +10,6 @@ use Rattle.kmip_ttlv_de.proofs.SayLemmas.{says_widened, says_within, sort_widene
 use Rattle.kmip_ttlv_de.proofs.Whole.{refuses_widened}
 use Rattle.kmip_ttlv_de.specs.ReadAnswers.{sort_of}
 use Rattle.kmip_ttlv_de.specs.RootFacts.{named_fault, root_fault}
-use Rattle.kmip_ttlv_de.specs.Keeps.{keeps}
 use Rattle.kmip_ttlv_de.specs.ReadPlaces.{root, stated_end}
 use Rattle.kmip_ttlv_de.specs.Reading.{read_fields}
 
@@ -38,8 +37,8 @@ returns-in_err-tag-clause-whole g c =
 
 pub returns-in-Ok-clause-found : goal.returns-in-Ok-clause-found
 returns-in-Ok-clause-found g c =
-    let none : keeps c.new-kept.result.items ≡ [] = ap keeps c.new-kept.ensures.items in
-    first_found c.args.name.now (fields_of c.args.fields.now) c.args.deny c.args.bytes.now c.in_ok-tag.tag c.in_ok-tag.n (keeps c.read_content.new.kept.items) (views c.in-Ok.values.items) (λ i. omega (arith, c.type_inv.bytes i)) c.in_ok-tag.ensures.ok (rw none at c.in-Ok.ensures.answers)
+    let none : c.new-kept.result ≡ [] = c.new-kept.ensures in
+    first_found c.args.name.now (fields_of c.args.fields.now) c.args.deny c.args.bytes.now c.in_ok-tag.tag c.in_ok-tag.n c.read_content.new.kept (views c.in-Ok.values.items) (λ i. omega (arith, c.type_inv.bytes i)) c.in_ok-tag.ensures.ok (rw none at c.in-Ok.ensures.answers)
 
 pub returns-in-Ok-clause-facts : goal.returns-in-Ok-clause-facts
 returns-in-Ok-clause-facts g c =
@@ -50,7 +49,7 @@ returns-in-Ok-clause-facts g c =
 
 pub returns-clause-refused : goal.returns-clause-refused
 returns-clause-refused g c =
-    let none : keeps c.new-kept.result.items ≡ [] = ap keeps c.new-kept.ensures.items in
+    let none : c.new-kept.result ≡ [] = c.new-kept.ensures in
     let fs = fields_of c.args.fields.now in
     let s = struct c.args.name.now fs c.args.deny in
     let b = c.args.bytes.now in

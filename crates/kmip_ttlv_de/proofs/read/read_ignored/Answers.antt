@@ -44,7 +44,7 @@ returns-in_err-next-clause-answers g c =
 
 pub returns-then-not-is_structure-clause-answers : goal.returns-then-not-is_structure-clause-answers
 returns-then-not-is_structure-clause-answers g c =
-    let other_name : names_tag (fields_of c.args.fields.now) (tag_at c.args.bytes.now c.args.pos) ≡ false = search rules in
+    let other_name : names_tag (fields_of c.args.fields.now) (tag_at c.args.bytes.now c.args.pos) ≡ false = search (rules, c.is_field.ensures (fields_of c.args.fields.now) c.requires.tags) in
     let some_field : length c.args.fields.now ≡ 0 → ⊥ = search rules in
     let l = c.in_ok-next.ensures.ok.0 in
     λ k e lt. (omega (arith, l.next_is), ignored_leaf (fields_of c.args.fields.now) c.args.deny c.args.bytes.now c.args.pos e k c.in_ok-typ.typ (length_at c.args.bytes.now c.args.pos) _ _ lt c.requires.inside (λ i. omega (arith, c.type_inv.bytes i)) l (fields_some c.args.fields.now some_field) c.if-deny.false other_name (either_valid (is_structure c.in_ok-typ.typ) _ c.in_ok-next.ensures.ok.1))
@@ -59,7 +59,7 @@ returns-in-None-clause-answers g c =
 
 pub returns-in-Some-end_of-clause-answers : goal.returns-in-Some-end_of-clause-answers
 returns-in-Some-end_of-clause-answers g c =
-    let other_name : names_tag (fields_of c.args.fields.now) (tag_at c.args.bytes.now c.args.pos) ≡ false = search rules in
+    let other_name : names_tag (fields_of c.args.fields.now) (tag_at c.args.bytes.now c.args.pos) ≡ false = search (rules, c.is_field.ensures (fields_of c.args.fields.now) c.requires.tags) in
     let some_field : length c.args.fields.now ≡ 0 → ⊥ = search rules in
     let structure : c.in_ok-typ.typ ≡ Structure = is_structure_is c.in_ok-typ.typ (search rules) in
     let h = c.in-Some-end_of.ensures.some in
@@ -94,7 +94,7 @@ returns-then-deny-clause-says g c =
     let b = c.args.bytes.now in
     let s = c.args.pos in
     let fs = fields_of c.args.fields.now in
-    let other_name : names_tag fs (tag_at b s) ≡ false = search rules in
+    let other_name : names_tag fs (tag_at b s) ≡ false = search (rules, c.is_field.ensures fs c.requires.tags) in
     λ f name start e lt read tag content.
     let denies : StructRead f b name fs true start = subst (λ d. StructRead f b name fs d start) c.if-deny.true read in
     words_say f b s e (s + 4) c.args.tag c.closed-then-deny.result _ (omega arith) c.closed-then-deny.ensures (unknown_field denies content c.in_ok-typ.ensures.ok.0 other_name (ap (struct_place (s + 4)) tag))
@@ -106,7 +106,7 @@ returns-in_err-next-clause-says g c =
     let s = c.args.pos in
     let fs = fields_of c.args.fields.now in
     let t = c.in_ok-typ.typ in
-    let other_name : names_tag fs (tag_at b s) ≡ false = search rules in
+    let other_name : names_tag fs (tag_at b s) ≡ false = search (rules, c.is_field.ensures (fields_of c.args.fields.now) c.requires.tags) in
     let some_field : length c.args.fields.now ≡ 0 → ⊥ = search rules in
     rw (p.1, p.2) (λ f name start e lt read tag content.
     let leaf : LeafRead f b s t = ignored record { struct_name = name; struct_fields = fs; denies = c.args.deny; start = start; read = read; content = content; some_field = fields_some c.args.fields.now some_field; allowed = c.if-deny.false; other_tag = other_name } in

@@ -1,5 +1,5 @@
 use Rattle.std.proofs.Common.{ℕ, ◌-◌, ◌<◌, List, length}
-use Rattle.kmip_ttlv_de.proofs.read.read_rest.Given as goal
+use Rattle.kmip_ttlv_de.proofs.read.read_others.Given as goal
 use Rattle.kmip_ttlv_base.specs.Forms.{fields_of}
 use Rattle.kmip_ttlv_de.specs.ReaderSteps.{Goes}
 use Rattle.kmip_ttlv_de.specs.Keeps.{Keep}

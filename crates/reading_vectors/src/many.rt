@@ -1,0 +1,110 @@
+//! Messages of many kept texts, or of many ignored items. What is read of them is what the last
+//! kept text says; and they are long enough that a look through all of them for each one would not
+//! end in the time that a test has.
+
+use crate::answer::Of;
+use crate::names::{
+    IfInteger, IfOtherAtLeastWord, IfStructure, IfText, IfTextB, TagA, TagB, TagC, TagD,
+};
+use crate::parts::{
+    Choice, Content, Field, FieldList, Maybe, NoFields, NoParts, Number, OneVariant, Part, Parts,
+    Repeated, Sequence, Structure, Text, Tuple, TwoVariants,
+};
+use crate::reading::Reading;
+use crate::run::Run;
+use kmip_ttlv::from_slice;
+use std::alloc::{AllocError, Global};
+use std::test::Fail;
+
+// The header of a structure AAAAAA of so many bytes.
+fn begun(alloc: Global, length: u32) -> Result<Vec<u8>, AllocError> {
+    let mut message = Vec::from_array(alloc, [0xAA, 0xAA, 0xAA, 1])?;
+    message.extend_from_slice(&length.to_be_bytes())?;
+    Ok(message)
+}
+
+// Fails unless so many elements are read, and the last one is as is wanted.
+fn check_run<P: Part>(alloc: Global, message: &[u8], count: usize, last: &str) -> Result<(), Fail> {
+    let Ok(run) = from_slice::<Run<P>, _>(alloc, message) else {
+        return Err(Fail::new("it is refused"));
+    };
+    if run.count == count && run.last.as_str() == last {
+        return Ok(());
+    }
+    let (count, last) = (run.count, run.last);
+    Err(Fail::new(format_args!("{count} elements, the last one {last}")))
+}
+
+// A rule asks, for each text of a mebibyte, for a tag under which none was kept.
+#[test]
+fn many_texts_under_one_tag(rt: HostRuntime) -> Result<(), Fail> {
+    type Texts = TwoVariants<IfOtherAtLeastWord, Content<Text>, IfText, Content<Text>>;
+    let count = 131_071u32;
+    let mut message = begun(rt.alloc(), count * 8)?;
+    for _ in 0..count {
+        message.extend_from_slice(&[0xBB, 0xBB, 0xBB, 7, 0, 0, 0, 0])?;
+    }
+    check_run::<Of<Sequence<Choice<TagB, Texts>>>>(
+        rt.alloc(),
+        message.as_slice(),
+        131_071,
+        "NewtypeVariant { name: \"0xBBBBBB\", variant: \"if type==TextString\", inner: Text(\"\") }",
+    )
+}
+
+// Each of many tuples has a text under a tag of its own; the rule asks for the first tuple's.
+#[test]
+fn many_texts_under_many_tags(rt: HostRuntime) -> Result<(), Fail> {
+    type Numbers = TwoVariants<IfTextB, Content<Number>, IfInteger, Content<Number>>;
+    type Pair = Tuple<Parts<Text, Parts<Choice<TagC, Numbers>, NoParts>>>;
+    let count = 26_000u32;
+    let mut message = begun(rt.alloc(), count * 40)?;
+    for i in 0..count {
+        let tag = if i == 0 { 0xBB_BBBB } else { i };
+        let [_, a, b, c] = tag.to_be_bytes();
+        message.extend_from_slice(&[0xBB, 0xBB, 0xBB, 1, 0, 0, 0, 32])?;
+        message.extend_from_slice(&[a, b, c, 7, 0, 0, 0, 1, 0x62, 0, 0, 0, 0, 0, 0, 0])?;
+        message.extend_from_slice(&[0xCC, 0xCC, 0xCC, 2, 0, 0, 0, 4, 0, 0, 0, 7, 0, 0, 0, 0])?;
+    }
+    check_run::<Of<Sequence<Choice<TagB, OneVariant<IfStructure, Pair>>>>>(
+        rt.alloc(),
+        message.as_slice(),
+        26_000,
+        "TupleVariant { name: \"0xBBBBBB\", variant: \"if type==Structure\", fields: [Text(\"b\"), NewtypeVariant { name: \"0xCCCCCC\", variant: \"if 0xBBBBBB==b\", inner: I32(7) }] }",
+    )
+}
+
+type Many<L> = Repeated<TagB, Maybe<Number>, 100, L>;
+
+// Where a structure is refused that has many items behind its fields, of which the last is as given.
+fn place_of<L: FieldList>(alloc: Global, count: u16, last: [u8; 16]) -> Result<String, Fail> {
+    let mut message = begun(alloc, u32::from(count) * 16 + 16)?;
+    for _ in 0..count {
+        message.extend_from_slice(&[0xCC, 0xCC, 0xCC, 2, 0, 0, 0, 4, 0, 0, 0, 7, 0, 0, 0, 0])?;
+    }
+    message.extend_from_slice(&last)?;
+    match from_slice::<Reading<Structure<TagA, L>>, _>(alloc, message.as_slice()) {
+        Ok(_) => Ok(String::from_str(alloc, "nowhere")?),
+        Err(error) => {
+            let place = error.location();
+            Ok(format!(in alloc; "{place}")?)
+        }
+    }
+}
+
+// The last of many items has the tag of a field that stands before many others, or behind them.
+#[test]
+fn many_items_behind_many_fields(rt: HostRuntime) -> Result<(), Fail> {
+    type Before = Field<TagD, Maybe<Number>, Many<NoFields>>;
+    type Behind = Many<Field<TagD, Maybe<Number>, NoFields>>;
+    let ignored = [0xEE, 0xEE, 0xEE, 2, 0, 0, 0, 4, 0, 0, 0, 7, 0, 0, 0, 0];
+    let read = [0xDD, 0xDD, 0xDD, 2, 0, 0, 0, 4, 0, 0, 0, 7, 0, 0, 0, 0];
+    let place = "pos: 262140 bytes, parent tags: 0xAAAAAA, tag: 0xAAAAAA, type: Structure (0x01)";
+    let found = place_of::<Before>(rt.alloc(), 16_383, ignored)?;
+    assert_eq!(rt; found.as_str(), "nowhere");
+    let found = place_of::<Before>(rt.alloc(), 16_383, read)?;
+    assert_eq!(rt; found.as_str(), place);
+    let found = place_of::<Behind>(rt.alloc(), 16_383, read)?;
+    assert_eq!(rt; found.as_str(), place);
+    Ok(())
+}
