@@ -5,8 +5,9 @@ ghost use Rattle.std.specs.Prelude.{◌≡◌, IfOk, length, slice_set};
 ghost use Rattle.kmip_ttlv_items.specs.ItemWalks.{Finds, Judges};
 
 use crate::found::{Fault, FaultKind, FoundItem, KeepItem, WalkEnd};
-use crate::head::{item_at, root_of, size_of};
+use crate::head::{item_at, root_of};
 use kmip_ttlv_types::TtlvType;
+use kmip_ttlv_types::places::size_of;
 use std::alloc::{AllocError, Allocator};
 
 /// Keeps an item at an index of a list, where the list is longer.

@@ -57,7 +57,7 @@ pub record Reading (table rest : List ℕ) (names : ℕ → Option (List ℕ)) (
   pub fits : number + length rest ≤ length table + 1
 
 -- a line and the others
-first_line : (rest line more : List ℕ) → position_or_len is_line_feed rest < length rest → line ≡ before_first is_line_feed rest → more ≡ after_first is_line_feed rest → lines_of rest ≡ line ∷ lines_of more
+pub first_line : (rest line more : List ℕ) → position_or_len is_line_feed rest < length rest → line ≡ before_first is_line_feed rest → more ≡ after_first is_line_feed rest → lines_of rest ≡ line ∷ lines_of more
 first_line rest line more lt l m = slice_split_first is_line_feed rest 0 lt ∙ ap (λ (x : List ℕ). x ∷ lines_of (after_first is_line_feed rest)) (sym l) ∙ ap (λ (x : List ℕ). line ∷ lines_of x) (sym m)
 
 -- a good line is added

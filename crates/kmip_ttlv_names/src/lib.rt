@@ -5,8 +5,12 @@
 //! tags of KMIP 1.0 (9.1.3.1) and of the later versions. What a table says stands in specs/.
 #![tactic(auto)]
 
+mod enumerations;
 mod standard;
 mod table;
+mod values;
 
+pub use enumerations::STANDARD_VALUES;
 pub use standard::STANDARD_TAGS;
 pub use table::{TableError, standard_names, tag_names};
+pub use values::{standard_values, value_name};

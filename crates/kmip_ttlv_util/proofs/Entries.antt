@@ -165,8 +165,8 @@ module _ (w : List ℕ) (p : ℕ) where
     valid = λ ne. absurd (ne is);
   }
 
-  -- the item of a leaf, with its value
-  item_leaf : (tag n next : ℕ) (t : TtlvType) (b : Bor (List ℕ)) (v : Option ℕ) → type_of (code_at w p) ≡ Some t → t ≢ Structure → tag ≡ tag_at w p → n ≡ length_at w p → b.now ≡ take n (drop (p + 8) w) → next ≡ p + size t n → next ≤ length w → is_valid t b.now ≡ true → v ≡ kept t (detail_of t b.now) → IsItem w p record { tag = tag; typ = t; length = n; value = v; content = b; next = next }
+  -- the item of a leaf, with the value of an enumeration
+  pub item_leaf : (tag n next : ℕ) (t : TtlvType) (b : Bor (List ℕ)) (v : Option ℕ) → type_of (code_at w p) ≡ Some t → t ≢ Structure → tag ≡ tag_at w p → n ≡ length_at w p → b.now ≡ take n (drop (p + 8) w) → next ≡ p + size t n → next ≤ length w → is_valid t b.now ≡ true → v ≡ kept t (detail_of t b.now) → IsItem w p record { tag = tag; typ = t; length = n; value = v; content = b; next = next }
   item_leaf tag n next t b v code-is ne tag-is len content-is next-is within good kept-is =
       let le : p + size t n ≤ length w = omega arith in
       record {
@@ -179,13 +179,3 @@ module _ (w : List ℕ) (p : ℕ) where
         content = λ _. content-is;
         valid = λ _. good;
       }
-
-  -- the item of a leaf without a value
-  pub item_plain : (tag n next : ℕ) (t : TtlvType) (b : Bor (List ℕ)) → type_of (code_at w p) ≡ Some t → t ≢ Structure → t ≢ Enumeration → tag ≡ tag_at w p → n ≡ length_at w p → b.now ≡ take n (drop (p + 8) w) → next ≡ p + size t n → next ≤ length w → is_valid t b.now ≡ true → IsItem w p record { tag = tag; typ = t; length = n; value = None; content = b; next = next }
-  item_plain tag n next t b code-is ne plain tag-is len content-is next-is within good = item_leaf tag n next t b None code-is ne tag-is len content-is next-is within good (sym (kept_none t (detail_of t b.now) plain))
-
-  -- the item of an enumeration
-  pub item_enumeration : (tag n next v : ℕ) (t : TtlvType) (b : Bor (List ℕ)) → type_of (code_at w p) ≡ Some t → t ≡ Enumeration → tag ≡ tag_at w p → n ≡ length_at w p → b.now ≡ take n (drop (p + 8) w) → next ≡ p + size t n → next ≤ length w → is_valid t b.now ≡ true → v ≡ from_be_bytes w32 b.now → IsItem w p record { tag = tag; typ = t; length = n; value = Some v; content = b; next = next }
-  item_enumeration tag n next v t b code-is is tag-is len content-is next-is within good value-is =
-      item_leaf tag n next t b (Some v) code-is (λ h. let k : Enumeration ≡ Structure = sym is ∙ h in cc) tag-is len content-is next-is within good
-      (ap Some value-is ∙ sym (kept_enumeration b.now (ap (λ (u : TtlvType). is_valid u b.now) (sym is) ∙ good)) ∙ ap (λ (u : TtlvType). kept u (detail_of u b.now)) (sym is))

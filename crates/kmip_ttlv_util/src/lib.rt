@@ -17,6 +17,7 @@ mod printer;
 mod undiag;
 mod walk;
 
-pub use lines::{LentTagMap, TagMap};
+pub use lines::{LentTagMap, TagMap, push_data_part, push_tag, push_tag_part};
 pub use named::{read_back_named, text_named};
+pub use pretty::push_value;
 pub use printer::PrettyPrinter;

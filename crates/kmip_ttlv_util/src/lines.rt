@@ -48,7 +48,7 @@ fn push_four<A: Allocator>(out: &mut String<A>, n: u32) -> Result<(), AllocError
 
 /// A tag, behind its name where it has one.
 #[inline(always)]
-fn push_tag<A: Allocator>(
+pub fn push_tag<A: Allocator>(
     out: &mut String<A>,
     names: &LentTagMap<'_, A>,
     tag: TtlvTag,

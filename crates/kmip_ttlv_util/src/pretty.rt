@@ -93,7 +93,7 @@ fn push_bytes<A: Allocator>(out: &mut String<A>, content: &[u8]) -> Result<(), A
 /// The value of a leaf.
 #[tactic(auto, unfolding(crate::specs::Pretty::value_shown))]
 #[inline(always)]
-fn push_value<A: Allocator>(
+pub fn push_value<A: Allocator>(
     out: &mut String<A>,
     typ: TtlvType,
     content: &[u8],

@@ -9,7 +9,7 @@ const CREATE_RESPONSE_LINES: &str =
     "Tag: 0x42007B, Type: Structure (0x01), Data:\n  Tag: 0x42007A, Type: Structure (0x01), Data:\n    Tag: 0x420069, Type: Structure (0x01), Data:\n      Tag: 0x42006A, Type: Integer (0x02), Data: 0x000001 (1)\n      Tag: 0x42006B, Type: Integer (0x02), Data: 0x000000 (0)\n    Tag: 0x420092, Type: DateTime (0x09), Data: 0x4AFBE7C2\n    Tag: 0x42000D, Type: Integer (0x02), Data: 0x000001 (1)\n  Tag: 0x42000F, Type: Structure (0x01), Data:\n    Tag: 0x42005C, Type: Enumeration (0x05), Data: 0x000001 (1)\n    Tag: 0x42007F, Type: Enumeration (0x05), Data: 0x000000 (0)\n    Tag: 0x42007C, Type: Structure (0x01), Data:\n      Tag: 0x420057, Type: Enumeration (0x05), Data: 0x000002 (2)\n      Tag: 0x420094, Type: TextString (0x07), Data: fc8833de-70d2-4ece-b063-fede3a3c59fe\n";
 
 // Whether empty structures are closed, a message, and its readable text.
-const MESSAGES: [(bool, &str, &str); 10] = [
+const MESSAGES: [(bool, &str, &str); 11] = [
     (false, CREATE_RESPONSE, CREATE_RESPONSE_LINES),
     (false, VERSION, VERSION_LINES),
     (true, VERSION, VERSION_LINES),
@@ -43,6 +43,11 @@ const MESSAGES: [(bool, &str, &str); 10] = [
         false,
         "AAAAAA0100000010BBBBBB0A000000040000000100000000",
         "Tag: 0xAAAAAA, Type: Structure (0x01), Data:\n  Tag: 0xBBBBBB, Type: Interval (0x0A), Data: 0x000001 (1)\n",
+    ),
+    (
+        false,
+        "AAAAAA0100000010BBBBBB07000000016100000000000000",
+        "Tag: 0xAAAAAA, Type: Structure (0x01), Data:\n  Tag: 0xBBBBBB, Type: TextString (0x07), Data: a\n",
     ),
 ];
 
