@@ -14,10 +14,13 @@ pub use Rattle.kmip_ttlv_types.specs.Digits
 pub use Rattle.kmip_ttlv_types.specs.Machine
 pub use Rattle.kmip_ttlv_types.specs.Laws
 pub use Rattle.kmip_ttlv_base.specs.Values
+pub use Rattle.kmip_ttlv_base.specs.Visits
 pub use Rattle.kmip_ttlv_base.specs.Forms
 pub use Rattle.kmip_ttlv_base.specs.Gives
 pub use Rattle.kmip_ttlv_base.specs.Errors
 pub use Rattle.kmip_ttlv_base.specs.LocationTexts
+pub use Rattle.kmip_ttlv_messages.specs.MessageParts
+pub use Rattle.kmip_ttlv_messages.specs.MessageChoices
 pub use Rattle.kmip_ttlv_ser.specs.WrittenItems
 pub use Rattle.kmip_ttlv_ser.specs.Sizes
 pub use Rattle.kmip_ttlv_ser.specs.Faults

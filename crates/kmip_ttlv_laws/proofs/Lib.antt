@@ -3,6 +3,7 @@ pub mod RootForms
 pub mod Padding
 pub mod Roots
 pub mod TreeTexts
+pub mod MessageParts
 pub mod Lacking
 pub mod Canonical
 pub mod DataTexts

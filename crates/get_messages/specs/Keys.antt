@@ -1,0 +1,63 @@
+-- A symmetric key: forms and values.
+use Rattle.std.specs.Prelude.{codes, false}
+use Rattle.kmip_ttlv.specs.Values.{Value, Values, bytes_value, i32_value, newtype_value, no_values, struct_value}
+use Rattle.kmip_ttlv.specs.Values.{unit_variant_value, value}
+use Rattle.kmip_ttlv.specs.Forms.{Form, enum, field, int32, newtype, no_fields, no_variants, octets, struct}
+use Rattle.kmip_ttlv.specs.Forms.{unit, variant}
+use Rattle.get_messages.specs.declared.key.KeyLength.{KeyLength}
+use Rattle.get_messages.specs.declared.key.KeyValue.{KeyValue}
+use Rattle.get_messages.specs.declared.key.KeyBlock.{KeyBlock}
+use Rattle.get_messages.specs.declared.key.SymmetricKey.{SymmetricKey}
+
+-- the form of a key's value
+abbrev pub key_value_form : Form
+key_value_form =
+    struct (codes "0x420045") (
+    field (codes "0x420043") (newtype (codes "Transparent:0x420043") octets) no_fields) false
+
+-- the value of a key's value
+unfoldable pub key_value_value : {A : Type 0} → KeyValue A → Value
+key_value_value x =
+    struct_value (codes "0x420045") (
+    value (newtype_value (codes "Transparent:0x420043") (bytes_value x.key_material.items)) no_values)
+
+-- the form of a key
+abbrev pub key_block_form : Form
+key_block_form =
+    struct (codes "0x420040") (
+    field (codes "0x420042") (enum (codes "0x420042") (variant (codes "0x00000001") unit no_variants)) (
+    field (codes "0x420045") key_value_form (
+    field (codes "0x420028") (enum (codes "0x420028") (variant (codes "0x00000003") unit no_variants)) (
+    field (codes "0x42002A") (newtype (codes "Transparent:0x42002A") int32) no_fields)))) false
+
+-- the length of a key
+abbrev pub key_length_value : KeyLength → Value
+key_length_value x = newtype_value (codes "Transparent:0x42002A") (i32_value x.bits)
+
+-- the format, the value and the algorithm of a raw AES key
+abbrev pub raw_aes_values : {A : Type 0} → KeyValue A → Values
+raw_aes_values x =
+    value (unit_variant_value (codes "0x420042") (codes "0x00000001")) (
+    value (key_value_value x) (
+    value (unit_variant_value (codes "0x420028") (codes "0x00000003")) no_values))
+
+-- the value of a key
+unfoldable pub key_block_value : {A : Type 0} → KeyBlock A → Value
+key_block_value x =
+    struct_value (codes "0x420040") (
+    value (unit_variant_value (codes "0x420042") (codes "0x00000001")) (
+    value (key_value_value x.key_value) (
+    value (unit_variant_value (codes "0x420028") (codes "0x00000003")) (
+    value (key_length_value x.cryptographic_length) no_values))))
+
+-- the form of a symmetric key
+abbrev pub symmetric_key_form : Form
+symmetric_key_form =
+    struct (codes "0x42008F") (
+    field (codes "0x420040") key_block_form no_fields) false
+
+-- the value of a symmetric key
+unfoldable pub symmetric_key_value : {A : Type 0} → SymmetricKey A → Value
+symmetric_key_value x =
+    struct_value (codes "0x42008F") (
+    value (key_block_value x.key_block) no_values)

@@ -1,0 +1,6 @@
+pub mod Headers
+pub mod Keys
+pub mod Requests
+pub mod Responses
+pub mod Ranges
+pub mod Laws

@@ -1,0 +1,167 @@
+//! What requests and responses begin with (KMIP 1.0, sections 6.1, 6.4 and 6.5).
+
+ghost use Rattle.std.specs.Prelude.{◌≡◌};
+ghost use Rattle.kmip_ttlv.specs.MessageParts.{read_date, written_date};
+ghost use Rattle.get_messages.specs.Headers.{protocol_version_form, protocol_version_value, request_header_form, request_header_value, response_header_form, response_header_value};
+
+use kmip_ttlv::messages::reading::Readable;
+use kmip_ttlv::messages::{reading, shapes, writing};
+use kmip_ttlv::shape::{Data, Deserialize, Serialize, Shape};
+use kmip_ttlv::visit::Visitor;
+use std::alloc::{AllocError, Allocator};
+
+/// The version of the protocol (KMIP 1.0, section 6.1).
+#[derive(Clone, Copy, Debug, PartialEq, Eq)]
+pub struct ProtocolVersion {
+    /// Major versions are not compatible.
+    pub major: i32,
+    /// Minor ones are.
+    pub minor: i32,
+}
+
+impl Serialize for ProtocolVersion {
+    ghost stated = { protocol_version_value };
+
+    #[tactic(auto, unfolding(crate::specs::Headers::protocol_version_value))]
+    fn visit<V: Visitor>(&self, visitor: &mut V) -> Result<(), AllocError> {
+        writing::begin_struct(visitor, "0x420069")?;
+        writing::integer(visitor, "Transparent:0x42006A", self.major)?;
+        writing::integer(visitor, "Transparent:0x42006B", self.minor)?;
+        writing::end_struct(visitor, "0x420069")?;
+        Ok(())
+    }
+}
+
+impl Readable for ProtocolVersion {
+    ghost read_by = { protocol_version_form };
+
+    ghost read_as = { protocol_version_value };
+}
+
+impl<A: Allocator + Copy> Deserialize<A> for ProtocolVersion {
+    ghost form = { protocol_version_form };
+
+    ghost is_value = { λ v x. v ≡ protocol_version_value x };
+
+    fn shape(alloc: A) -> Result<Shape<A>, AllocError> {
+        let mut fields = Vec::new(alloc);
+        fields.push(shapes::integer(alloc, "0x42006A", "Transparent:0x42006A")?)?;
+        fields.push(shapes::integer(alloc, "0x42006B", "Transparent:0x42006B")?)?;
+        Ok(shapes::structure("0x420069", fields))
+    }
+
+    #[tactic(auto, unfolding(crate::specs::Headers::protocol_version_value))]
+    fn from_data(_alloc: A, value: &Data<A>) -> Result<ProtocolVersion, AllocError> {
+        let major = reading::integer::<Self, A>(value, 0, "Transparent:0x42006A");
+        let minor = reading::integer::<Self, A>(value, 1, "Transparent:0x42006B");
+        Ok(ProtocolVersion { major, minor })
+    }
+}
+
+/// The header of a request.
+#[derive(Clone, Copy, Debug, PartialEq, Eq)]
+pub struct RequestHeader {
+    /// The version of the request.
+    pub version: ProtocolVersion,
+    /// How many items follow.
+    pub batch_count: i32,
+}
+
+impl Serialize for RequestHeader {
+    ghost stated = { request_header_value };
+
+    #[tactic(auto, unfolding(crate::specs::Headers::request_header_value))]
+    fn visit<V: Visitor>(&self, visitor: &mut V) -> Result<(), AllocError> {
+        writing::begin_struct(visitor, "0x420077")?;
+        self.version.visit(visitor)?;
+        writing::integer(visitor, "Transparent:0x42000D", self.batch_count)?;
+        writing::end_struct(visitor, "0x420077")?;
+        Ok(())
+    }
+}
+
+impl Readable for RequestHeader {
+    ghost read_by = { request_header_form };
+
+    ghost read_as = { request_header_value };
+}
+
+impl<A: Allocator + Copy> Deserialize<A> for RequestHeader {
+    ghost form = { request_header_form };
+
+    ghost is_value = { λ v x. v ≡ request_header_value x };
+
+    fn shape(alloc: A) -> Result<Shape<A>, AllocError> {
+        let mut fields = Vec::new(alloc);
+        fields.push(shapes::field("0x420069", ProtocolVersion::shape(alloc)?))?;
+        fields.push(shapes::integer(alloc, "0x42000D", "Transparent:0x42000D")?)?;
+        Ok(shapes::structure("0x420077", fields))
+    }
+
+    #[tactic(auto, unfolding(crate::specs::Headers::request_header_value))]
+    fn from_data(alloc: A, value: &Data<A>) -> Result<RequestHeader, AllocError> {
+        let version = ProtocolVersion::from_data(alloc, reading::part::<Self, A>(value, 0))?;
+        let batch_count = reading::integer::<Self, A>(value, 1, "Transparent:0x42000D");
+        Ok(RequestHeader {
+            version,
+            batch_count,
+        })
+    }
+}
+
+/// The header of a response.
+#[derive(Clone, Copy, Debug, PartialEq, Eq)]
+pub struct ResponseHeader {
+    /// The version of the response.
+    pub version: ProtocolVersion,
+    /// When it was made, in seconds since 1970.
+    pub time_stamp: i64,
+    /// How many items follow.
+    pub batch_count: i32,
+}
+
+impl Serialize for ResponseHeader {
+    ghost stated = { response_header_value written_date };
+
+    #[tactic(auto, unfolding(crate::specs::Headers::response_header_value))]
+    fn visit<V: Visitor>(&self, visitor: &mut V) -> Result<(), AllocError> {
+        writing::begin_struct(visitor, "0x42007A")?;
+        self.version.visit(visitor)?;
+        writing::date_time(visitor, "Transparent:0x420092", self.time_stamp)?;
+        writing::integer(visitor, "Transparent:0x42000D", self.batch_count)?;
+        writing::end_struct(visitor, "0x42007A")?;
+        Ok(())
+    }
+}
+
+impl Readable for ResponseHeader {
+    ghost read_by = { response_header_form };
+
+    ghost read_as = { response_header_value read_date };
+}
+
+impl<A: Allocator + Copy> Deserialize<A> for ResponseHeader {
+    ghost form = { response_header_form };
+
+    ghost is_value = { λ v x. v ≡ response_header_value read_date x };
+
+    fn shape(alloc: A) -> Result<Shape<A>, AllocError> {
+        let mut fields = Vec::new(alloc);
+        fields.push(shapes::field("0x420069", ProtocolVersion::shape(alloc)?))?;
+        fields.push(shapes::date_time(alloc, "0x420092", "Transparent:0x420092")?)?;
+        fields.push(shapes::integer(alloc, "0x42000D", "Transparent:0x42000D")?)?;
+        Ok(shapes::structure("0x42007A", fields))
+    }
+
+    #[tactic(auto, unfolding(crate::specs::Headers::response_header_value))]
+    fn from_data(alloc: A, value: &Data<A>) -> Result<ResponseHeader, AllocError> {
+        let version = ProtocolVersion::from_data(alloc, reading::part::<Self, A>(value, 0))?;
+        let time_stamp = reading::date_time::<Self, A>(value, 1, "Transparent:0x420092");
+        let batch_count = reading::integer::<Self, A>(value, 2, "Transparent:0x42000D");
+        Ok(ResponseHeader {
+            version,
+            time_stamp,
+            batch_count,
+        })
+    }
+}

@@ -1,0 +1,194 @@
+//! A symmetric key as an object (KMIP 1.0, sections 2.1.3, 2.1.4 and 2.2.2).
+
+ghost use Rattle.std.specs.Prelude.{◌≡◌, OnErr, OnOk};
+ghost use Rattle.kmip_ttlv.specs.Visits.{TellsEach};
+ghost use Rattle.get_messages.specs.Keys.{raw_aes_values, key_length_value, key_value_form, key_value_value, key_block_form, key_block_value, symmetric_key_form, symmetric_key_value};
+
+use kmip_ttlv::messages::reading::Readable;
+use kmip_ttlv::messages::{reading, shapes, writing};
+use kmip_ttlv::shape::{Data, Deserialize, Serialize, Shape};
+use kmip_ttlv::visit::Visitor;
+use std::alloc::{AllocError, Allocator, Global};
+
+/// The value of a key in raw form.
+#[derive(Drop)]
+#[derive_where(Debug, PartialEq)]
+pub struct KeyValue<A: Allocator = Global> {
+    /// The bytes of the key.
+    pub key_material: Vec<u8, A>,
+}
+
+impl<B: Allocator> Serialize for KeyValue<B> {
+    ghost stated = { key_value_value };
+
+    #[tactic(auto, unfolding(crate::specs::Keys::key_value_value))]
+    fn visit<V: Visitor>(&self, visitor: &mut V) -> Result<(), AllocError> {
+        writing::begin_struct(visitor, "0x420045")?;
+        writing::byte_string(
+            visitor,
+            "Transparent:0x420043",
+            self.key_material.as_slice(),
+        )?;
+        writing::end_struct(visitor, "0x420045")?;
+        Ok(())
+    }
+}
+
+impl<A: Allocator> Readable for KeyValue<A> {
+    ghost read_by = { key_value_form };
+
+    ghost read_as = { key_value_value };
+}
+
+impl<A: Allocator + Copy> Deserialize<A> for KeyValue<A> {
+    ghost form = { key_value_form };
+
+    ghost is_value = { λ v x. v ≡ key_value_value x };
+
+    fn shape(alloc: A) -> Result<Shape<A>, AllocError> {
+        let mut fields = Vec::new(alloc);
+        fields.push(shapes::byte_string(alloc, "0x420043", "Transparent:0x420043")?)?;
+        Ok(shapes::structure("0x420045", fields))
+    }
+
+    #[tactic(auto, unfolding(crate::specs::Keys::key_value_value))]
+    fn from_data(alloc: A, value: &Data<A>) -> Result<KeyValue<A>, AllocError> {
+        let key_material = reading::byte_string::<Self, A>(
+            alloc,
+            value,
+            0,
+            "Transparent:0x420043",
+        )?;
+        Ok(KeyValue { key_material })
+    }
+}
+
+/// The length of a key. It is a type of its own, since the prover knows the range of a number in a type that owns no
+/// memory, and not in one that does, as `KeyBlock`.
+#[derive(Clone, Copy, Debug, PartialEq, Eq)]
+pub struct KeyLength {
+    /// Bits.
+    pub bits: i32,
+}
+
+impl Serialize for KeyLength {
+    ghost stated = { key_length_value };
+
+    fn visit<V: Visitor>(&self, visitor: &mut V) -> Result<(), AllocError> {
+        writing::integer(visitor, "Transparent:0x42002A", self.bits)?;
+        Ok(())
+    }
+}
+
+/// A key in raw form, of the algorithm AES.
+#[derive(Drop)]
+#[derive_where(Debug, PartialEq)]
+pub struct KeyBlock<A: Allocator = Global> {
+    /// The value of the key.
+    pub key_value: KeyValue<A>,
+    /// Its length in bits.
+    pub cryptographic_length: KeyLength,
+}
+
+// The format, the value and the algorithm of a raw AES key. Apart, so that the proof of `visit` has few steps.
+#[inline]
+fn raw_aes<V: Visitor, B: Allocator>(visitor: &mut V, key: &KeyValue<B>) -> Result<(), AllocError>
+    ensures told { OnOk result (TellsEach V.knows V.step (raw_aes_values key.now) visitor.old visitor.new) }
+    ensures stopped { OnErr result (V.stopped visitor.new) }
+{
+    writing::unit_variant(visitor, "0x420042", "0x00000001")?;
+    key.visit(visitor)?;
+    writing::unit_variant(visitor, "0x420028", "0x00000003")?;
+    Ok(())
+}
+
+impl<B: Allocator> Serialize for KeyBlock<B> {
+    ghost stated = { key_block_value };
+
+    #[tactic(auto, unfolding(crate::specs::Keys::key_block_value))]
+    fn visit<V: Visitor>(&self, visitor: &mut V) -> Result<(), AllocError> {
+        writing::begin_struct(visitor, "0x420040")?;
+        raw_aes(visitor, &self.key_value)?;
+        self.cryptographic_length.visit(visitor)?;
+        writing::end_struct(visitor, "0x420040")?;
+        Ok(())
+    }
+}
+
+impl<A: Allocator> Readable for KeyBlock<A> {
+    ghost read_by = { key_block_form };
+
+    ghost read_as = { key_block_value };
+}
+
+impl<A: Allocator + Copy> Deserialize<A> for KeyBlock<A> {
+    ghost form = { key_block_form };
+
+    ghost is_value = { λ v x. v ≡ key_block_value x };
+
+    fn shape(alloc: A) -> Result<Shape<A>, AllocError> {
+        let mut fields = Vec::new(alloc);
+        fields.push(shapes::constant(alloc, "0x420042", "0x00000001")?)?;
+        fields.push(shapes::field("0x420045", KeyValue::<A>::shape(alloc)?))?;
+        fields.push(shapes::constant(alloc, "0x420028", "0x00000003")?)?;
+        fields.push(shapes::integer(alloc, "0x42002A", "Transparent:0x42002A")?)?;
+        Ok(shapes::structure("0x420040", fields))
+    }
+
+    #[tactic(auto, unfolding(crate::specs::Keys::key_block_value))]
+    fn from_data(alloc: A, value: &Data<A>) -> Result<KeyBlock<A>, AllocError> {
+        reading::constant::<Self, A>(value, 0, "0x420042", "0x00000001");
+        let key_value = KeyValue::from_data(alloc, reading::part::<Self, A>(value, 1))?;
+        reading::constant::<Self, A>(value, 2, "0x420028", "0x00000003");
+        let bits = reading::integer::<Self, A>(value, 3, "Transparent:0x42002A");
+        let cryptographic_length = KeyLength { bits };
+        Ok(KeyBlock {
+            key_value,
+            cryptographic_length,
+        })
+    }
+}
+
+/// A symmetric key.
+#[derive(Drop)]
+#[derive_where(Debug, PartialEq)]
+pub struct SymmetricKey<A: Allocator = Global> {
+    /// The key.
+    pub key_block: KeyBlock<A>,
+}
+
+impl<B: Allocator> Serialize for SymmetricKey<B> {
+    ghost stated = { symmetric_key_value };
+
+    #[tactic(auto, unfolding(crate::specs::Keys::symmetric_key_value))]
+    fn visit<V: Visitor>(&self, visitor: &mut V) -> Result<(), AllocError> {
+        writing::begin_struct(visitor, "0x42008F")?;
+        self.key_block.visit(visitor)?;
+        writing::end_struct(visitor, "0x42008F")?;
+        Ok(())
+    }
+}
+
+impl<A: Allocator> Readable for SymmetricKey<A> {
+    ghost read_by = { symmetric_key_form };
+
+    ghost read_as = { symmetric_key_value };
+}
+
+impl<A: Allocator + Copy> Deserialize<A> for SymmetricKey<A> {
+    ghost form = { symmetric_key_form };
+
+    ghost is_value = { λ v x. v ≡ symmetric_key_value x };
+
+    fn shape(alloc: A) -> Result<Shape<A>, AllocError> {
+        let mut fields = Vec::new(alloc);
+        fields.push(shapes::field("0x420040", KeyBlock::<A>::shape(alloc)?))?;
+        Ok(shapes::structure("0x42008F", fields))
+    }
+
+    #[tactic(auto, unfolding(crate::specs::Keys::symmetric_key_value))]
+    fn from_data(alloc: A, value: &Data<A>) -> Result<SymmetricKey<A>, AllocError> {
+        let key_block = KeyBlock::from_data(alloc, reading::part::<Self, A>(value, 0))?;
+        Ok(SymmetricKey { key_block })
+    }
+}

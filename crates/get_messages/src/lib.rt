@@ -1,0 +1,11 @@
+//! The Get messages of KMIP 1.0 (section 4.11), as an example of message types: a request for an object by its
+//! identifier, and a response with a symmetric key. docs/MESSAGES.md goes through one of these types line by line.
+#![tactic(auto)]
+
+pub mod header;
+pub mod key;
+pub mod laws;
+pub mod request;
+pub mod response;
+#[cfg(test)]
+mod tests;

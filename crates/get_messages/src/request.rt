@@ -1,0 +1,160 @@
+//! The request to get an object (KMIP 1.0, section 4.11).
+
+ghost use Rattle.std.specs.Prelude.{◌≡◌};
+ghost use Rattle.get_messages.specs.Requests.{get_request_payload_form, get_request_payload_value, get_request_item_form, get_request_item_value, get_request_form, get_request_value};
+
+use crate::header::RequestHeader;
+use kmip_ttlv::messages::reading::Readable;
+use kmip_ttlv::messages::{reading, shapes, writing};
+use kmip_ttlv::shape::{Data, Deserialize, Serialize, Shape};
+use kmip_ttlv::visit::Visitor;
+use std::alloc::{AllocError, Allocator, Global};
+
+/// Which object is to be got.
+#[derive(Drop)]
+#[derive_where(Debug, PartialEq)]
+pub struct GetRequestPayload<A: Allocator = Global> {
+    /// The object's identifier.
+    pub unique_identifier: String<A>,
+}
+
+impl<B: Allocator> Serialize for GetRequestPayload<B> {
+    ghost stated = { get_request_payload_value };
+
+    #[tactic(auto, unfolding(crate::specs::Requests::get_request_payload_value))]
+    fn visit<V: Visitor>(&self, visitor: &mut V) -> Result<(), AllocError> {
+        writing::begin_struct(visitor, "0x420079")?;
+        writing::text_string(
+            visitor,
+            "Transparent:0x420094",
+            self.unique_identifier.as_str(),
+        )?;
+        writing::end_struct(visitor, "0x420079")?;
+        Ok(())
+    }
+}
+
+impl<A: Allocator> Readable for GetRequestPayload<A> {
+    ghost read_by = { get_request_payload_form };
+
+    ghost read_as = { get_request_payload_value };
+}
+
+impl<A: Allocator + Copy> Deserialize<A> for GetRequestPayload<A> {
+    ghost form = { get_request_payload_form };
+
+    ghost is_value = { λ v x. v ≡ get_request_payload_value x };
+
+    fn shape(alloc: A) -> Result<Shape<A>, AllocError> {
+        let mut fields = Vec::new(alloc);
+        fields.push(shapes::text_string(alloc, "0x420094", "Transparent:0x420094")?)?;
+        Ok(shapes::structure("0x420079", fields))
+    }
+
+    #[tactic(auto, unfolding(crate::specs::Requests::get_request_payload_value))]
+    fn from_data(alloc: A, value: &Data<A>) -> Result<GetRequestPayload<A>, AllocError> {
+        let unique_identifier = reading::text_string::<Self, A>(
+            alloc,
+            value,
+            0,
+            "Transparent:0x420094",
+        )?;
+        Ok(GetRequestPayload { unique_identifier })
+    }
+}
+
+/// An item: get an object.
+#[derive(Drop)]
+#[derive_where(Debug, PartialEq)]
+pub struct GetRequestItem<A: Allocator = Global> {
+    /// Which object.
+    pub payload: GetRequestPayload<A>,
+}
+
+impl<B: Allocator> Serialize for GetRequestItem<B> {
+    ghost stated = { get_request_item_value };
+
+    #[tactic(auto, unfolding(crate::specs::Requests::get_request_item_value))]
+    fn visit<V: Visitor>(&self, visitor: &mut V) -> Result<(), AllocError> {
+        writing::begin_struct(visitor, "0x42000F")?;
+        writing::unit_variant(visitor, "0x42005C", "0x0000000A")?;
+        self.payload.visit(visitor)?;
+        writing::end_struct(visitor, "0x42000F")?;
+        Ok(())
+    }
+}
+
+impl<A: Allocator> Readable for GetRequestItem<A> {
+    ghost read_by = { get_request_item_form };
+
+    ghost read_as = { get_request_item_value };
+}
+
+impl<A: Allocator + Copy> Deserialize<A> for GetRequestItem<A> {
+    ghost form = { get_request_item_form };
+
+    ghost is_value = { λ v x. v ≡ get_request_item_value x };
+
+    fn shape(alloc: A) -> Result<Shape<A>, AllocError> {
+        let mut fields = Vec::new(alloc);
+        fields.push(shapes::constant(alloc, "0x42005C", "0x0000000A")?)?;
+        fields.push(shapes::field("0x420079", GetRequestPayload::<A>::shape(alloc)?))?;
+        Ok(shapes::structure("0x42000F", fields))
+    }
+
+    #[tactic(auto, unfolding(crate::specs::Requests::get_request_item_value))]
+    fn from_data(alloc: A, value: &Data<A>) -> Result<GetRequestItem<A>, AllocError> {
+        reading::constant::<Self, A>(value, 0, "0x42005C", "0x0000000A");
+        let payload = GetRequestPayload::from_data(alloc, reading::part::<Self, A>(value, 1))?;
+        Ok(GetRequestItem { payload })
+    }
+}
+
+/// A request of one item.
+#[derive(Drop)]
+#[derive_where(Debug, PartialEq)]
+pub struct GetRequest<A: Allocator = Global> {
+    /// The header, whose count is 1.
+    pub header: RequestHeader,
+    /// The item.
+    pub item: GetRequestItem<A>,
+}
+
+impl<B: Allocator> Serialize for GetRequest<B> {
+    ghost stated = { get_request_value };
+
+    #[tactic(auto, unfolding(crate::specs::Requests::get_request_value))]
+    fn visit<V: Visitor>(&self, visitor: &mut V) -> Result<(), AllocError> {
+        writing::begin_struct(visitor, "0x420078")?;
+        self.header.visit(visitor)?;
+        self.item.visit(visitor)?;
+        writing::end_struct(visitor, "0x420078")?;
+        Ok(())
+    }
+}
+
+impl<A: Allocator> Readable for GetRequest<A> {
+    ghost read_by = { get_request_form };
+
+    ghost read_as = { get_request_value };
+}
+
+impl<A: Allocator + Copy> Deserialize<A> for GetRequest<A> {
+    ghost form = { get_request_form };
+
+    ghost is_value = { λ v x. v ≡ get_request_value x };
+
+    fn shape(alloc: A) -> Result<Shape<A>, AllocError> {
+        let mut fields = Vec::new(alloc);
+        fields.push(shapes::field("0x420077", RequestHeader::shape(alloc)?))?;
+        fields.push(shapes::field("0x42000F", GetRequestItem::<A>::shape(alloc)?))?;
+        Ok(shapes::structure("0x420078", fields))
+    }
+
+    #[tactic(auto, unfolding(crate::specs::Requests::get_request_value))]
+    fn from_data(alloc: A, value: &Data<A>) -> Result<GetRequest<A>, AllocError> {
+        let header = RequestHeader::from_data(alloc, reading::part::<Self, A>(value, 0))?;
+        let item = GetRequestItem::from_data(alloc, reading::part::<Self, A>(value, 1))?;
+        Ok(GetRequest { header, item })
+    }
+}

@@ -1,0 +1,2 @@
+pub mod MessageParts
+pub mod MessageChoices

@@ -1,0 +1,110 @@
+//! Telling leaves that may be absent, and Date-Times, as their readers in `reading` give them. All else that a
+//! `visit` is made of is that of `kmip_ttlv_base::parts`, which is reexported here.
+
+ghost use Rattle.std.specs.Prelude.{OnOk, OnErr, option_map, string_bytes};
+ghost use Rattle.std.specs.Int.{w64, cast_unsigned};
+ghost use Rattle.kmip_ttlv_base.specs.Values.{newtype_value, boolean_value, i32_value, i64_value, u64_value, interval_value, text_value, bytes_value, big_integer_value};
+ghost use Rattle.kmip_ttlv_base.specs.Visits.{Tells, TellsEach, optional};
+
+use kmip_ttlv_base::parts;
+pub use kmip_ttlv_base::parts::{
+    begin_newtype, begin_newtype_variant, begin_seq, begin_struct, begin_tuple_variant,
+    big_integer, boolean, byte_string, each, end_newtype, end_newtype_variant, end_seq, end_struct,
+    end_tuple_variant, enumeration, integer, interval, long_integer, newtype, newtype_variant,
+    option, seq, text_string, unit_variant,
+};
+use kmip_ttlv_base::visit::Visitor;
+use std::alloc::{AllocError, Allocator};
+
+/// A Date-Time, in seconds since 1970, in a newtype of this name.
+#[inline(always)]
+pub fn date_time<V: Visitor>(
+    visitor: &mut V,
+    name: &'static str,
+    seconds: i64,
+) -> Result<(), AllocError>
+    ensures told { OnOk result (Tells V.knows V.step (newtype_value name.now (u64_value (cast_unsigned w64 seconds))) visitor.old visitor.new) }
+    ensures stopped { OnErr result (V.stopped visitor.new) }
+{
+    parts::date_time(visitor, name, seconds.cast_unsigned())
+}
+
+/// A Boolean, in a newtype of this name. Where it is absent, nothing is told.
+#[inline(always)]
+pub fn optional_boolean<V: Visitor>(
+    visitor: &mut V,
+    name: &'static str,
+    truth: &Option<bool>,
+) -> Result<(), AllocError>
+    ensures told { OnOk result (TellsEach V.knows V.step (optional (option_map (λ x. newtype_value name.now (boolean_value x)) truth.now)) visitor.old visitor.new) }
+    ensures stopped { OnErr result (V.stopped visitor.new) }
+{
+    match truth {
+        Some(truth) => parts::boolean(visitor, name, *truth),
+        None => Ok(()),
+    }
+}
+
+/// An Interval, in seconds, in a newtype of this name. Where it is absent, nothing is told.
+#[inline(always)]
+pub fn optional_interval<V: Visitor>(
+    visitor: &mut V,
+    name: &'static str,
+    seconds: &Option<u32>,
+) -> Result<(), AllocError>
+    ensures told { OnOk result (TellsEach V.knows V.step (optional (option_map (λ x. newtype_value name.now (interval_value x)) seconds.now)) visitor.old visitor.new) }
+    ensures stopped { OnErr result (V.stopped visitor.new) }
+{
+    match seconds {
+        Some(seconds) => parts::interval(visitor, name, *seconds),
+        None => Ok(()),
+    }
+}
+
+/// A Text String, in a newtype of this name. Where it is absent, nothing is told.
+#[inline(always)]
+pub fn optional_text_string<V: Visitor, A: Allocator>(
+    visitor: &mut V,
+    name: &'static str,
+    text: &Option<String<A>>,
+) -> Result<(), AllocError>
+    ensures told { OnOk result (TellsEach V.knows V.step (optional (option_map (λ x. newtype_value name.now (text_value (string_bytes x))) text.now)) visitor.old visitor.new) }
+    ensures stopped { OnErr result (V.stopped visitor.new) }
+{
+    match text {
+        Some(text) => parts::text_string(visitor, name, text.as_str()),
+        None => Ok(()),
+    }
+}
+
+/// A Byte String, in a newtype of this name. Where it is absent, nothing is told.
+#[inline(always)]
+pub fn optional_byte_string<V: Visitor, A: Allocator>(
+    visitor: &mut V,
+    name: &'static str,
+    bytes: &Option<Vec<u8, A>>,
+) -> Result<(), AllocError>
+    ensures told { OnOk result (TellsEach V.knows V.step (optional (option_map (λ x. newtype_value name.now (bytes_value x.items)) bytes.now)) visitor.old visitor.new) }
+    ensures stopped { OnErr result (V.stopped visitor.new) }
+{
+    match bytes {
+        Some(bytes) => parts::byte_string(visitor, name, bytes.as_slice()),
+        None => Ok(()),
+    }
+}
+
+/// A Big Integer, the highest byte first, in a newtype of this name. Where it is absent, nothing is told.
+#[inline(always)]
+pub fn optional_big_integer<V: Visitor, A: Allocator>(
+    visitor: &mut V,
+    name: &'static str,
+    bytes: &Option<Vec<u8, A>>,
+) -> Result<(), AllocError>
+    ensures told { OnOk result (TellsEach V.knows V.step (optional (option_map (λ x. newtype_value name.now (big_integer_value x.items)) bytes.now)) visitor.old visitor.new) }
+    ensures stopped { OnErr result (V.stopped visitor.new) }
+{
+    match bytes {
+        Some(bytes) => parts::big_integer(visitor, name, bytes.as_slice()),
+        None => Ok(()),
+    }
+}
