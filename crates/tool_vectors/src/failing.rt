@@ -1,0 +1,239 @@
+//! Runs where memory is refused, and where the input, the output or the errors fail.
+
+use crate::runs::{HIDDEN_LINES, Outcome, VERSION, VERSION_LINES, back_with, run_with};
+use kmip_ttlv_names::{standard_names, standard_values};
+use refusing_allocator::RefusingAllocator;
+use std::alloc::{AllocError, Global};
+use std::io;
+use std::io::{ErrorKind, Read, Write};
+use ttlv_run::run::run;
+use ttlv_run::{Encoding, Job, Names, Task};
+
+const SHOW: Task<'static> = Task::Show { redacted: false };
+
+// A task and what it prints of the version's message.
+const GROWN: [(Task<'static>, &str); 5] = [
+    (SHOW, VERSION_LINES),
+    (Task::Show { redacted: true }, HIDDEN_LINES),
+    (
+        Task::Diagnose {
+            closed: true,
+            prefix: "4200",
+        },
+        "69[6Ai6Bi]\n",
+    ),
+    (
+        Task::Hexadecimal,
+        "420069010000002042006A0200000004000000010000000042006B02000000040000000000000000\n",
+    ),
+    (Task::Check, ""),
+];
+
+// What a run, or all runs of a row, came to.
+#[derive(Clone, Copy, Debug, PartialEq, Eq)]
+enum Answer {
+    // The text, and no growth was refused.
+    Whole,
+    // The text or want of memory, and a growth was refused.
+    Refused,
+    // Another one, where this growth was refused.
+    Wrong(u64),
+}
+
+const NO_MEMORY: &str = "capture: out of memory\n";
+
+fn answer_of(outcome: &Outcome, text: &str, refused: bool, before: u64) -> Answer {
+    let whole = outcome.is(0, text, "");
+    if refused && (whole || outcome.is(3, "", NO_MEMORY)) {
+        Answer::Refused
+    } else if whole && !refused {
+        Answer::Whole
+    } else {
+        Answer::Wrong(before)
+    }
+}
+
+// What a run comes to where one growth is refused. The names may be refused before it begins.
+fn one_answer(alloc: Global, task: Task<'_>, text: &str, before: u64) -> Answer {
+    let heap = RefusingAllocator::new(alloc, before);
+    match run_with(&heap, alloc, task, Encoding::Detected, VERSION.as_bytes()) {
+        Ok(outcome) => answer_of(&outcome, text, heap.has_refused(), before),
+        Err(AllocError) if heap.has_refused() => Answer::Refused,
+        Err(AllocError) => Answer::Wrong(before),
+    }
+}
+
+fn one_back(alloc: Global, before: u64) -> Answer {
+    let heap = RefusingAllocator::new(alloc, before);
+    let text = "Tag: Protocol Version (0x420069), Type: Structure (0x01)\n";
+    match back_with(&heap, alloc, "4200", b"69[") {
+        Ok(outcome) => answer_of(&outcome, text, heap.has_refused(), before),
+        Err(AllocError) if heap.has_refused() => Answer::Refused,
+        Err(AllocError) => Answer::Wrong(before),
+    }
+}
+
+fn all_answers(alloc: Global, task: Task<'_>, text: &str) -> Answer {
+    for before in 0..200u64 {
+        let answer = one_answer(alloc, task, text, before);
+        if answer != Answer::Refused {
+            return answer;
+        }
+    }
+    Answer::Refused
+}
+
+fn all_backs(alloc: Global) -> Answer {
+    for before in 0..200u64 {
+        let answer = one_back(alloc, before);
+        if answer != Answer::Refused {
+            return answer;
+        }
+    }
+    Answer::Refused
+}
+
+#[test]
+fn each_growth_may_be_refused(rt: HostRuntime) {
+    for (task, text) in GROWN {
+        assert_eq!(rt;
+            all_answers(rt.alloc(), task, text),
+            Answer::Whole,
+            "{task:?}"
+        );
+    }
+    assert_eq!(rt; all_backs(rt.alloc()), Answer::Whole);
+}
+
+// Gives one byte a read, and fails once, with this kind.
+#[derive(Drop)]
+struct Faltering<'a> {
+    bytes: &'a [u8],
+    before: u64,
+    kind: ErrorKind,
+}
+
+impl Read for Faltering<'_> {
+    fn read(&mut self, buf: &mut [u8]) -> io::Result<usize> {
+        let left = self.before;
+        self.before = left.wrapping_sub(1);
+        if left == 0 {
+            return Err(io::Error::from(self.kind));
+        }
+        let most = buf.len().min(1);
+        self.bytes.read(&mut buf[..most])
+    }
+}
+
+// Takes one byte a write, and fails after so many bytes.
+#[derive(Drop)]
+struct Narrow<'a> {
+    taken: &'a mut Vec<u8>,
+    room: usize,
+    kind: ErrorKind,
+}
+
+impl Write for Narrow<'_> {
+    fn write(&mut self, buf: &[u8]) -> io::Result<usize> {
+        if self.room == 0 {
+            return Err(io::Error::from(self.kind));
+        }
+        self.room -= 1;
+        let most = buf.len().min(1);
+        self.taken.write(&buf[..most])
+    }
+
+    fn flush(&mut self) -> io::Result<()> {
+        Ok(())
+    }
+}
+
+// A run whose input fails after so many reads, and whose output after so many bytes.
+fn run_between(
+    alloc: Global,
+    reads: (u64, ErrorKind),
+    writes: (usize, ErrorKind),
+) -> Result<Outcome, AllocError> {
+    let (Ok(tags), Ok(values)) = (standard_names(alloc), standard_values(alloc)) else {
+        return Err(AllocError);
+    };
+    let names = Names { tags, values };
+    let job = Job {
+        name: "capture",
+        task: Task::Hexadecimal,
+        encoding: Encoding::Detected,
+    };
+    let mut input = Faltering {
+        bytes: VERSION.as_bytes(),
+        before: reads.0,
+        kind: reads.1,
+    };
+    let mut output = Vec::new(alloc);
+    let mut errors = Vec::new(alloc);
+    let mut narrow = Narrow {
+        taken: &mut output,
+        room: writes.0,
+        kind: writes.1,
+    };
+    let status = run(alloc, &job, &names, &mut input, &mut narrow, &mut errors);
+    Ok(Outcome {
+        status,
+        output,
+        errors,
+    })
+}
+
+const TEXT: &str =
+    "420069010000002042006A0200000004000000010000000042006B02000000040000000000000000\n";
+
+fn input_fails(alloc: Global, before: u64) -> bool {
+    match run_between(alloc, (before, ErrorKind::Other), (1000, ErrorKind::Other)) {
+        Ok(outcome) => outcome.is(2, "", "capture: it can't be read\n"),
+        Err(AllocError) => false,
+    }
+}
+
+fn input_is_interrupted(alloc: Global, before: u64) -> bool {
+    match run_between(
+        alloc,
+        (before, ErrorKind::Interrupted),
+        (1000, ErrorKind::Other),
+    ) {
+        Ok(outcome) => outcome.is(0, TEXT, ""),
+        Err(AllocError) => false,
+    }
+}
+
+#[test]
+fn inputs_that_fail(rt: HostRuntime) {
+    for before in [0, 1, 40, 80] {
+        assert!(rt; input_fails(rt.alloc(), before), "{before}");
+        assert!(rt; input_is_interrupted(rt.alloc(), before), "{before}");
+    }
+}
+
+fn output_fails(alloc: Global, room: usize, kind: ErrorKind, line: &str) -> bool {
+    let Some(text) = TEXT.get(..room) else {
+        return false;
+    };
+    match run_between(alloc, (1000, ErrorKind::Other), (room, kind)) {
+        Ok(outcome) => outcome.is(3, text, line),
+        Err(AllocError) => false,
+    }
+}
+
+#[test]
+fn outputs_that_fail(rt: HostRuntime) {
+    let line = "capture: the output can't be written\n";
+    for room in [0, 1, 40, 80] {
+        assert!(rt;
+            output_fails(rt.alloc(), room, ErrorKind::Other, line),
+            "{room}"
+        );
+        // A closed pipe ends it quietly.
+        assert!(rt;
+            output_fails(rt.alloc(), room, ErrorKind::BrokenPipe, ""),
+            "{room}"
+        );
+    }
+}

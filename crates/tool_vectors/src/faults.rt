@@ -1,0 +1,173 @@
+//! Malformed messages and input that can't be decoded: the status, what is printed by then, and the line
+//! on standard error.
+
+use crate::runs::{VERSION_LINES, back_with, run_with};
+use std::alloc::{AllocError, Global};
+use ttlv_run::{Encoding, Task};
+
+// An encoding, an input, what is shown of it, and the line.
+type Row = (Encoding, &'static str, &'static str, &'static str);
+
+const SHOW: Task<'static> = Task::Show { redacted: false };
+
+const MALFORMED: [Row; 8] = [
+    (
+        Encoding::Detected,
+        "42006901",
+        "",
+        "capture: byte 0: Protocol Version (0x420069): the input ends within the message\n",
+    ),
+    (
+        Encoding::Detected,
+        "4200",
+        "",
+        "capture: byte 0: no tag: the input ends within the message\n",
+    ),
+    // The second message is cut.
+    (
+        Encoding::Detected,
+        "420069010000002042006A0200000004000000010000000042006B02000000040000000000000000420069010000",
+        VERSION_LINES,
+        "capture: byte 40: Protocol Version (0x420069): the input ends within the message\n",
+    ),
+    (
+        Encoding::Detected,
+        "42006A02000000040000000100000000",
+        "",
+        "capture: byte 0: Protocol Version Major (0x42006A): a message begins with a Structure\n",
+    ),
+    (
+        Encoding::Detected,
+        "4200690B00000000",
+        "",
+        "capture: byte 0: Protocol Version (0x420069): unknown type\n",
+    ),
+    // The second item states more than its structure has.
+    (
+        Encoding::Detected,
+        "420069010000002042006A0200000004000000010000000042006B07000000090000000000000000",
+        "Tag: Protocol Version (0x420069), Type: Structure (0x01), Data:\n  Tag: Protocol Version Major (0x42006A), Type: Integer (0x02), Data: 0x000001 (1)\n",
+        "capture: byte 24: Protocol Version Minor (0x42006B): longer than the structure around\n",
+    ),
+    (
+        Encoding::Detected,
+        "420069010000001042006A02000000030000000100000000",
+        "Tag: Protocol Version (0x420069), Type: Structure (0x01), Data:\n",
+        "capture: byte 8: Protocol Version Major (0x42006A): wrong length for the type\n",
+    ),
+    (
+        Encoding::Detected,
+        "420069010000001042006A06000000080000000000000002",
+        "Tag: Protocol Version (0x420069), Type: Structure (0x01), Data:\n",
+        "capture: byte 8: Protocol Version Major (0x42006A): invalid value for the type\n",
+    ),
+];
+
+// Input that stands for no bytes.
+const UNDECODED: [Row; 7] = [
+    (
+        Encoding::Detected,
+        "42x9",
+        "",
+        "capture: byte 2: this is no digit of the encoding\n",
+    ),
+    (
+        Encoding::Detected,
+        "42 0g",
+        "",
+        "capture: byte 4: this is no digit of the encoding\n",
+    ),
+    (
+        Encoding::Detected,
+        "42 0",
+        "",
+        "capture: byte 4: digits are missing at the end, or too many are there\n",
+    ),
+    (
+        Encoding::Hexadecimal,
+        "QgBp",
+        "",
+        "capture: byte 0: this is no digit of the encoding\n",
+    ),
+    (
+        Encoding::Base64,
+        "Qg*p",
+        "",
+        "capture: byte 2: this is no digit of the encoding\n",
+    ),
+    (
+        Encoding::Detected,
+        "QgBpA",
+        "",
+        "capture: byte 5: digits are missing at the end, or too many are there\n",
+    ),
+    (
+        Encoding::Detected,
+        "Qg==QgBp",
+        "",
+        "capture: byte 8: digits are missing at the end, or too many are there\n",
+    ),
+];
+
+fn ends(alloc: Global, row: Row, status: u8) -> bool {
+    let (encoding, input, text, line) = row;
+    match run_with(alloc, alloc, SHOW, encoding, input.as_bytes()) {
+        Ok(outcome) => outcome.is(status, text, line),
+        Err(AllocError) => false,
+    }
+}
+
+#[test]
+fn malformed_messages(rt: HostRuntime) {
+    for row in MALFORMED {
+        assert!(rt; ends(rt.alloc(), row, 1), "{row:?}");
+    }
+}
+
+#[test]
+fn undecoded_input(rt: HostRuntime) {
+    for row in UNDECODED {
+        assert!(rt; ends(rt.alloc(), row, 2), "{row:?}");
+    }
+}
+
+// A cut message under each other task: what is printed of it.
+const CUT: [(Task<'static>, &str); 4] = [
+    (Task::Check, ""),
+    (Task::Hexadecimal, "42006901\n"),
+    (
+        Task::Diagnose {
+            closed: true,
+            prefix: "4200",
+        },
+        "ERR\n",
+    ),
+    (Task::Show { redacted: true }, ""),
+];
+
+fn is_cut(alloc: Global, task: Task<'_>, text: &str) -> bool {
+    let line = "capture: byte 0: Protocol Version (0x420069): the input ends within the message\n";
+    match run_with(alloc, alloc, task, Encoding::Detected, b"42006901") {
+        Ok(outcome) => outcome.is(1, text, line),
+        Err(AllocError) => false,
+    }
+}
+
+#[test]
+fn each_task(rt: HostRuntime) {
+    for (task, text) in CUT {
+        assert!(rt; is_cut(rt.alloc(), task, text), "{task:?}");
+    }
+}
+
+fn is_no_text(alloc: Global) -> bool {
+    match back_with(alloc, alloc, "", &[0xC3, 0x28]) {
+        Ok(outcome) => outcome.is(2, "", "capture: it is not UTF-8\n"),
+        Err(AllocError) => false,
+    }
+}
+
+#[test]
+fn diagnostics_that_are_no_text(rt: HostRuntime) {
+    assert!(rt; is_no_text(rt.alloc()));
+}

@@ -1,0 +1,15 @@
+//! Tests of the tool `ttlv`: what a run prints of worked messages in each encoding, which status and
+//! which line malformed or undecodable input has, what refused growths, failing writers and closed
+//! pipes come to, and what the words of the command line ask for.
+#![tactic(auto)]
+
+#[cfg(test)]
+mod failing;
+#[cfg(test)]
+mod faults;
+#[cfg(test)]
+mod printed;
+#[cfg(test)]
+mod runs;
+#[cfg(test)]
+mod words;

@@ -1,0 +1,155 @@
+//! What is printed of whole messages.
+
+use crate::runs::{CREATE_RESPONSE, HIDDEN_LINES, VERSION, VERSION_LINES, back_with, run_with};
+use std::alloc::{AllocError, Global};
+use ttlv_run::{Encoding, Task};
+
+// The lines of the response.
+const RESPONSE_LINES: &str =
+    "Tag: Response Message (0x42007B), Type: Structure (0x01), Data:\n  Tag: Response Header (0x42007A), Type: Structure (0x01), Data:\n    Tag: Protocol Version (0x420069), Type: Structure (0x01), Data:\n      Tag: Protocol Version Major (0x42006A), Type: Integer (0x02), Data: 0x000001 (1)\n      Tag: Protocol Version Minor (0x42006B), Type: Integer (0x02), Data: 0x000000 (0)\n    Tag: Time Stamp (0x420092), Type: DateTime (0x09), Data: 0x4AFBE7C2\n    Tag: Batch Count (0x42000D), Type: Integer (0x02), Data: 0x000001 (1)\n  Tag: Batch Item (0x42000F), Type: Structure (0x01), Data:\n    Tag: Operation (0x42005C), Type: Enumeration (0x05), Data: 0x000001 (1) Create\n    Tag: Result Status (0x42007F), Type: Enumeration (0x05), Data: 0x000000 (0) Success\n    Tag: Response Payload (0x42007C), Type: Structure (0x01), Data:\n      Tag: Object Type (0x420057), Type: Enumeration (0x05), Data: 0x000002 (2) Symmetric Key\n      Tag: Unique Identifier (0x420094), Type: TextString (0x07), Data: fc8833de-70d2-4ece-b063-fede3a3c59fe\n";
+
+// The version's message as base64.
+const VERSION_BASE64: &str = "QgBpAQAAACBCAGoCAAAABAAAAAEAAAAAQgBrAgAAAAQAAAAAAAAAAA==";
+
+// A diagnostic without a prefix, in which empty structures stay open.
+const DIAGNOSE: Task<'static> = Task::Diagnose {
+    closed: false,
+    prefix: "",
+};
+
+// A task, an encoding, an input, and what is printed.
+type Row = (Task<'static>, Encoding, &'static str, &'static str);
+
+const SHOW: Task<'static> = Task::Show { redacted: false };
+
+const REDACT: Task<'static> = Task::Show { redacted: true };
+
+const PREFIXED: Task<'static> = Task::Diagnose {
+    closed: false,
+    prefix: "4200",
+};
+
+const CLOSED: Task<'static> = Task::Diagnose {
+    closed: true,
+    prefix: "4200",
+};
+
+const PRINTED: [Row; 20] = [
+    (SHOW, Encoding::Detected, VERSION, VERSION_LINES),
+    (SHOW, Encoding::Hexadecimal, VERSION, VERSION_LINES),
+    (SHOW, Encoding::Detected, VERSION_BASE64, VERSION_LINES),
+    (SHOW, Encoding::Base64, VERSION_BASE64, VERSION_LINES),
+    (REDACT, Encoding::Detected, VERSION, HIDDEN_LINES),
+    (SHOW, Encoding::Detected, CREATE_RESPONSE, RESPONSE_LINES),
+    (
+        DIAGNOSE,
+        Encoding::Detected,
+        VERSION,
+        "420069[42006Ai42006Bi]\n",
+    ),
+    (PREFIXED, Encoding::Detected, VERSION, "69[6Ai6Bi]\n"),
+    (PREFIXED, Encoding::Detected, "4200690100000000", "69[ERR\n"),
+    (CLOSED, Encoding::Detected, "4200690100000000", "69[]\n"),
+    (Task::Check, Encoding::Detected, VERSION, ""),
+    (
+        Task::Hexadecimal,
+        Encoding::Detected,
+        "420069010000000042006a0100000000",
+        "4200690100000000\n42006A0100000000\n",
+    ),
+    (
+        CLOSED,
+        Encoding::Detected,
+        "0x42, 0x00, 0x69, 0x01, 0x00:00:00:00 42 00 6a 01\t00\r\n00 \"00\" '00'",
+        "69[]\n6A[]\n",
+    ),
+    (CLOSED, Encoding::Detected, "\n QgBpAQAAAAA=\n", "69[]\n"),
+    // An enumeration's value stays, with its name, where values are hidden.
+    (
+        REDACT,
+        Encoding::Detected,
+        "42000F010000001042005C05000000040000000A00000000",
+        "Tag: Batch Item (0x42000F), Type: Structure (0x01), Data:\n  Tag: Operation (0x42005C), Type: Enumeration (0x05), Data: 0x00000A (10) Get\n",
+    ),
+    // A value without a name, and an enumeration that has no list.
+    (
+        SHOW,
+        Encoding::Detected,
+        "42000F010000002042005C0500000004000000FF0000000042000F05000000040000000100000000",
+        "Tag: Batch Item (0x42000F), Type: Structure (0x01), Data:\n  Tag: Operation (0x42005C), Type: Enumeration (0x05), Data: 0x0000FF (255)\n  Tag: Batch Item (0x42000F), Type: Enumeration (0x05), Data: 0x000001 (1)\n",
+    ),
+    // No message at all.
+    (SHOW, Encoding::Detected, "", ""),
+    (SHOW, Encoding::Detected, " \n", ""),
+    (SHOW, Encoding::Base64, "", ""),
+    (Task::Check, Encoding::Raw, "", ""),
+];
+
+fn prints(alloc: Global, row: Row) -> bool {
+    let (task, encoding, input, text) = row;
+    match run_with(alloc, alloc, task, encoding, input.as_bytes()) {
+        Ok(outcome) => outcome.is(0, text, ""),
+        Err(AllocError) => false,
+    }
+}
+
+#[test]
+fn whole_messages(rt: HostRuntime) {
+    for row in PRINTED {
+        assert!(rt; prints(rt.alloc(), row), "{row:?}");
+    }
+}
+
+// Two raw messages, one after the other.
+const RAW: [u8; 16] = [
+    0x42, 0x00, 0x69, 1, 0, 0, 0, 0, 0x42, 0x00, 0x6A, 1, 0, 0, 0, 0,
+];
+
+fn raw_prints(alloc: Global, encoding: Encoding) -> bool {
+    match run_with(alloc, alloc, CLOSED, encoding, &RAW) {
+        Ok(outcome) => outcome.is(0, "69[]\n6A[]\n", ""),
+        Err(AllocError) => false,
+    }
+}
+
+#[test]
+fn raw_messages(rt: HostRuntime) {
+    assert!(rt; raw_prints(rt.alloc(), Encoding::Detected));
+    assert!(rt; raw_prints(rt.alloc(), Encoding::Raw));
+}
+
+// A prefix, diagnostics, and what they are read back as.
+const BACK: [(&str, &str, &str); 5] = [
+    (
+        "4200",
+        "69[6Ai",
+        "Tag: Protocol Version (0x420069), Type: Structure (0x01), Data: \n  Tag: Protocol Version Major (0x42006A), Type: Integer (0x02)\n",
+    ),
+    (
+        "",
+        "420069[",
+        "Tag: Protocol Version (0x420069), Type: Structure (0x01)\n",
+    ),
+    (
+        "4200",
+        "69[ \r\n\n6A[\n",
+        "Tag: Protocol Version (0x420069), Type: Structure (0x01)\nTag: Protocol Version Major (0x42006A), Type: Structure (0x01)\n",
+    ),
+    ("4200", "", ""),
+    ("4200", "\n\n", ""),
+];
+
+fn reads_back(alloc: Global, row: (&str, &str, &str)) -> bool {
+    let (prefix, input, text) = row;
+    match back_with(alloc, alloc, prefix, input.as_bytes()) {
+        Ok(outcome) => outcome.is(0, text, ""),
+        Err(AllocError) => false,
+    }
+}
+
+#[test]
+fn diagnostics_read_back(rt: HostRuntime) {
+    for row in BACK {
+        assert!(rt; reads_back(rt.alloc(), row), "{row:?}");
+    }
+}

@@ -1,0 +1,93 @@
+//! Runs over memory, and the messages that they are tried on.
+
+use kmip_ttlv_names::{standard_names, standard_values};
+use std::alloc::{AllocError, Allocator, Global};
+use ttlv_run::run::{read_back, run};
+use ttlv_run::{BackJob, Encoding, Job, Names, Task};
+
+/// A version of the protocol: two numbers.
+pub const VERSION: &str =
+    "420069010000002042006A0200000004000000010000000042006B02000000040000000000000000";
+
+/// Its readable lines.
+pub const VERSION_LINES: &str =
+    "Tag: Protocol Version (0x420069), Type: Structure (0x01), Data:\n  Tag: Protocol Version Major (0x42006A), Type: Integer (0x02), Data: 0x000001 (1)\n  Tag: Protocol Version Minor (0x42006B), Type: Integer (0x02), Data: 0x000000 (0)\n";
+
+/// Lines, with every value hidden.
+pub const HIDDEN_LINES: &str =
+    "Tag: Protocol Version (0x420069), Type: Structure (0x01), Data:\n  Tag: Protocol Version Major (0x42006A), Type: Integer (0x02), Data: <redacted>\n  Tag: Protocol Version Minor (0x42006B), Type: Integer (0x02), Data: <redacted>\n";
+
+/// The response to a request that created a key (the standard's use cases, 3.1.1).
+pub const CREATE_RESPONSE: &str =
+    "42007B01000000C042007A0100000048420069010000002042006A0200000004000000010000000042006B020000000400000000000000004200920900000008000000004AFBE7C242000D0200000004000000010000000042000F010000006842005C0500000004000000010000000042007F0500000004000000000000000042007C010000004042005705000000040000000200000000420094070000002466633838333364652D373064322D346563652D623036332D66656465336133633539666500000000";
+
+/// What a run left behind.
+#[derive(Drop)]
+pub struct Outcome {
+    pub status: u8,
+    pub output: Vec<u8>,
+    pub errors: Vec<u8>,
+}
+
+impl Outcome {
+    /// Whether it is these.
+    pub fn is(&self, status: u8, output: &str, errors: &str) -> bool {
+        self.status == status
+            && self.output.as_slice() == output.as_bytes()
+            && self.errors.as_slice() == errors.as_bytes()
+    }
+}
+
+/// A run on an input in memory, with the standard's names.
+pub fn run_with<A: Allocator + Copy>(
+    heap: A,
+    alloc: Global,
+    task: Task<'_>,
+    encoding: Encoding,
+    input: &[u8],
+) -> Result<Outcome, AllocError> {
+    let (Ok(tags), Ok(values)) = (standard_names(heap), standard_values(heap)) else {
+        return Err(AllocError);
+    };
+    let names = Names { tags, values };
+    let job = Job {
+        name: "capture",
+        task,
+        encoding,
+    };
+    let mut input = input;
+    let mut output = Vec::new(alloc);
+    let mut errors = Vec::new(alloc);
+    let status = run(heap, &job, &names, &mut input, &mut output, &mut errors);
+    Ok(Outcome {
+        status,
+        output,
+        errors,
+    })
+}
+
+/// A run that reads diagnostics back.
+pub fn back_with<A: Allocator + Copy>(
+    heap: A,
+    alloc: Global,
+    prefix: &str,
+    input: &[u8],
+) -> Result<Outcome, AllocError> {
+    let (Ok(tags), Ok(values)) = (standard_names(heap), standard_values(heap)) else {
+        return Err(AllocError);
+    };
+    let names = Names { tags, values };
+    let job = BackJob {
+        name: "capture",
+        prefix,
+    };
+    let mut input = input;
+    let mut output = Vec::new(alloc);
+    let mut errors = Vec::new(alloc);
+    let status = read_back(heap, &job, &names, &mut input, &mut output, &mut errors);
+    Ok(Outcome {
+        status,
+        output,
+        errors,
+    })
+}

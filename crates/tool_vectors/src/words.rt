@@ -1,0 +1,141 @@
+//! What the words of the command line ask for.
+
+use std::alloc::{AllocError, Global};
+use ttlv_run::{Encoding, Task};
+use ttlv_words::{Asked, request_of};
+
+// Words, what is asked, the file of names, and how many files are read.
+type Row = (&'static str, Asked<'static>, Option<&'static str>, usize);
+
+const ASKED: [Row; 9] = [
+    (
+        "ttlv show",
+        Asked::Print {
+            task: Task::Show { redacted: false },
+            encoding: Encoding::Detected,
+        },
+        None,
+        0,
+    ),
+    (
+        "ttlv show --redact --names own.txt a b",
+        Asked::Print {
+            task: Task::Show { redacted: true },
+            encoding: Encoding::Detected,
+        },
+        Some("own.txt"),
+        2,
+    ),
+    (
+        "ttlv diag --prefix 4200 --closed a",
+        Asked::Print {
+            task: Task::Diagnose {
+                closed: true,
+                prefix: "4200",
+            },
+            encoding: Encoding::Detected,
+        },
+        None,
+        1,
+    ),
+    (
+        "ttlv diag --input=raw",
+        Asked::Print {
+            task: Task::Diagnose {
+                closed: false,
+                prefix: "",
+            },
+            encoding: Encoding::Raw,
+        },
+        None,
+        0,
+    ),
+    (
+        "ttlv undiag --prefix 4200",
+        Asked::ReadBack { prefix: "4200" },
+        None,
+        0,
+    ),
+    ("ttlv undiag", Asked::ReadBack { prefix: "" }, None, 0),
+    (
+        "ttlv check --input hex a b c",
+        Asked::Print {
+            task: Task::Check,
+            encoding: Encoding::Hexadecimal,
+        },
+        None,
+        3,
+    ),
+    (
+        "ttlv hex --input base64 -- -a",
+        Asked::Print {
+            task: Task::Hexadecimal,
+            encoding: Encoding::Base64,
+        },
+        None,
+        1,
+    ),
+    (
+        "ttlv hex",
+        Asked::Print {
+            task: Task::Hexadecimal,
+            encoding: Encoding::Detected,
+        },
+        None,
+        0,
+    ),
+];
+
+// Words that ask for nothing, and the exit status: help, the version, and mistakes.
+const OTHERS: [(&str, i32); 9] = [
+    ("ttlv --help", 0),
+    ("ttlv show --help", 0),
+    ("ttlv --version", 0),
+    ("ttlv", 2),
+    ("ttlv shout", 2),
+    ("ttlv show --closed", 2),
+    ("ttlv diag --redact", 2),
+    ("ttlv check --input ebcdic", 2),
+    ("ttlv diag --prefix", 2),
+];
+
+fn words_of(alloc: Global, line: &str) -> Result<Vec<String>, AllocError> {
+    let mut words = Vec::new(alloc);
+    for word in line.split_whitespace() {
+        words.push(String::from_str(alloc, word)?)?;
+    }
+    Ok(words)
+}
+
+fn asks(alloc: Global, row: Row) -> bool {
+    let (line, asked, names, files) = row;
+    let Ok(words) = words_of(alloc, line) else {
+        return false;
+    };
+    match request_of(alloc, words.as_slice()) {
+        Ok(request) => request.asked == asked
+            && request.names == names
+            && request.files.len() == files,
+        Err(_) => false,
+    }
+}
+
+fn ends(alloc: Global, line: &str, status: i32) -> bool {
+    let Ok(words) = words_of(alloc, line) else {
+        return false;
+    };
+    match request_of(alloc, words.as_slice()) {
+        Ok(_) => false,
+        Err(error) => error.exit_code() == status && error.use_stderr() == (status != 0),
+    }
+}
+
+#[test]
+fn requests(rt: HostRuntime) {
+    for row in ASKED {
+        assert!(rt; asks(rt.alloc(), row), "{row:?}");
+    }
+    for (line, status) in OTHERS {
+        assert!(rt; ends(rt.alloc(), line, status), "{line}");
+    }
+}

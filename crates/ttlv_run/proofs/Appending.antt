@@ -1,0 +1,18 @@
+-- Texts that are written one behind the other.
+use Rattle.std.proofs.Common.{◌≡◌, ℕ, List, ◌++◌, Option, Some, None, Bool, true, false, length, take, sym, ap, refl, subst, ◌∙◌, ◌≤◌, arith, append_assoc, take_all, le_refl, append-nil}
+use Rattle.std.specs.Io.KnownBytes.{Appends, Keeps}
+use Rattle.kmip_ttlv_types.specs.Streams.{AppendsFront}
+use Rattle.ttlv_run.specs.Reasons.{Tells}
+
+pub four_more : (s t u v w a b c d : List ℕ) → t ≡ s ++ a → u ≡ t ++ b → v ≡ u ++ c → w ≡ v ++ d → w ≡ s ++ (a ++ (b ++ (c ++ d)))
+four_more s t u v w a b c d one two three four =
+    four ∙ ap (λ x. x ++ d) (three ∙ ap (λ x. x ++ c) (two ∙ ap (λ x. x ++ b) one))
+    ∙ append_assoc ((s ++ a) ++ b) c d ∙ append_assoc (s ++ a) b (c ++ d) ∙ append_assoc s a (b ++ (c ++ d))
+
+-- a text that was written to its end is a beginning of itself
+pub all_front : (old new : Option (List ℕ)) (text : List ℕ) → Appends old new text → AppendsFront old new text
+all_front old new text all = record { count = length text; within = le_refl _; appends = subst (Appends old new) (sym (take_all (length text) text (le_refl _))) all }
+
+pub told_front : (goes : Bool) (old new : Option (List ℕ)) (text : List ℕ) → Tells goes old new text → AppendsFront old new text
+told_front true old new text h = all_front old new text h
+told_front false old new text h = h

@@ -1,0 +1,5 @@
+pub mod Appending
+pub mod Backs
+pub mod Good
+pub mod Kept
+pub mod Told

@@ -1,0 +1,80 @@
+-- What is told of an input, and why a run fails.
+use Rattle.std.proofs.Common.{◌≡◌, ◌≢◌, ℕ, suc, List, [], ◌∷◌, ◌++◌, Option, Some, None, Result, Ok, Err, OnOk, OnErr, Bool, true, false, is_ok, length, take, sym, ap, refl, subst, ◌∙◌, ◌≤◌, ◌+◌, arith, append_assoc, codes, length-append}
+use Rattle.std.proofs.KnownBytes.{Appends-trans}
+use Rattle.std.proofs.lemmas.List.{take-append-le}
+use Rattle.std.specs.Io.KnownBytes.{Appends, Keeps}
+use Rattle.kmip_ttlv_types.specs.Streams.{AppendsFront}
+use Rattle.ttlv_run.specs.declared.job.Encoding.{Encoding}
+use Rattle.ttlv_run.specs.declared.job.Encoding.TheVariants.{Detected, Raw, Hexadecimal, Base64}
+use Rattle.ttlv_run.specs.declared.job.Job.{Job}
+use Rattle.ttlv_run.specs.declared.refusal.Refusal.{Refusal}
+use Rattle.ttlv_run.specs.declared.refusal.Refusal.TheVariants.{UnreadableInput, BadCharacter, WrongCount, NotUtf8, UnwritableOutput, ClosedPipe, RefusedMemory}
+use Rattle.ttlv_run.specs.Inputs.{TakesAll, IsNoneAs, encoding_of, IsUndecoded}
+use Rattle.ttlv_run.specs.Reasons.{Tells, place_told, offset_told, words_of, refusal_line}
+use Rattle.ttlv_run.specs.Runs.{Streams, Fails, Responds}
+use Rattle.ttlv_run.specs.Texts.{Names}
+
+take_more : (front text : List ℕ) (n : ℕ) → take (length front + n) (front ++ text) ≡ front ++ take n text
+take_more [] text n = let k : length {A = ℕ} [] + n ≡ n = omega arith in ap (λ m. take m text) k
+take_more (x ∷ front) text n =
+    let k : length (x ∷ front) + n ≡ suc (length front + n) = omega arith in
+    ap (λ m. take m (x ∷ (front ++ text))) k ∙ ap (λ s. x ∷ s) (take_more front text n)
+
+-- a beginning of a text behind another one is a beginning of both
+front_more : (a b c : Option (List ℕ)) (front text : List ℕ) → Appends a b front → AppendsFront b c text → AppendsFront a c (front ++ text)
+front_more a b c front text all more = record {
+  count = length front + more.count;
+  within = omega (arith, more.within, length-append front text);
+  appends = subst (Appends a c) (sym (take_more front text more.count)) (Appends-trans a b c front (take more.count text) all more.appends);
+}
+
+pub tells_more : {T E : Type 0} (r : Result T E) (goes said : Bool) (known mid new : Option (List ℕ)) (front text : List ℕ) → goes ≡ true → said ≡ is_ok r → OnOk r (Appends mid new text) → OnErr r (AppendsFront mid new text) → Tells goes known mid front → Tells said known new (front ++ text)
+tells_more (Ok x) goes said known mid new front text is says all some h =
+    let before = subst (λ b. Tells b known mid front) is h in
+    subst (λ b. Tells b known new (front ++ text)) (sym says) (Appends-trans known mid new front text before all)
+tells_more (Err e) goes said known mid new front text is says all some h =
+    let before = subst (λ b. Tells b known mid front) is h in
+    subst (λ b. Tells b known new (front ++ text)) (sym says) (front_more known mid new front text before some)
+
+-- the parts of a line are the line
+line_of : (name : List ℕ) (why : Refusal) → why ≢ ClosedPipe → place_told name (offset_told why) ++ codes ": " ++ words_of why ++ codes "\n" ≡ refusal_line name why
+line_of name UnreadableInput ne = refl
+line_of name (BadCharacter at) ne = refl
+line_of name (WrongCount at) ne = refl
+line_of name NotUtf8 ne = refl
+line_of name UnwritableOutput ne = refl
+line_of name ClosedPipe ne = absurd (ne refl)
+line_of name RefusedMemory ne = refl
+
+pub line_is : (name : List ℕ) (why : Refusal) (at : Option ℕ) (words : List ℕ) → why ≢ ClosedPipe → at ≡ offset_told why → words ≡ words_of why → place_told name at ++ codes ": " ++ words ++ codes "\n" ≡ refusal_line name why
+line_is name why at words ne at_is words_are =
+    ap (λ o. place_told name o ++ codes ": " ++ words ++ codes "\n") at_is ∙ ap (λ w. place_told name (offset_told why) ++ codes ": " ++ w ++ codes "\n") words_are ∙ line_of name why ne
+
+-- only decoding can fail where an input is decoded
+not_written : (e : Encoding) (s : List ℕ) → IsNoneAs e s UnwritableOutput → ⊥
+not_written Detected s h = h
+not_written Raw s h = h
+not_written Hexadecimal s h = h
+not_written Base64 s h = h
+
+not_closed : (e : Encoding) (s : List ℕ) → IsNoneAs e s ClosedPipe → ⊥
+not_closed Detected s h = h
+not_closed Raw s h = h
+not_closed Hexadecimal s h = h
+not_closed Base64 s h = h
+
+-- an input that was taken stands for no bytes, and the output stays as it was
+undecoded : (names : Names) (job : Job) (s : Streams) (why : Refusal) (input : List ℕ) → TakesAll s.input s.input_left input → IsUndecoded job.encoding input why → Keeps s.output s.output_now → Fails names job s why
+undecoded names job s UnreadableInput input taken none kept = kept
+undecoded names job s (BadCharacter at) input taken none kept = (record { input = input; taken = taken; undecoded = none }, kept)
+undecoded names job s (WrongCount at) input taken none kept = (record { input = input; taken = taken; undecoded = none }, kept)
+undecoded names job s NotUtf8 input taken none kept = (record { input = input; taken = taken; undecoded = none }, kept)
+undecoded names job s UnwritableOutput input taken none kept = absurd (not_written (encoding_of job.encoding input) input none)
+undecoded names job s ClosedPipe input taken none kept = absurd (not_closed (encoding_of job.encoding input) input none)
+undecoded names job s RefusedMemory input taken none kept = kept
+
+-- the same, where this is answered
+pub responds_undecoded : {T : Type 0} (text : T → List ℕ) (names : Names) (job : Job) (s : Streams) (e y : Refusal) (input : List ℕ) (r : Result (Option T) Refusal) → r ≡ Err y → y ≡ e → TakesAll s.input s.input_left input → IsUndecoded job.encoding input e → Keeps s.output s.output_now → Responds text names job s r
+responds_undecoded {T} text names job s e y input r is same taken none kept =
+    let fails = undecoded names job s e input taken none kept in
+    subst (λ (q : Result (Option T) Refusal). Responds text names job s q) (sym is) (subst (λ (x : Refusal). Fails names job s x) (sym same) fails)

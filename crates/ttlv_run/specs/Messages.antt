@@ -1,0 +1,79 @@
+-- The messages of an input, one after the other, and what is printed of them.
+use Rattle.std.specs.Prelude.{◌≡◌, ℕ, ◌+◌, ◌<◌, ◌&&◌, List, [], ◌++◌, length, take, drop, nat_le}
+use Rattle.std.specs.Prelude.{Option, Some, None, if◌then◌else◌, codes}
+use Rattle.std.specs.Fmt.{decimal}
+use Rattle.kmip_ttlv_types.specs.Places.{tag_at, length_at}
+use Rattle.kmip_ttlv_util.specs.Lines.{tag_named}
+use Rattle.kmip_ttlv_items.specs.declared.found.Fault.{Fault}
+use Rattle.kmip_ttlv_items.specs.declared.found.FaultKind.{FaultKind}
+use Rattle.kmip_ttlv_items.specs.declared.found.FaultKind.TheVariants.{Cut, NoStructure, UnknownType, PartialHeader}
+use Rattle.kmip_ttlv_items.specs.declared.found.FaultKind.TheVariants.{WrongLength, Overlong, InvalidValue, Surplus}
+use Rattle.ttlv_run.specs.declared.job.Task.{Task}
+use Rattle.ttlv_run.specs.declared.messages.Place.{Place}
+use Rattle.ttlv_run.specs.Texts.{Names, Adds}
+
+-- how many bytes the first message takes: as many as its header states, or else all that are there
+abbrev pub first_size : List ℕ → ℕ
+first_size bytes =
+    if nat_le 8 (length bytes) && nat_le (8 + length_at bytes 0) (length bytes)
+    then 8 + length_at bytes 0
+    else length bytes
+
+-- the message that begins at a place
+abbrev pub message_at : List ℕ → ℕ → List ℕ
+message_at bytes p = take (first_size (drop p bytes)) (drop p bytes)
+
+-- up to a place the bytes are whole messages, and this is what is printed of them
+pub data Whole (names : Names) (task : Task) (bytes : List ℕ) : ℕ → List ℕ → Type 0 where
+  whole_none : Whole names task bytes 0 []
+  whole_more :
+      (p q : ℕ) (old new : List ℕ)
+      → Whole names task bytes p old
+      → p < length bytes
+      → Adds names task (message_at bytes p) old new None
+      → q ≡ p + length (message_at bytes p)
+      → Whole names task bytes q new
+
+-- the tag of the item at a place, where its three bytes are there
+abbrev pub tag_there : List ℕ → ℕ → Option ℕ
+tag_there bytes p = if nat_le (p + 3) (length bytes) then Some (tag_at bytes p) else None
+
+-- behind whole messages stands one that is not whole: what is printed up to its fault, and where that is
+pub record Breaks (names : Names) (task : Task) (bytes text : List ℕ) (place : Place) : Type 0 where
+  pub at : ℕ
+  pub front : List ℕ
+  pub fault : Fault
+  pub whole : Whole names task bytes at front
+  pub left : at < length bytes
+  pub adds : Adds names task (message_at bytes at) front text (Some fault)
+  pub offset : place.offset ≡ at + fault.offset
+  pub tag : place.tag ≡ tag_there bytes place.offset
+  pub kind : place.kind ≡ fault.kind
+
+-- what is printed of all messages, or of those up to the first fault
+abbrev pub Prints : Names → Task → List ℕ → List ℕ → Option Place → Type 0
+Prints names task bytes text None = Whole names task bytes (length bytes) text
+Prints names task bytes text (Some place) = Breaks names task bytes text place
+
+-- a fault in words
+abbrev pub fault_words : FaultKind → List ℕ
+fault_words Cut = codes "the input ends within the message"
+fault_words NoStructure = codes "a message begins with a Structure"
+fault_words UnknownType = codes "unknown type"
+fault_words PartialHeader = codes "the structure around has no room for a header"
+fault_words WrongLength = codes "wrong length for the type"
+fault_words Overlong = codes "longer than the structure around"
+fault_words InvalidValue = codes "invalid value for the type"
+fault_words Surplus = codes "bytes behind the message"
+
+-- a tag with its name, where there is one
+abbrev pub tag_told : Names → Option ℕ → List ℕ
+tag_told names None = codes "no tag"
+tag_told names (Some tag) = tag_named (names.tags tag) tag
+
+-- the line on standard error: what the input is called, the offset among its messages' bytes, the tag there and
+-- what is wrong
+unfoldable pub fault_line : Names → List ℕ → Place → List ℕ
+fault_line names name place =
+    name ++ codes ": byte " ++ decimal place.offset ++ codes ": " ++ tag_told names place.tag ++ codes ": "
+    ++ fault_words place.kind ++ codes "\n"

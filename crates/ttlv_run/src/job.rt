@@ -1,0 +1,62 @@
+//! What a run is to do, and the names that it prints.
+
+use kmip_ttlv_util::LentTagMap;
+use std::alloc::{Allocator, Global};
+
+/// What is printed of each message.
+#[derive(Clone, Copy, Debug, PartialEq, Eq)]
+pub enum Task<'w> {
+    /// A readable line of each item; whether the values of all but enumerations are hidden.
+    Show { redacted: bool },
+    /// Its diagnostic and a line feed: whether empty structures are closed, and the hexadecimal digits
+    /// that are left out where a tag begins with them.
+    Diagnose { closed: bool, prefix: &'w str },
+    /// Its bytes in hexadecimal and a line feed.
+    Hexadecimal,
+    /// Nothing.
+    Check,
+}
+
+/// What the bytes of messages stand in the input as.
+#[derive(Clone, Copy, Debug, PartialEq, Eq)]
+pub enum Encoding {
+    /// Whichever of the others the input looks like.
+    Detected,
+    /// As they are.
+    Raw,
+    /// Hexadecimal digits of either case. White space, colons, commas, quotes and `0x` stand between
+    /// them or not.
+    Hexadecimal,
+    /// Base64 with padding (RFC 4648, section 4). White space, colons, commas and quotes stand between
+    /// its characters or not.
+    Base64,
+}
+
+/// What a run is to do with its input.
+#[derive(Clone, Copy, Debug, PartialEq, Eq)]
+pub struct Job<'w> {
+    /// What the input is called, in the line on standard error.
+    pub name: &'w str,
+    /// What is printed.
+    pub task: Task<'w>,
+    /// What the input is.
+    pub encoding: Encoding,
+}
+
+/// What a run that reads diagnostics back is to do with its input.
+#[derive(Clone, Copy, Debug, PartialEq, Eq)]
+pub struct BackJob<'w> {
+    /// What the input is called, in the line on standard error.
+    pub name: &'w str,
+    /// The hexadecimal digits that the diagnostics leave out of tags.
+    pub prefix: &'w str,
+}
+
+/// The names that are printed beside tags and values.
+#[derive(Drop)]
+pub struct Names<'n, A: Allocator = Global> {
+    /// The names of tags.
+    pub tags: LentTagMap<'n, A>,
+    /// The lists of enumerations' values, by tag, in the form of kmip_ttlv_names.
+    pub values: LentTagMap<'n, A>,
+}

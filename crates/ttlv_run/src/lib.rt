@@ -1,0 +1,20 @@
+//! What the program `ttlv` does, over any reader and any writers: it takes an input of TTLV messages,
+//! one after the other, as raw bytes, hexadecimal or base64, and prints them as readable lines, as
+//! diagnostics or in hexadecimal, or checks them; or it reads diagnostics back.
+//!
+//! `run` is the entry. `job` says what is to be done, `coding` takes the bytes out of the input,
+//! `messages` goes from message to message, `texts` and `lines` print one, and `refusal` has the
+//! reasons for statuses 2 and 3. Items, faults and diagnostics are those of kmip_ttlv_items and
+//! kmip_ttlv_util.
+#![tactic(auto)]
+
+mod back;
+mod coding;
+mod job;
+mod lines;
+mod messages;
+mod refusal;
+pub mod run;
+mod texts;
+
+pub use job::{BackJob, Encoding, Job, Names, Task};

@@ -1,0 +1,150 @@
+//! The messages of an input, one after the other: what is printed of them, and the first fault.
+
+ghost use Rattle.std.specs.Prelude.{◌≡◌, ◌<◌, ◌≤◌, ◌+◌, length, ◌++◌, IfOk, OnOk, string_bytes};
+ghost use Rattle.kmip_ttlv_types.specs.Places.{length_at};
+ghost use Rattle.ttlv_run.specs.Messages.{first_size, message_at, tag_there, Prints, fault_words, fault_line, tag_told};
+ghost use Rattle.ttlv_run.specs.Texts.{names_of};
+
+use crate::job::{Names, Task};
+use crate::texts::push_message;
+use itoa::Buffer;
+use kmip_ttlv_items::FaultKind;
+use kmip_ttlv_types::TtlvTag;
+use kmip_ttlv_util::push_tag;
+use std::alloc::{AllocError, Allocator};
+
+/// A fault among the bytes of an input's messages.
+#[derive(Clone, Copy, Debug, PartialEq, Eq)]
+pub struct Place {
+    /// Where the item that is wrong begins, in bytes from the first message's first.
+    pub offset: usize,
+    /// Its tag, where the three bytes of a tag are there.
+    pub tag: Option<TtlvTag>,
+    /// What is wrong.
+    pub kind: FaultKind,
+}
+
+// The length that a header in front states.
+fn length_stated(bytes: &[u8]) -> u32
+    requires { 8 ≤ length bytes.now }
+    ensures { result ≡ length_at bytes.now 0 }
+{
+    u32::from_be_bytes([bytes[4], bytes[5], bytes[6], bytes[7]])
+}
+
+// How many bytes the first message takes.
+fn first_size(bytes: &[u8]) -> usize
+    ensures size { result ≡ first_size bytes.now }
+    ensures within { result ≤ length bytes.now }
+    ensures some { 0 < length bytes.now → 0 < result }
+{
+    if bytes.len() < 8 {
+        return bytes.len();
+    }
+    let stated = 8 + length_stated(bytes) as usize;
+    if bytes.len() < stated {
+        return bytes.len();
+    }
+    stated
+}
+
+// The message that begins at a place.
+fn message_at(bytes: &[u8], at: usize) -> &[u8]
+    requires { at ≤ length bytes.now }
+    ensures is { result.now ≡ message_at bytes.now at }
+    ensures within { at + length result.now ≤ length bytes.now }
+    ensures some { at < length bytes.now → 0 < length result.now }
+{
+    let rest = &bytes[at..];
+    &rest[..first_size(rest)]
+}
+
+// The tag at a place, where its three bytes are there.
+fn tag_there(bytes: &[u8], at: usize) -> Option<TtlvTag>
+    ensures { result ≡ tag_there bytes.now at }
+{
+    if bytes.len() < 3 || bytes.len() - 3 < at {
+        return None;
+    }
+    Some(TtlvTag::from([bytes[at], bytes[at + 1], bytes[at + 2]]))
+}
+
+/// What a task prints of the messages that bytes are, one after the other, up to the first fault, and
+/// that fault.
+///
+/// It refuses for want of memory alone.
+pub fn print_all<A: Allocator + Copy>(
+    alloc: A,
+    names: &Names<'_, A>,
+    task: Task<'_>,
+    bytes: &[u8],
+) -> Result<(String<A>, Option<Place>), AllocError>
+    ensures { IfOk result (λ r. Prints (names_of names.now) task.entry bytes.now (string_bytes r.0) r.1) }
+{
+    let mut out = String::new(alloc);
+    let mut at = 0;
+    'messages: while at < bytes.len() {
+        let message = message_at(bytes, at);
+        if let Some(fault) = push_message(alloc, &mut out, names, task, message)? {
+            let offset = at + fault.offset;
+            let tag = tag_there(bytes, offset);
+            let kind = fault.kind;
+            return Ok((out, Some(Place { offset, tag, kind })));
+        }
+        at += message.len();
+    }
+    Ok((out, None))
+}
+
+// What is wrong, in words.
+fn fault_words(kind: FaultKind) -> &'static str
+    ensures { result.now ≡ fault_words kind }
+{
+    match kind {
+        FaultKind::Cut => "the input ends within the message",
+        FaultKind::NoStructure => "a message begins with a Structure",
+        FaultKind::UnknownType => "unknown type",
+        FaultKind::PartialHeader => "the structure around has no room for a header",
+        FaultKind::WrongLength => "wrong length for the type",
+        FaultKind::Overlong => "longer than the structure around",
+        FaultKind::InvalidValue => "invalid value for the type",
+        FaultKind::Surplus => "bytes behind the message",
+    }
+}
+
+// A tag with its name, or that there is none.
+fn push_told<A: Allocator>(
+    out: &mut String<A>,
+    names: &Names<'_, A>,
+    tag: Option<TtlvTag>,
+) -> Result<(), AllocError>
+    ensures { OnOk result (string_bytes out.new ≡ string_bytes out.old ++ tag_told (names_of names.now) tag) }
+{
+    match tag {
+        Some(tag) => push_tag(out, &names.tags, tag),
+        None => out.push_str("no tag"),
+    }
+}
+
+/// The line on standard error that says where an input is malformed.
+///
+/// It refuses for want of memory alone.
+#[tactic(auto, unfolding(crate::specs::Messages::fault_line))]
+pub fn fault_line<A: Allocator + Copy>(
+    alloc: A,
+    names: &Names<'_, A>,
+    name: &str,
+    place: Place,
+) -> Result<String<A>, AllocError>
+    ensures { IfOk result (λ line. string_bytes line ≡ fault_line (names_of names.now) name.now place) }
+{
+    let mut line = String::from_str(alloc, name)?;
+    line.push_str(": byte ")?;
+    line.push_str(Buffer::new().format(place.offset))?;
+    line.push_str(": ")?;
+    push_told(&mut line, names, place.tag)?;
+    line.push_str(": ")?;
+    line.push_str(fault_words(place.kind))?;
+    line.push_str("\n")?;
+    Ok(line)
+}

@@ -1,0 +1,76 @@
+//! Why a run ends with status 2 or 3.
+
+ghost use Rattle.std.specs.Prelude.{◌≡◌};
+ghost use Rattle.ttlv_run.specs.Reasons.{status_of, words_of, offset_told};
+
+use std::alloc::AllocError;
+
+/// Why a run ends with status 2 or 3. Offsets are in bytes from the input's first.
+#[derive(Clone, Copy, Debug, PartialEq, Eq)]
+pub enum Refusal {
+    /// The input can't be read.
+    UnreadableInput,
+    /// The character at this offset is none of the encoding.
+    BadCharacter(usize),
+    /// The characters up to this offset, the input's end, are those of no bytes: one is missing, or
+    /// too many are there.
+    WrongCount(usize),
+    /// The input is no UTF-8.
+    NotUtf8,
+    /// The output can't be written.
+    UnwritableOutput,
+    /// No one reads the output any more.
+    ClosedPipe,
+    /// Memory was refused.
+    RefusedMemory,
+}
+
+impl Refusal {
+    /// The status with which a run ends.
+    pub fn status(self) -> u8
+        ensures { result ≡ status_of self }
+    {
+        match self {
+            Refusal::UnreadableInput
+            | Refusal::BadCharacter(_)
+            | Refusal::WrongCount(_)
+            | Refusal::NotUtf8 => 2,
+            Refusal::UnwritableOutput | Refusal::ClosedPipe | Refusal::RefusedMemory => 3,
+        }
+    }
+
+    /// What is wrong, in words.
+    pub fn words(self) -> &'static str
+        ensures { result.now ≡ words_of self }
+    {
+        match self {
+            Refusal::UnreadableInput => "it can't be read",
+            Refusal::BadCharacter(_) => "this is no digit of the encoding",
+            Refusal::WrongCount(_) => "digits are missing at the end, or too many are there",
+            Refusal::NotUtf8 => "it is not UTF-8",
+            Refusal::UnwritableOutput => "the output can't be written",
+            Refusal::ClosedPipe => "",
+            Refusal::RefusedMemory => "out of memory",
+        }
+    }
+
+    /// The offset that is told, where there is one.
+    pub fn offset(self) -> Option<usize>
+        ensures { result ≡ offset_told self }
+    {
+        match self {
+            Refusal::BadCharacter(at) | Refusal::WrongCount(at) => Some(at),
+            _ => None,
+        }
+    }
+}
+
+impl From<AllocError> for Refusal {
+    ghost use Rattle.ttlv_run.specs.declared.refusal.Refusal.TheVariants.{RefusedMemory};
+
+    ghost from_gives = { λ _ r. r ≡ RefusedMemory };
+
+    fn from(_error: AllocError) -> Refusal {
+        Refusal::RefusedMemory
+    }
+}

@@ -1,0 +1,210 @@
+//! The whole run over one input, for any reader and any writers.
+
+ghost use Rattle.std.specs.Prelude.{◌≡◌, ◌≤◌, ◌⊎◌, ◌++◌, ℕ, List, Option, string_bytes};
+ghost use Rattle.std.specs.Io.KnownBytes.{Keeps};
+ghost use Rattle.kmip_ttlv_types.specs.Streams.{AppendsFront};
+ghost use Rattle.ttlv_run.specs.Reasons.{Tells, place_told, refusal_line};
+ghost use Rattle.ttlv_run.specs.Runs.{Responds, Printed, Malformed, Refused, RespondsBack, PrintedBack, RefusedBack};
+ghost use Rattle.ttlv_run.specs.Texts.{names_of};
+
+use crate::back::text_back;
+use crate::coding::{bytes_of, read_all};
+use crate::job::{BackJob, Job, Names};
+use crate::messages::{fault_line, print_all};
+use crate::refusal::Refusal;
+use itoa::Buffer;
+use kmip_ttlv_types::stream::Sink;
+use std::alloc::Allocator;
+use std::io::{ErrorKind, Read, Write};
+use std::str;
+
+// Prints what a job asks for, and answers the line that says what is malformed, if anything is. The
+// whole text is made before its first byte is written.
+fn respond<A: Allocator + Copy, R: Read, W: Write>(
+    alloc: A,
+    job: &Job<'_>,
+    names: &Names<'_, A>,
+    input: &mut R,
+    output: &mut W,
+) -> Result<Option<String<A>>, Refusal>
+    ensures { Responds string_bytes (names_of names.now) job.now
+        (record {
+          input = R.remaining input.old;
+          input_left = R.remaining input.new;
+          output = W.contents output.old;
+          output_now = W.contents output.new;
+        }) result }
+{
+    let taken = read_all(alloc, input)?;
+    let bytes = bytes_of(alloc, job.encoding, taken)?;
+    let (text, place) = print_all(alloc, names, job.task, bytes.as_slice())?;
+    let line = match place {
+        Some(place) => Some(fault_line(alloc, names, job.name, place)?),
+        None => None,
+    };
+    match output.send(text.as_bytes()) {
+        Ok(()) => Ok(line),
+        Err(e) if e.kind() == ErrorKind::BrokenPipe => Err(Refusal::ClosedPipe),
+        Err(_) => Err(Refusal::UnwritableOutput),
+    }
+}
+
+// Prints what diagnostics are read back as. The whole text is made before its first byte is written.
+fn respond_back<A: Allocator + Copy, R: Read, W: Write>(
+    alloc: A,
+    job: &BackJob<'_>,
+    names: &Names<'_, A>,
+    input: &mut R,
+    output: &mut W,
+) -> Result<(), Refusal>
+    ensures { RespondsBack (names_of names.now) job.now
+        (record {
+          input = R.remaining input.old;
+          input_left = R.remaining input.new;
+          output = W.contents output.old;
+          output_now = W.contents output.new;
+        }) result }
+{
+    let taken = read_all(alloc, input)?;
+    let Ok(diagnostics) = str::from_utf8(taken.as_slice()) else {
+        return Err(Refusal::NotUtf8);
+    };
+    let text = text_back(alloc, &names.tags, job.prefix, diagnostics)?;
+    match output.send(text.as_bytes()) {
+        Ok(()) => Ok(()),
+        Err(e) if e.kind() == ErrorKind::BrokenPipe => Err(Refusal::ClosedPipe),
+        Err(_) => Err(Refusal::UnwritableOutput),
+    }
+}
+
+// Writes a text behind another, where that was written to its end; answers whether this was too.
+fn tell<E: Write>(errors: &mut E, goes: bool, text: &str) -> bool
+    ensures { (known : Option (List ℕ)) (front : List ℕ) → Tells goes known (E.contents errors.old) front
+        → Tells result known (E.contents errors.new) (front ++ text.now) }
+{
+    goes && errors.send(text.as_bytes()).is_ok()
+}
+
+// Writes what the input is called, and the offset in it, if one is told.
+fn tell_place<E: Write>(errors: &mut E, name: &str, offset: Option<usize>) -> bool
+    ensures { Tells result (E.contents errors.old) (E.contents errors.new) (place_told name.now offset) }
+{
+    let goes = errors.send(name.as_bytes()).is_ok();
+    let Some(at) = offset else {
+        return goes;
+    };
+    let goes = tell(errors, goes, ": byte ");
+    tell(errors, goes, Buffer::new().format(at))
+}
+
+// Writes the line of a refusal, as far as it can be written. It takes no memory.
+fn tell_refusal<E: Write>(errors: &mut E, name: &str, refusal: Refusal)
+    ensures { AppendsFront (E.contents errors.old) (E.contents errors.new) (refusal_line name.now refusal) }
+{
+    if refusal == Refusal::ClosedPipe {
+        return;
+    }
+    let goes = tell_place(errors, name, refusal.offset());
+    let goes = tell(errors, goes, ": ");
+    let goes = tell(errors, goes, refusal.words());
+    tell(errors, goes, "\n");
+}
+
+/// Reads `input` to its end, prints what the job asks for to `output`, and answers the exit status:
+/// 0 where all messages are whole, 1 where one is malformed, 2 where the input can't be read or
+/// decoded, 3 where memory is refused or the output can't be written.
+///
+/// With status 1 the output has what is printed up to the fault, and with statuses 1 to 3 one line on
+/// `errors` says why, but for a closed pipe. Interrupted reads and writes are tried again, as often as
+/// a 64-bit count allows. Where `errors` can't be written, the status is the same.
+pub fn run<A: Allocator + Copy, R: Read, W: Write, E: Write>(
+    alloc: A,
+    job: &Job<'_>,
+    names: &Names<'_, A>,
+    input: &mut R,
+    output: &mut W,
+    errors: &mut E,
+) -> u8
+    ensures status { result ≤ 3 }
+    // With status 0 each message of the input is whole, and exactly what is printed of them was appended.
+    ensures printed { result ≡ 0 → Printed (names_of names.now) job.now
+        (record {
+          input = R.remaining input.old;
+          input_left = R.remaining input.new;
+          output = W.contents output.old;
+          output_now = W.contents output.new;
+        })
+        × Keeps (E.contents errors.old) (E.contents errors.new) }
+    // With status 1 a message is malformed: what is printed up to its fault was appended, and the fault is told.
+    ensures malformed { result ≡ 1 → Malformed (names_of names.now) job.now
+        (record {
+          input = R.remaining input.old;
+          input_left = R.remaining input.new;
+          output = W.contents output.old;
+          output_now = W.contents output.new;
+        })
+        (E.contents errors.old) (E.contents errors.new) }
+    // With statuses 2 and 3 there is a reason that is true of the input or of the output, and it is told.
+    ensures refused { (result ≡ 2) ⊎ (result ≡ 3) → Refused (names_of names.now) job.now
+        (record {
+          input = R.remaining input.old;
+          input_left = R.remaining input.new;
+          output = W.contents output.old;
+          output_now = W.contents output.new;
+        })
+        result (E.contents errors.old) (E.contents errors.new) }
+{
+    match respond(alloc, job, names, input, output) {
+        Ok(None) => 0,
+        Ok(Some(line)) => {
+            let _ = errors.send(line.as_bytes());
+            1
+        }
+        Err(refusal) => {
+            tell_refusal(errors, job.name, refusal);
+            refusal.status()
+        }
+    }
+}
+
+/// Reads `input` to its end and prints to `output` what its diagnostics, each in a line of its own, are
+/// read back as. It answers the exit status: 0, 2 where the input can't be read or is not UTF-8, or 3
+/// where memory is refused or the output can't be written.
+///
+/// Statuses 2 and 3 are told on `errors` as [`run`] tells them.
+pub fn read_back<A: Allocator + Copy, R: Read, W: Write, E: Write>(
+    alloc: A,
+    job: &BackJob<'_>,
+    names: &Names<'_, A>,
+    input: &mut R,
+    output: &mut W,
+    errors: &mut E,
+) -> u8
+    ensures status { (result ≡ 0) ⊎ ((result ≡ 2) ⊎ (result ≡ 3)) }
+    // With status 0 exactly what the whole input is read back as was appended.
+    ensures printed { result ≡ 0 → PrintedBack (names_of names.now) job.now
+        (record {
+          input = R.remaining input.old;
+          input_left = R.remaining input.new;
+          output = W.contents output.old;
+          output_now = W.contents output.new;
+        })
+        × Keeps (E.contents errors.old) (E.contents errors.new) }
+    // With any other there is a reason that is true of the input or of the output, and it is told.
+    ensures refused { (result ≡ 2) ⊎ (result ≡ 3) → RefusedBack (names_of names.now) job.now
+        (record {
+          input = R.remaining input.old;
+          input_left = R.remaining input.new;
+          output = W.contents output.old;
+          output_now = W.contents output.new;
+        })
+        result (E.contents errors.old) (E.contents errors.new) }
+{
+    match respond_back(alloc, job, names, input, output) {
+        Ok(()) => 0,
+        Err(refusal) => {
+            tell_refusal(errors, job.name, refusal);
+            refusal.status()
+        }
+    }
+}

@@ -1,0 +1,100 @@
+//! What the words ask for.
+
+use crate::command::program;
+use clap::{ArgMatches, Error};
+use std::alloc::{AllocError, Global};
+use ttlv_run::{Encoding, Task};
+
+/// What is to be done with each input.
+#[derive(Clone, Copy, Debug, PartialEq, Eq)]
+pub enum Asked<'w> {
+    /// To print its messages, which stand in it so.
+    Print { task: Task<'w>, encoding: Encoding },
+    /// To read back its diagnostics, which leave these digits out of tags.
+    ReadBack { prefix: &'w str },
+}
+
+/// What the program is to do.
+#[derive(Drop)]
+pub struct Request<'w> {
+    /// What is to be done with each input.
+    pub asked: Asked<'w>,
+    /// The file with further names of tags, where there is one.
+    pub names: Option<&'w str>,
+    /// The files to be read; none for standard input.
+    pub files: Vec<&'w str>,
+}
+
+fn encoding_of(matches: &ArgMatches<'_>) -> Encoding {
+    match matches.get_str("input") {
+        Some("raw") => Encoding::Raw,
+        Some("hex") => Encoding::Hexadecimal,
+        Some("base64") => Encoding::Base64,
+        _ => Encoding::Detected,
+    }
+}
+
+fn prefix_of<'w>(matches: &ArgMatches<'w>) -> &'w str {
+    match matches.get_str("prefix") {
+        Some(prefix) => prefix,
+        None => "",
+    }
+}
+
+fn task_of<'w>(command: &str, matches: &ArgMatches<'w>) -> Task<'w> {
+    match command {
+        "show" => Task::Show {
+            redacted: matches.get_flag("redact"),
+        },
+        "diag" => Task::Diagnose {
+            closed: matches.get_flag("closed"),
+            prefix: prefix_of(matches),
+        },
+        "hex" => Task::Hexadecimal,
+        _ => Task::Check,
+    }
+}
+
+fn files_of<'w>(alloc: Global, matches: &ArgMatches<'w>) -> Result<Vec<&'w str>, AllocError> {
+    let mut files = Vec::new(alloc);
+    if let Some(names) = matches.get_strs("files") {
+        for name in names {
+            if files.push(*name).is_err() {
+                return Err(AllocError);
+            }
+        }
+    }
+    Ok(files)
+}
+
+fn request_in<'w>(
+    alloc: Global,
+    command: &str,
+    matches: &ArgMatches<'w>,
+) -> Result<Request<'w>, AllocError> {
+    let asked = if command == "undiag" {
+        Asked::ReadBack {
+            prefix: prefix_of(matches),
+        }
+    } else {
+        Asked::Print {
+            task: task_of(command, matches),
+            encoding: encoding_of(matches),
+        }
+    };
+    Ok(Request {
+        asked,
+        names: matches.get_str("names"),
+        files: files_of(alloc, matches)?,
+    })
+}
+
+/// What words ask for, the first of which is the program's name. The error is to be printed, on
+/// standard output for help and the version, and has the exit status.
+pub fn request_of<'w>(alloc: Global, words: &'w [String]) -> Result<Request<'w>, Error> {
+    let matches = program(alloc)?.try_get_matches_from(words)?;
+    match matches.subcommand() {
+        Some((command, found)) => Ok(request_in(alloc, command, found)?),
+        None => Ok(request_in(alloc, "check", &matches)?),
+    }
+}
