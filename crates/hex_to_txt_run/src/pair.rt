@@ -1,11 +1,13 @@
 //! The type that `flat` reads and writes.
 
-ghost use Rattle.std.specs.Prelude.{◌≡◌, IfOk};
+ghost use Rattle.std.specs.Prelude.{◌≡◌};
 ghost use Rattle.kmip_ttlv.specs.Gives.{IsI32};
-ghost use Rattle.kmip_ttlv.specs.Values.{view, i32_value, newtype_value};
+ghost use Rattle.kmip_ttlv.specs.Values.{view, i32_value};
 ghost use Rattle.hex_to_txt_run.specs.Pair.{pair_form, read_pair, written_pair};
 
+use kmip_ttlv::parts::{begin_struct, end_struct, integer};
 use kmip_ttlv::shape::{Data, Deserialize, FieldShape, Serialize, Shape};
+use kmip_ttlv::visit::Visitor;
 use std::alloc::{AllocError, Allocator};
 
 /// A structure of two numbers.
@@ -13,14 +15,6 @@ use std::alloc::{AllocError, Allocator};
 pub struct Pair {
     pub first: i32,
     pub second: i32,
-}
-
-// A number under a tag.
-fn tagged<A: Allocator>(alloc: A, name: &'static str, number: i32) -> Result<Data<A>, AllocError>
-    ensures { IfOk result (λ d. view d ≡ newtype_value name.now (i32_value number)) }
-{
-    let inner = Box::new(alloc, Data::I32(number))?;
-    Ok(Data::Newtype { name, inner })
 }
 
 // The number that data is.
@@ -37,14 +31,12 @@ fn number_of<A: Allocator>(value: &Data<A>) -> i32
 impl Serialize for Pair {
     ghost stated = { λ p. written_pair p.first p.second };
 
-    fn to_data<A: Allocator + Copy>(&self, alloc: A) -> Result<Data<A>, AllocError> {
-        let mut fields = Vec::new(alloc);
-        fields.push(tagged(alloc, "Transparent:0xBBBBBB", self.first)?)?;
-        fields.push(tagged(alloc, "Transparent:0xCCCCCC", self.second)?)?;
-        Ok(Data::Struct {
-            name: "0xAAAAAA",
-            fields,
-        })
+    fn visit<V: Visitor>(&self, visitor: &mut V) -> Result<(), AllocError> {
+        begin_struct(visitor, "0xAAAAAA")?;
+        integer(visitor, "Transparent:0xBBBBBB", self.first)?;
+        integer(visitor, "Transparent:0xCCCCCC", self.second)?;
+        end_struct(visitor, "0xAAAAAA")?;
+        Ok(())
     }
 }
 

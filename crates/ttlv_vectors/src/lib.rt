@@ -6,6 +6,8 @@
 
 pub mod data;
 #[cfg(test)]
+mod get_attributes;
+#[cfg(test)]
 mod low_level;
 #[cfg(test)]
 mod reading;
@@ -14,5 +16,7 @@ mod request;
 #[cfg(test)]
 mod requesting;
 pub mod samples;
+#[cfg(test)]
+mod writes;
 #[cfg(test)]
 mod writing;

@@ -1,14 +1,20 @@
 //! A request to create an AES key, as a user of the crate would write it: one function for each
 //! part, with the value that it stands for.
 
-ghost use Rattle.std.specs.Prelude.{◌≡◌, IfOk};
-ghost use Rattle.kmip_ttlv.specs.Values.{view, i32_value};
-ghost use Rattle.ttlv_vectors.specs.Requests.{two_values, header_value, attribute_value, algorithm_value};
-ghost use Rattle.ttlv_vectors.specs.Requests.{attributes_value, item_value, request_value};
+ghost use Rattle.std.specs.Prelude.{OnOk, OnErr};
+ghost use Rattle.kmip_ttlv.specs.Visits.{Tells};
+ghost use Rattle.ttlv_vectors.specs.Requests.{version_value, header_value, attribute_value, algorithm_value};
+ghost use Rattle.ttlv_vectors.specs.Requests.{length_value, usage_value, attributes_value, template_value};
+ghost use Rattle.ttlv_vectors.specs.Requests.{symmetric_key_value, create_value, payload_value, item_value};
+ghost use Rattle.ttlv_vectors.specs.Requests.{request_value};
 
-use crate::data::{newtype, tagged_number, variant};
-use kmip_ttlv::shape::{Data, Serialize};
-use std::alloc::{AllocError, Allocator};
+use kmip_ttlv::parts::{
+    begin_newtype, begin_seq, begin_struct, end_newtype, end_seq, end_struct, integer,
+    newtype_variant, text_string, unit_variant,
+};
+use kmip_ttlv::shape::Serialize;
+use kmip_ttlv::visit::{Leaf, Visitor};
+use std::alloc::AllocError;
 
 /// A request to create an AES key (KMIP 1.0, section 4.1).
 #[derive(Clone, Copy, Debug)]
@@ -24,97 +30,188 @@ pub struct CreateRequest {
     pub usage: i32,
 }
 
-// A structure of two fields.
-fn structure<A: Allocator>(
-    alloc: A,
-    name: &'static str,
-    first: Data<A>,
-    second: Data<A>,
-) -> Result<Data<A>, AllocError>
-    ensures { IfOk result (λ d. view d ≡ two_values name.now (view first) (view second)) }
+// The version of the protocol.
+#[inline]
+#[tactic(auto, unfolding(crate::specs::Requests::version_value))]
+fn version<V: Visitor>(visitor: &mut V, major: i32, minor: i32) -> Result<(), AllocError>
+    ensures told { OnOk result
+        (Tells V.knows V.step (version_value major minor) visitor.old visitor.new) }
+    ensures stopped { OnErr result (V.stopped visitor.new) }
 {
-    let mut fields = Vec::new(alloc);
-    fields.push(first)?;
-    fields.push(second)?;
-    Ok(Data::Struct { name, fields })
+    begin_struct(visitor, "0x420069")?;
+    integer(visitor, "Transparent:0x42006A", major)?;
+    integer(visitor, "Transparent:0x42006B", minor)?;
+    end_struct(visitor, "0x420069")?;
+    Ok(())
 }
 
-fn header<A: Allocator + Copy>(
-    alloc: A,
-    major: i32,
-    minor: i32,
-    count: i32,
-) -> Result<Data<A>, AllocError>
-    ensures { IfOk result (λ d. view d ≡ header_value major minor count) }
+// The version of the protocol, and how many items follow.
+#[inline]
+#[tactic(auto, unfolding(crate::specs::Requests::header_value))]
+fn header<V: Visitor>(visitor: &mut V, major: i32, minor: i32, count: i32) -> Result<(), AllocError>
+    ensures told { OnOk result
+        (Tells V.knows V.step (header_value major minor count) visitor.old visitor.new) }
+    ensures stopped { OnErr result (V.stopped visitor.new) }
 {
-    let major = tagged_number(alloc, "Transparent:0x42006A", major)?;
-    let minor = tagged_number(alloc, "Transparent:0x42006B", minor)?;
-    let version = structure(alloc, "0x420069", major, minor)?;
-    let count = tagged_number(alloc, "Transparent:0x42000D", count)?;
-    structure(alloc, "0x420077", version, count)
+    begin_struct(visitor, "0x420077")?;
+    version(visitor, major, minor)?;
+    integer(visitor, "Transparent:0x42000D", count)?;
+    end_struct(visitor, "0x420077")?;
+    Ok(())
 }
 
-fn attribute<A: Allocator + Copy>(
-    alloc: A,
+// An attribute: its name, and its value under a tag that overrides the value's own.
+#[inline]
+#[tactic(auto, unfolding(crate::specs::Requests::attribute_value))]
+fn attribute<V: Visitor, T: Serialize>(
+    visitor: &mut V,
     name: &str,
-    value: Data<A>,
-) -> Result<Data<A>, AllocError>
-    ensures { IfOk result (λ d. view d ≡ attribute_value name.now (view value)) }
+    value: &T,
+) -> Result<(), AllocError>
+    ensures told { OnOk result
+        (Tells V.knows V.step (attribute_value name.now (T.stated value.now)) visitor.old visitor.new) }
+    ensures stopped { OnErr result (V.stopped visitor.new) }
 {
-    let text = Data::Text(String::from_str(alloc, name)?);
-    let name = newtype(alloc, "Transparent:0x42000A", text)?;
-    let value = variant(alloc, "Override:0x42000B", "Transparent", value)?;
-    structure(alloc, "0x420008", name, value)
+    begin_struct(visitor, "0x420008")?;
+    text_string(visitor, "Transparent:0x42000A", name)?;
+    newtype_variant(visitor, "Override:0x42000B", "Transparent", value)?;
+    end_struct(visitor, "0x420008")?;
+    Ok(())
 }
 
-fn algorithm<A: Allocator + Copy>(alloc: A) -> Result<Data<A>, AllocError>
-    ensures { IfOk result (λ d. view d ≡ algorithm_value) }
+// The algorithm AES.
+#[inline]
+#[tactic(auto, unfolding(crate::specs::Requests::algorithm_value))]
+fn algorithm<V: Visitor>(visitor: &mut V) -> Result<(), AllocError>
+    ensures told { OnOk result
+        (Tells V.knows V.step (algorithm_value) visitor.old visitor.new) }
+    ensures stopped { OnErr result (V.stopped visitor.new) }
 {
-    let aes = Data::UnitVariant {
+    let aes = Leaf::UnitVariant {
         name: "420028",
         variant: "0x00000003",
     };
-    attribute(alloc, "Cryptographic Algorithm", aes)
+    attribute(visitor, "Cryptographic Algorithm", &aes)?;
+    Ok(())
 }
 
-fn number<A: Allocator + Copy>(alloc: A, name: &str, number: i32) -> Result<Data<A>, AllocError>
-    ensures { IfOk result (λ d. view d ≡ attribute_value name.now (i32_value number)) }
+// The key's length, in bits.
+#[inline]
+#[tactic(auto, unfolding(crate::specs::Requests::length_value))]
+fn length<V: Visitor>(visitor: &mut V, bits: i32) -> Result<(), AllocError>
+    ensures told { OnOk result
+        (Tells V.knows V.step (length_value bits) visitor.old visitor.new) }
+    ensures stopped { OnErr result (V.stopped visitor.new) }
 {
-    attribute(alloc, name, Data::I32(number))
+    attribute(visitor, "Cryptographic Length", &Leaf::I32(bits))?;
+    Ok(())
 }
 
-fn attributes<A: Allocator + Copy>(alloc: A, bits: i32, usage: i32) -> Result<Data<A>, AllocError>
-    ensures { IfOk result (λ d. view d ≡ attributes_value bits usage) }
+// What the key may be used for.
+#[inline]
+#[tactic(auto, unfolding(crate::specs::Requests::usage_value))]
+fn usage_mask<V: Visitor>(visitor: &mut V, usage: i32) -> Result<(), AllocError>
+    ensures told { OnOk result
+        (Tells V.knows V.step (usage_value usage) visitor.old visitor.new) }
+    ensures stopped { OnErr result (V.stopped visitor.new) }
 {
-    let mut all = Vec::new(alloc);
-    all.push(algorithm(alloc)?)?;
-    all.push(number(alloc, "Cryptographic Length", bits)?)?;
-    all.push(number(alloc, "Cryptographic Usage Mask", usage)?)?;
-    Ok(Data::Seq(all))
+    attribute(visitor, "Cryptographic Usage Mask", &Leaf::I32(usage))?;
+    Ok(())
 }
 
-fn item<A: Allocator + Copy>(alloc: A, bits: i32, usage: i32) -> Result<Data<A>, AllocError>
-    ensures { IfOk result (λ d. view d ≡ item_value bits usage) }
+// The three attributes of a key.
+#[inline]
+#[tactic(auto, unfolding(crate::specs::Requests::attributes_value))]
+fn attributes<V: Visitor>(visitor: &mut V, bits: i32, usage: i32) -> Result<(), AllocError>
+    ensures told { OnOk result
+        (Tells V.knows V.step (attributes_value bits usage) visitor.old visitor.new) }
+    ensures stopped { OnErr result (V.stopped visitor.new) }
 {
-    let symmetric_key = Data::UnitVariant {
-        name: "0x420057",
-        variant: "0x00000002",
-    };
-    let template = newtype(alloc, "0x420091", attributes(alloc, bits, usage)?)?;
-    let payload = structure(alloc, "0x420079", symmetric_key, template)?;
-    let create = Data::UnitVariant {
-        name: "0x42005C",
-        variant: "0x00000001",
-    };
-    structure(alloc, "0x42000F", create, payload)
+    begin_seq(visitor)?;
+    algorithm(visitor)?;
+    length(visitor, bits)?;
+    usage_mask(visitor, usage)?;
+    end_seq(visitor)?;
+    Ok(())
+}
+
+// The template of a key: its attributes.
+#[inline]
+#[tactic(auto, unfolding(crate::specs::Requests::template_value))]
+fn template<V: Visitor>(visitor: &mut V, bits: i32, usage: i32) -> Result<(), AllocError>
+    ensures told { OnOk result
+        (Tells V.knows V.step (template_value bits usage) visitor.old visitor.new) }
+    ensures stopped { OnErr result (V.stopped visitor.new) }
+{
+    begin_newtype(visitor, "0x420091")?;
+    attributes(visitor, bits, usage)?;
+    end_newtype(visitor, "0x420091")?;
+    Ok(())
+}
+
+// The object type Symmetric Key.
+#[inline]
+#[tactic(auto, unfolding(crate::specs::Requests::symmetric_key_value))]
+fn symmetric_key<V: Visitor>(visitor: &mut V) -> Result<(), AllocError>
+    ensures told { OnOk result
+        (Tells V.knows V.step (symmetric_key_value) visitor.old visitor.new) }
+    ensures stopped { OnErr result (V.stopped visitor.new) }
+{
+    unit_variant(visitor, "0x420057", "0x00000002")?;
+    Ok(())
+}
+
+// The operation Create.
+#[inline]
+#[tactic(auto, unfolding(crate::specs::Requests::create_value))]
+fn create<V: Visitor>(visitor: &mut V) -> Result<(), AllocError>
+    ensures told { OnOk result
+        (Tells V.knows V.step (create_value) visitor.old visitor.new) }
+    ensures stopped { OnErr result (V.stopped visitor.new) }
+{
+    unit_variant(visitor, "0x42005C", "0x00000001")?;
+    Ok(())
+}
+
+// The payload: a symmetric key with these attributes.
+#[inline]
+#[tactic(auto, unfolding(crate::specs::Requests::payload_value))]
+fn payload<V: Visitor>(visitor: &mut V, bits: i32, usage: i32) -> Result<(), AllocError>
+    ensures told { OnOk result
+        (Tells V.knows V.step (payload_value bits usage) visitor.old visitor.new) }
+    ensures stopped { OnErr result (V.stopped visitor.new) }
+{
+    begin_struct(visitor, "0x420079")?;
+    symmetric_key(visitor)?;
+    template(visitor, bits, usage)?;
+    end_struct(visitor, "0x420079")?;
+    Ok(())
+}
+
+// An item: create this key.
+#[inline]
+#[tactic(auto, unfolding(crate::specs::Requests::item_value))]
+fn item<V: Visitor>(visitor: &mut V, bits: i32, usage: i32) -> Result<(), AllocError>
+    ensures told { OnOk result
+        (Tells V.knows V.step (item_value bits usage) visitor.old visitor.new) }
+    ensures stopped { OnErr result (V.stopped visitor.new) }
+{
+    begin_struct(visitor, "0x42000F")?;
+    create(visitor)?;
+    payload(visitor, bits, usage)?;
+    end_struct(visitor, "0x42000F")?;
+    Ok(())
 }
 
 impl Serialize for CreateRequest {
     ghost stated = { λ r. request_value r.major r.minor r.batch_count r.bits r.usage };
 
-    fn to_data<A: Allocator + Copy>(&self, alloc: A) -> Result<Data<A>, AllocError> {
-        let header = header(alloc, self.major, self.minor, self.batch_count)?;
-        let item = item(alloc, self.bits, self.usage)?;
-        structure(alloc, "0x420078", header, item)
+    #[tactic(auto, unfolding(crate::specs::Requests::request_value))]
+    fn visit<V: Visitor>(&self, visitor: &mut V) -> Result<(), AllocError> {
+        begin_struct(visitor, "0x420078")?;
+        header(visitor, self.major, self.minor, self.batch_count)?;
+        item(visitor, self.bits, self.usage)?;
+        end_struct(visitor, "0x420078")?;
+        Ok(())
     }
 }

@@ -3,6 +3,7 @@
 
 use crate::data::tagged_number;
 use crate::request::CreateRequest;
+use crate::samples::Single;
 use kmip_ttlv::error::{Error, ErrorKind, MalformedTtlvError};
 use kmip_ttlv::ser::TtlvSerializer;
 use kmip_ttlv::shape::{Data, Serialize};
@@ -20,6 +21,9 @@ const HEADER: &str =
 const ITEM: &str =
     "42000F01000000D842005C0500000004000000010000000042007901000000C042005705000000040000000200000000\
 42009101000000A8420008010000003042000A070000001743727970746F6772617068696320416C676F726974686D0042000B05000000040000000300000000420008010000003042000A070000001443727970746F67726170686963204C656E6774680000000042000B02000000040000008000000000420008010000003042000A070000001843727970746F67726170686963205573616765204D61736B42000B02000000040000000C00000000";
+
+// A structure of the number three, in hexadecimal.
+const NUMBER: &str = "AAAAAA0100000010BBBBBB02000000040000000300000000";
 
 const REQUEST: CreateRequest = CreateRequest {
     major: 1,
@@ -231,13 +235,13 @@ fn is_broken_pipe<A: Allocator>(error: &Error<A>) -> bool {
 
 // Whether a writer that fails has taken the bytes before that, and one that is only interrupted takes
 // them all.
-fn is_taken_up_to(heap: Global, room: usize, expected: &[u8]) -> bool {
+fn is_taken_up_to<T: Serialize>(heap: Global, value: &T, room: usize, expected: &[u8]) -> bool {
     let mut writer = Narrow {
         taken: Vec::new(heap),
         room,
         is_ready: false,
     };
-    let is_right = match &to_writer(heap, &REQUEST, &mut writer) {
+    let is_right = match &to_writer(heap, value, &mut writer) {
         Ok(()) => room == expected.len(),
         Err(error) => is_broken_pipe(error) && room < expected.len(),
     };
@@ -248,13 +252,24 @@ fn is_taken_up_to(heap: Global, room: usize, expected: &[u8]) -> bool {
 fn writers_that_fail(rt: HostRuntime) -> Result<(), Fail> {
     let expected = whole(rt.alloc())?;
     for room in 0..=expected.len() {
-        assert!(rt; is_taken_up_to(rt.alloc(), room, &expected), "{room}");
+        assert!(rt;
+            is_taken_up_to(rt.alloc(), &REQUEST, room, &expected),
+            "{room}"
+        );
+    }
+    let expected = hex::decode(rt.alloc(), NUMBER)?;
+    for room in 0..=expected.len() {
+        let single = Single { number: 3 };
+        assert!(rt;
+            is_taken_up_to(rt.alloc(), &single, room, &expected),
+            "{room}"
+        );
     }
     Ok(())
 }
 
 // How many growths a new serializer asks for.
-fn growths_of<A: Allocator + Copy, B: Allocator>(alloc: A, data: &Data<B>) -> u64 {
+fn growths_of(alloc: Global, data: &Data) -> u64 {
     for before in 0..100u64 {
         let heap = RefusingAllocator::new(alloc, before);
         let mut serializer = TtlvSerializer::new(&heap);

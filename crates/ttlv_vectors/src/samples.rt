@@ -3,9 +3,11 @@
 ghost use Rattle.std.specs.Prelude.{◌≡◌, IfOk};
 ghost use Rattle.ttlv_vectors.specs.Samples.{single_form, read_single, written_single};
 
-use crate::data::{number_of, tagged_number};
+use crate::data::number_of;
 use kmip_ttlv::laws::agreeing_values_come_back;
+use kmip_ttlv::parts::{begin_struct, end_struct, integer};
 use kmip_ttlv::shape::{Data, Deserialize, FieldShape, Serialize, Shape};
+use kmip_ttlv::visit::Visitor;
 use kmip_ttlv::{from_slice, to_vec};
 use std::alloc::{AllocError, Allocator};
 
@@ -18,13 +20,11 @@ pub struct Single {
 impl Serialize for Single {
     ghost stated = { λ s. written_single s.number };
 
-    fn to_data<A: Allocator + Copy>(&self, alloc: A) -> Result<Data<A>, AllocError> {
-        let mut fields = Vec::new(alloc);
-        fields.push(tagged_number(alloc, "Transparent:0xBBBBBB", self.number)?)?;
-        Ok(Data::Struct {
-            name: "0xAAAAAA",
-            fields,
-        })
+    fn visit<V: Visitor>(&self, visitor: &mut V) -> Result<(), AllocError> {
+        begin_struct(visitor, "0xAAAAAA")?;
+        integer(visitor, "Transparent:0xBBBBBB", self.number)?;
+        end_struct(visitor, "0xAAAAAA")?;
+        Ok(())
     }
 }
 

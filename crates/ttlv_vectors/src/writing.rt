@@ -4,10 +4,10 @@ use crate::data::{newtype, tagged_number, variant};
 use crate::low_level::{are_bytes, is_text};
 use crate::request::CreateRequest;
 use crate::samples::{Single, there_and_back};
-use kmip_ttlv::error::{Error, ErrorKind};
+use kmip_ttlv::error::{Error, ErrorKind, ErrorLocation};
 use kmip_ttlv::ser::TtlvSerializer;
 use kmip_ttlv::shape::{Data, Serialize};
-use kmip_ttlv::to_vec;
+use kmip_ttlv::{to_vec, to_writer};
 use std::alloc::{AllocError, Global};
 use std::test::Fail;
 
@@ -19,18 +19,35 @@ fn gives(alloc: Global, serializer: TtlvSerializer<Global>, text: &str) -> bool 
     }
 }
 
-// Whether the data, where memory was there for it, is written as these bytes, in hexadecimal.
-fn writes(alloc: Global, data: Result<Data, AllocError>, text: &str) -> bool {
-    match &data {
-        Ok(data) => is_written(alloc, data, text),
+// Whether data of what this data tells is the same.
+fn is_made_again(alloc: Global, data: &Data) -> bool {
+    match &data.to_data(alloc) {
+        Ok(again) => again == data,
         Err(_) => false,
     }
 }
 
-// Whether the data is written as these bytes, in hexadecimal.
+// Whether the data, where memory was there for it, is written as these bytes, in hexadecimal.
+fn writes(alloc: Global, data: Result<Data, AllocError>, text: &str) -> bool {
+    match &data {
+        Ok(data) => is_written(alloc, data, text) && is_made_again(alloc, data),
+        Err(_) => false,
+    }
+}
+
+// Whether the data is written as these bytes, in hexadecimal: by a serializer, by itself, and to a writer.
 fn is_written(alloc: Global, data: &Data, text: &str) -> bool {
     let mut serializer = TtlvSerializer::new(alloc);
-    serializer.serialize(data).is_ok() && gives(alloc, serializer, text)
+    serializer.serialize(data).is_ok()
+        && gives(alloc, serializer, text)
+        && value_is_written(alloc, data, text)
+        && is_written_to(alloc, data, text)
+}
+
+// Whether a writer gets these bytes, in hexadecimal.
+fn is_written_to(alloc: Global, data: &Data, text: &str) -> bool {
+    let mut writer = Vec::new(alloc);
+    to_writer(alloc, data, &mut writer).is_ok() && are_bytes(alloc, writer.as_slice(), text)
 }
 
 // Whether a refusal is of this kind, as it is printed.
@@ -47,19 +64,28 @@ fn is_at(error: &Error, offset: u64) -> bool {
         && place.parent_tags().is_empty()
 }
 
-// Whether the data is refused at this offset; the text is that of the error.
-fn is_refused(alloc: Global, data: &Data, offset: u64, text: &str) -> bool {
-    let mut serializer = TtlvSerializer::new(alloc);
-    match &serializer.serialize(data) {
-        Ok(()) => false,
+// Whether the answer is a refusal at this offset; the text is that of its kind.
+fn is_refusal<T>(alloc: Global, answer: &Result<T, Error>, offset: u64, text: &str) -> bool {
+    match answer {
+        Ok(_) => false,
         Err(error) => is_at(error, offset) && is_of_kind(alloc, error.kind(), text),
     }
+}
+
+// Whether the data is refused at this offset: by a serializer, by itself, and to a writer, which gets nothing.
+fn is_refused(alloc: Global, data: &Data, offset: u64, text: &str) -> bool {
+    let mut serializer = TtlvSerializer::new(alloc);
+    let mut writer = Vec::new(alloc);
+    is_refusal(alloc, &serializer.serialize(data), offset, text)
+        && is_refusal(alloc, &to_vec(alloc, data), offset, text)
+        && is_refusal(alloc, &to_writer(alloc, data, &mut writer), offset, text)
+        && writer.is_empty()
 }
 
 // Whether the data, where memory was there for it, is refused so.
 fn refuses(alloc: Global, data: Result<Data, AllocError>, offset: u64, text: &str) -> bool {
     match &data {
-        Ok(data) => is_refused(alloc, data, offset, text),
+        Ok(data) => is_refused(alloc, data, offset, text) && is_made_again(alloc, data),
         Err(_) => false,
     }
 }
@@ -277,28 +303,50 @@ fn takes(serializer: &mut TtlvSerializer<Global>, data: Data) -> bool {
     serializer.serialize(&data).is_ok()
 }
 
-// Whether the serializer refuses the data, at this offset or at an unknown one.
-fn refuses_at(serializer: &mut TtlvSerializer<Global>, data: Data, offset: Option<u64>) -> bool {
-    match (&serializer.serialize(&data), offset) {
-        (Err(error), Some(offset)) => {
-            matches!(error.location().offset(), Some(at) if at.0 == offset)
+// Whether the serializer refuses the data at this offset; the text is that of the kind.
+fn refuses_next(
+    alloc: Global,
+    serializer: &mut TtlvSerializer<Global>,
+    data: Data,
+    offset: u64,
+    text: &str,
+) -> bool {
+    is_refusal(alloc, &serializer.serialize(&data), offset, text)
+}
+
+// Whether the answer is that of a serializer which refused a call before.
+fn is_closed<T>(alloc: Global, answer: &Result<T, Error>) -> bool {
+    match answer {
+        Ok(_) => false,
+        Err(error) => {
+            error.location().is_unknown()
+                && is_of_kind(alloc, error.kind(), "MalformedTtlv(UnknownStructureLength)")
         }
-        (Err(error), None) => error.location().is_unknown(),
-        (Ok(()), _) => false,
     }
+}
+
+// Whether the place that a serializer has reached is behind so many bytes.
+fn has_reached(serializer: &mut TtlvSerializer<Global>, offset: u64) -> bool {
+    let place: ErrorLocation = ErrorLocation::from(serializer);
+    matches!(place.offset(), Some(at) if at.0 == offset)
 }
 
 #[test]
 fn a_serializer_that_refused_refuses_on(rt: HostRuntime) -> Result<(), Fail> {
     let alloc = rt.alloc();
     let mut serializer = TtlvSerializer::new(alloc);
+    assert!(rt; has_reached(&mut serializer, 0));
     assert!(rt; takes(&mut serializer, structure("0xAABBCC", Vec::new(alloc))));
-    assert!(rt; refuses_at(&mut serializer, Data::I32(3), Some(8)));
+    assert!(rt; has_reached(&mut serializer, 8));
+    let text =
+        "MalformedTtlv(UnexpectedTtlvField { expected: Value, actual: TypeAndLengthAndValue })";
+    assert!(rt; refuses_next(alloc, &mut serializer, Data::I32(3), 8, text));
     for _ in 0..2 {
         let empty = structure("0xAABBCC", Vec::new(alloc));
-        assert!(rt; refuses_at(&mut serializer, empty, None));
+        assert!(rt; is_closed(alloc, &serializer.serialize(&empty)));
     }
-    assert!(rt; serializer.into_vec().is_err());
+    assert!(rt; has_reached(&mut serializer, 8));
+    assert!(rt; is_closed(alloc, &serializer.into_vec()));
     Ok(())
 }
 

@@ -1,0 +1,38 @@
+//! The shapes by which the inputs are read. Stands on the types of `reading_vectors` that stand for
+//! shapes.
+
+use reading_vectors::names::{
+    IfInteger, IfOtherAtLeastWord, IfStructure, IfText, TagA, TagB, TagC,
+};
+use reading_vectors::parts::{
+    Choice, Content, Maybe, NoFields, NoParts, Number, Octets, OneField, OneVariant, Parts,
+    Repeated, Sequence, Structure, Text, Tuple, TwoVariants,
+};
+
+/// A structure of one field.
+type Of<P> = Structure<TagA, OneField<TagB, P>>;
+
+/// Many integers.
+pub type Numbers = Of<Sequence<Number>>;
+
+/// One byte string.
+pub type Long = Of<Octets>;
+
+/// Many structures with no content.
+pub type Empties = Of<Sequence<Structure<TagB, NoFields>>>;
+
+/// A rule that asks for a text which never comes, and one that holds.
+type TextByRule = TwoVariants<IfOtherAtLeastWord, Content<Text>, IfText, Content<Text>>;
+
+/// Many texts under one tag, each by a rule that asks for another tag.
+pub type Texts = Of<Sequence<Choice<TagB, TextByRule>>>;
+
+type NumberByRule = TwoVariants<IfOtherAtLeastWord, Content<Number>, IfInteger, Content<Number>>;
+
+type Pair = Tuple<Parts<Text, Parts<Choice<TagC, NumberByRule>, NoParts>>>;
+
+/// Many tuples, each of a text and of a number by a rule that asks for another tag.
+pub type Tuples = Of<Sequence<Choice<TagB, OneVariant<IfStructure, Pair>>>>;
+
+/// Many fields that may be left out.
+pub type Fields = Structure<TagA, Repeated<TagB, Maybe<Number>, 100, NoFields>>;

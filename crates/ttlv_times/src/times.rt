@@ -1,0 +1,170 @@
+//! What a call takes, the least of several times, and beside it what a walk over the headers and a copy of the same bytes take.
+
+use kmip_ttlv::items::find_fault;
+use kmip_ttlv::{PrettyPrinter, from_slice};
+use reading_vectors::parts::Part;
+use reading_vectors::run::Run;
+use std::alloc::Global;
+use std::io::{self, Eprint};
+use std::time::{Clock, Instant};
+
+// How often each is done: the least time counts.
+const ROUNDS: u8 = 5;
+
+/// Times in microseconds, for one input.
+#[derive(Clone, Copy)]
+pub struct Bare {
+    walk: u128,
+    copy: u128,
+}
+
+// How many headers there are, the next one behind a structure's header or behind a leaf.
+fn count_headers(bytes: &[u8]) -> usize {
+    let mut rest = bytes;
+    let mut count = 0usize;
+    while rest.len() >= 8 {
+        let n = u32::from_be_bytes([rest[4], rest[5], rest[6], rest[7]]) as usize;
+        let taken = if rest[3] == 1 {
+            8
+        } else {
+            8 + n + (8 - n % 8) % 8
+        };
+        if rest.len() < taken {
+            break;
+        }
+        rest = &rest[taken..];
+        count = count.wrapping_add(1);
+    }
+    count
+}
+
+// How many brackets a text has.
+fn count_brackets(text: &[u8]) -> usize {
+    text.iter()
+        .filter(|byte| **byte == b'[' || **byte == b']')
+        .count()
+}
+
+/// What a walk over a message's headers and a copy take, or over a text's brackets.
+pub fn bare_times<R: Clock + Eprint + AllocGlobal>(
+    rt: &R,
+    bytes: &[u8],
+    is_text: bool,
+) -> io::Result<Bare> {
+    let mut walk = u128::MAX;
+    let mut copy = u128::MAX;
+    for _ in 0..ROUNDS {
+        let start = Instant::now(rt)?;
+        let count = if is_text {
+            count_brackets(bytes)
+        } else {
+            count_headers(bytes)
+        };
+        walk = walk.min(start.elapsed(rt)?.as_micros());
+        let start = Instant::now(rt)?;
+        let other = Vec::from_slice(rt.alloc(), bytes)?;
+        copy = copy.min(start.elapsed(rt)?.as_micros());
+        if count > other.len() {
+            eprintln!(rt; "more than there are bytes")?;
+        }
+    }
+    Ok(Bare { walk, copy })
+}
+
+// So many tenths of another time, of at least one microsecond.
+fn tenths(taken: u128, other: u128) -> u128 {
+    taken.saturating_mul(10) / other.max(1)
+}
+
+/// Prints a line: the input, the call, the size, the time, and how many times as much that is as the
+/// walk and the copy.
+pub fn show<R: Eprint>(
+    rt: &R,
+    input: &str,
+    call: &str,
+    size: usize,
+    taken: u128,
+    bare: &Bare,
+) -> io::Result<()> {
+    let kib = size / 1024;
+    let walk = tenths(taken, bare.walk);
+    let copy = tenths(taken, bare.copy);
+    let (walks, walk) = (walk / 10, walk % 10);
+    let (copies, copy) = (copy / 10, copy % 10);
+    eprintln!(rt;
+        "{input:<28}{call:<20}{kib:>7} KiB {taken:>9} us {walks:>6}.{walk} walks {copies:>6}.{copy} copies"
+    )
+}
+
+/// What `from_slice` takes.
+pub fn reading<P: Part, R: Clock + Eprint + AllocGlobal>(rt: &R, bytes: &[u8]) -> io::Result<u128> {
+    let mut least = u128::MAX;
+    for _ in 0..ROUNDS {
+        let start = Instant::now(rt)?;
+        let read = from_slice::<Run<P>, _>(rt.alloc(), bytes);
+        least = least.min(start.elapsed(rt)?.as_micros());
+        if read.is_err() {
+            eprintln!(rt; "refused")?;
+        }
+    }
+    Ok(least)
+}
+
+/// What `find_fault` takes.
+pub fn checking<R: Clock + Eprint + AllocGlobal>(rt: &R, bytes: &[u8]) -> io::Result<u128> {
+    let mut least = u128::MAX;
+    for _ in 0..ROUNDS {
+        let start = Instant::now(rt)?;
+        let fault = find_fault(rt.alloc(), bytes)?;
+        least = least.min(start.elapsed(rt)?.as_micros());
+        if fault.is_some() {
+            eprintln!(rt; "at fault")?;
+        }
+    }
+    Ok(least)
+}
+
+/// What `to_diag_string` takes.
+pub fn telling<R: Clock + Eprint + AllocGlobal>(rt: &R, bytes: &[u8]) -> io::Result<u128> {
+    let printer = PrettyPrinter::new(rt.alloc());
+    let mut least = u128::MAX;
+    for _ in 0..ROUNDS {
+        let start = Instant::now(rt)?;
+        let text = printer.to_diag_string(bytes)?;
+        least = least.min(start.elapsed(rt)?.as_micros());
+        if text.is_empty() {
+            eprintln!(rt; "no diagnostic")?;
+        }
+    }
+    Ok(least)
+}
+
+/// What `to_string` takes.
+pub fn printing<R: Clock + Eprint + AllocGlobal>(rt: &R, bytes: &[u8]) -> io::Result<u128> {
+    let printer = PrettyPrinter::new(rt.alloc());
+    let mut least = u128::MAX;
+    for _ in 0..ROUNDS {
+        let start = Instant::now(rt)?;
+        let text = printer.to_string(bytes)?;
+        least = least.min(start.elapsed(rt)?.as_micros());
+        if text.is_empty() {
+            eprintln!(rt; "no text")?;
+        }
+    }
+    Ok(least)
+}
+
+/// What `from_diag_string` takes.
+pub fn reading_back<R: Clock + Eprint + AllocGlobal>(rt: &R, text: &str) -> io::Result<u128> {
+    let printer = PrettyPrinter::new(rt.alloc());
+    let mut least = u128::MAX;
+    for _ in 0..ROUNDS {
+        let start = Instant::now(rt)?;
+        let lines = printer.from_diag_string(text)?;
+        least = least.min(start.elapsed(rt)?.as_micros());
+        if lines.is_empty() {
+            eprintln!(rt; "no lines")?;
+        }
+    }
+    Ok(least)
+}

@@ -1,0 +1,164 @@
+//! How many writes a writer sees: they are the bytes of `to_vec`, or a beginning where it fails.
+
+use crate::data::{newtype, tagged_number};
+use crate::request::CreateRequest;
+use kmip_ttlv::error::ErrorKind;
+use kmip_ttlv::shape::{Data, Serialize};
+use kmip_ttlv::{to_vec, to_writer};
+use refusing_allocator::BoundedAllocator;
+use std::alloc::{AllocError, Global};
+use std::io;
+use std::io::Write;
+use std::test::Fail;
+
+const REQUEST: CreateRequest = CreateRequest {
+    major: 1,
+    minor: 0,
+    batch_count: 1,
+    bits: 128,
+    usage: 12,
+};
+
+// Counts the calls, and keeps what it is given.
+#[derive(Drop)]
+struct Counting {
+    taken: Vec<u8>,
+    calls: usize,
+}
+
+impl Write for Counting {
+    fn write(&mut self, buf: &[u8]) -> io::Result<usize> {
+        self.calls = self.calls.saturating_add(1);
+        self.taken.write(buf)
+    }
+
+    fn flush(&mut self) -> io::Result<()> {
+        Ok(())
+    }
+}
+
+// How many writes a value comes in, where they are as many bytes, those of `to_vec`.
+fn writes_of<T: Serialize>(heap: Global, value: &T, count: usize) -> Option<usize> {
+    let mut writer = Counting {
+        taken: Vec::new(heap),
+        calls: 0,
+    };
+    if to_writer(heap, value, &mut writer).is_err() || writer.taken.len() != count {
+        return None;
+    }
+    match &to_vec(heap, value) {
+        Ok(bytes) if bytes.as_slice() == writer.taken.as_slice() => Some(writer.calls),
+        _ => None,
+    }
+}
+
+// An attribute of 56 bytes: its name, and a number.
+fn attribute(alloc: Global) -> Result<Data, AllocError> {
+    let mut fields = Vec::new(alloc);
+    let name = Data::Text(String::from_str(alloc, "Cryptographic Length")?);
+    fields.push(newtype(alloc, "Transparent:0x42000A", name)?)?;
+    fields.push(tagged_number(alloc, "Transparent:0x42000B", 128)?)?;
+    let name = "0x420008";
+    Ok(Data::Struct { name, fields })
+}
+
+// A structure of so many attributes.
+fn attributes(alloc: Global, count: u32) -> Result<Data, AllocError> {
+    let mut fields = Vec::new(alloc);
+    for _ in 0..count {
+        fields.push(attribute(alloc)?)?;
+    }
+    let name = "0x420091";
+    Ok(Data::Struct { name, fields })
+}
+
+// A structure of so many byte strings of 20,000 bytes.
+fn contents(alloc: Global, count: u32) -> Result<Data, AllocError> {
+    let mut fields = Vec::new(alloc);
+    for _ in 0..count {
+        let mut bytes = Vec::new(alloc);
+        bytes.resize(20_000, 7)?;
+        fields.push(newtype(alloc, "Transparent:0xBBBBBB", Data::Bytes(bytes))?)?;
+    }
+    let name = "0xAAAAAA";
+    Ok(Data::Struct { name, fields })
+}
+
+#[test]
+fn a_request_is_one_write(rt: HostRuntime) -> Result<(), Fail> {
+    assert!(rt; writes_of(rt.alloc(), &REQUEST, 296) == Some(1));
+    Ok(())
+}
+
+#[test]
+fn many_attributes_are_few_writes(rt: HostRuntime) -> Result<(), Fail> {
+    let data = attributes(rt.alloc(), 10_000)?;
+    let bytes = 8 + 10_000 * 56;
+    let writes = writes_of(rt.alloc(), &data, bytes).ok_or("other bytes")?;
+    assert!(rt; writes <= bytes / 4_096 + 2, "{writes}");
+    Ok(())
+}
+
+#[test]
+fn long_contents_go_out_as_they_lie(rt: HostRuntime) -> Result<(), Fail> {
+    let data = contents(rt.alloc(), 3)?;
+    let writes = writes_of(rt.alloc(), &data, 8 + 3 * 20_008).ok_or("other bytes")?;
+    assert!(rt; writes == 6, "{writes}");
+    Ok(())
+}
+
+// Takes what it has room for, and fails then.
+#[derive(Drop)]
+struct Limited {
+    taken: Vec<u8>,
+    room: usize,
+}
+
+impl Write for Limited {
+    fn write(&mut self, buf: &[u8]) -> io::Result<usize> {
+        if self.room == 0 {
+            return Err(io::Error::from(io::ErrorKind::BrokenPipe));
+        }
+        let most = buf.len().min(self.room);
+        self.room -= most;
+        self.taken.write(&buf[..most])
+    }
+
+    fn flush(&mut self) -> io::Result<()> {
+        Ok(())
+    }
+}
+
+// Whether a writer with too little room has as many of the bytes as it has room for.
+fn is_cut(heap: Global, data: &Data, room: usize, expected: &[u8]) -> bool {
+    let mut writer = Limited {
+        taken: Vec::new(heap),
+        room,
+    };
+    let is_failed = match &to_writer(heap, data, &mut writer) {
+        Ok(()) => false,
+        Err(error) => matches!(error.kind(), ErrorKind::IoError(_)),
+    };
+    is_failed && writer.taken.len() == room && expected.starts_with(writer.taken.as_slice())
+}
+
+#[test]
+fn a_writer_that_fails_has_a_beginning(rt: HostRuntime) -> Result<(), Fail> {
+    let data = attributes(rt.alloc(), 1_000)?;
+    let expected = to_vec(rt.alloc(), &data)?;
+    for room in [0, 1, 8_191, 8_192, 8_193, 20_000, 56_007] {
+        assert!(rt; is_cut(rt.alloc(), &data, room, &expected), "{room}");
+    }
+    Ok(())
+}
+
+#[test]
+fn a_message_needs_no_memory_of_its_size(rt: HostRuntime) -> Result<(), Fail> {
+    let data = attributes(rt.alloc(), 1_000)?;
+    let memory = BoundedAllocator::new(rt.alloc(), 20_000);
+    assert!(rt; to_vec(&memory, &data).is_err());
+    let mut writer = Vec::new(rt.alloc());
+    assert!(rt; to_writer(&memory, &data, &mut writer).is_ok());
+    assert!(rt; writer.len() == 8 + 1_000 * 56);
+    Ok(())
+}
