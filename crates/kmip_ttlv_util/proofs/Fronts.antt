@@ -1,14 +1,16 @@
 -- Fronts of texts.
-use Rattle.std.proofs.Common.{◌≡◌, ℕ, zero, suc, ◌+◌, ◌<◌, ◌≤◌, Bool, true, false, cond, ltb, leb, List, [], ◌∷◌, ◌++◌, length, take, drop, get_or, Some, None, refl, sym, ap, subst, arith}
+use Rattle.std.proofs.Common.{◌≡◌, ℕ, zero, suc, ◌+◌, ◌*◌, ◌<◌, ◌≤◌, Bool, true, false, cond, ltb, leb, List, [], ◌∷◌, ◌++◌, length, take, drop, get_or, Some, None, refl, sym, ap, subst, arith}
 use Rattle.std.proofs.Common.{◌⊎◌, inl, inr}
 use Rattle.std.specs.List.{prefix_len}
-use Rattle.std.specs.Str.{IsUtf8, IsCharBoundary}
+use Rattle.std.specs.Str.{IsUtf8, IsAscii, IsCharBoundary}
+use Rattle.std.proofs.lemmas.Str.Ascii.{IsAscii-nil, IsAscii-cons}
 use Rattle.std.proofs.lemmas.Str.{IsUtf8-from_ascii, IsCharBoundary-from_take, IsCharBoundary-after_ascii}
 use Rattle.std.proofs.lemmas.Bool.{ne_eqb, cases_lt, and_right, lt-leb, lt-ltb, le-ltb}
 use Rattle.kmip_ttlv_types.specs.declared.typ.TtlvType.{TtlvType}
 use Rattle.kmip_ttlv_util.specs.Letters.{is_hex, type_of_letter}
 use Rattle.kmip_ttlv_util.specs.Undiag.{value_up_to}
 use Rattle.kmip_ttlv_util.specs.Lines.{indent}
+use Rattle.kmip_ttlv_util.specs.declared.lines.TheConstants.{SPACES}
 
 -- a digit is ASCII
 hex_ascii : (d : ℕ) → is_hex d ≡ true → d < 128
@@ -73,3 +75,18 @@ value_some s n v r some lt e f = let a : ltb 0 n ≡ true = lt-ltb 0 n some in l
 pub indent_more : (d : ℕ) → indent (suc d) ≡ indent d ++ (32 ∷ 32 ∷ [])
 indent_more zero = refl
 indent_more (suc d) = ap (λ (s : List ℕ). 32 ∷ 32 ∷ s) (indent_more d)
+
+-- fewer levels are in front of more
+front_levels : (d n : ℕ) → d ≤ n → take (2 * d) (indent n) ≡ indent d
+front_levels zero n le = refl
+front_levels (suc d) zero le = absurd (omega arith)
+front_levels (suc d) (suc n) le = let e : 2 * suc d ≡ suc (suc (2 * d)) = omega arith in rw e (ap (λ (s : List ℕ). 32 ∷ 32 ∷ s) (front_levels d n (omega arith)))
+
+-- so up to sixteen levels are in front of those that are lent
+pub spaces_front : (d : ℕ) → d ≤ 16 → take (2 * d) SPACES ≡ indent d
+spaces_front d le = front_levels d 16 le
+
+-- an indent is ASCII
+pub indent_ascii : (d : ℕ) → IsAscii (indent d)
+indent_ascii zero = IsAscii-nil
+indent_ascii (suc d) = IsAscii-cons 32 (32 ∷ indent d) (omega arith) (IsAscii-cons 32 (indent d) (omega arith) (indent_ascii d))

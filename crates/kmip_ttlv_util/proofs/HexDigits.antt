@@ -107,6 +107,22 @@ end_of start size n eight all is =
     let begins : start ≡ 8 - size = omega arith in
     take_all size (drop start eight) few ∙ ap (drop start) is ∙ ap (λ (k : ℕ). drop k (last_digits 8 n)) begins ∙ last_drop 8 size n (omega arith)
 
+-- and so are six of the eight, one by one
+pub six_of : (eight : List ℕ) (n : ℕ) → eight ≡ last_digits 8 n
+    → get_or eight 2 0 ∷ get_or eight 3 0 ∷ get_or eight 4 0 ∷ get_or eight 5 0 ∷ get_or eight 6 0 ∷ get_or eight 7 0 ∷ [] ≡ last_digits 6 n
+unfolding last_digits
+six_of eight n is = rw is refl
+
+-- and what is shown of a number, where that is six
+pub six_shown : (least count n : ℕ) (eight : List ℕ) → eight ≡ last_digits 8 n → count ≡ 6 → last_digits count n ≡ at_least least (hex_upper n)
+    → get_or eight 2 0 ∷ get_or eight 3 0 ∷ get_or eight 4 0 ∷ get_or eight 5 0 ∷ get_or eight 6 0 ∷ get_or eight 7 0 ∷ [] ≡ at_least least (hex_upper n)
+six_shown least count n eight is six shown = six_of eight n is ∙ ap (λ (k : ℕ). last_digits k n) (sym six) ∙ shown
+
+-- and the last two
+pub two_of : (eight : List ℕ) (n : ℕ) → eight ≡ last_digits 8 n → get_or eight 6 0 ∷ get_or eight 7 0 ∷ [] ≡ last_digits 2 n
+unfolding last_digits
+two_of eight n is = rw is refl
+
 -- a digit more of a number that has fewer is a zero
 front_zero : (m n : ℕ) → n < 16 ^ m → last_digits (suc m) n ≡ 48 ∷ last_digits m n
 unfolding last_digits
@@ -271,3 +287,14 @@ one_digit n small = let d = has_digits n small in not_padded 1 (hex_upper n) (om
 -- the two digits of a byte are ASCII
 pub two_ascii : (b : ℕ) → b < 256 → IsAscii (digit_glyph true (b / 16) ∷ digit_glyph true (b % 16) ∷ [])
 two_ascii b small = IsAscii-cons (digit_glyph true (b / 16)) (digit_glyph true (b % 16) ∷ []) (glyph_ascii (b / 16) (omega arith)) (IsAscii-cons (digit_glyph true (b % 16)) [] (glyph_ascii (b % 16) (omega arith)) IsAscii-nil)
+
+-- six digits behind `0x` are ASCII
+pub prefixed_ascii : (n : ℕ) → IsAscii (48 ∷ 120 ∷ last_digits 6 n)
+prefixed_ascii n = IsAscii-cons 48 (120 ∷ last_digits 6 n) (omega arith) (IsAscii-cons 120 (last_digits 6 n) (omega arith) (last_ascii 6 n))
+
+-- and behind `Tag: ` too
+pub tagged_ascii : (n : ℕ) → IsAscii (84 ∷ 97 ∷ 103 ∷ 58 ∷ 32 ∷ 48 ∷ 120 ∷ last_digits 6 n)
+tagged_ascii n = IsAscii-append (84 ∷ 97 ∷ 103 ∷ 58 ∷ 32 ∷ []) (48 ∷ 120 ∷ last_digits 6 n) front (prefixed_ascii n)
+  where
+    front : IsAscii (84 ∷ 97 ∷ 103 ∷ 58 ∷ 32 ∷ [])
+    front = IsAscii-cons 84 (97 ∷ 103 ∷ 58 ∷ 32 ∷ []) (omega arith) (IsAscii-cons 97 (103 ∷ 58 ∷ 32 ∷ []) (omega arith) (IsAscii-cons 103 (58 ∷ 32 ∷ []) (omega arith) (IsAscii-cons 58 (32 ∷ []) (omega arith) (IsAscii-cons 32 [] (omega arith) IsAscii-nil))))

@@ -1,4 +1,5 @@
 pub mod Appending
+pub mod Ends
 pub mod Entries
 pub mod Fronts
 pub mod HexDigits

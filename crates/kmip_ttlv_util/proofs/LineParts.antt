@@ -22,9 +22,9 @@ pub no_name : (names : NameMap) (tag : ℕ) → hash_map_len names ≡ 0 → nam
 no_name names tag e = none_found _ names.entries e
 
 -- the line of a structure
-pub line_structure : (names : ℕ → Option (List ℕ)) (depth tag : ℕ) (typ : TtlvType) (content : List ℕ) → typ ≡ Structure → (tag_part names depth tag ++ data_part typ) ++ (10 ∷ []) ≡ pretty_line names depth tag typ content
+pub line_structure : (names : ℕ → Option (List ℕ)) (depth tag : ℕ) (typ : TtlvType) (content : List ℕ) → typ ≡ Structure → tag_part names depth tag ++ (data_part Structure ++ (10 ∷ [])) ≡ pretty_line names depth tag typ content
 unfolding pretty_line data_shown
-line_structure names depth tag Structure content e = append_assoc (tag_part names depth tag) (data_part Structure) (10 ∷ []) ∙ sym (append_assoc (tag_part names depth tag) (codes ", Type: " ++ type_text Structure) (codes ", Data:" ++ (10 ∷ [])))
+line_structure names depth tag Structure content e = sym (append_assoc (tag_part names depth tag) (codes ", Type: " ++ type_text Structure) (codes ", Data:" ++ (10 ∷ [])))
 line_structure names depth tag Integer content e = absurd cc
 line_structure names depth tag LongInteger content e = absurd cc
 line_structure names depth tag BigInteger content e = absurd cc

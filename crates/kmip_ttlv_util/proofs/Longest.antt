@@ -55,7 +55,7 @@ span (d ∷ ds) s all = let k = span ds s all.1 in rw (ne_eqb d 58 all.0) (omega
 
 module _ (names : ℕ → Option (List ℕ)) (prefix : List ℕ) where
   -- what a step tells of the part in front
-  abbrev Tells : ℕ → List ℕ → Step → Type 0
+  abbrev pub Tells : ℕ → List ℕ → Step → Type 0
   Tells depth s (reads_on w d r) = (p : Part) × Stands prefix depth s p r × (d ≡ depth_behind depth p) × (w ≡ part_line names depth p)
   Tells depth s (stops_with w) = ((p : Part) (more : List ℕ) → Stands prefix depth s p more → ⊥) × (w ≡ unfinished names prefix depth s)
 
@@ -189,7 +189,7 @@ module _ (names : ℕ → Option (List ℕ)) (prefix : List ℕ) where
   close_tells (suc d) c s e = (close_part, (omega arith, ap (λ (x : ℕ). x ∷ s) (eqb-true c 93 e)), omega arith, refl)
 
   -- what any step tells
-  tells : (depth : ℕ) (s : List ℕ) → Tells depth s (step names prefix depth s)
+  pub tells : (depth : ℕ) (s : List ℕ) → Tells depth s (step names prefix depth s)
   unfolding step
   tells depth [] = (no_end depth, refl)
   tells depth (c ∷ s) = by (eqb c 93) refl

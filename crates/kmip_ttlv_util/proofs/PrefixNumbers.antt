@@ -20,6 +20,12 @@ unfolding six_digits last_digits
 six_last n =
     six_same _ _ _ _ _ _ _ _ _ _ _ _ (ap (digit_glyph true) (omega arith)) (ap (digit_glyph true) (omega arith)) (ap (digit_glyph true) (omega arith)) (ap (digit_glyph true) (omega arith)) (ap (digit_glyph true) (omega arith)) (ap (digit_glyph true) (omega arith))
 
+-- the digits behind those that are left out
+pub behind : (r tag n : ℕ) (text : List ℕ) → r ≤ 6 → n ≡ tag → drop r (six_digits tag) ≡ text → last_digits (6 - r) n ≡ text
+behind r tag n text few is h =
+    let back : 6 - (6 - r) ≡ r = omega arith in
+    ap (last_digits (6 - r)) is ∙ sym (last_drop 6 (6 - r) tag (omega arith)) ∙ ap (λ (k : ℕ). drop k (last_digits 6 tag)) back ∙ ap (drop r) (sym (six_last tag)) ∙ h
+
 -- equal digits, equal values
 glyph_same : (a b : ℕ) → a < 16 → b < 16 → digit_glyph true a ≡ digit_glyph true b → a ≡ b
 glyph_same a b ha hb = by (ltb a 10) (ltb b 10) refl refl

@@ -1,7 +1,7 @@
 -- What a diagnostic is read back as: the lines of the longest list of parts with which the text begins; of an outline's
 -- diagnostic, the outline's redacted lines.
-use Rattle.std.specs.Prelude.{codes, ◌≡◌, ◌≢◌, ℕ, suc, ◌-◌, ◌<◌, List, [], ◌∷◌, ◌++◌, length, take, drop, Option, Some}
-use Rattle.std.specs.Prelude.{None, if◌then◌else◌, ◌==◌}
+use Rattle.std.specs.Prelude.{codes, ◌≡◌, ◌≢◌, ℕ, suc, ◌-◌, ◌<◌, ◌≤◌, List, [], ◌∷◌, ◌++◌, length, take, drop}
+use Rattle.std.specs.Prelude.{Option, Some, None, if◌then◌else◌, ◌==◌}
 use Rattle.std.specs.List.{prefix_len, AllByRecursion}
 use Rattle.std.specs.Str.{trim_end}
 use Rattle.kmip_ttlv_types.specs.declared.typ.TtlvType.{TtlvType}
@@ -93,6 +93,16 @@ pub record Longest (names : ℕ → Option (List ℕ)) (prefix : List ℕ) (dept
 -- an answer has the lines of the longest list of parts, then what is written of an unfinished part, trimmed at the end
 abbrev pub ReadsLongest : (ℕ → Option (List ℕ)) → List ℕ → List ℕ → List ℕ → Type 0
 ReadsLongest names prefix s answer = (text : List ℕ) × Longest names prefix 0 s text × (answer ≡ trim_end text)
+
+-- reading ended at a place, so deep: the longest list of parts stands in front of it, and the answer has their lines,
+-- then what is written of an unfinished part, trimmed at the end
+pub record ReadsUpTo
+    (names : ℕ → Option (List ℕ)) (prefix s answer : List ℕ) (place deep : ℕ) : Type 0 where
+  pub parts : List Part
+  pub within : place ≤ length s
+  pub stand : StandAll prefix 0 s parts deep (drop place s)
+  pub no_more : (p : Part) (more : List ℕ) → Stands prefix deep (drop place s) p more → ⊥
+  pub written : answer ≡ trim_end (part_lines names 0 parts ++ unfinished names prefix deep (drop place s))
 
 -- what an outline's line shows
 abbrev pub shown : TtlvType → Option ℕ → List ℕ

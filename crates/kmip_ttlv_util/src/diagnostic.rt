@@ -96,29 +96,25 @@ fn push_tag<A: Allocator>(
         return out.push_str(strip(prefix.text, text));
     }
     let from = left_out(prefix, tag);
-    if from == 4 {
-        // The standard's tags begin with four digits that are often left out: two are copied at once.
-        return out.push_str(unsafe { str::from_utf8_unchecked(&digits[6..]) });
-    }
     out.push_str(unsafe { str::from_utf8_unchecked(&digits[from + 2..]) })
 }
 
 #[inline(always)]
-fn letter(typ: TtlvType) -> char
+fn letter(typ: TtlvType) -> u8
     ensures letter { result ≡ letter typ }
     ensures ascii { result < 128 }
 {
     match typ {
-        TtlvType::Structure => '[',
-        TtlvType::Integer => 'i',
-        TtlvType::LongInteger => 'l',
-        TtlvType::BigInteger => 'I',
-        TtlvType::Enumeration => 'e',
-        TtlvType::Boolean => 'b',
-        TtlvType::TextString => 't',
-        TtlvType::ByteString => 'o',
-        TtlvType::DateTime => 'd',
-        TtlvType::Interval => 'n',
+        TtlvType::Structure => b'[',
+        TtlvType::Integer => b'i',
+        TtlvType::LongInteger => b'l',
+        TtlvType::BigInteger => b'I',
+        TtlvType::Enumeration => b'e',
+        TtlvType::Boolean => b'b',
+        TtlvType::TextString => b't',
+        TtlvType::ByteString => b'o',
+        TtlvType::DateTime => b'd',
+        TtlvType::Interval => b'n',
     }
 }
 
@@ -145,10 +141,16 @@ fn push_mark<A: Allocator>(
     requires { IsNumber prefix.now }
     ensures { OnOk result (string_bytes out.new ≡ string_bytes out.old ++ mark prefix.now.text.now tag typ value) }
 {
+    if prefix.count == 4 && left_out(prefix, tag) == 4 {
+        // The standard's tags begin with four digits that are often left out: what stays is copied at once.
+        let digits = eight(*tag);
+        let text = [digits[6], digits[7], letter(typ)];
+        out.push_str(unsafe { str::from_utf8_unchecked(&text) })?;
+        return push_value(out, value);
+    }
     push_tag(out, prefix, tag)?;
-    out.push(letter(typ))?;
-    push_value(out, value)?;
-    Ok(())
+    out.push(letter(typ) as char)?;
+    push_value(out, value)
 }
 
 /// The close of a structure.

@@ -4,7 +4,7 @@ ghost use Rattle.std.specs.Prelude.{◌≡◌, ℕ, ◌<◌, ◌≤◌, ◌^◌,
 ghost use Rattle.std.specs.Fmt.{digit_glyph};
 ghost use Rattle.std.specs.List.{prefix_len};
 ghost use Rattle.kmip_ttlv_util.specs.Letters.{is_hex};
-ghost use Rattle.kmip_ttlv_util.specs.Lines.{at_least};
+ghost use Rattle.kmip_ttlv_util.specs.Lines.{at_least, hex_padded};
 ghost use Rattle.kmip_ttlv_util.specs.Outlines.{hex_upper};
 ghost use Rattle.kmip_ttlv_util.specs.Pretty.{two_digits};
 ghost use Rattle.kmip_ttlv_util.specs.LastDigits.{last_digits};
@@ -96,7 +96,7 @@ fn push_last<A: Allocator>(out: &mut String<A>, count: usize, n: u32) -> Result<
 
 /// How many digits are shown of a number, with zeros in front up to so many.
 #[inline(always)]
-fn shown(least: usize, n: u32) -> usize
+pub fn shown(least: usize, n: u32) -> usize
     requires { least ≤ 8 }
     ensures digits { last_digits result n ≡ at_least least (hex_upper n) }
     ensures few { result ≤ 8 }
@@ -116,6 +116,35 @@ pub fn push_digits<A: Allocator>(
     ensures { OnOk result (string_bytes out.new ≡ string_bytes out.old ++ at_least least (hex_upper n)) }
 {
     push_last(out, shown(least, n), n)
+}
+
+/// `0x` and the digits of a number that are not six, with zeros in front up to so many, at most eight.
+#[cold]
+fn push_other<A: Allocator>(out: &mut String<A>, least: usize, n: u32) -> Result<(), AllocError>
+    requires { least ≤ 8 }
+    ensures { OnOk result (string_bytes out.new ≡ string_bytes out.old ++ hex_padded least n) }
+{
+    out.push_str("0x")?;
+    push_digits(out, least, n)
+}
+
+/// `0x` and the digits of a number, with zeros in front up to so many, at most eight. Six are written
+/// with what is in front of them.
+#[inline(always)]
+pub fn push_prefixed<A: Allocator>(
+    out: &mut String<A>,
+    least: usize,
+    n: u32,
+) -> Result<(), AllocError>
+    requires { least ≤ 8 }
+    ensures { OnOk result (string_bytes out.new ≡ string_bytes out.old ++ hex_padded least n) }
+{
+    if shown(least, n) != 6 {
+        return push_other(out, least, n);
+    }
+    let d = eight(n);
+    let text = [b'0', b'x', d[2], d[3], d[4], d[5], d[6], d[7]];
+    out.push_str(unsafe { str::from_utf8_unchecked(&text) })
 }
 
 /// The digits of a number of eight bytes, with zeros in front up to six.

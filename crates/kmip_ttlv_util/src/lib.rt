@@ -18,6 +18,7 @@ mod undiag;
 mod walk;
 
 pub use lines::{LentTagMap, TagMap, push_data_part, push_tag, push_tag_part};
-pub use named::{read_back_named, text_named};
+pub use named::{read_back_counted, read_back_named, text_named};
 pub use pretty::push_value;
 pub use printer::PrettyPrinter;
+pub use undiag::DiagnosticLines;

@@ -5,11 +5,12 @@ ghost use Rattle.kmip_ttlv_types.specs.TypeTexts.{type_text};
 ghost use Rattle.kmip_ttlv_util.specs.Lines.{indent, hex_padded, tag_named, tag_part, typ_part, data_part};
 ghost use Rattle.kmip_ttlv_util.specs.TagNames.{name_in};
 
-use crate::digits::{push_digits, push_wide};
+use crate::digits::{eight, push_prefixed, push_wide, shown};
 use kmip_ttlv_types::{TtlvTag, TtlvType};
 use std::alloc::{AllocError, Allocator, Global};
 use std::collections::HashMap;
 use std::hash::{BuildHasherDefault, FoldHasher};
+use std::str;
 
 /// The names of tags, lent as long as `'n`.
 pub type LentTagMap<'n, A = Global> = HashMap<TtlvTag, &'n str, BuildHasherDefault<FoldHasher>, A>;
@@ -17,15 +18,29 @@ pub type LentTagMap<'n, A = Global> = HashMap<TtlvTag, &'n str, BuildHasherDefau
 /// The names of tags that a printer keeps, for [`crate::PrettyPrinter::with_tag_map`].
 pub type TagMap<A = Global> = LentTagMap<'static, A>;
 
+/// The indent of the sixteenth level.
+static SPACES: [u8; 32] = *b"                                ";
+
 /// Two spaces a level.
 #[inline(always)]
 fn push_indent<A: Allocator>(out: &mut String<A>, depth: usize) -> Result<(), AllocError>
     ensures { OnOk result (string_bytes out.new ≡ string_bytes out.old ++ indent depth) }
 {
+    if depth <= 16 {
+        return out.push_str(unsafe { str::from_utf8_unchecked(&SPACES[..2 * depth]) });
+    }
     for _ in 0..depth {
         out.push_str("  ")?;
     }
     Ok(())
+}
+
+/// `0x` and the digits of a number that has more than six.
+fn push_long<A: Allocator>(out: &mut String<A>, n: u64) -> Result<(), AllocError>
+    ensures { OnOk result (string_bytes out.new ≡ string_bytes out.old ++ hex_padded 6 n) }
+{
+    out.push_str("0x")?;
+    push_wide(out, n)
 }
 
 /// `0x` and at least six digits.
@@ -33,8 +48,10 @@ fn push_indent<A: Allocator>(out: &mut String<A>, depth: usize) -> Result<(), Al
 pub fn push_six<A: Allocator>(out: &mut String<A>, n: u64) -> Result<(), AllocError>
     ensures { OnOk result (string_bytes out.new ≡ string_bytes out.old ++ hex_padded 6 n) }
 {
-    out.push_str("0x")?;
-    push_wide(out, n)
+    if n < 0x100_0000 {
+        return push_prefixed(out, 6, n as u32);
+    }
+    push_long(out, n)
 }
 
 /// `0x` and at least four digits.
@@ -42,8 +59,7 @@ pub fn push_six<A: Allocator>(out: &mut String<A>, n: u64) -> Result<(), AllocEr
 fn push_four<A: Allocator>(out: &mut String<A>, n: u32) -> Result<(), AllocError>
     ensures { OnOk result (string_bytes out.new ≡ string_bytes out.old ++ hex_padded 4 n) }
 {
-    out.push_str("0x")?;
-    push_digits(out, 4, n)
+    push_prefixed(out, 4, n)
 }
 
 /// A tag, behind its name where it has one.
@@ -69,6 +85,30 @@ pub fn push_tag<A: Allocator>(
     }
 }
 
+/// `Tag: ` and a tag of fewer digits than six.
+#[cold]
+fn push_rare<A: Allocator>(out: &mut String<A>, n: u32) -> Result<(), AllocError>
+    ensures { OnOk result (string_bytes out.new ≡ string_bytes out.old ++ (codes "Tag: " ++ hex_padded 4 n)) }
+{
+    out.push_str("Tag: ")?;
+    push_four(out, n)
+}
+
+/// `Tag: ` and a tag without a name. Six digits are written with what is in front of them.
+#[inline(always)]
+fn push_bare<A: Allocator>(out: &mut String<A>, n: u32) -> Result<(), AllocError>
+    ensures { OnOk result (string_bytes out.new ≡ string_bytes out.old ++ (codes "Tag: " ++ hex_padded 4 n)) }
+{
+    if shown(4, n) != 6 {
+        return push_rare(out, n);
+    }
+    let d = eight(n);
+    let text = [
+        b'T', b'a', b'g', b':', b' ', b'0', b'x', d[2], d[3], d[4], d[5], d[6], d[7],
+    ];
+    out.push_str(unsafe { str::from_utf8_unchecked(&text) })
+}
+
 /// The beginning of a line, up to the tag.
 #[inline(always)]
 pub fn push_tag_part<A: Allocator>(
@@ -80,6 +120,9 @@ pub fn push_tag_part<A: Allocator>(
     ensures { OnOk result (string_bytes out.new ≡ string_bytes out.old ++ tag_part (name_in names.now) depth tag) }
 {
     push_indent(out, depth)?;
+    if names.is_empty() {
+        return push_bare(out, *tag);
+    }
     out.push_str("Tag: ")?;
     push_tag(out, names, tag)
 }

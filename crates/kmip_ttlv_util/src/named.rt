@@ -4,11 +4,11 @@ ghost use Rattle.std.specs.Prelude.{IfOk, ◌≡◌, string_bytes};
 ghost use Rattle.kmip_ttlv_util.specs.Pretty.{IsPrinted, IsPretty};
 ghost use Rattle.kmip_ttlv_util.specs.TagNames.{name_in};
 ghost use Rattle.kmip_ttlv_util.specs.Undiag.{undiag};
-ghost use Rattle.kmip_ttlv_util.specs.ReadBack.{ReadsLongest, IsReadBack};
+ghost use Rattle.kmip_ttlv_util.specs.ReadBack.{ReadsLongest, IsReadBack, ReadsUpTo};
 
 use crate::lines::LentTagMap;
 use crate::pretty::print;
-use crate::undiag::read_back;
+use crate::undiag::{DiagnosticLines, read_back, read_counted};
 use std::alloc::{AllocError, Allocator};
 
 /// Any bytes as readable text, with these names beside tags.
@@ -41,4 +41,21 @@ pub fn read_back_named<A: Allocator + Copy>(
     ensures redacted { IfOk result (λ r. IsReadBack (name_in names.now) prefix.now text.now (string_bytes r)) }
 {
     read_back(alloc, prefix, names, text)
+}
+
+/// The same, and where reading ended: how many bytes of the diagnostic were used, and how many structures
+/// were open then. A diagnostic is whole exactly where all of it was used and none was open.
+///
+/// It refuses for want of memory alone.
+pub fn read_back_counted<A: Allocator + Copy>(
+    alloc: A,
+    prefix: &str,
+    names: &LentTagMap<'_, A>,
+    text: &str,
+) -> Result<DiagnosticLines<A>, AllocError>
+    ensures undiag { IfOk result (λ r. string_bytes r.text ≡ undiag (name_in names.now) prefix.now text.now) }
+    ensures ends { IfOk result (λ r. ReadsUpTo (name_in names.now) prefix.now text.now
+        (string_bytes r.text) r.used r.depth) }
+{
+    read_counted(alloc, prefix, names, text)
 }

@@ -131,10 +131,10 @@ fn push_line<A: Allocator>(
         ++ pretty_line (name_in names.now) depth item.now.tag item.now.typ item.now.content.now) }
 {
     push_tag_part(out, names, depth, item.tag)?;
-    push_data_part(out, item.typ)?;
     if item.typ == TtlvType::Structure {
-        return out.push_str("\n");
+        return out.push_str(", Type: Structure (0x01), Data:\n");
     }
+    push_data_part(out, item.typ)?;
     push_value(out, item.typ, item.content)?;
     out.push_str("\n")
 }

@@ -10,6 +10,7 @@ ghost use Rattle.kmip_ttlv_util.specs.LastDigits.{last_digits};
 ghost use Rattle.kmip_ttlv_util.specs.Letters.{type_of_letter};
 ghost use Rattle.kmip_ttlv_util.specs.Prefixes.{IsNumber};
 ghost use Rattle.kmip_ttlv_util.specs.Undiag.{front_type, front_value, data_step, step, Reads, undiag, undiag_lines};
+ghost use Rattle.kmip_ttlv_util.specs.ReadBack.{ReadsUpTo};
 
 use crate::diagnostic::{Prefix, prefix_of};
 use crate::digits::digits_in_front;
@@ -188,15 +189,28 @@ fn room_for(s: &str) -> usize {
     16 * if count < 4096 { count } else { 4096 }
 }
 
-/// The lines of a diagnostic.
-pub fn read_back<A: Allocator + Copy>(
+/// What a diagnostic was read back as, and where reading it ended.
+#[derive(Drop)]
+pub struct DiagnosticLines<A: Allocator> {
+    /// The lines, without a line feed at the end.
+    pub text: String<A>,
+    /// How many bytes of the diagnostic are whole parts, one behind the other, from its first on.
+    pub used: usize,
+    /// How many structures are open behind these.
+    pub depth: usize,
+}
+
+/// The lines of a diagnostic, and where reading it ended.
+pub fn read_counted<A: Allocator + Copy>(
     alloc: A,
     prefix: &str,
     names: &LentTagMap<'_, A>,
     s: &str,
-) -> Result<String<A>, AllocError>
-    ensures undiag { IfOk result (λ r. string_bytes r ≡ undiag (name_in names.now) prefix.now s.now) }
+) -> Result<DiagnosticLines<A>, AllocError>
+    ensures undiag { IfOk result (λ r. string_bytes r.text ≡ undiag (name_in names.now) prefix.now s.now) }
     ensures utf8 { IfOk result (λ _. IsUtf8 (undiag_lines (name_in names.now) prefix.now s.now)) }
+    ensures ends { IfOk result (λ r. ReadsUpTo (name_in names.now) prefix.now s.now
+        (string_bytes r.text) r.used r.depth) }
 {
     let numbered = prefix_of(prefix);
     let mut out = String::with_capacity(alloc, room_for(s))?;
@@ -208,5 +222,24 @@ pub fn read_back<A: Allocator + Copy>(
     }
     let end = out.trim_end().len();
     out.truncate(end);
-    Ok(out)
+    let used = s.len() - rest.len();
+    Ok(DiagnosticLines {
+        text: out,
+        used,
+        depth,
+    })
+}
+
+/// The lines of a diagnostic.
+pub fn read_back<A: Allocator + Copy>(
+    alloc: A,
+    prefix: &str,
+    names: &LentTagMap<'_, A>,
+    s: &str,
+) -> Result<String<A>, AllocError>
+    ensures undiag { IfOk result (λ r. string_bytes r ≡ undiag (name_in names.now) prefix.now s.now) }
+    ensures utf8 { IfOk result (λ _. IsUtf8 (undiag_lines (name_in names.now) prefix.now s.now)) }
+{
+    let lines = read_counted(alloc, prefix, names, s)?;
+    Ok(lines.text)
 }

@@ -6,8 +6,8 @@ use Rattle.kmip_ttlv_util.specs.Outlines.{stripped}
 use Rattle.std.specs.Prelude.{string_bytes}
 use Rattle.kmip_ttlv_types.specs.Digits.{six_digits}
 use Rattle.kmip_ttlv_util.proofs.Appending.{on_ok}
-use Rattle.kmip_ttlv_util.proofs.HexDigits.{last_ascii, last_drop, end_of}
-use Rattle.kmip_ttlv_util.proofs.PrefixNumbers.{six_last}
+use Rattle.kmip_ttlv_util.proofs.HexDigits.{last_ascii, end_of}
+use Rattle.kmip_ttlv_util.proofs.PrefixNumbers.{six_last, behind}
 use Rattle.kmip_ttlv_util.proofs.diagnostic.push_tag.Goals as goal
 
 pub from_utf8_unchecked-text-requires : goal.from_utf8_unchecked-text-requires
@@ -22,24 +22,6 @@ returns-then-prefix-gt6 g c =
 
 pub from_utf8_unchecked-requires : goal.from_utf8_unchecked-requires
 from_utf8_unchecked-requires g c =
-    subst IsUtf8 (sym (end_of 6 2 c.deref.result.now c.eight-digits.result (omega arith) c.eight-digits.ensures)) (IsUtf8-from_ascii _ (last_ascii 2 c.deref.result.now))
-
--- the digits behind those that are left out
-behind : (r tag n : ℕ) (text : List ℕ) → r ≤ 6 → n ≡ tag → drop r (six_digits tag) ≡ text → last_digits (6 - r) n ≡ text
-behind r tag n text few is h =
-    let back : 6 - (6 - r) ≡ r = omega arith in
-    ap (last_digits (6 - r)) is ∙ sym (last_drop 6 (6 - r) tag (omega arith)) ∙ ap (λ (k : ℕ). drop k (last_digits 6 tag)) back ∙ ap (drop r) (sym (six_last tag)) ∙ h
-
-pub returns-then-from-eq4 : goal.returns-then-from-eq4
-returns-then-from-eq4 g c =
-    let r = c.left_out-from.result in
-    let two : 2 ≡ 6 - r = omega arith in
-    let text = c.from_utf8_unchecked.ensures ∙ end_of 6 2 c.deref.result.now c.eight-digits.result (omega arith) c.eight-digits.ensures ∙ ap (λ (k : ℕ). last_digits k c.deref.result.now) two
-    ∙ behind r c.args.tag c.deref.result.now _ c.left_out-from.ensures.bounded c.deref.ensures c.left_out-from.ensures.stripped in
-    on_ok c.push_str-then-from-eq4.result (string_bytes c.push_str-then-from-eq4.new.self) (string_bytes c.args.out.now) _ _ c.push_str-then-from-eq4.ensures.bytes text
-
-pub from_utf8_unchecked-requires-2 : goal.from_utf8_unchecked-requires-2
-from_utf8_unchecked-requires-2 g c =
     let r = c.left_out-from.result in
     subst IsUtf8 (sym (end_of (r + 2) (8 - (r + 2)) c.deref.result.now c.eight-digits.result (omega (arith, c.left_out-from.ensures.bounded)) c.eight-digits.ensures)) (IsUtf8-from_ascii _ (last_ascii (8 - (r + 2)) c.deref.result.now))
 
@@ -47,6 +29,6 @@ pub returns : goal.returns
 returns g c =
     let r = c.left_out-from.result in
     let few : 8 - (r + 2) ≡ 6 - r = omega (arith, c.left_out-from.ensures.bounded) in
-    let text = c.from_utf8_unchecked-2.ensures ∙ end_of (r + 2) (8 - (r + 2)) c.deref.result.now c.eight-digits.result (omega (arith, c.left_out-from.ensures.bounded)) c.eight-digits.ensures
+    let text = c.from_utf8_unchecked.ensures ∙ end_of (r + 2) (8 - (r + 2)) c.deref.result.now c.eight-digits.result (omega (arith, c.left_out-from.ensures.bounded)) c.eight-digits.ensures
     ∙ ap (λ (k : ℕ). last_digits k c.deref.result.now) few ∙ behind r c.args.tag c.deref.result.now _ c.left_out-from.ensures.bounded c.deref.ensures c.left_out-from.ensures.stripped in
     on_ok c.push_str-2.result (string_bytes c.push_str-2.new.self) (string_bytes c.args.out.now) _ _ c.push_str-2.ensures.bytes text

@@ -14,9 +14,8 @@ returns-then-eq g c =
     let old = string_bytes c.args.out.now in
     let front = tag_part (name_in c.args.names.now) c.args.depth i.tag in
     let is : i.typ ≡ Structure = search rules in
-    let mid : string_bytes c.push_data_part.new.out ≡ old ++ (front ++ data_part i.typ) = c.in_ok-push_data_part.ensures ∙ ap (λ (s : List ℕ). s ++ data_part i.typ) c.in_ok-push_tag_part.ensures ∙ append_assoc old front (data_part i.typ) in
-    let last = on_ok c.push_str.result (string_bytes c.push_str.new.self) (string_bytes c.push_data_part.new.out) (10 ∷ []) (10 ∷ []) c.push_str.ensures.bytes refl in
-    on_both c.push_str.result (string_bytes c.push_str.new.self) (string_bytes c.push_data_part.new.out) old (front ++ data_part i.typ) (10 ∷ []) _ last mid (line_structure (name_in c.args.names.now) c.args.depth i.tag i.typ i.content.now is)
+    let last = on_ok c.push_str.result (string_bytes c.push_str.new.self) (string_bytes c.push_tag_part.new.out) _ (data_part Structure ++ (10 ∷ [])) c.push_str.ensures.bytes refl in
+    on_both c.push_str.result (string_bytes c.push_str.new.self) (string_bytes c.push_tag_part.new.out) old front (data_part Structure ++ (10 ∷ [])) _ last c.in_ok-push_tag_part.ensures (line_structure (name_in c.args.names.now) c.args.depth i.tag i.typ i.content.now is)
 
 pub returns : goal.returns
 returns g c =
