@@ -24,6 +24,7 @@ mutual
     octets : Form
     interval : Form
     big_integer : Form
+    any_number : Form
 
   -- the fields of a struct, in their order
   pub data Fields : Type 0 where
@@ -61,6 +62,7 @@ abbrev mutual
   form_of shapes.Bytes = octets
   form_of shapes.Interval = interval
   form_of shapes.BigInteger = big_integer
+  form_of shapes.U32 = any_number
 
   pub fields_in : {A : Type 0} {n : _} → Row_of-FieldShape A n → Fields
   fields_in end_of-FieldShape = no_fields

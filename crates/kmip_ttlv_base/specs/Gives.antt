@@ -1,11 +1,11 @@
 -- The values that a form can give: of its kind and its names.
 use Rattle.std.specs.Prelude.{◌≡◌, ℕ, List, ◌⊎◌}
-use Rattle.kmip_ttlv_base.specs.Values.{Value, boolean_value, i32_value, i64_value, interval_value, text_value}
-use Rattle.kmip_ttlv_base.specs.Values.{bytes_value, big_integer_value, none_value, some_value, seq_value, struct_value}
+use Rattle.kmip_ttlv_base.specs.Values.{Value, boolean_value, i32_value, u32_value, i64_value, interval_value}
+use Rattle.kmip_ttlv_base.specs.Values.{text_value, bytes_value, big_integer_value, none_value, some_value, seq_value, struct_value}
 use Rattle.kmip_ttlv_base.specs.Values.{newtype_value, unit_variant_value, newtype_variant_value, tuple_variant_value}
 use Rattle.kmip_ttlv_base.specs.Values.{Values, no_values, value}
 use Rattle.kmip_ttlv_base.specs.Forms.{Form, struct, option, seq, newtype, enum, int32, int64, boolean, text, octets}
-use Rattle.kmip_ttlv_base.specs.Forms.{interval, big_integer, Fields, no_fields, field, Variants, no_variants, variant}
+use Rattle.kmip_ttlv_base.specs.Forms.{interval, big_integer, any_number, Fields, no_fields, field, Variants, no_variants, variant}
 use Rattle.kmip_ttlv_base.specs.Forms.{Content, unit, wrapped, tuple, Forms, no_forms, form}
 
 -- a number that an Integer is
@@ -42,6 +42,11 @@ IsInterval _ = ⊥
 abbrev pub IsBigInteger : Value → Type 0
 IsBigInteger (big_integer_value s) = Unit {0}
 IsBigInteger _ = ⊥
+
+-- the number of an Enumeration
+abbrev pub IsNumber : Value → Type 0
+IsNumber (u32_value n) = Unit {0}
+IsNumber _ = ⊥
 
 -- an option is None, or Some of what the form inside gives
 abbrev pub OptionGives : (Value → Type 0) → Value → Type 0
@@ -109,6 +114,7 @@ abbrev mutual
   Gives octets v = IsBytes v
   Gives interval v = IsInterval v
   Gives big_integer v = IsBigInteger v
+  Gives any_number v = IsNumber v
 
   pub FieldsGive : Fields → Values → Type 0
   FieldsGive no_fields vs = IsEmpty vs

@@ -118,6 +118,8 @@ pub enum Shape<A: Allocator = Global> {
     Interval,
     /// A Big Integer.
     BigInteger,
+    /// An Enumeration of any number. Rules of later enums may test it, as they test a unit's number.
+    U32,
 }
 
 /// A field of a struct: its name is the name of its tag.

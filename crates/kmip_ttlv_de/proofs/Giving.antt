@@ -4,7 +4,7 @@ use Rattle.std.specs.Str.{bytes_eq}
 use Rattle.std.proofs.lemmas.Slice.Eq.{bytes_eq-Decides}
 use Rattle.kmip_ttlv_types.specs.Items.{Raw}
 use Rattle.kmip_ttlv_types.specs.declared.typ.TtlvType.{TtlvType}
-use Rattle.kmip_ttlv_base.specs.Forms.{Content, Fields, Form, Forms, Variants, big_integer, boolean, enum, int32, int64, interval, newtype, no_variants, octets, option, seq, struct, text, tuple, unit, variant, wrapped}
+use Rattle.kmip_ttlv_base.specs.Forms.{Content, Fields, Form, Forms, Variants, any_number, big_integer, boolean, enum, int32, int64, interval, newtype, no_variants, octets, option, seq, struct, text, tuple, unit, variant, wrapped}
 use Rattle.kmip_ttlv_base.specs.Gives.{ContentGives, EachGives, FieldsGive, FormsGive, Gives, VariantsGive}
 use Rattle.kmip_ttlv_base.specs.Values.{Value, Values, none_value, unit_variant_value}
 use Rattle.kmip_ttlv_de.specs.Keeps.{Keep}
@@ -23,6 +23,7 @@ leaf_gives text t c e = tt
 leaf_gives octets t c e = tt
 leaf_gives interval t c e = tt
 leaf_gives big_integer t c e = tt
+leaf_gives any_number t c e = tt
 
 absent_gives : (s : Form) → is_option s ≡ true → Gives s none_value
 absent_gives (struct name fs deny) e = absurd cc
@@ -37,6 +38,7 @@ absent_gives text e = absurd cc
 absent_gives octets e = absurd cc
 absent_gives interval e = absurd cc
 absent_gives big_integer e = absurd cc
+absent_gives any_number e = absurd cc
 
 -- the first variant of a name, where it is a unit
 unit_gives : (name vname : List ℕ) (vs : Variants) → first_named vname vs ≡ Some unit → VariantsGive name vs (unit_variant_value name vname)

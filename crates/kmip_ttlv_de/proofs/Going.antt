@@ -10,7 +10,7 @@ use Rattle.kmip_ttlv_types.specs.Places.{ItemAt, ItemsAt, code_at, length_at, si
 use Rattle.kmip_ttlv_types.specs.declared.typ.TtlvType.{TtlvType}
 use Rattle.kmip_ttlv_types.specs.declared.typ.TtlvType.TheVariants.{BigInteger, Boolean, ByteString, DateTime, Enumeration, Integer, Interval, LongInteger, Structure, TextString}
 use Rattle.kmip_ttlv_base.specs.Errors.{Mismatch}
-use Rattle.kmip_ttlv_base.specs.Forms.{Fields, Form, Variants, big_integer, boolean, content_of, enum, field, fields_of, form, form_of, forms_of, int32, int64, interval, newtype, octets, option, seq, struct, text, variants_of}
+use Rattle.kmip_ttlv_base.specs.Forms.{Fields, Form, Variants, any_number, big_integer, boolean, content_of, enum, field, fields_of, form, form_of, forms_of, int32, int64, interval, newtype, octets, option, seq, struct, text, variants_of}
 use Rattle.kmip_ttlv_base.specs.Values.{Value, Values, no_values, none_value, seq_value, struct_value, value, view, views}
 use Rattle.kmip_ttlv_base.specs.declared.error.Error.{Error}
 use Rattle.kmip_ttlv_base.specs.declared.shape.Data.{Data}
@@ -230,6 +230,7 @@ read_nil text k = refl
 read_nil octets k = refl
 read_nil interval k = refl
 read_nil big_integer k = refl
+read_nil any_number k = refl
 
 pub field_missing : (name : List ℕ) (s : Form) (k : List Keep) → is_option s ≡ false → read_field name s (read_of s) k [] ≡ None
 field_missing name s k o = rw (read_nil s k, o) (elim (is_struct s) as (λ t. ◌≡◌ {A = Option (Got Value)} (cond t None None) None) [ true ↦ refl | false ↦ refl ])

@@ -1,11 +1,12 @@
 -- Leaves: whether their content is valid, and what is read of them.
 use Rattle.std.proofs.Common.{◌≡◌, ◌≢◌, ℕ, ◌+◌, ◌<◌, ◌≤◌, true, false, List, ◌++◌, length, take, drop, Some, refl, sym, ap, subst, ◌∙◌, arith}
-use Rattle.std.proofs.lemmas.Bool.{ne_eqb}
+use Rattle.std.proofs.lemmas.Bool.{eqb-true, ne_eqb}
 use Rattle.kmip_ttlv_types.specs.ItemTypes.{code, fixed_length, is_structure}
 use Rattle.kmip_ttlv_types.specs.Leaves.{is_valid}
 use Rattle.kmip_ttlv_types.specs.Places.{code_at, length_at}
 use Rattle.kmip_ttlv_types.specs.declared.typ.TtlvType.{TtlvType}
 use Rattle.kmip_ttlv_types.specs.declared.typ.TtlvType.TheVariants.{BigInteger, Boolean, ByteString, DateTime, Enumeration, Integer, Interval, LongInteger, Structure, TextString}
+use Rattle.kmip_ttlv_base.specs.Forms.{any_number}
 use Rattle.kmip_ttlv_de.proofs.Heads.{code_more, length_more, part_more, refused_first}
 use Rattle.kmip_ttlv_types.proofs.PlaceLemmas.{code_one}
 use Rattle.kmip_ttlv_de.specs.ReadAnswers.{Sort}
@@ -59,6 +60,7 @@ first_taken_type x t other same = absurd (let taken : takes (form_of_leaf x) t �
     taken_first leaves.Bytes = refl
     taken_first leaves.Interval = refl
     taken_first leaves.BigInteger = refl
+    taken_first leaves.U32 = refl
 
 pub leaf_plain : (t : TtlvType) → t ≢ Structure → is_structure t ≡ false
 leaf_plain Structure ne = absurd (ne refl)
@@ -71,3 +73,16 @@ leaf_plain TextString ne = refl
 leaf_plain ByteString ne = refl
 leaf_plain DateTime ne = refl
 leaf_plain Interval ne = refl
+
+-- the content of an Enumeration of any number has four bytes
+pub any_number_four : (t : TtlvType) (content : List ℕ) → takes any_number t ≡ true → is_valid t content ≡ true → length content ≡ 4
+any_number_four Enumeration content e valid = eqb-true (length content) 4 valid
+any_number_four Structure content e valid = absurd cc
+any_number_four Integer content e valid = absurd cc
+any_number_four LongInteger content e valid = absurd cc
+any_number_four BigInteger content e valid = absurd cc
+any_number_four Boolean content e valid = absurd cc
+any_number_four TextString content e valid = absurd cc
+any_number_four ByteString content e valid = absurd cc
+any_number_four DateTime content e valid = absurd cc
+any_number_four Interval content e valid = absurd cc

@@ -3,7 +3,7 @@ use Rattle.std.proofs.Common.{◌≡◌, ◌≢◌, ℕ, ◌+◌, ◌<◌, ◌�
 use Rattle.std.specs.List.{flat_map}
 use Rattle.std.specs.Str.{bytes_eq}
 use Rattle.std.specs.Fmt.{digit_glyph}
-use Rattle.std.proofs.lemmas.Bool.{eq-eqb}
+use Rattle.std.proofs.lemmas.Bool.{eq-eqb, eqb-true}
 use Rattle.std.proofs.lemmas.List.{drop_more, drop_all, append-nil, length-drop, length-take-le}
 use Rattle.kmip_ttlv_types.specs.ItemTypes.{code, fixed_length}
 use Rattle.kmip_ttlv_types.specs.Items.{Raw}
@@ -26,16 +26,32 @@ use Rattle.kmip_ttlv_de.specs.ReadPlaces.{LeafAt, content_at}
 use Rattle.kmip_ttlv_de.specs.Reading.{Got, any_leaf, got, read_number, unit_of, ◌>>=◌}
 use Rattle.kmip_ttlv_de.specs.Reads.{byte_digits, first_named, is_number_type, number_text}
 
--- one more byte's digits
-pub text_step : (old content all : List ℕ) (i d e : ℕ) → i < length content → d ≡ digit_glyph true (get_or content i 0 / 16) → e ≡ digit_glyph true (get_or content i 0 % 16) → old ++ flat_map byte_digits (drop i content) ≡ all → ((old ++ d ∷ []) ++ e ∷ []) ++ flat_map byte_digits (drop (i + 1) content) ≡ all
-text_step old content all i d e lt ed ee h =
-    let others = flat_map byte_digits (drop (i + 1) content) in
-    append_assoc (old ++ d ∷ []) (e ∷ []) others ∙ append_assoc old (d ∷ []) (e ∷ others)
-    ∙ ap (λ (x : ℕ). old ++ x ∷ e ∷ others) ed ∙ ap (λ (x : ℕ). old ++ digit_glyph true (get_or content i 0 / 16) ∷ x ∷ others) ee
-    ∙ sym (ap (λ (r : List ℕ). old ++ flat_map byte_digits r) (drop_more content i 0 lt)) ∙ h
+-- the text of four bytes, digit by digit
+pub four_texts : (content : List ℕ) → length content ≡ 4
+    → 48 ∷ 120 ∷ digit_glyph true (get_or content 0 0 / 16) ∷ digit_glyph true (get_or content 0 0 % 16)
+    ∷ digit_glyph true (get_or content 1 0 / 16) ∷ digit_glyph true (get_or content 1 0 % 16)
+    ∷ digit_glyph true (get_or content 2 0 / 16) ∷ digit_glyph true (get_or content 2 0 % 16)
+    ∷ digit_glyph true (get_or content 3 0 / 16) ∷ digit_glyph true (get_or content 3 0 % 16) ∷ []
+    ≡ number_text content
+four_texts [] e = absurd (omega (arith, e))
+four_texts (a ∷ []) e = absurd (omega (arith, e))
+four_texts (a ∷ b ∷ []) e = absurd (omega (arith, e))
+four_texts (a ∷ b ∷ c ∷ []) e = absurd (omega (arith, e))
+four_texts (a ∷ b ∷ c ∷ d ∷ []) e = refl
+four_texts (a ∷ b ∷ c ∷ d ∷ x ∷ xs) e = absurd (omega (arith, e))
 
-pub text_done : (old content all : List ℕ) (i : ℕ) → length content ≤ i → old ++ flat_map byte_digits (drop i content) ≡ all → old ≡ all
-text_done old content all i le h = sym (append-nil old) ∙ sym (ap (λ (r : List ℕ). old ++ flat_map byte_digits r) (drop_all i content le)) ∙ h
+-- a number has four bytes
+pub number_four : (t : TtlvType) (content : List ℕ) → is_number_type t ≡ true → is_valid t content ≡ true → length content ≡ 4
+number_four Integer content e valid = eqb-true (length content) 4 valid
+number_four Enumeration content e valid = eqb-true (length content) 4 valid
+number_four Structure content e valid = absurd cc
+number_four LongInteger content e valid = absurd cc
+number_four BigInteger content e valid = absurd cc
+number_four Boolean content e valid = absurd cc
+number_four TextString content e valid = absurd cc
+number_four ByteString content e valid = absurd cc
+number_four DateTime content e valid = absurd cc
+number_four Interval content e valid = absurd cc
 
 -- a variant on the way
 pub named_at : {A : Type 0} (name : List ℕ) (vs : List (VariantShape A)) (i : ℕ) (v : VariantShape A) → i < length vs → v ≡ get_or vs i v → first_named name (variants_of (drop i vs)) ≡ cond (bytes_eq v.name.now name) (Some (content_of v.content)) (first_named name (variants_of (drop (i + 1) vs)))

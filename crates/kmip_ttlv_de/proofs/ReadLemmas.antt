@@ -8,7 +8,7 @@ use Rattle.kmip_ttlv_types.specs.Leaves.{is_valid}
 use Rattle.kmip_ttlv_types.specs.Places.{ItemAt, ItemsAt, code_at, is_plain, length_at, size, tag_at}
 use Rattle.kmip_ttlv_types.specs.declared.typ.TtlvType.{TtlvType}
 use Rattle.kmip_ttlv_types.specs.declared.typ.TtlvType.TheVariants.{BigInteger, Boolean, ByteString, DateTime, Enumeration, Integer, Interval, LongInteger, Structure, TextString}
-use Rattle.kmip_ttlv_base.specs.Forms.{Content, Fields, Form, Forms, Variants, big_integer, boolean, enum, field, form, int32, int64, interval, newtype, no_fields, no_forms, no_variants, octets, option, seq, struct, text, tuple, unit, variant, wrapped}
+use Rattle.kmip_ttlv_base.specs.Forms.{Content, Fields, Form, Forms, Variants, any_number, big_integer, boolean, enum, field, form, int32, int64, interval, newtype, no_fields, no_forms, no_variants, octets, option, seq, struct, text, tuple, unit, variant, wrapped}
 use Rattle.kmip_ttlv_base.specs.Values.{Value, Values, newtype_value, newtype_variant_value, no_values, none_value, seq_value, some_value, struct_value, tuple_variant_value, unit_variant_value, value}
 use Rattle.kmip_ttlv_types.proofs.PlaceLemmas.{items_at_splits, items_in_order, raw_with, same_raw, splits_items_at, type_of-code}
 use Rattle.kmip_ttlv_de.specs.Keeps.{Keep}
@@ -146,6 +146,7 @@ option_no_struct text e = absurd cc
 option_no_struct octets e = absurd cc
 option_no_struct interval e = absurd cc
 option_no_struct big_integer e = absurd cc
+option_no_struct any_number e = absurd cc
 
 -- a form of leaves
 leaf_reads : (s : Form) (h : Raw) (xs : List Raw) (k : List Keep) → takes s h.typ ≡ true → is_valid h.typ h.content ≡ true → read_leaf s k (h ∷ xs) ≡ got (leaf_value s h.content) (with_leaf s h k) xs
@@ -165,6 +166,7 @@ leaf_form text h xs k t v = leaf_reads text h xs k t v
 leaf_form octets h xs k t v = leaf_reads octets h xs k t v
 leaf_form interval h xs k t v = leaf_reads interval h xs k t v
 leaf_form big_integer h xs k t v = leaf_reads big_integer h xs k t v
+leaf_form any_number h xs k t v = leaf_reads any_number h xs k t v
 
 mutual
   unfolding read_of read_fields run_of read_variant read_content read_forms
@@ -350,6 +352,7 @@ mutual
   reads_read_of octets k xs g e = leaf_sound octets k xs g e
   reads_read_of interval k xs g e = leaf_sound interval k xs g e
   reads_read_of big_integer k xs g e = leaf_sound big_integer k xs g e
+  reads_read_of any_number k xs g e = leaf_sound any_number k xs g e
 
   pub fields_read_of : (fs : Fields) → FieldsSound fs (read_fields fs)
   fields_read_of no_fields k xs g e = as_got (λ w k' ys. ReadsFields no_fields k xs w k' ys) no_values k xs g e done

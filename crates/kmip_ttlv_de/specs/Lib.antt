@@ -1,5 +1,6 @@
 pub mod Keeps
 pub mod Kept
+pub mod HeldTexts
 pub mod Rules
 pub mod Parts
 pub mod Reads

@@ -1,8 +1,9 @@
 -- The forms of leaves.
 use Rattle.kmip_ttlv_types.specs.declared.typ.TtlvType.{TtlvType}
 use Rattle.kmip_ttlv_types.specs.declared.typ.TtlvType.TheVariants.{Integer, LongInteger, BigInteger, Boolean}
-use Rattle.kmip_ttlv_types.specs.declared.typ.TtlvType.TheVariants.{TextString, ByteString, Interval}
+use Rattle.kmip_ttlv_types.specs.declared.typ.TtlvType.TheVariants.{TextString, ByteString, Interval, Enumeration}
 use Rattle.kmip_ttlv_base.specs.Forms.{Form, int32, int64, boolean, text, octets, interval, big_integer}
+use Rattle.kmip_ttlv_base.specs.Forms.{any_number}
 use Rattle.kmip_ttlv_de.specs.declared.leaf.Leaf.{Leaf}
 use Rattle.kmip_ttlv_de.specs.declared.leaf.Leaf.TheVariants as leaves
 
@@ -15,6 +16,7 @@ form_of_leaf leaves.Text = text
 form_of_leaf leaves.Bytes = octets
 form_of_leaf leaves.Interval = interval
 form_of_leaf leaves.BigInteger = big_integer
+form_of_leaf leaves.U32 = any_number
 
 -- the type that is named where another one is refused
 abbrev pub first_type : Leaf → TtlvType
@@ -25,3 +27,4 @@ first_type leaves.Text = TextString
 first_type leaves.Bytes = ByteString
 first_type leaves.Interval = Interval
 first_type leaves.BigInteger = BigInteger
+first_type leaves.U32 = Enumeration

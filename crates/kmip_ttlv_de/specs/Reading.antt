@@ -10,7 +10,7 @@ use Rattle.kmip_ttlv_base.specs.Values.{Value, none_value, some_value, seq_value
 use Rattle.kmip_ttlv_base.specs.Values.{unit_variant_value, newtype_variant_value, tuple_variant_value, Values}
 use Rattle.kmip_ttlv_base.specs.Values.{no_values, value}
 use Rattle.kmip_ttlv_base.specs.Forms.{Form, struct, option, seq, newtype, enum, int32, int64, boolean, text, octets}
-use Rattle.kmip_ttlv_base.specs.Forms.{interval, big_integer, Fields, no_fields, field, Variants, no_variants, variant}
+use Rattle.kmip_ttlv_base.specs.Forms.{interval, big_integer, any_number, Fields, no_fields, field, Variants, no_variants, variant}
 use Rattle.kmip_ttlv_base.specs.Forms.{Content, unit, wrapped, tuple, Forms, no_forms, form}
 use Rattle.kmip_ttlv_de.specs.Keeps.{Keep}
 use Rattle.kmip_ttlv_de.specs.Rules.{Choice, chosen, by_value, choice_refused, choice}
@@ -188,6 +188,7 @@ unfoldable mutual
   read_of octets k xs = read_leaf octets k xs
   read_of interval k xs = read_leaf interval k xs
   read_of big_integer k xs = read_leaf big_integer k xs
+  read_of any_number k xs = read_leaf any_number k xs
 
   -- the fields, one after the other
   pub read_fields : Fields → List Keep → List Raw → Option (Got Values)

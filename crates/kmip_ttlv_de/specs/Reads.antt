@@ -13,12 +13,12 @@ use Rattle.kmip_ttlv_types.specs.ItemTypes.{code, is_structure}
 use Rattle.kmip_ttlv_types.specs.Leaves.{is_valid}
 use Rattle.kmip_ttlv_types.specs.Items.{Raw, Splits, IsTextOf}
 use Rattle.kmip_ttlv_types.specs.Names.{tag_of}
-use Rattle.kmip_ttlv_base.specs.Values.{Value, boolean_value, i32_value, i64_value, interval_value, text_value}
-use Rattle.kmip_ttlv_base.specs.Values.{bytes_value, big_integer_value, none_value, some_value, seq_value, struct_value}
+use Rattle.kmip_ttlv_base.specs.Values.{Value, boolean_value, i32_value, u32_value, i64_value, interval_value}
+use Rattle.kmip_ttlv_base.specs.Values.{text_value, bytes_value, big_integer_value, none_value, some_value, seq_value, struct_value}
 use Rattle.kmip_ttlv_base.specs.Values.{newtype_value, unit_variant_value, newtype_variant_value, tuple_variant_value}
 use Rattle.kmip_ttlv_base.specs.Values.{Values, no_values, value}
 use Rattle.kmip_ttlv_base.specs.Forms.{Form, struct, option, seq, newtype, enum, int32, int64, boolean, text, octets}
-use Rattle.kmip_ttlv_base.specs.Forms.{interval, big_integer, Fields, no_fields, field, Variants, no_variants, variant}
+use Rattle.kmip_ttlv_base.specs.Forms.{interval, big_integer, any_number, Fields, no_fields, field, Variants, no_variants, variant}
 use Rattle.kmip_ttlv_base.specs.Forms.{Content, unit, wrapped, tuple, Forms, no_forms, form}
 use Rattle.kmip_ttlv_de.specs.Keeps.{Keep}
 use Rattle.kmip_ttlv_de.specs.Rules.{chosen, by_value, choice}
@@ -84,6 +84,7 @@ takes octets ByteString = true
 takes octets BigInteger = true
 takes interval Interval = true
 takes big_integer BigInteger = true
+takes any_number Enumeration = true
 takes _ _ = false
 
 -- the value that the form gives for a leaf's content
@@ -95,12 +96,8 @@ leaf_value text content = text_value content
 leaf_value octets content = bytes_value content
 leaf_value interval content = interval_value (from_be_bytes w32 content)
 leaf_value big_integer content = big_integer_value content
+leaf_value any_number content = u32_value (from_be_bytes w32 content)
 leaf_value _ content = none_value
-
--- a text is kept under its item's tag, and no other leaf is
-abbrev pub with_leaf : Form → Raw → List Keep → List Keep
-with_leaf text x k = k ++ record { tag = x.tag; text = x.content } ∷ []
-with_leaf _ x k = k
 
 -- the types that an enum reads by value
 abbrev pub is_number_type : TtlvType → Bool
@@ -115,6 +112,12 @@ byte_digits b = digit_glyph true (b / 16) ∷ digit_glyph true (b % 16) ∷ []
 -- `0x` and the uppercase hexadecimal digits of these bytes
 abbrev pub number_text : List ℕ → List ℕ
 number_text content = 48 ∷ 120 ∷ flat_map byte_digits content
+
+-- a text is kept under its item's tag, and so is the text of an Enumeration's number; no other leaf is
+abbrev pub with_leaf : Form → Raw → List Keep → List Keep
+with_leaf text x k = k ++ record { tag = x.tag; text = x.content } ∷ []
+with_leaf any_number x k = k ++ record { tag = x.tag; text = number_text x.content } ∷ []
+with_leaf _ x k = k
 
 -- the content of the first variant of this name
 abbrev pub first_named : List ℕ → Variants → Option Content

@@ -13,14 +13,52 @@ ghost use Rattle.kmip_ttlv_de.specs.ReadAnswers.{sort_of, early_end};
 ghost use Rattle.kmip_ttlv_de.specs.Facts.{Says, cause_of, place_of, code_place};
 
 use crate::refuse::{bad_code, early};
-use kmip_ttlv_base::error::Result;
+use kmip_ttlv_base::error::{Error, Result};
 pub use kmip_ttlv_base::types::places::{end_of, tag_at};
 use kmip_ttlv_base::types::{TtlvType, places};
 use std::alloc::Allocator;
 
+/// The type at a place, if its byte is there and is the code of one. Where there is none, `no_type` says why: a
+/// refusal is large, and is made only where one is due.
+#[inline(always)]
+pub fn type_there(bytes: &[u8], pos: usize) -> Option<TtlvType>
+    requires inside { pos ≤ length bytes.now }
+    ensures some { IfSome result (λ t. (pos + 4 ≤ length bytes.now) × (code_at bytes.now pos ≡ code t)) }
+    ensures none { IfNone result ((length bytes.now < pos + 4) ⊎ (type_of (code_at bytes.now pos) ≡ None)) }
+{
+    if bytes.len() - pos < 4 {
+        return None;
+    }
+    places::type_at(bytes, pos)
+}
+
+/// Why there is no type at a place.
+///
+/// UnexpectedEof where its byte is missing, InvalidType where it is the code of none.
+#[cold]
+pub fn no_type<A: Allocator>(bytes: &[u8], pos: usize) -> Error<A>
+    requires none { (length bytes.now < pos + 4) ⊎ (type_of (code_at bytes.now pos) ≡ None) }
+    requires inside { pos ≤ length bytes.now }
+    ensures sort { ((sort_of result ≡ early_end) × (length bytes.now < pos + 4))
+        ⊎ ((pos + 4 ≤ length bytes.now) × (type_of (code_at bytes.now pos) ≡ None)) }
+    ensures fault { pos + 4 ≤ length bytes.now
+        → (cause_of result ≡ malformed (malformeds.InvalidType (code_at bytes.now pos)))
+        × (place_of result ≡ code_place bytes.now pos) }
+    ensures says { (f : Form) (e : ℕ)
+        → pos < e
+        → ItemMayBegin f bytes.now pos
+        → Says f bytes.now pos e result }
+{
+    if bytes.len() - pos < 4 {
+        return early();
+    }
+    bad_code(bytes, pos)
+}
+
 /// The type at a place.
 ///
 /// UnexpectedEof where its byte is missing, InvalidType where it is the code of none.
+#[inline(always)]
 pub fn type_at<A: Allocator>(bytes: &[u8], pos: usize) -> Result<TtlvType, A>
     requires inside { pos ≤ length bytes.now }
     ensures ok { IfOk result (λ t. (pos + 4 ≤ length bytes.now) × (code_at bytes.now pos ≡ code t)) }
@@ -35,15 +73,13 @@ pub fn type_at<A: Allocator>(bytes: &[u8], pos: usize) -> Result<TtlvType, A>
         → ItemMayBegin f bytes.now pos
         → Says f bytes.now pos e r) }
 {
-    if bytes.len() - pos < 4 {
-        return Err(early());
-    }
-    match places::type_at(bytes, pos) {
+    match type_there(bytes, pos) {
         Some(typ) => Ok(typ),
-        None => Err(bad_code(bytes, pos)),
+        None => Err(no_type(bytes, pos)),
     }
 }
 
+#[inline(always)]
 pub fn is_structure(typ: TtlvType) -> bool
     ensures { result ≡ is_structure typ }
 {
@@ -51,6 +87,7 @@ pub fn is_structure(typ: TtlvType) -> bool
 }
 
 /// The length at a place, if its bytes are there.
+#[inline(always)]
 pub fn length_at(bytes: &[u8], pos: usize) -> Option<u32>
     requires { pos + 4 ≤ length bytes.now }
     ensures some { IfSome result (λ n. (pos + 8 ≤ length bytes.now) × (n ≡ length_at bytes.now pos)) }
@@ -63,6 +100,7 @@ pub fn length_at(bytes: &[u8], pos: usize) -> Option<u32>
 }
 
 /// The content of an item, if its bytes are there without the padding.
+#[inline(always)]
 pub fn content_at(bytes: &[u8], pos: usize, n: u32) -> Option<&[u8]>
     requires { pos + 8 ≤ length bytes.now }
     ensures some { IfSome result (λ r. (r.now ≡ take n (drop (pos + 8) bytes.now)) × (pos + 8 + n ≤ length bytes.now)) }

@@ -2,7 +2,7 @@
 //! variants see. Of each tag the last text alone is held, in an ordered map, so that a rule finds
 //! it in a few steps however many texts there were, and whatever tags their sender chose.
 
-ghost use Rattle.std.specs.Prelude.{◌≡◌, ◌++◌, ◌∷◌, [], IfOk};
+ghost use Rattle.std.specs.Prelude.{◌≡◌, ◌++◌, ◌∷◌, [], IfOk, string_bytes};
 ghost use Rattle.std.specs.Option.{option_copied};
 ghost use Rattle.kmip_ttlv_de.specs.Keeps.{Keep, last};
 
@@ -12,11 +12,20 @@ use std::alloc::{AllocError, Allocator, Global};
 use std::collections::BTreeMap;
 use std::marker::Model;
 
+/// A text that is held.
+#[derive(Drop)]
+pub enum HeldText<'b, A: Allocator = Global> {
+    /// Lent, from the message or from the name of a variant.
+    Lent(&'b str),
+    /// The text of a number that no variant has as its name.
+    Own(String<A>),
+}
+
 /// The texts that were kept. Contracts see all of them, as a list; held is the last one of each
-/// tag. The texts are lent: from the message, or from the names of variants.
+/// tag.
 #[derive(Drop)]
 pub struct KeptTexts<'b, A: Allocator = Global> {
-    newest: BTreeMap<u32, &'b str, A>,
+    newest: BTreeMap<u32, HeldText<'b, A>, A>,
     all: History,
 }
 
@@ -25,6 +34,7 @@ impl<'b, A: Allocator> Model for KeptTexts<'b, A> {
     ghost use Rattle.std.specs.Ordering.{nat_cmp};
     ghost use Rattle.std.specs.BTreeMap.{get};
     ghost use Rattle.kmip_ttlv_de.specs.Keeps.{Keep, HoldsLast, keeps_code};
+    ghost use Rattle.kmip_ttlv_de.specs.HeldTexts.{text_of};
 
     ghost Value = { List Keep };
 
@@ -32,7 +42,7 @@ impl<'b, A: Allocator> Model for KeptTexts<'b, A> {
 
     ghost view = { λ k. k.all.listed };
 
-    ghost invariant = { λ k. HoldsLast (λ t. option_map (λ x. x.now) (get nat_cmp k.newest t)) k.all.listed };
+    ghost invariant = { λ k. HoldsLast (λ t. option_map text_of (get nat_cmp k.newest t)) k.all.listed };
 }
 
 impl<'b, A: Allocator + Copy> KeptTexts<'b, A> {
@@ -48,19 +58,39 @@ impl<'b, A: Allocator + Copy> KeptTexts<'b, A> {
 
     /// One more text, which takes the place of the one that was held under its tag. Refused for want
     /// of memory alone.
+    #[inline(always)]
     pub fn keep(&mut self, tag: TtlvTag, text: &'b str) -> Result<(), AllocError>
         ensures { IfOk result (λ _. self.new ≡ self.old ++ record { tag = tag; text = text.now } ∷ []) }
     {
         let KeptTexts { newest, all } = self;
-        newest.insert(*tag, text)?;
+        newest.insert(*tag, HeldText::Lent(text))?;
         *all = all.and(&Kept { tag, text });
         Ok(())
     }
 
+    /// The same of a text that isn't lent.
+    pub fn keep_own(&mut self, tag: TtlvTag, text: String<A>) -> Result<(), AllocError>
+        ensures { IfOk result (λ _. self.new ≡ self.old ++ record { tag = tag; text = string_bytes text } ∷ []) }
+    {
+        let KeptTexts { newest, all } = self;
+        let listed = all.and(&Kept {
+            tag,
+            text: text.as_str(),
+        });
+        newest.insert(*tag, HeldText::Own(text))?;
+        *all = listed;
+        Ok(())
+    }
+
     /// The last text that was kept under a tag, if there is one.
-    pub fn last(&self, tag: TtlvTag) -> Option<&'b str>
+    #[inline(always)]
+    pub fn last(&self, tag: TtlvTag) -> Option<&str>
         ensures { option_copied result ≡ last self.now tag }
     {
-        self.newest.get(&*tag).copied()
+        match self.newest.get(&*tag) {
+            Some(HeldText::Lent(text)) => Some(*text),
+            Some(HeldText::Own(text)) => Some(text.as_str()),
+            None => None,
+        }
     }
 }

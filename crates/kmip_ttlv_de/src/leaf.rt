@@ -18,8 +18,9 @@ ghost use Rattle.kmip_ttlv_de.specs.ReadAnswers.{sort_of};
 ghost use Rattle.kmip_ttlv_de.specs.ReaderSteps.{Answers, ReadsNothing};
 ghost use Rattle.kmip_ttlv_de.specs.Facts.{Says, WrongLength, WrongValue, LeafRead};
 
-use crate::head::{content_at, end_of, length_at, tag_at, type_at};
+use crate::head::{content_at, end_of, length_at, no_type, tag_at, type_there};
 use crate::keep::KeptTexts;
+use crate::number::number_string;
 use crate::refuse::{bad_length, bad_value, early, other_type};
 use kmip_ttlv_base::error::Result;
 use kmip_ttlv_base::shape::Data;
@@ -39,10 +40,12 @@ pub enum Leaf {
     Bytes,
     Interval,
     BigInteger,
+    U32,
 }
 
 impl Leaf {
     // Whether the shape reads leaves of this type.
+    #[inline(always)]
     fn takes(self, typ: TtlvType) -> bool
         ensures { result ≡ takes (form_of_leaf self) typ }
     {
@@ -54,6 +57,7 @@ impl Leaf {
             Leaf::Bytes => typ == TtlvType::ByteString || typ == TtlvType::BigInteger,
             Leaf::Interval => typ == TtlvType::Interval,
             Leaf::BigInteger => typ == TtlvType::BigInteger,
+            Leaf::U32 => typ == TtlvType::Enumeration,
         }
     }
 
@@ -69,11 +73,13 @@ impl Leaf {
             Leaf::Bytes => TtlvType::ByteString,
             Leaf::Interval => TtlvType::Interval,
             Leaf::BigInteger => TtlvType::BigInteger,
+            Leaf::U32 => TtlvType::Enumeration,
         }
     }
 }
 
 /// The content of a leaf, checked on the slice, and the place behind its padding.
+#[inline(always)]
 pub fn leaf_at<A: Allocator>(bytes: &[u8], pos: usize, typ: TtlvType) -> Result<(&[u8], usize), A>
     requires there { pos + 4 ≤ length bytes.now }
     requires typ_is { code_at bytes.now pos ≡ code typ }
@@ -111,17 +117,16 @@ pub fn leaf_at<A: Allocator>(bytes: &[u8], pos: usize, typ: TtlvType) -> Result<
 }
 
 // The text that valid content is.
+#[inline(always)]
 fn text_of<'b>(content: &'b [u8]) -> &'b str
     requires { is_valid TtlvType.TextString content.now ≡ true }
     ensures { result.now ≡ content.now }
 {
-    let Ok(text) = str::from_utf8(content) else {
-        unreachable!()
-    };
-    text
+    unsafe { str::from_utf8_unchecked(content) }
 }
 
 // The value that a leaf's content is.
+#[inline(always)]
 fn leaf_data<A: Allocator + Copy>(
     alloc: A,
     leaf: Leaf,
@@ -140,11 +145,14 @@ fn leaf_data<A: Allocator + Copy>(
         Leaf::Bytes => Data::Bytes(Vec::from_slice(alloc, content)?),
         Leaf::Interval => Data::Interval(number_of_four(content)),
         Leaf::BigInteger => Data::BigInteger(Vec::from_slice(alloc, content)?),
+        Leaf::U32 => Data::U32(number_of_four(content)),
     })
 }
 
-// A text is kept under its item's tag, and no other leaf is.
+// A text is kept under its item's tag, and so is the text of an Enumeration's number; no other leaf is.
+#[inline(always)]
 fn keep_leaf<'b, A: Allocator + Copy>(
+    alloc: A,
     leaf: Leaf,
     tag: TtlvTag,
     typ: TtlvType,
@@ -159,14 +167,17 @@ fn keep_leaf<'b, A: Allocator + Copy>(
         → kept.new ≡ with_leaf (form_of_leaf leaf) x kept.old) }
     ensures err { IfErr result (λ e. IsMemory e) }
 {
-    if let Leaf::Text = leaf {
-        kept.keep(tag, text_of(content))?;
+    match leaf {
+        Leaf::Text => kept.keep(tag, text_of(content))?,
+        Leaf::U32 => kept.keep_own(tag, number_string(alloc, content)?)?,
+        Leaf::I32 | Leaf::I64 | Leaf::Bool | Leaf::Bytes | Leaf::Interval | Leaf::BigInteger => {}
     }
     Ok(())
 }
 
 /// A leaf by its shape, within a structure that ends at `end`.
 #[tactic(auto, using(crate::proofs::FactLemmas::memory_says))]
+#[inline(always)]
 pub fn read_leaf<'b, A: Allocator + Copy>(
     alloc: A,
     leaf: Leaf,
@@ -185,12 +196,14 @@ pub fn read_leaf<'b, A: Allocator + Copy>(
         → Says f bytes.now pos end r) }
     ensures item { IfOk result (λ r. IsItem bytes.now pos r.1) }
 {
-    let typ = type_at(bytes, pos)?;
+    let Some(typ) = type_there(bytes, pos) else {
+        return Err(no_type(bytes, pos));
+    };
     if !leaf.takes(typ) {
         return Err(other_type(bytes, pos, leaf.first_type(), typ));
     }
     let (content, next) = leaf_at(bytes, pos, typ)?;
     let data = leaf_data(alloc, leaf, typ, content)?;
-    keep_leaf(leaf, tag_at(bytes, pos), typ, content, kept)?;
+    keep_leaf(alloc, leaf, tag_at(bytes, pos), typ, content, kept)?;
     Ok((data, next))
 }

@@ -2,6 +2,7 @@
 
 ghost use Rattle.std.specs.Prelude.{◌≡◌, ◌≢◌, ℕ, Bool, ◌+◌, ◌<◌, ◌≤◌, ◌++◌, List, length, Some, true, IfOk, IfErr};
 ghost use Rattle.std.specs.Prelude.{IfSome, option_map, string_bytes};
+ghost use Rattle.std.specs.Str.{IsAscii};
 ghost use Rattle.std.specs.Fmt.{digit_glyph};
 ghost use Rattle.kmip_ttlv_types.specs.ItemTypes.{code};
 ghost use Rattle.kmip_ttlv_types.specs.Places.{code_at};
@@ -22,33 +23,53 @@ use kmip_ttlv_base::error::Result;
 use kmip_ttlv_base::shape::{Data, VariantContent, VariantShape};
 use kmip_ttlv_base::types::{FieldType, TtlvTag, TtlvType};
 use std::alloc::{AllocError, Allocator};
+use std::str;
 
 // A hexadecimal digit in upper case.
-fn digit(n: u8) -> char
+#[inline(always)]
+fn digit(n: u8) -> u8
     requires { n < 16 }
     ensures value { result ≡ digit_glyph true n }
     ensures ascii { result < 128 }
 {
-    if n < 10 {
-        char::from(48 + n)
-    } else {
-        char::from(55 + n)
-    }
+    if n < 10 { 48 + n } else { 55 + n }
 }
 
-// `0x` and the upper case digits of these bytes.
-fn number_text<A: Allocator>(alloc: A, content: &[u8]) -> std::result::Result<String<A>, AllocError>
+// `0x` and the upper case digits of these four bytes.
+#[inline(always)]
+fn number_text(content: &[u8]) -> [u8; 10]
+    requires { length content.now ≡ 4 }
+    ensures text { result ≡ number_text content.now }
+    ensures ascii { IsAscii result }
+{
+    [
+        48,
+        120,
+        digit(content[0] / 16),
+        digit(content[0] % 16),
+        digit(content[1] / 16),
+        digit(content[1] % 16),
+        digit(content[2] / 16),
+        digit(content[2] % 16),
+        digit(content[3] / 16),
+        digit(content[3] % 16),
+    ]
+}
+
+/// The same as a text of its own.
+pub fn number_string<A: Allocator>(
+    alloc: A,
+    content: &[u8],
+) -> std::result::Result<String<A>, AllocError>
+    requires { length content.now ≡ 4 }
     ensures { IfOk result (λ s. string_bytes s ≡ number_text content.now) }
 {
-    let mut text = String::from_str(alloc, "0x")?;
-    for byte in content {
-        text.push(digit(byte / 16))?;
-        text.push(digit(byte % 16))?;
-    }
-    Ok(text)
+    let digits = number_text(content);
+    String::from_str(alloc, unsafe { str::from_utf8_unchecked(&digits) })
 }
 
 // The first variant of this name.
+#[inline(always)]
 fn first_named<'s, A: Allocator>(
     name: &str,
     variants: &'s [VariantShape<A>],
@@ -65,6 +86,7 @@ fn first_named<'s, A: Allocator>(
     None
 }
 
+#[inline(always)]
 fn is_number_type(typ: TtlvType) -> bool
     ensures { result ≡ is_number_type typ }
 {
@@ -72,6 +94,7 @@ fn is_number_type(typ: TtlvType) -> bool
 }
 
 // The name of the unit variant that a number's text names.
+#[inline(always)]
 fn named_unit<A: Allocator + Copy>(
     alloc: A,
     owner: TtlvTag,
@@ -107,6 +130,7 @@ fn named_unit<A: Allocator + Copy>(
 
 /// The variant that a number names, within a structure that ends at `end`.
 #[tactic(auto, using(crate::proofs::FactLemmas::memory_says))]
+#[inline(always)]
 pub fn read_number<'b, A: Allocator + Copy>(
     alloc: A,
     owner: TtlvTag,
@@ -139,8 +163,9 @@ pub fn read_number<'b, A: Allocator + Copy>(
         }
     }
     let (content, next) = leaf_at(bytes, pos, typ)?;
-    let text = number_text(alloc, content)?;
-    let variant = named_unit(alloc, owner, variants, typ, bytes, pos, &text)?;
+    let digits = number_text(content);
+    let text = unsafe { str::from_utf8_unchecked(&digits) };
+    let variant = named_unit(alloc, owner, variants, typ, bytes, pos, text)?;
     let lent: &'b str = variant;
     kept.keep(tag_at(bytes, pos), lent)?;
     Ok((Data::UnitVariant { name, variant }, next))

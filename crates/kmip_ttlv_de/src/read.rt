@@ -29,7 +29,7 @@ ghost use Rattle.kmip_ttlv_de.specs.RootFacts.{root_fault, named_fault, RootFact
 ghost use Rattle.kmip_ttlv_de.specs.Wholes.{BeginsWhole};
 
 use crate::field_tags::{is_field, tags_of};
-use crate::head::{end_of, is_structure, length_at, tag_at, type_at};
+use crate::head::{end_of, is_structure, length_at, no_type, tag_at, type_at, type_there};
 use crate::keep::KeptTexts;
 use crate::leaf::{Leaf, leaf_at, read_leaf};
 use crate::number::read_number;
@@ -44,6 +44,7 @@ use kmip_ttlv_base::types::{TtlvTag, TtlvType};
 use std::alloc::Allocator;
 use std::collections::BTreeSet;
 
+#[inline(always)]
 fn is_option<A: Allocator>(shape: &Shape<A>) -> bool
     ensures { result ≡ is_option (form_of shape.now) }
 {
@@ -92,6 +93,7 @@ fn read_shape<'b, A: Allocator + Copy>(
         Shape::Bytes => read_leaf(alloc, Leaf::Bytes, bytes, pos, end, kept),
         Shape::Interval => read_leaf(alloc, Leaf::Interval, bytes, pos, end, kept),
         Shape::BigInteger => read_leaf(alloc, Leaf::BigInteger, bytes, pos, end, kept),
+        Shape::U32 => read_leaf(alloc, Leaf::U32, bytes, pos, end, kept),
         Shape::Enum { name, variants } => read_enum(
             alloc, owner, name, variants, bytes, pos, end, kept,
         ),
@@ -123,6 +125,7 @@ fn read_shape<'b, A: Allocator + Copy>(
 ///
 /// Refused in this order: the code of no type, a name that is no tag, another tag, another type
 /// than Structure.
+#[inline(always)]
 fn open_struct<A: Allocator + Copy>(
     alloc: A,
     name: &str,
@@ -162,6 +165,7 @@ fn open_struct<A: Allocator + Copy>(
 /// A structure's header, its fields, and its end.
 #[cycle(reader)]
 #[tactic(auto, using(crate::proofs::FactLemmas::memory_says))]
+#[inline(always)]
 fn read_struct<'b, A: Allocator + Copy>(
     alloc: A,
     name: &str,
@@ -196,6 +200,7 @@ fn read_struct<'b, A: Allocator + Copy>(
 /// The items of a structure with this tag: the fields, and what may follow.
 #[cycle(reader)]
 #[tactic(auto, using(crate::proofs::FactLemmas::memory_says))]
+#[inline(always)]
 fn read_content<'b, A: Allocator + Copy>(
     alloc: A,
     tag: TtlvTag,
@@ -245,7 +250,7 @@ fn read_fields<'b, A: Allocator + Copy>(
         → Says f bytes.now pos end r) }
     ensures last { IfOk result (λ r. pos ≤ end → end < r.1 → IsLast bytes.now pos r.2 r.1 end) }
 {
-    let mut values = Vec::new(alloc);
+    let mut values = Vec::with_capacity(alloc, fields.len())?;
     let mut next = pos;
     let mut last = pos;
     for field in fields {
@@ -269,6 +274,7 @@ fn read_fields<'b, A: Allocator + Copy>(
 
 /// What follows the fields.
 #[tactic(auto, using(crate::proofs::FactLemmas::memory_says))]
+#[inline(always)]
 fn read_rest<A: Allocator + Copy>(
     alloc: A,
     tag: TtlvTag,
@@ -384,6 +390,7 @@ fn read_ignored<A: Allocator + Copy>(
 /// One field of the struct with this tag. The item before it began at `last`.
 #[cycle(reader)]
 #[tactic(auto, using(crate::proofs::FactLemmas::memory_says))]
+#[inline(always)]
 fn read_field<'b, A: Allocator + Copy>(
     alloc: A,
     tag: TtlvTag,
@@ -417,7 +424,9 @@ fn read_field<'b, A: Allocator + Copy>(
         return Err(at_end(alloc, bytes, end, tag, "missing field"));
     }
     if !is_struct(shape) {
-        let typ = type_at(bytes, pos)?;
+        let Some(typ) = type_there(bytes, pos) else {
+            return Err(no_type(bytes, pos));
+        };
         if TtlvTag::from_name(name) != Some(tag_at(bytes, pos)) {
             if is_option(shape) {
                 return Ok((Data::None, pos));
@@ -484,6 +493,7 @@ fn read_seq<'b, A: Allocator + Copy>(
 }
 
 /// Whether the next item is there, with the first one's tag and type.
+#[inline(always)]
 fn goes_on<A: Allocator>(
     bytes: &[u8],
     first: usize,
@@ -511,7 +521,9 @@ fn goes_on<A: Allocator>(
     if next == end {
         return Ok(false);
     }
-    type_at(bytes, next)?;
+    let Some(_) = type_there(bytes, next) else {
+        return Err(no_type(bytes, next));
+    };
     if tag_at(bytes, next) != tag_at(bytes, first) {
         return Ok(false);
     }
@@ -522,6 +534,7 @@ fn goes_on<A: Allocator>(
 }
 
 /// The index of the variant that is chosen by rule at an item of this type, if one is.
+#[inline(always)]
 fn chosen<'b, A: Allocator + Copy>(
     alloc: A,
     variants: &[VariantShape<A>],
@@ -547,6 +560,7 @@ fn chosen<'b, A: Allocator + Copy>(
 /// An enum, by the rules of its variants, or else by a number.
 #[cycle(reader)]
 #[tactic(auto, using(crate::proofs::FactLemmas::memory_says))]
+#[inline(always)]
 fn read_enum<'b, A: Allocator + Copy>(
     alloc: A,
     owner: TtlvTag,
@@ -568,7 +582,9 @@ fn read_enum<'b, A: Allocator + Copy>(
         → Says f bytes.now pos end r) }
     ensures item { IfOk result (λ r. end < r.1 → IsItem bytes.now pos r.1) }
 {
-    let typ = type_at(bytes, pos)?;
+    let Some(typ) = type_there(bytes, pos) else {
+        return Err(no_type(bytes, pos));
+    };
     match chosen(alloc, variants, kept, typ, bytes, pos)? {
         Some(i) => read_variant(
             alloc,
@@ -696,7 +712,7 @@ fn read_parts<'b, A: Allocator + Copy>(
         → pos ≤ end
         → Says f bytes.now pos end r) }
 {
-    let mut values = Vec::new(alloc);
+    let mut values = Vec::with_capacity(alloc, shapes.len())?;
     let mut next = pos;
     let mut last = pos;
     for shape in shapes {
@@ -790,6 +806,7 @@ pub fn read_root<A: Allocator + Copy>(
         | Shape::Text
         | Shape::Bytes
         | Shape::Interval
-        | Shape::BigInteger => Err(root_leaf()),
+        | Shape::BigInteger
+        | Shape::U32 => Err(root_leaf()),
     }
 }

@@ -51,6 +51,7 @@ pub enum Verdict<'n> {
 /// refused with the first side where it is no tag; `>=` where a text is kept, with that text or
 /// else the second side, where it is no number.
 #[tactic(auto, unfolding(crate::specs::Rules::rule))]
+#[inline(always)]
 pub fn rule<'n, 'b, A: Allocator + Copy>(
     name: &'n str,
     kept: &'n KeptTexts<'b, A>,
@@ -75,6 +76,7 @@ pub fn rule<'n, 'b, A: Allocator + Copy>(
 
 /// The index of the first variant whose rule holds, and none where no rule does: the item's number
 /// chooses then. A rule that is refused before ends the search with its refusal.
+#[inline(always)]
 pub fn choose<'n, 'b, A: Allocator + Copy, B: Allocator>(
     variants: &'n [VariantShape<B>],
     kept: &'n KeptTexts<'b, A>,
@@ -94,6 +96,7 @@ pub fn choose<'n, 'b, A: Allocator + Copy, B: Allocator>(
 }
 
 // The verdict of a rule that is not refused.
+#[inline(always)]
 fn told<'n>(answer: bool) -> Verdict<'n>
     ensures { verdict_of result ≡ says answer }
 {

@@ -4,6 +4,7 @@ pub mod Padding
 pub mod Roots
 pub mod TreeTexts
 pub mod MessageParts
+pub mod MessageRules
 pub mod Lacking
 pub mod Canonical
 pub mod DataTexts

@@ -3,7 +3,7 @@ use Rattle.std.proofs.Common.{◌≡◌, true, List, ◌∷◌}
 use Rattle.kmip_ttlv_types.specs.Items.{Raw}
 use Rattle.kmip_ttlv_types.specs.declared.typ.TtlvType.{TtlvType}
 use Rattle.kmip_ttlv_types.specs.declared.typ.TtlvType.TheVariants.{Structure}
-use Rattle.kmip_ttlv_base.specs.Forms.{Form, struct, option, seq, newtype, enum, int32, int64, boolean, text, octets, interval, big_integer}
+use Rattle.kmip_ttlv_base.specs.Forms.{Form, struct, option, seq, newtype, enum, int32, int64, boolean, text, octets, interval, big_integer, any_number}
 use Rattle.kmip_ttlv_base.specs.Values.{Value}
 use Rattle.kmip_ttlv_de.specs.Keeps.{Keep}
 use Rattle.kmip_ttlv_de.specs.Reads.{Reads, leaf, wrap_some, wrap, run, structure, by_rule, by_number, is_root, takes}
@@ -22,6 +22,7 @@ no_leaf text t e h = absurd cc
 no_leaf octets t e h = absurd cc
 no_leaf interval t e h = absurd cc
 no_leaf big_integer t e h = absurd cc
+no_leaf any_number t e h = absurd cc
 
 -- what a root form reads from is a Structure
 pub root_structure : {s : Form} {k k' : List Keep} {x : Raw} {xs ys : List Raw} {v : Value} → is_root s ≡ true → Reads s k (x ∷ xs) v k' ys → x.typ ≡ Structure

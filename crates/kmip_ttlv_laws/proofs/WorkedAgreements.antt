@@ -1,14 +1,17 @@
 -- Worked values agree with their forms, by the definitions.
-use Rattle.std.proofs.Common.{◌≡◌, pos, true, refl, codes, FitsSigned, lit<}
+use Rattle.std.proofs.Common.{◌≡◌, pos, true, refl, codes, List, [], ◌∷◌, FitsSigned, lit<}
 use Rattle.std.specs.Int.{w32}
 use Rattle.std.specs.Str.{chars, is_utf8, trim_end, trim_start}
 use lib.Utf8.{encode}
 use Rattle.kmip_ttlv_types.specs.Names.{number, override_name, tag_of, transparent_name}
 use Rattle.kmip_ttlv_ser.specs.WrittenItems.{held_over, is_wrapper, take_tag}
 use Rattle.kmip_ttlv_de.specs.Rules.{at_least, equal, in_brackets, member, rule, sides}
-use Rattle.kmip_ttlv_laws.specs.Agreements.{absent_agrees, field_agrees, first_variant, inner_agrees, last_agrees, later_variant, leaf_agrees, newtype_encloses, newtype_wraps, next_agrees, no_field_agrees, nothing_agrees, number_agrees, option_agrees, rule_agrees, seq_agrees, struct_agrees, struct_encloses, unit_is_numbered, variant_wraps}
-use Rattle.kmip_ttlv_laws.specs.Returns.{as_int32, as_text}
-use Rattle.kmip_ttlv_laws.specs.WorkedAgreements.{AttributesAgree, OptionsAgree}
+use Rattle.kmip_ttlv_base.specs.Values.{Value, i32_value, unit_variant_value}
+use Rattle.kmip_ttlv_laws.specs.Agreements.{absent_agrees, field_agrees, first_variant, inner_agrees, later_variant, leaf_agrees, newtype_wraps, no_field_agrees, nothing_agrees, option_agrees, struct_agrees, struct_encloses, unit_is_numbered, variant_wraps}
+use Rattle.kmip_ttlv_laws.proofs.MessageParts.{PartAgrees, a_structure, last_then, message, newtype_structure, nothing_left, sequence_part, structure, wrapped_leaf, wrapped_unit}
+use Rattle.kmip_ttlv_laws.proofs.MessageRules.{by_rules, in_any_case, kept_then, rule_then, wrapped_text_kept}
+use Rattle.kmip_ttlv_laws.specs.Returns.{as_int32}
+use Rattle.kmip_ttlv_laws.specs.WorkedAgreements.{AttributesAgree, OptionsAgree, attribute_form, written_attribute, read_attribute}
 
 three_fits : FitsSigned w32 (pos 3)
 three_fits = record { sfits = lit< tt }
@@ -40,11 +43,39 @@ options_agree =
           (field_agrees refl refl second no_field_agrees)))),
     )
 
-pub attributes_agree : AttributesAgree
+-- an attribute whose name chooses an algorithm
+algorithm_agrees : PartAgrees attribute_form (written_attribute (codes "Cryptographic Algorithm") (unit_variant_value (codes "420028") (codes "0x00000003"))) (a_structure 0x420008) (read_attribute (codes "Cryptographic Algorithm") (codes "if 0x42000A==Cryptographic Algorithm") (unit_variant_value (codes "algorithm") (codes "0x00000003")))
 unfolding take_tag tag_of number transparent_name override_name held_over is_wrapper rule sides equal at_least member in_brackets trim_end chars trim_start encode
+algorithm_agrees =
+    structure refl refl (by_rules (
+    kept_then refl refl (wrapped_text_kept (newtype_wraps refl refl) refl algorithm_utf8) (
+    rule_then refl refl (λ k found. rw (found 0x42000A _ refl) refl) first_variant (in_any_case (
+    wrapped_unit (variant_wraps refl refl) (unit_is_numbered refl refl) refl (λ k. record { no_rule = refl; named = refl }))) nothing_left)))
+
+-- one whose name chooses a number
+length_agrees : PartAgrees attribute_form (written_attribute (codes "Cryptographic Length") (i32_value (pos 128))) (a_structure 0x420008) (read_attribute (codes "Cryptographic Length") (codes "if 0x42000A in [Cryptographic Length, Cryptographic Usage Mask]") (i32_value (pos 128)))
+unfolding take_tag tag_of number transparent_name override_name held_over is_wrapper rule sides equal at_least member in_brackets trim_end chars trim_start encode
+length_agrees =
+    structure refl refl (by_rules (
+    kept_then refl refl (wrapped_text_kept (newtype_wraps refl refl) refl length_utf8) (
+    rule_then refl refl (λ k found. rw (found 0x42000A _ refl) refl) (later_variant first_variant) (in_any_case (
+    wrapped_leaf (variant_wraps refl refl) refl (as_int32 bits_fit))) nothing_left)))
+
+-- both, each as it is written and as it is read
+both : List (Value × Value)
+both = (
+  written_attribute (codes "Cryptographic Algorithm") (unit_variant_value (codes "420028") (codes "0x00000003")),
+  read_attribute (codes "Cryptographic Algorithm") (codes "if 0x42000A==Cryptographic Algorithm") (unit_variant_value (codes "algorithm") (codes "0x00000003")),
+)
+    ∷ (
+      written_attribute (codes "Cryptographic Length") (i32_value (pos 128)),
+      read_attribute (codes "Cryptographic Length") (codes "if 0x42000A in [Cryptographic Length, Cryptographic Usage Mask]") (i32_value (pos 128)),
+    )
+    ∷ []
+
+pub attributes_agree : AttributesAgree
+unfolding take_tag tag_of number transparent_name both
 attributes_agree =
-    let algorithm = rule_agrees refl first_variant (inner_agrees (variant_wraps refl refl) (number_agrees (unit_is_numbered refl refl) record { no_rule = refl; named = refl })) in
-    let bits = rule_agrees refl (later_variant first_variant) (inner_agrees (variant_wraps refl refl) (leaf_agrees refl (as_int32 bits_fit))) in
-    let first = struct_agrees refl (struct_encloses refl) (field_agrees refl refl (inner_agrees (newtype_wraps refl refl) (leaf_agrees refl (as_text algorithm_utf8))) (field_agrees refl refl algorithm no_field_agrees)) in
-    let second = struct_agrees refl (struct_encloses refl) (field_agrees refl refl (inner_agrees (newtype_wraps refl refl) (leaf_agrees refl (as_text length_utf8))) (field_agrees refl refl bits no_field_agrees)) in
-    (_, _, struct_agrees refl (newtype_encloses refl refl) (field_agrees refl refl (seq_agrees (next_agrees first refl (last_agrees second))) no_field_agrees))
+    message (newtype_structure refl refl refl (
+    last_then refl (
+    sequence_part (λ p. p.0) (λ p. p.1) both (lit< tt) (algorithm_agrees, refl, (length_agrees, refl, tt)))))

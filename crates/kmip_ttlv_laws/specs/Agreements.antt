@@ -12,8 +12,8 @@ use Rattle.kmip_ttlv_base.specs.Values.{u64_value, interval_value, text_value, b
 use Rattle.kmip_ttlv_base.specs.Values.{none_value, some_value, seq_value, struct_value, newtype_value}
 use Rattle.kmip_ttlv_base.specs.Values.{unit_variant_value, newtype_variant_value, tuple_variant_value, Values}
 use Rattle.kmip_ttlv_base.specs.Values.{no_values, value}
-use Rattle.kmip_ttlv_base.specs.Forms.{Form, struct, option, seq, newtype, enum, text, Fields, no_fields, field}
-use Rattle.kmip_ttlv_base.specs.Forms.{Variants, variant, Content, wrapped, tuple, Forms, no_forms, form}
+use Rattle.kmip_ttlv_base.specs.Forms.{Form, struct, option, seq, newtype, enum, text, any_number, Fields, no_fields}
+use Rattle.kmip_ttlv_base.specs.Forms.{field, Variants, variant, Content, wrapped, tuple, Forms, no_forms, form}
 use Rattle.kmip_ttlv_ser.specs.declared.held.Held.{Held}
 use Rattle.kmip_ttlv_ser.specs.declared.held.Held.TheVariants.{Nothing, Plain}
 use Rattle.kmip_ttlv_ser.specs.WrittenItems.{take_tag, held_tag, held_over, is_wrapper, without_override}
@@ -68,9 +68,11 @@ leaf_type (bytes_value s) = ByteString
 leaf_type (big_integer_value s) = BigInteger
 leaf_type _ = Structure
 
--- a text that a form reads as a text is kept under its tag, and no other leaf is
+-- a text that a form reads as a text is kept under its tag, and so is the text of a number that a form reads as any
+-- number; no other leaf is
 abbrev pub with_value : Form → ℕ → Value → List Keep → List Keep
 with_value text t (text_value s) k = k ++ record { tag = t; text = s } ∷ []
+with_value any_number t (u32_value n) k = k ++ record { tag = t; text = text_of_number n } ∷ []
 with_value _ t _ k = k
 
 -- no tag is held, as at the beginning of a message and of each field

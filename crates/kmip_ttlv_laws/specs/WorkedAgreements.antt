@@ -14,14 +14,16 @@ attribute_value_form =
     enum (codes "algorithm") (variant (codes "0x00000003") unit no_variants))) (
     variant (codes "if 0x42000A in [Cryptographic Length, Cryptographic Usage Mask]") (wrapped int32) no_variants))
 
--- a name and a value, one or more of them
-abbrev pub attributes_form : Form
-attributes_form =
-    struct (codes "0x420091") (
-    field (codes "0x420008") (seq (
+-- a name and a value
+abbrev pub attribute_form : Form
+attribute_form =
     struct (codes "0x420008") (
     field (codes "0x42000A") text (
-    field (codes "0x42000B") attribute_value_form no_fields)) false)) no_fields) false
+    field (codes "0x42000B") attribute_value_form no_fields)) false
+
+-- one attribute or more
+abbrev pub attributes_form : Form
+attributes_form = struct (codes "0x420091") (field (codes "0x420008") (seq attribute_form) no_fields) false
 
 -- an attribute as it is written: the tag of the value overrides the value's own
 abbrev pub written_attribute : List ℕ → Value → Value

@@ -9,9 +9,9 @@ use crate::names::{
     TagD, TagE,
 };
 use crate::parts::{
-    BigNumber, Choice, Content, NoContent, NoParts, Number, OneField, OneNumber, OneVariant, Part,
-    Parts, Sequence, Span, Structure, Text, ThreeNumbers, Tuple, TwoFields, TwoNumbers,
-    TwoVariants,
+    AnyNumber, BigNumber, Choice, Content, NoContent, NoParts, Number, OneField, OneNumber,
+    OneVariant, Part, Parts, Sequence, Span, Structure, Text, ThreeNumbers, Tuple, TwoFields,
+    TwoNumbers, TwoVariants,
 };
 use std::alloc::Global;
 use std::test::Fail;
@@ -52,6 +52,25 @@ fn takes<P: Part>(alloc: Global, variant: &str) -> Result<(), Fail> {
     check::<P>(alloc, NUMBERS, wanted.as_str())
 }
 
+// Two variants of a number each, behind an Enumeration of any number.
+type AnyOr<N, M> = Structure<
+    TagA,
+    TwoFields<
+        TagB,
+        AnyNumber,
+        TagC,
+        Choice<TagC, TwoVariants<N, Content<Number>, M, Content<Number>>>,
+    >,
+>;
+
+// Fails unless the numbers are read by this shape so that the second is of the variant of this name.
+fn takes_behind_any<P: Part>(alloc: Global, variant: &str) -> Result<(), Fail> {
+    let wanted = format!(in alloc;
+        "Struct {{ name: \"0xAAAAAA\", fields: [U32(1), NewtypeVariant {{ name: \"0xCCCCCC\", variant: \"{variant}\", inner: I32(7) }}] }}"
+    )?;
+    check::<P>(alloc, NUMBERS, wanted.as_str())
+}
+
 // Fails unless the numbers are refused by this shape for a name in the rule, at the second of them.
 fn refuses_name<P: Part>(alloc: Global, kind: &str) -> Result<(), Fail> {
     let wanted = format!(in alloc;
@@ -76,6 +95,19 @@ fn rules_of_a_kept_number(rt: HostRuntime) -> Result<(), Fail> {
     takes::<Either<IfAtLeastTwo, IfAtLeastOne>>(heap, "if 0xBBBBBB>=1")?;
     takes::<Either<IfInStrange, IfInTwo>>(heap, "if 0xBBBBBB in [0x00000002, 0x00000001]")?;
     takes::<Either<IfText, IfInteger>>(heap, "if type==Integer")
+}
+
+// The same where no variant names the number, and it is read by itself.
+#[test]
+fn rules_of_any_number(rt: HostRuntime) -> Result<(), Fail> {
+    let heap = rt.alloc();
+    takes_behind_any::<AnyOr<IfOneShort, IfOne>>(heap, "if 0xBBBBBB==0x00000001")?;
+    takes_behind_any::<AnyOr<IfAtLeastTwo, IfAtLeastOne>>(heap, "if 0xBBBBBB>=1")?;
+    takes_behind_any::<AnyOr<IfInStrange, IfInTwo>>(
+        heap,
+        "if 0xBBBBBB in [0x00000002, 0x00000001]",
+    )?;
+    refuses_name::<AnyOr<IfAtLeastWord, IfOne>>(heap, "InvalidTag(\"zz\")")
 }
 
 #[test]

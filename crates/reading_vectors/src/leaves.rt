@@ -3,8 +3,8 @@
 use crate::answer::{Of, Single, answer, check, check_rows};
 use crate::names::{NoTag, TagA, TagB, TagC, TagD};
 use crate::parts::{
-    BigNumber, ClosedStructure, LongNumber, Maybe, Number, Octets, OneField, Span, Structure, Text,
-    ThreeFields, Truth, TwoFields,
+    AnyNumber, BigNumber, ClosedStructure, LongNumber, Maybe, Number, Octets, OneField, Span,
+    Structure, Text, ThreeFields, Truth, TwoFields,
 };
 use std::test::Fail;
 
@@ -214,6 +214,31 @@ const BIG_NUMBERS: [(&str, &str); 1] = [(
     "SerdeError(UnexpectedType { expected: BigInteger, actual: ByteString }); pos: 12 bytes, parent tags: 0xAAAAAA, tag: 0xBBBBBB, type: ByteString (0x08)",
 )];
 
+// An Enumeration of any number, and no Integer.
+const ANY_NUMBERS: [(&str, &str); 6] = [
+    (
+        "AAAAAA0100000010BBBBBB05000000048000000300000000",
+        "Struct { name: \"0xAAAAAA\", fields: [U32(2147483651)] }",
+    ),
+    (
+        "AAAAAA0100000010BBBBBB0500000004FFFFFFFF00000000",
+        "Struct { name: \"0xAAAAAA\", fields: [U32(4294967295)] }",
+    ),
+    (
+        SINGLE,
+        "SerdeError(UnexpectedType { expected: Enumeration, actual: Integer }); pos: 12 bytes, parent tags: 0xAAAAAA, tag: 0xBBBBBB, type: Integer (0x02)",
+    ),
+    (
+        "AAAAAA0100000010BBBBBB05000000080000000000000001",
+        "MalformedTtlv(InvalidLength { expected: 4, actual: 8, typ: Enumeration }); pos: 16 bytes, parent tags: 0xAAAAAA, tag: 0xBBBBBB, type: Enumeration (0x05)",
+    ),
+    ("AAAAAA0100000010BBBBBB050000000480000003", "UnexpectedEof"),
+    (
+        "AAAAAA0100000010CCCCCC05000000048000000300000000",
+        "SerdeError(UnexpectedTag { expected: 0xBBBBBB, actual: 0xCCCCCC }); pos: 12 bytes, parent tags: 0xAAAAAA, tag: 0xCCCCCC, type: Enumeration (0x05)",
+    ),
+];
+
 #[test]
 fn other_leaves(rt: HostRuntime) -> Result<(), Fail> {
     check_rows::<Of<LongNumber>>(rt.alloc(), &LONG_NUMBERS)?;
@@ -221,7 +246,8 @@ fn other_leaves(rt: HostRuntime) -> Result<(), Fail> {
     check_rows::<Of<Truth>>(rt.alloc(), &TRUTHS)?;
     check_rows::<Of<Text>>(rt.alloc(), &TEXTS)?;
     check_rows::<Of<Octets>>(rt.alloc(), &OCTETS)?;
-    check_rows::<Of<BigNumber>>(rt.alloc(), &BIG_NUMBERS)
+    check_rows::<Of<BigNumber>>(rt.alloc(), &BIG_NUMBERS)?;
+    check_rows::<Of<AnyNumber>>(rt.alloc(), &ANY_NUMBERS)
 }
 
 // No item is let through behind the fields.

@@ -1,5 +1,6 @@
 use Rattle.std.proofs.Common.{◌≡◌, ◌≢◌, ◌+◌, ◌≤◌, ◌++◌, ◌∷◌, [], length, inr, refl, subst, sym, ap, ◌∙◌, arith, rules, Some, false, true}
 use Rattle.std.proofs.lemmas.Result.{err_from_is_err_and}
+use Rattle.std.proofs.lemmas.Str.{IsUtf8-from_ascii}
 use Rattle.kmip_ttlv_types.specs.Places.{tag_at, length_at}
 use Rattle.kmip_ttlv_base.specs.Values.{view, unit_variant_value}
 use Rattle.kmip_ttlv_base.specs.Forms.{variants_of, unit}
@@ -13,10 +14,16 @@ use Rattle.kmip_ttlv_base.specs.declared.error.MalformedTtlvError.TheVariants as
 use Rattle.kmip_ttlv_types.specs.declared.typ.TtlvType.TheVariants.{Enumeration}
 use Rattle.kmip_ttlv_de.proofs.SayLemmas.{malformed_says, mismatch_says}
 use Rattle.kmip_ttlv_de.proofs.Going.{refused_by}
-use Rattle.kmip_ttlv_de.proofs.NumberLemmas.{number_not_type, number_not_length, number_no_value, no_unit, number_not_unit, number_accepted, number_length, number_long, number_valid, no_number}
+use Rattle.kmip_ttlv_de.proofs.NumberLemmas.{number_not_type, number_not_length, number_no_value, no_unit, number_not_unit, number_accepted, number_length, number_long, number_valid, number_four, no_number}
 use Rattle.kmip_ttlv_base.proofs.Views.{view-UnitVariant}
 use Rattle.kmip_ttlv_de.proofs.number.read_number.Goals.{in-Some+else-n-ne4, in_default}
 use Rattle.kmip_ttlv_de.proofs.number.read_number.Goals as goal
+
+pub number_text-digits-requires : goal.number_text-digits-requires
+number_text-digits-requires g c = number_four c.args.typ c.in_ok-content.content.now (search rules) c.in_ok-content.ensures.ok.1
+
+pub from_utf8_unchecked-text-requires : goal.from_utf8_unchecked-text-requires
+from_utf8_unchecked-text-requires g c = IsUtf8-from_ascii _ c.number_text-digits.ensures.ascii
 
 pub returns-then-not-is_number_type-clause-answers : goal.returns-then-not-is_number_type-clause-answers
 returns-then-not-is_number_type-clause-answers g c =
@@ -73,7 +80,7 @@ returns-in_err-variant-clause-answers g c =
     let p = err_from_is_err_and c.from_residual-in_err-variant.result c.from_residual-in_err-variant.ensures.1 in
     let content = c.in_ok-content.content.now in
     let vs = variants_of c.args.variants.now in
-    let name : c.deref.result.now ≡ number_text content = c.deref.ensures ∙ c.in_ok-text.ensures in
+    let name : c.from_utf8_unchecked-text.result.now ≡ number_text content = c.from_utf8_unchecked-text.ensures ∙ c.number_text-digits.ensures.text in
     let none : first_named (number_text content) vs ≢ Some unit = subst (λ s. first_named s vs ≢ Some unit) name c.in_err-variant.ensures.err in
     rw (p.1, p.2) (number_not_unit c.args.name.now vs c.args.bytes.now c.args.pos c.args.end c.args.kept.now c.args.typ (length_at c.args.bytes.now c.args.pos) content c.in_ok-content.next (sort_of c.in_err-variant.field-0.0) c.requires.before_end (λ i. omega (arith, c.type_inv.bytes i)) c.in_ok-content.ensures.ok.0 (no_unit c.args.name.now (number_text content) (first_named (number_text content) vs) none))
 
@@ -81,7 +88,7 @@ pub returns-in_err-variant-clause-says : goal.returns-in_err-variant-clause-says
 returns-in_err-variant-clause-says g c =
     let p = err_from_is_err_and c.from_residual-in_err-variant.result c.from_residual-in_err-variant.ensures.1 in
     let content : c.in_ok-content.content.now ≡ content_at c.args.bytes.now c.args.pos = c.in_ok-content.ensures.ok.0.content_is in
-    let text : c.deref.result.now ≡ number_text (content_at c.args.bytes.now c.args.pos) = c.deref.ensures ∙ c.in_ok-text.ensures ∙ ap number_text content in
+    let text : c.from_utf8_unchecked-text.result.now ≡ number_text (content_at c.args.bytes.now c.args.pos) = c.from_utf8_unchecked-text.ensures ∙ c.number_text-digits.ensures.text ∙ ap number_text content in
     rw (p.1, p.2) (λ f at chooses. c.in_err-variant.ensures.says f c.args.name.now c.args.end at chooses text)
 
 pub returns-clause-answers : goal.returns-clause-answers
@@ -90,7 +97,7 @@ returns-clause-answers g c =
     let vs = variants_of c.args.variants.now in
     let number : is_number_type c.args.typ ≡ true = search rules in
     let k = c.args.kept.now in
-    let name : c.deref.result.now ≡ number_text content = c.deref.ensures ∙ c.in_ok-text.ensures in
+    let name : c.from_utf8_unchecked-text.result.now ≡ number_text content = c.from_utf8_unchecked-text.ensures ∙ c.number_text-digits.ensures.text in
     let found : first_named (number_text content) vs ≡ Some unit = sym (ap (λ s. first_named s vs) name) ∙ c.in_ok-variant.ensures.ok in
     let vname : c.in_ok-variant.variant.now ≡ number_text content = c.in_ok-variant.ensures.name ∙ name in
     let value : view {A = g.row.A.Denot} _ ≡ unit_variant_value c.args.name.now (number_text content) = view-UnitVariant g.row.A.Denot c.args.name c.in_ok-variant.variant ∙ ap (unit_variant_value c.args.name.now) vname in

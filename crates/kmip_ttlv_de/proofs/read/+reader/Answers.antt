@@ -1,13 +1,13 @@
 use Rattle.std.proofs.Common.{rules, ◌≡◌, ◌+◌, ◌<◌, ◌≤◌, length, true, false, [], ◌∷◌, ◌++◌}
 use Rattle.std.proofs.Common.{refl, ap, inl, inr, subst, sym, ◌≢◌, ◌∙◌, arith, Some}
 use Rattle.std.proofs.lemmas.Result.{err_from_is_err_and}
-use Rattle.kmip_ttlv_de.proofs.read.+reader.Goals.{read_field-then-not-is_struct+in_ok-typ+else-ne, read_field-else-not-is_struct}
+use Rattle.kmip_ttlv_de.proofs.read.+reader.Goals.{read_field-then-not-is_struct+in-Some+else-ne, read_field-else-not-is_struct}
 use Rattle.kmip_ttlv_de.proofs.read.+reader.Goals as goal
 use Rattle.kmip_ttlv_types.specs.ItemTypes.{code}
 use Rattle.kmip_ttlv_types.specs.Names.{tag_of}
 use Rattle.kmip_ttlv_types.specs.Places.{code_at, tag_at}
 use Rattle.kmip_ttlv_types.specs.declared.typ.TtlvType.TheVariants.{Structure}
-use Rattle.kmip_ttlv_base.specs.Forms.{big_integer, boolean, content_of, fields_of, form_of, forms_of, int32, int64, interval, octets, text, tuple, variants_of}
+use Rattle.kmip_ttlv_base.specs.Forms.{any_number, big_integer, boolean, content_of, fields_of, form_of, forms_of, int32, int64, interval, octets, text, tuple, variants_of}
 use Rattle.kmip_ttlv_base.specs.Values.{newtype_value, newtype_variant_value, some_value, tuple_variant_value, view, views}
 use Rattle.kmip_ttlv_base.specs.declared.error.MalformedTtlvError.TheVariants as malformeds
 use Rattle.kmip_ttlv_types.specs.declared.field.FieldType.TheVariants.{Length, Tag}
@@ -48,16 +48,16 @@ read_field-returns-then-is_option-2-clause-answers g t c =
     let within : c.args.pos ≤ length c.args.bytes.now = omega arith in
     let lt : c.args.pos < c.args.end = omega arith in
     let differ : tag_of c.args.name.now ≡ Some (tag_at c.args.bytes.now c.args.pos) → ⊥ = search rules in
-    rw (view-None g.row.A.Denot) (goes_none c.args.name.now (form_of c.args.shape.now) c.args.bytes.now c.args.pos c.args.end c.args.kept.now within (sym c.if-is_option-2.ensures) (λ after zs items. names_not_at c.args.name.now c.args.bytes.now after c.args.pos c.args.end zs lt c.in_ok-typ.ensures.ok.0 differ items))
+    rw (view-None g.row.A.Denot) (goes_none c.args.name.now (form_of c.args.shape.now) c.args.bytes.now c.args.pos c.args.end c.args.kept.now within (sym c.if-is_option-2.ensures) (λ after zs items. names_not_at c.args.name.now c.args.bytes.now after c.args.pos c.args.end zs lt c.in-Some.ensures.some.0 differ items))
 
 pub read_field-returns-clause-answers : goal.read_field-returns-clause-answers
 read_field-returns-clause-answers g t c =
     let lt : c.args.pos < c.args.end = omega arith in
     elim c.if-not-is_struct.branch [
-      | read_field-then-not-is_struct+in_ok-typ+else-ne w ↦
+      | read_field-then-not-is_struct+in-Some+else-ne w ↦
           let no_struct : is_struct (form_of c.args.shape.now) ≡ false = search rules in
           let same : tag_of c.args.name.now ≡ Some (tag_at c.args.bytes.now c.args.pos) = search rules in
-          answers_via view (read_of (form_of c.args.shape.now)) (read_field c.args.name.now (form_of c.args.shape.now) (read_of (form_of c.args.shape.now))) c.args.bytes.now c.args.pos c.args.end c.args.kept.now c.read_shape.new.kept c.read_shape.result (λ after zs items. let n = names_at c.args.name.now c.args.bytes.now after c.args.pos c.args.end zs lt w.in_ok-typ.ensures.ok.0 same items in rw (no_struct, n) refl) c.read_shape.ensures.answers
+          answers_via view (read_of (form_of c.args.shape.now)) (read_field c.args.name.now (form_of c.args.shape.now) (read_of (form_of c.args.shape.now))) c.args.bytes.now c.args.pos c.args.end c.args.kept.now c.read_shape.new.kept c.read_shape.result (λ after zs items. let n = names_at c.args.name.now c.args.bytes.now after c.args.pos c.args.end zs lt w.in-Some.ensures.some.0 same items in rw (no_struct, n) refl) c.read_shape.ensures.answers
       | read_field-else-not-is_struct w ↦
           let struct_itself : is_struct (form_of c.args.shape.now) ≡ true = search rules in
           answers_via view (read_of (form_of c.args.shape.now)) (read_field c.args.name.now (form_of c.args.shape.now) (read_of (form_of c.args.shape.now))) c.args.bytes.now c.args.pos c.args.end c.args.kept.now c.read_shape.new.kept c.read_shape.result (λ after zs items. rw struct_itself refl) c.read_shape.ensures.answers
@@ -65,7 +65,7 @@ read_field-returns-clause-answers g t c =
 
 pub read_fields-returns-in_err-value-clause-answers : goal.read_fields-returns-in_err-value-clause-answers
 read_fields-returns-in_err-value-clause-answers g t c =
-    let p = err_from_is_err_and c.from_residual.result c.from_residual.ensures.1 in
+    let p = err_from_is_err_and c.from_residual-in_err-value.result c.from_residual-in_err-value.ensures.1 in
     rw (p.1, p.2) (fields_refused (read_fields (fields_of c.args.fields.now)) c.args.fields.now c.loop-field.field-index c.field-item.result c.loop-field.values.items (sort_of c.in_err-value.field-0.0) c.args.bytes.now c.args.pos c.loop-field.next c.args.end c.args.kept.now c.loop-field.kept c.loop-field-test.true c.field-item.is c.loop-field.invariant.0 c.in_err-value.ensures.answers)
 
 pub read_fields-loop-field-preserved : goal.read_fields-loop-field-preserved
@@ -162,11 +162,10 @@ unfolding read_of
 read_shape-returns-in_ok-fields-in-Struct-clause-answers g t c =
     rw (c.in-Struct.is, form_of-Struct c.in-Struct.name c.in-Struct.fields c.in-Struct.deny_unknown, view-Struct c.in-Struct.name c.in_ok-fields-in-Struct.fields) (rw c.deref-in-Struct.ensures.value at (c.in_ok-fields-in-Struct.ensures.answers c.args.end c.requires.before_end))
 
-pub read_field-returns-in_err-typ-clause-answers : goal.read_field-returns-in_err-typ-clause-answers
-read_field-returns-in_err-typ-clause-answers g t c =
-    let p = err_from_is_err_and c.from_residual.result c.from_residual.ensures.1 in
+pub read_field-returns-in_default-clause-answers : goal.read_field-returns-in_default-clause-answers
+read_field-returns-in_default-clause-answers g t c =
     let lt : c.args.pos < c.args.end = omega arith in
-    rw (p.1, p.2) (refused_type (read_field c.args.name.now (form_of c.args.shape.now) (read_of (form_of c.args.shape.now))) c.args.bytes.now c.args.pos c.args.end c.args.kept.now (sort_of c.in_err-typ.field-0.0) lt c.in_err-typ.ensures.err)
+    (refused_type (read_field c.args.name.now (form_of c.args.shape.now) (read_of (form_of c.args.shape.now))) c.args.bytes.now c.args.pos c.args.end c.args.kept.now (sort_of c.no_type.result) lt c.no_type.ensures.sort)
 
 pub read_field-returns-then-ne-clause-answers : goal.read_field-returns-then-ne-clause-answers
 read_field-returns-then-ne-clause-answers g t c =
@@ -174,7 +173,7 @@ read_field-returns-then-ne-clause-answers g t c =
     let no_struct : is_struct (form_of c.args.shape.now) ≡ false = search rules in
     let no_option : is_option (form_of c.args.shape.now) ≡ false = search rules in
     let differ : tag_of c.args.name.now ≡ Some (tag_at c.args.bytes.now c.args.pos) → ⊥ = search rules in
-    field_not_named c.args.name.now (form_of c.args.shape.now) (read_of (form_of c.args.shape.now)) c.args.bytes.now c.args.pos c.args.end c.args.kept.now (sort_of c.wrong_tag.result) lt c.in_ok-typ.ensures.ok.0 no_struct no_option differ
+    field_not_named c.args.name.now (form_of c.args.shape.now) (read_of (form_of c.args.shape.now)) c.args.bytes.now c.args.pos c.args.end c.args.kept.now (sort_of c.wrong_tag.result) lt c.in-Some.ensures.some.0 no_struct no_option differ
 
 pub read_content-returns-in_err-read_rest-clause-answers : goal.read_content-returns-in_err-read_rest-clause-answers
 read_content-returns-in_err-read_rest-clause-answers g t c =
@@ -244,7 +243,7 @@ read_parts-returns-then-next-end-clause-answers g t c =
 
 pub read_parts-returns-in_err-value-clause-answers : goal.read_parts-returns-in_err-value-clause-answers
 read_parts-returns-in_err-value-clause-answers g t c =
-    let p = err_from_is_err_and c.from_residual.result c.from_residual.ensures.1 in
+    let p = err_from_is_err_and c.from_residual-in_err-value.result c.from_residual-in_err-value.ensures.1 in
     rw (p.1, p.2) (forms_refused (read_used (read_forms (forms_of c.args.shapes.now))) c.args.shapes.now c.loop-shape.shape-index c.shape-item.result c.loop-shape.values.items (sort_of c.in_err-value.field-0.0) c.args.bytes.now c.args.pos c.loop-shape.next c.args.end c.args.kept.now c.loop-shape.kept c.loop-shape-test.true c.shape-item.is c.loop-shape.invariant.0 c.in_err-value.ensures.answers)
 
 pub read_parts-loop-shape-preserved : goal.read_parts-loop-shape-preserved
@@ -268,7 +267,7 @@ read_parts-returns-clause-answers g t c =
     forms_done (read_used (read_forms (forms_of c.args.shapes.now))) c.args.shapes.now c.loop-shape.shape-index c.loop-shape.values.items c.args.bytes.now c.args.pos c.loop-shape.next c.args.end c.args.kept.now c.loop-shape.kept c.loop-shape-test.false (omega arith) c.loop-shape.invariant.0
 
 pub read_parts-loop-shape-init : goal.read_parts-loop-shape-init
-read_parts-loop-shape-init g t c = (forms_begin c.args.shapes.now c.new-values.result.items c.args.bytes.now c.args.pos c.args.end c.args.kept.now c.new-values.ensures.items (search rules), λ ord lt. absurd (omega (arith, ord, lt)))
+read_parts-loop-shape-init g t c = (forms_begin c.args.shapes.now c.in_ok-values.values.items c.args.bytes.now c.args.pos c.args.end c.args.kept.now c.in_ok-values.ensures.items (search rules), λ ord lt. absurd (omega (arith, ord, lt)))
 
 pub read_shape-returns-in-I32-clause-answers : goal.read_shape-returns-in-I32-clause-answers
 unfolding read_of
@@ -325,6 +324,14 @@ read_shape-returns-in-BigInteger-clause-answers g t c = rw c.in-BigInteger.is c.
 pub read_shape-returns-in-BigInteger-clause-says : goal.read_shape-returns-in-BigInteger-clause-says
 read_shape-returns-in-BigInteger-clause-says g t c =
     leaf_says c.read_leaf-in-BigInteger.result c.args.bytes.now c.args.pos c.args.owner c.args.end (form_of c.args.shape.now) big_integer (ap form_of c.in-BigInteger.is) c.read_leaf-in-BigInteger.ensures.says
+
+pub read_shape-returns-in-U32-clause-answers : goal.read_shape-returns-in-U32-clause-answers
+unfolding read_of
+read_shape-returns-in-U32-clause-answers g t c = rw c.in-U32.is c.read_leaf-in-U32.ensures.answers
+
+pub read_shape-returns-in-U32-clause-says : goal.read_shape-returns-in-U32-clause-says
+read_shape-returns-in-U32-clause-says g t c =
+    leaf_says c.read_leaf-in-U32.result c.args.bytes.now c.args.pos c.args.owner c.args.end (form_of c.args.shape.now) any_number (ap form_of c.in-U32.is) c.read_leaf-in-U32.ensures.says
 
 pub read_shape-returns-in-Enum-clause-says : goal.read_shape-returns-in-Enum-clause-says
 read_shape-returns-in-Enum-clause-says g t c =
@@ -402,11 +409,11 @@ read_content-returns-in_err-read_rest-clause-says g t c =
     says_goes f b c.args.pos next c.args.end c.in_err-read_rest.field-0.0 (search rules) goes (c.in_err-read_rest.ensures.says f name start read tag (inside_then b start c.args.pos next c.args.end inside (whole_goes goes)) late))
 
 pub read_fields-loop-field-init : goal.read_fields-loop-field-init
-read_fields-loop-field-init g t c = (fields_begin c.args.fields.now c.new-values.result.items c.args.bytes.now c.args.pos c.args.end c.args.kept.now c.new-values.ensures.items (search rules), λ ord lt. absurd (omega (arith, ord, lt)))
+read_fields-loop-field-init g t c = (fields_begin c.args.fields.now c.in_ok-values.values.items c.args.bytes.now c.args.pos c.args.end c.args.kept.now c.in_ok-values.ensures.items (search rules), λ ord lt. absurd (omega (arith, ord, lt)))
 
 pub read_fields-returns-in_err-value-clause-says : goal.read_fields-returns-in_err-value-clause-says
 read_fields-returns-in_err-value-clause-says g t c =
-    let p = err_from_is_err_and c.from_residual.result c.from_residual.ensures.1 in
+    let p = err_from_is_err_and c.from_residual-in_err-value.result c.from_residual-in_err-value.ensures.1 in
     let b = c.args.bytes.now in
     let fs = fields_of c.args.fields.now in
     let goes = c.loop-field.invariant.0 in
@@ -430,12 +437,11 @@ read_field-returns-then-pos-end-clause-says g t c =
     let whole : WholeItems b (start + 8) (stated_end b start) = subst (WholeItems b (start + 8)) (c.if-pos-end.true ∙ inside.ends) inside.before in
     words_say f b c.args.pos c.args.end c.args.end c.args.tag c.at_end.result _ (omega (arith, c.if-pos-end.true)) c.at_end.ensures (missing_field read has (sym c.if-is_option.ensures) whole place)
 
-pub read_field-returns-in_err-typ-clause-says : goal.read_field-returns-in_err-typ-clause-says
-read_field-returns-in_err-typ-clause-says g t c =
-    let p = err_from_is_err_and c.from_residual.result c.from_residual.ensures.1 in
+pub read_field-returns-in_default-clause-says : goal.read_field-returns-in_default-clause-says
+read_field-returns-in_default-clause-says g t c =
     let b = c.args.bytes.now in
     let lt : c.args.pos < c.args.end = omega arith in
-    rw (p.1, p.2) (λ fs deny f name start read tag inside has late. c.in_err-typ.ensures.says f c.args.end lt (inner_item (for_struct read) (inside_content b start c.args.pos c.args.end read.structure inside lt)))
+    (λ fs deny f name start read tag inside has late. c.no_type.ensures.says f c.args.end lt (inner_item (for_struct read) (inside_content b start c.args.pos c.args.end read.structure inside lt)))
 
 pub read_field-returns-then-ne-clause-says : goal.read_field-returns-then-ne-clause-says
 read_field-returns-then-ne-clause-says g t c =
@@ -450,14 +456,14 @@ read_field-returns-clause-says g t c =
     let s = form_of c.args.shape.now in
     let lt : c.args.pos < c.args.end = omega arith in
     let item : IsFieldItem c.args.name.now s b c.args.pos = elim c.if-not-is_struct.branch [
-      | read_field-then-not-is_struct+in_ok-typ+else-ne w ↦ inr (search rules)
+      | read_field-then-not-is_struct+in-Some+else-ne w ↦ inr (search rules)
       | read_field-else-not-is_struct w ↦ inl (search rules)
     ] in
     field_says c.read_shape.result b c.args.name.now s c.args.last c.args.pos c.args.tag c.args.end lt item c.read_shape.ensures.says
 
 pub read_parts-returns-in_err-value-clause-says : goal.read_parts-returns-in_err-value-clause-says
 read_parts-returns-in_err-value-clause-says g t c =
-    let p = err_from_is_err_and c.from_residual.result c.from_residual.ensures.1 in
+    let p = err_from_is_err_and c.from_residual-in_err-value.result c.from_residual-in_err-value.ensures.1 in
     let b = c.args.bytes.now in
     let goes = c.loop-shape.invariant.0 in
     let next = c.loop-shape.next in
@@ -578,44 +584,42 @@ read_tuple-returns-in_err-values-clause-says g t c =
     let read : TupleRead f b ss c.args.pos c.args.owner = record { name = name; variants = vs; end = e; part = at; is_chosen = subst (λ x. RuleChooses vs x (tuple ss)) structure chooses; structure = record { typ_is = typ; there = c.in-Some.ensures.some.0 } } in
     says_within f b c.args.pos e n c.in_err-values.field-0.0 lt typ len (c.in_err-values.ensures.says f c.args.pos read (opened_inside b c.args.pos n len) (omega arith)))
 
-pub read_enum-returns-in_err-typ-clause-answers : goal.read_enum-returns-in_err-typ-clause-answers
-read_enum-returns-in_err-typ-clause-answers g t c =
-    let p = err_from_is_err_and c.from_residual.result c.from_residual.ensures.1 in
-    rw (p.1, p.2) (refused_type (read_enum c.args.name.now (variants_of c.args.variants.now) (read_variant c.args.name.now (variants_of c.args.variants.now))) c.args.bytes.now c.args.pos c.args.end c.args.kept.now (sort_of c.in_err-typ.field-0.0) (omega arith) c.in_err-typ.ensures.err)
+pub read_enum-returns-in_default-clause-answers : goal.read_enum-returns-in_default-clause-answers
+read_enum-returns-in_default-clause-answers g t c =
+    (refused_type (read_enum c.args.name.now (variants_of c.args.variants.now) (read_variant c.args.name.now (variants_of c.args.variants.now))) c.args.bytes.now c.args.pos c.args.end c.args.kept.now (sort_of c.no_type.result) (omega arith) c.no_type.ensures.sort)
 
-pub read_enum-returns-in_err-typ-clause-says : goal.read_enum-returns-in_err-typ-clause-says
-read_enum-returns-in_err-typ-clause-says g t c =
-    let p = err_from_is_err_and c.from_residual.result c.from_residual.ensures.1 in
-    rw (p.1, p.2) (λ f at. c.in_err-typ.ensures.says f c.args.end (omega arith) (part_reached at))
+pub read_enum-returns-in_default-clause-says : goal.read_enum-returns-in_default-clause-says
+read_enum-returns-in_default-clause-says g t c =
+    (λ f at. c.no_type.ensures.says f c.args.end (omega arith) (part_reached at))
 
 pub read_enum-returns-in_err-i-clause-answers : goal.read_enum-returns-in_err-i-clause-answers
 read_enum-returns-in_err-i-clause-answers g t c =
-    let p = err_from_is_err_and c.from_residual-in_err-i.result c.from_residual-in_err-i.ensures.1 in
+    let p = err_from_is_err_and c.from_residual.result c.from_residual.ensures.1 in
     let refused = c.in_err-i.ensures.answers in
-    rw (p.1, p.2) (enum_refused c.args.name.now (variants_of c.args.variants.now) (read_variant c.args.name.now (variants_of c.args.variants.now)) c.args.bytes.now c.args.pos c.args.end c.args.kept.now c.in_ok-typ.typ refused.0 (sort_of c.in_err-i.field-0.0) (omega arith) c.in_ok-typ.ensures.ok.0 c.in_ok-typ.ensures.ok.1 refused.1)
+    rw (p.1, p.2) (enum_refused c.args.name.now (variants_of c.args.variants.now) (read_variant c.args.name.now (variants_of c.args.variants.now)) c.args.bytes.now c.args.pos c.args.end c.args.kept.now c.in-Some.typ refused.0 (sort_of c.in_err-i.field-0.0) (omega arith) c.in-Some.ensures.some.0 c.in-Some.ensures.some.1 refused.1)
 
 pub read_enum-returns-in_err-i-clause-says : goal.read_enum-returns-in_err-i-clause-says
 read_enum-returns-in_err-i-clause-says g t c =
-    let p = err_from_is_err_and c.from_residual-in_err-i.result c.from_residual-in_err-i.ensures.1 in
+    let p = err_from_is_err_and c.from_residual.result c.from_residual.ensures.1 in
     rw (p.1, p.2) (λ f at. c.in_err-i.ensures.says f c.args.name.now c.args.owner c.args.end at)
 
 pub read_enum-returns-in-None-clause-answers : goal.read_enum-returns-in-None-clause-answers
 read_enum-returns-in-None-clause-answers g t c =
-    let chosen_none : choice (variants_of c.args.variants.now) c.args.kept.now c.in_ok-typ.typ ≡ by_value = rw c.in-None.is at c.in_ok-i.ensures.answers in
-    enum_number view c.args.name.now (variants_of c.args.variants.now) (read_variant c.args.name.now (variants_of c.args.variants.now)) c.args.bytes.now c.args.pos c.args.end c.args.kept.now c.read_number.new.kept c.in_ok-typ.typ c.read_number.result (omega arith) c.in_ok-typ.ensures.ok.0 c.in_ok-typ.ensures.ok.1 chosen_none c.read_number.ensures.answers
+    let chosen_none : choice (variants_of c.args.variants.now) c.args.kept.now c.in-Some.typ ≡ by_value = rw c.in-None.is at c.in_ok-i.ensures.answers in
+    enum_number view c.args.name.now (variants_of c.args.variants.now) (read_variant c.args.name.now (variants_of c.args.variants.now)) c.args.bytes.now c.args.pos c.args.end c.args.kept.now c.read_number.new.kept c.in-Some.typ c.read_number.result (omega arith) c.in-Some.ensures.some.0 c.in-Some.ensures.some.1 chosen_none c.read_number.ensures.answers
 
-pub read_enum-returns-in-Some-clause-answers : goal.read_enum-returns-in-Some-clause-answers
-read_enum-returns-in-Some-clause-answers g t c =
-    let is_chosen : choice (variants_of c.args.variants.now) c.args.kept.now c.in_ok-typ.typ ≡ chosen c.in-Some.i = rw c.in-Some.is at c.in_ok-i.ensures.answers in
-    let in_list : c.in-Some.i < length c.args.variants.now = rw c.in-Some.is at c.in_ok-i.ensures.inside in
-    enum_chosen_at c.args.name.now c.args.variants.now c.in-Some.i c.index-variants-i.result c.index-variants-i-in-Some.result c.args.bytes.now c.args.pos c.args.end c.args.kept.now c.read_variant.new.kept c.in_ok-typ.typ c.read_variant.result (omega arith) c.in_ok-typ.ensures.ok.0 c.in_ok-typ.ensures.ok.1 is_chosen in_list c.read_variant.ensures.answers
+pub read_enum-returns-in-Some-2-clause-answers : goal.read_enum-returns-in-Some-2-clause-answers
+read_enum-returns-in-Some-2-clause-answers g t c =
+    let is_chosen : choice (variants_of c.args.variants.now) c.args.kept.now c.in-Some.typ ≡ chosen c.in-Some-2.i = rw c.in-Some-2.is at c.in_ok-i.ensures.answers in
+    let in_list : c.in-Some-2.i < length c.args.variants.now = rw c.in-Some-2.is at c.in_ok-i.ensures.inside in
+    enum_chosen_at c.args.name.now c.args.variants.now c.in-Some-2.i c.index-variants-i.result c.index-variants-i-in-Some-2.result c.args.bytes.now c.args.pos c.args.end c.args.kept.now c.read_variant.new.kept c.in-Some.typ c.read_variant.result (omega arith) c.in-Some.ensures.some.0 c.in-Some.ensures.some.1 is_chosen in_list c.read_variant.ensures.answers
 
 pub read_enum-returns-in-None-clause-says : goal.read_enum-returns-in-None-clause-says
 read_enum-returns-in-None-clause-says g t c =
     let vs = variants_of c.args.variants.now in
     let ks = c.args.kept.now in
-    let chosen_none : choice vs ks c.in_ok-typ.typ ≡ by_value = rw c.in-None.is at c.in_ok-i.ensures.answers in
-    number_says c.read_number.result c.args.bytes.now c.args.name.now vs c.in_ok-typ.typ c.args.pos c.args.owner c.args.end record { kept = ks; no_rule = chosen_none } c.read_number.ensures.says
+    let chosen_none : choice vs ks c.in-Some.typ ≡ by_value = rw c.in-None.is at c.in_ok-i.ensures.answers in
+    number_says c.read_number.result c.args.bytes.now c.args.name.now vs c.in-Some.typ c.args.pos c.args.owner c.args.end record { kept = ks; no_rule = chosen_none } c.read_number.ensures.says
 
 pub read_seq-read_shape-requires-in-loop-values : goal.read_seq-read_shape-requires-in-loop-values
 read_seq-read_shape-requires-in-loop-values g t c κs lives = (omega arith, (lives, ((c.in_ok-goes_on.ensures.answers c.loop-values.invariant.0 c.loop-values.invariant.1).0 c.if-branch.true, c.loop-values.invariant.3.within)))
@@ -648,6 +652,10 @@ pub read_shape-returns-in-BigInteger-clause-item : goal.read_shape-returns-in-Bi
 read_shape-returns-in-BigInteger-clause-item g t c =
     item_past c.read_leaf-in-BigInteger.result c.args.bytes.now c.args.pos c.args.end c.read_leaf-in-BigInteger.ensures.item
 
+pub read_shape-returns-in-U32-clause-item : goal.read_shape-returns-in-U32-clause-item
+read_shape-returns-in-U32-clause-item g t c =
+    item_past c.read_leaf-in-U32.result c.args.bytes.now c.args.pos c.args.end c.read_leaf-in-U32.ensures.item
+
 pub read_struct-returns-in-Ok-clause-item : goal.read_struct-returns-in-Ok-clause-item
 read_struct-returns-in-Ok-clause-item g t c =
     let s = c.in_ok-tag.ensures.ok in
@@ -675,13 +683,13 @@ pub read_enum-returns-in-None-clause-item : goal.read_enum-returns-in-None-claus
 read_enum-returns-in-None-clause-item g t c =
     item_past c.read_number.result c.args.bytes.now c.args.pos c.args.end c.read_number.ensures.item
 
-pub read_enum-returns-in-Some-clause-says : goal.read_enum-returns-in-Some-clause-says
-read_enum-returns-in-Some-clause-says g t c =
+pub read_enum-returns-in-Some-2-clause-says : goal.read_enum-returns-in-Some-2-clause-says
+read_enum-returns-in-Some-2-clause-says g t c =
     let vs = variants_of c.args.variants.now in
     let ks = c.args.kept.now in
-    let is_chosen : choice vs ks c.in_ok-typ.typ ≡ chosen c.in-Some.i = rw c.in-Some.is at c.in_ok-i.ensures.answers in
-    let in_list : c.in-Some.i < length c.args.variants.now = rw c.in-Some.is at c.in_ok-i.ensures.inside in
-    variant_says c.read_variant.result c.args.bytes.now c.args.name.now vs c.in_ok-typ.typ _ c.args.pos c.args.owner c.args.end record { kept = ks; index = c.in-Some.i; is_chosen = is_chosen; contains = variant_in c.args.variants.now c.in-Some.i c.index-variants-i-in-Some.result in_list } c.read_variant.ensures.says
+    let is_chosen : choice vs ks c.in-Some.typ ≡ chosen c.in-Some-2.i = rw c.in-Some-2.is at c.in_ok-i.ensures.answers in
+    let in_list : c.in-Some-2.i < length c.args.variants.now = rw c.in-Some-2.is at c.in_ok-i.ensures.inside in
+    variant_says c.read_variant.result c.args.bytes.now c.args.name.now vs c.in-Some.typ _ c.args.pos c.args.owner c.args.end record { kept = ks; index = c.in-Some-2.i; is_chosen = is_chosen; contains = variant_in c.args.variants.now c.in-Some-2.i c.index-variants-i-in-Some-2.result in_list } c.read_variant.ensures.says
 
 pub read_fields-returns-in_err-push-clause-says : goal.read_fields-returns-in_err-push-clause-says
 read_fields-returns-in_err-push-clause-says g t c =
