@@ -34,14 +34,14 @@ version x is =
     leaf_then refl refl refl refl (as_int32 is.0) (
     leaf_then refl refl refl refl (as_int32 is.1) nothing_left))
 
-request_header : (x : RequestHeader) → IsRequestHeader x → PartAgrees request_header_form (request_header_value x) (a_structure 0x420077) (request_header_value x)
+pub request_header : (x : RequestHeader) → IsRequestHeader x → PartAgrees request_header_form (request_header_value x) (a_structure 0x420077) (request_header_value x)
 unfolding take_tag tag_of number transparent_name rule request_header_value protocol_version_value
 request_header x is =
     structure refl refl (
     part_then refl refl (version x.version is.0) (
     leaf_then refl refl refl refl (as_int32 is.1) nothing_left))
 
-response_header : (x : ResponseHeader) → IsResponseHeader x → PartAgrees response_header_form (response_header_value written_date x) (a_structure 0x42007A) (response_header_value read_date x)
+pub response_header : (x : ResponseHeader) → IsResponseHeader x → PartAgrees response_header_form (response_header_value written_date x) (a_structure 0x42007A) (response_header_value read_date x)
 unfolding take_tag tag_of number transparent_name rule response_header_value protocol_version_value
 response_header x is =
     structure refl refl (

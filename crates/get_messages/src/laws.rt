@@ -5,7 +5,8 @@ ghost use Rattle.get_messages.specs.Laws.{GetRequestsComeBack, GetResponsesComeB
 use kmip_ttlv::laws::agreeing_values_come_back;
 use std::alloc::Allocator;
 
-/// A request that was written is read back as an equal one, whatever stands behind it.
+/// The bytes of a request begin, by its form, with the value that it is read from and with no other,
+/// whatever stands behind them.
 pub fn get_requests_come_back<A: Allocator>()
     ensures { GetRequestsComeBack A }
 {

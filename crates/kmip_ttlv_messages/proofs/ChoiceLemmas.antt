@@ -82,7 +82,7 @@ pub is_holder : (s : Form) (names : List (Bor (List ℕ))) (v : Value) → AreNa
 is_holder (enum own vs) names v t h = holders_given own vs names v t h
 is_holder _ names v t h = absurd t
 
-same_bytes : (a b : List ℕ) → a ≡ b → bytes_eq a b ≡ true
+pub same_bytes : (a b : List ℕ) → a ≡ b → bytes_eq a b ≡ true
 same_bytes a b e = (bytes_eq-Decides a b).1 e
 
 -- a name that no variant has is that of none

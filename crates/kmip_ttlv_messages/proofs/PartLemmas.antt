@@ -8,7 +8,7 @@ use Rattle.kmip_ttlv_base.specs.declared.shape.VariantShape.{VariantShape}
 use Rattle.kmip_ttlv_messages.specs.MessageChoices.{IsVariant, units}
 use Rattle.kmip_ttlv_messages.specs.MessageParts.{parts_of, nth, HasField, nth_form, part_at, HasPart, form_at, span, IsWhole, EachIs, sequence}
 
-nth_views : {A : Type 0} (ds : List (Data A)) (k : ℕ) (x : Data A) → k < length ds → x ≡ slice_index_or ds k x → view x ≡ nth (views ds) k
+pub nth_views : {A : Type 0} (ds : List (Data A)) (k : ℕ) (x : Data A) → k < length ds → x ≡ slice_index_or ds k x → view x ≡ nth (views ds) k
 nth_views [] k x h e = absurd (omega arith)
 nth_views (d ∷ ds) zero x h e = ap view e
 nth_views (d ∷ ds) (suc k) x h e = nth_views ds k x (omega arith) e

@@ -3,9 +3,12 @@ use Rattle.std.specs.Prelude.{◌≡◌, ◌⊎◌, ℕ, Bool, false, List, [], 
 use Rattle.std.specs.Borrow.{Bor}
 use Rattle.std.specs.Str.{bytes_eq}
 use Rattle.kmip_ttlv_base.specs.declared.shape.VariantShape.{VariantShape}
-use Rattle.kmip_ttlv_base.specs.Values.{Value, unit_variant_value, newtype_variant_value}
-use Rattle.kmip_ttlv_base.specs.Forms.{Form, enum, Variants, no_variants, variant, Content, unit, wrapped, content_of}
-use Rattle.kmip_ttlv_base.specs.Gives.{Gives}
+use Rattle.kmip_ttlv_base.specs.Values.{Value, unit_variant_value, newtype_variant_value, tuple_variant_value}
+use Rattle.kmip_ttlv_base.specs.Values.{Values, no_values, value}
+use Rattle.kmip_ttlv_base.specs.Forms.{Form, enum, boolean, Variants, no_variants, variant, Content, unit, wrapped, tuple}
+use Rattle.kmip_ttlv_base.specs.Forms.{Forms, no_forms, form, content_of}
+use Rattle.kmip_ttlv_base.specs.Gives.{Gives, ContentGives}
+use Rattle.kmip_ttlv_messages.specs.MessageParts.{nth}
 
 -- a unit, and a variant with a value in it
 abbrev pub IsUnit : Value → Type 0
@@ -16,11 +19,36 @@ abbrev pub IsHolder : Value → Type 0
 IsHolder (newtype_variant_value own name v) = Unit {0}
 IsHolder _ = ⊥
 
+-- a variant with several values in it
+abbrev pub IsTuple : Value → Type 0
+IsTuple (tuple_variant_value own name vs) = Unit {0}
+IsTuple _ = ⊥
+
 -- the name of a variant's enum
 abbrev pub own_name : Value → List ℕ
 own_name (unit_variant_value own name) = own
 own_name (newtype_variant_value own name v) = own
+own_name (tuple_variant_value own name vs) = own
 own_name _ = []
+
+-- a variant of any kind
+abbrev pub IsAnyVariant : Value → Type 0
+IsAnyVariant (unit_variant_value own name) = Unit {0}
+IsAnyVariant (newtype_variant_value own name v) = Unit {0}
+IsAnyVariant (tuple_variant_value own name vs) = Unit {0}
+IsAnyVariant _ = ⊥
+
+-- the name of a variant
+abbrev pub variant_name : Value → List ℕ
+variant_name (unit_variant_value own name) = name
+variant_name (newtype_variant_value own name v) = name
+variant_name (tuple_variant_value own name vs) = name
+variant_name _ = []
+
+-- the values in a variant of several
+abbrev pub tuple_parts : Value → Values
+tuple_parts (tuple_variant_value own name vs) = vs
+tuple_parts _ = no_values
 
 -- the units of these names
 abbrev pub units : {T : Type 0} → List (Bor (List ℕ) × T) → Variants
@@ -90,3 +118,82 @@ Holds _ k v w = ⊥
 -- a variant's shape of this name and content
 abbrev pub IsVariant : {A : Type 0} → List ℕ → Content → VariantShape A → Type 0
 IsVariant name c v = (v.name.now ≡ name) × (content_of v.content ≡ c)
+
+-- these are the names of variants of any kind, and no two are equal
+abbrev pub EachVariant : Variants → List (Bor (List ℕ)) → Type 0
+EachVariant no_variants [] = Unit {0}
+EachVariant (variant name c vs) (given ∷ names) = (name ≡ given.now) × IsNew name vs × EachVariant vs names
+EachVariant _ _ = ⊥
+
+-- the same of an enum's variants
+abbrev pub AreVariants : Form → List (Bor (List ℕ)) → Type 0
+AreVariants (enum own vs) names = EachVariant vs names
+AreVariants _ names = ⊥
+
+-- what the variant at this place contains
+abbrev pub content_in : Variants → ℕ → Content
+content_in no_variants k = unit
+content_in (variant name c vs) zero = c
+content_in (variant name c vs) (suc k) = content_in vs k
+
+abbrev pub content_at : Form → ℕ → Content
+content_at (enum own vs) k = content_in vs k
+content_at _ k = unit
+
+-- a value is the variant at this place, of what the variant contains
+abbrev pub IsThe : List ℕ → Variants → ℕ → Value → Type 0
+IsThe own no_variants k v = ⊥
+IsThe own (variant name c vs) zero v = ContentGives own name c v
+IsThe own (variant name c vs) (suc k) v = IsThe own vs k v
+
+-- the same of an enum's form
+abbrev pub IsVariantAt : Form → ℕ → Value → Type 0
+IsVariantAt (enum own vs) k v = IsThe own vs k v
+IsVariantAt _ k v = ⊥
+
+-- one form reads what a variant contains
+abbrev pub IsOfOne : Content → Type 0
+IsOfOne (wrapped s) = Unit {0}
+IsOfOne _ = ⊥
+
+-- there is a form at this place among several
+abbrev pub HasFormIn : Forms → ℕ → Type 0
+HasFormIn no_forms i = ⊥
+HasFormIn (form s ss) zero = Unit {0}
+HasFormIn (form s ss) (suc i) = HasFormIn ss i
+
+-- the form at a place; where there is none, any form
+abbrev pub nth_of : Forms → ℕ → Form
+nth_of no_forms i = boolean
+nth_of (form s ss) zero = s
+nth_of (form s ss) (suc i) = nth_of ss i
+
+-- several forms read what a variant contains, and one of them is at this place
+abbrev pub HasFormAt : Content → ℕ → Type 0
+HasFormAt (tuple ss) i = HasFormIn ss i
+HasFormAt _ i = ⊥
+
+-- the form at a place of what a variant contains
+abbrev pub form_in : Content → ℕ → Form
+form_in (tuple ss) i = nth_of ss i
+form_in _ i = boolean
+
+-- as many values as there are forms: those at the places from this one on
+abbrev pub spread : ℕ → Forms → Values → Values
+spread i no_forms vs = no_values
+spread i (form s ss) vs = value (nth vs i) (spread (suc i) ss vs)
+
+-- a variant of several forms is that of its names, of as many values as there are forms
+abbrev pub WholeContent : List ℕ → List ℕ → Content → Value → Type 0
+WholeContent own name (tuple ss) v = v ≡ tuple_variant_value own name (spread 0 ss (tuple_parts v))
+WholeContent own name _ v = Unit {0}
+
+abbrev pub WholeIn : List ℕ → Variants → ℕ → Value → Type 0
+WholeIn own no_variants k v = Unit {0}
+WholeIn own (variant name c vs) zero v = WholeContent own name c v
+WholeIn own (variant name c vs) (suc k) v = WholeIn own vs k v
+
+-- the same of the variant at a place of an enum's form
+abbrev pub IsWholeVariant : Form → ℕ → Value → Type 0
+IsWholeVariant (enum own vs) k v = WholeIn own vs k v
+IsWholeVariant _ k v = Unit {0}

@@ -1,6 +1,6 @@
 -- The parts of a structure, and the forms that they are read by.
 use Rattle.std.specs.Prelude.{◌≡◌, ℕ, ℤ, List, [], ◌∷◌, zero, suc, Option, Some, None, map}
-use Rattle.std.specs.Int.{w64, cast_unsigned}
+use Rattle.std.specs.Int.{Width, w64, cast_signed, cast_unsigned}
 use Rattle.std.specs.Borrow.{Bor}
 use Rattle.kmip_ttlv_base.specs.declared.shape.Data.{Data}
 use Rattle.kmip_ttlv_base.specs.declared.shape.FieldShape.{FieldShape}
@@ -97,3 +97,7 @@ written_date seconds = u64_value (cast_unsigned w64 seconds)
 
 abbrev pub read_date : ℤ → Value
 read_date seconds = i64_value seconds
+
+-- the number that the bits of a number are: itself, where it fits
+abbrev pub by_bits : Width → ℤ → ℤ
+by_bits w z = cast_signed w (cast_unsigned w z)

@@ -1,9 +1,10 @@
 //! Enumerations: the units that numbers name, and the variants that rules choose.
 
 ghost use Rattle.std.specs.Prelude.{◌≡◌, ◌<◌, length};
-ghost use Rattle.kmip_ttlv_base.specs.Values.{view, unit_variant_value, newtype_variant_value};
+ghost use Rattle.kmip_ttlv_base.specs.Values.{view, views, unit_variant_value, newtype_variant_value, tuple_variant_value};
 ghost use Rattle.kmip_ttlv_base.specs.Gives.{Gives};
-ghost use Rattle.kmip_ttlv_messages.specs.MessageChoices.{AreUnits, AreNames, Holds, HasRow, IsFirst, IsAmong, IsPlace, IsUnit, IsHolder, own_name};
+ghost use Rattle.kmip_ttlv_messages.specs.MessageParts.{nth};
+ghost use Rattle.kmip_ttlv_messages.specs.MessageChoices.{AreUnits, AreNames, AreVariants, Holds, HasRow, IsFirst, IsAmong, IsPlace, IsUnit, IsHolder, IsTuple, IsAnyVariant, IsVariantAt, IsOfOne, HasFormAt, IsWholeVariant, own_name, variant_name, content_at, form_in, tuple_parts};
 
 use crate::reading::Readable;
 use kmip_ttlv_base::shape::Data;
@@ -83,4 +84,72 @@ pub fn variant<'a, T: Readable, A: Allocator>(
 {
     let (name, inner) = content(value);
     (place(names, name), inner)
+}
+
+// The name of a variant of any kind.
+fn name_of<A: Allocator>(value: &Data<A>) -> &'static str
+    requires { IsAnyVariant (view value.now) }
+    ensures { result.now ≡ variant_name (view value.now) }
+{
+    match value {
+        Data::UnitVariant { name: _, variant } => variant,
+        Data::NewtypeVariant {
+            name: _,
+            variant,
+            inner: _,
+        } => variant,
+        Data::TupleVariant {
+            name: _,
+            variant,
+            fields: _,
+        } => variant,
+        _ => unreachable!(),
+    }
+}
+
+/// Which variant of a choice was read, by its place among their names, where some contain several forms or
+/// none. `inner` and `part` answer what is in it.
+pub fn which<T: Readable, A: Allocator>(value: &Data<A>, names: &[&'static str]) -> usize
+    requires given { Gives T.read_by (view value.now) }
+    requires names { AreVariants T.read_by names.now }
+    ensures within { result < length names.now }
+    ensures is { IsVariantAt T.read_by result (view value.now) }
+{
+    place(names, name_of(value))
+}
+
+/// What is in the variant at this place, which contains one form.
+pub fn inner<T: Readable, A: Allocator>(value: &Data<A>, at: usize) -> &Data<A>
+    requires variant { IsVariantAt T.read_by at (view value.now) }
+    requires one { IsOfOne (content_at T.read_by at) }
+    ensures { Holds T.read_by at (view value.now) (view result.now) }
+{
+    let (_, inner) = content(value);
+    inner
+}
+
+// The values in a variant of several.
+fn several<A: Allocator>(value: &Data<A>) -> &[Data<A>]
+    requires { IsTuple (view value.now) }
+    ensures { view value.now ≡ tuple_variant_value (own_name (view value.now)) (variant_name (view value.now)) (views result.now) }
+{
+    match value {
+        Data::TupleVariant {
+            name: _,
+            variant: _,
+            fields,
+        } => fields.as_slice(),
+        _ => unreachable!(),
+    }
+}
+
+/// What the form at a place reads of the variant at another place, which contains several forms.
+pub fn part<T: Readable, A: Allocator>(value: &Data<A>, at: usize, form: usize) -> &Data<A>
+    requires variant { IsVariantAt T.read_by at (view value.now) }
+    requires there { HasFormAt (content_at T.read_by at) form }
+    ensures is { view result.now ≡ nth (tuple_parts (view value.now)) form }
+    ensures gives { Gives (form_in (content_at T.read_by at) form) (view result.now) }
+    ensures whole { IsWholeVariant T.read_by at (view value.now) }
+{
+    &several(value)[form]
 }

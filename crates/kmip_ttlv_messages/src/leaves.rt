@@ -2,8 +2,8 @@
 //! read is what is written.
 
 ghost use Rattle.std.specs.Prelude.{◌≡◌, IfOk, string_bytes};
-ghost use Rattle.kmip_ttlv_base.specs.Values.{view, newtype_value, boolean_value, i32_value, i64_value, interval_value, text_value, bytes_value, big_integer_value};
-ghost use Rattle.kmip_ttlv_base.specs.Forms.{newtype, int32, int64, boolean, text, octets, interval, big_integer};
+ghost use Rattle.kmip_ttlv_base.specs.Values.{view, newtype_value, boolean_value, i32_value, u32_value, i64_value, interval_value, text_value, bytes_value, big_integer_value};
+ghost use Rattle.kmip_ttlv_base.specs.Forms.{newtype, int32, int64, boolean, text, octets, interval, big_integer, any_number};
 ghost use Rattle.kmip_ttlv_base.specs.Gives.{Gives};
 
 use kmip_ttlv_base::shape::Data;
@@ -61,6 +61,20 @@ pub fn interval<A: Allocator>(value: &Data<A>, name: &'static str) -> u32
     };
     match &**inner {
         Data::Interval(value) => *value,
+        _ => unreachable!(),
+    }
+}
+
+/// The number of the Enumeration in a newtype of this name.
+pub fn enumeration<A: Allocator>(value: &Data<A>, name: &'static str) -> u32
+    requires { Gives (newtype name.now any_number) (view value.now) }
+    ensures { view value.now ≡ newtype_value name.now (u32_value result) }
+{
+    let Data::Newtype { name: _, inner } = value else {
+        unreachable!()
+    };
+    match &**inner {
+        Data::U32(value) => *value,
         _ => unreachable!(),
     }
 }

@@ -4,8 +4,8 @@
 //! Each call names the type that is read, whose form has a field of that kind at that place.
 
 ghost use Rattle.std.specs.Prelude.{◌≡◌, IfOk, string_bytes};
-ghost use Rattle.kmip_ttlv_base.specs.Values.{Value, view, views, newtype_value, boolean_value, i32_value, i64_value, interval_value, text_value, bytes_value, big_integer_value, unit_variant_value};
-ghost use Rattle.kmip_ttlv_base.specs.Forms.{Form, newtype, option, seq, enum, int32, int64, boolean, text, octets, interval, big_integer, variant, unit, no_variants};
+ghost use Rattle.kmip_ttlv_base.specs.Values.{Value, view, views, newtype_value, boolean_value, i32_value, u32_value, i64_value, interval_value, text_value, bytes_value, big_integer_value, unit_variant_value};
+ghost use Rattle.kmip_ttlv_base.specs.Forms.{Form, newtype, option, seq, enum, int32, int64, boolean, text, octets, interval, big_integer, any_number, variant, unit, no_variants};
 ghost use Rattle.kmip_ttlv_base.specs.Gives.{Gives, EachGives};
 ghost use Rattle.kmip_ttlv_messages.specs.MessageParts.{part_at, form_at, HasPart, IsWhole, IsOption, IsPresent, inside, optional, sequence, EachIs};
 
@@ -196,6 +196,35 @@ pub fn optional_interval<T: Readable, A: Allocator>(
 {
     match present::<T, A>(value, at) {
         Some(part) => Some(leaves::interval(part, name)),
+        None => None,
+    }
+}
+
+/// An Enumeration of any number.
+pub fn enumeration<T: Readable, A: Allocator>(value: &Data<A>, at: usize, name: &'static str) -> u32
+    requires given { Gives T.read_by (view value.now) }
+    requires there { HasPart T.read_by at }
+    requires form { form_at T.read_by at ≡ newtype name.now any_number }
+    ensures is { part_at (view value.now) at ≡ newtype_value name.now (u32_value result) }
+    ensures whole { IsWhole T.read_by (view value.now) }
+{
+    leaves::enumeration(part::<T, A>(value, at), name)
+}
+
+/// An Enumeration of any number, where it is there.
+pub fn optional_enumeration<T: Readable, A: Allocator>(
+    value: &Data<A>,
+    at: usize,
+    name: &'static str,
+) -> Option<u32>
+    requires given { Gives T.read_by (view value.now) }
+    requires there { HasPart T.read_by at }
+    requires form { form_at T.read_by at ≡ option (newtype name.now any_number) }
+    ensures is { part_at (view value.now) at ≡ optional (λ x. newtype_value name.now (u32_value x)) result }
+    ensures whole { IsWhole T.read_by (view value.now) }
+{
+    match present::<T, A>(value, at) {
+        Some(part) => Some(leaves::enumeration(part, name)),
         None => None,
     }
 }

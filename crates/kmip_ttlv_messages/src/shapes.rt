@@ -2,7 +2,7 @@
 //! collected in a `Vec`, one after the other.
 
 ghost use Rattle.std.specs.Prelude.{◌≡◌, IfOk, false};
-ghost use Rattle.kmip_ttlv_base.specs.Forms.{form_of, forms_of, fields_of, variants_of, struct, newtype, option, seq, enum, int32, int64, boolean, text, octets, interval, big_integer, variant, unit, wrapped, tuple, no_variants};
+ghost use Rattle.kmip_ttlv_base.specs.Forms.{form_of, forms_of, fields_of, variants_of, struct, newtype, option, seq, enum, int32, int64, boolean, text, octets, interval, big_integer, any_number, variant, unit, wrapped, tuple, no_variants};
 ghost use Rattle.kmip_ttlv_messages.specs.MessageParts.{IsField};
 ghost use Rattle.kmip_ttlv_messages.specs.MessageChoices.{IsVariant, units};
 
@@ -122,6 +122,17 @@ pub fn interval<A: Allocator>(
     ensures { IfOk result (IsField tag.now (newtype name.now interval)) }
 {
     wrapper(alloc, tag, name, Shape::Interval)
+}
+
+/// An Enumeration of any number in a newtype of the name, which is `Transparent:` and the tag.
+pub fn any_enumeration<A: Allocator>(
+    alloc: A,
+    tag: &'static str,
+    name: &'static str,
+) -> Result<FieldShape<A>, AllocError>
+    ensures { IfOk result (IsField tag.now (newtype name.now any_number)) }
+{
+    wrapper(alloc, tag, name, Shape::U32)
 }
 
 /// A Text String in a newtype of the name, which is `Transparent:` and the tag.

@@ -1,10 +1,14 @@
 //! Telling leaves that may be absent, and Date-Times, as their readers in `reading` give them. All else that a
 //! `visit` is made of is that of `kmip_ttlv_base::parts`, which is reexported here.
+//!
+//! Of a number with a sign in an option the prover doesn't know that it fits its type. So what is told of one
+//! is stated by its bits, which are those of the number itself where it fits.
 
 ghost use Rattle.std.specs.Prelude.{OnOk, OnErr, option_map, string_bytes};
-ghost use Rattle.std.specs.Int.{w64, cast_unsigned};
-ghost use Rattle.kmip_ttlv_base.specs.Values.{newtype_value, boolean_value, i32_value, i64_value, u64_value, interval_value, text_value, bytes_value, big_integer_value};
+ghost use Rattle.std.specs.Int.{w32, w64, cast_unsigned};
+ghost use Rattle.kmip_ttlv_base.specs.Values.{newtype_value, boolean_value, i32_value, u32_value, i64_value, u64_value, interval_value, text_value, bytes_value, big_integer_value};
 ghost use Rattle.kmip_ttlv_base.specs.Visits.{Tells, TellsEach, optional};
+ghost use Rattle.kmip_ttlv_messages.specs.MessageParts.{by_bits, written_date};
 
 use kmip_ttlv_base::parts;
 pub use kmip_ttlv_base::parts::{
@@ -27,6 +31,54 @@ pub fn date_time<V: Visitor>(
     ensures stopped { OnErr result (V.stopped visitor.new) }
 {
     parts::date_time(visitor, name, seconds.cast_unsigned())
+}
+
+/// An Integer, in a newtype of this name. Where it is absent, nothing is told.
+#[inline(always)]
+pub fn optional_integer<V: Visitor>(
+    visitor: &mut V,
+    name: &'static str,
+    number: &Option<i32>,
+) -> Result<(), AllocError>
+    ensures told { OnOk result (TellsEach V.knows V.step (optional (option_map (λ x. newtype_value name.now (i32_value (by_bits w32 x))) number.now)) visitor.old visitor.new) }
+    ensures stopped { OnErr result (V.stopped visitor.new) }
+{
+    match number {
+        Some(number) => parts::integer(visitor, name, *number),
+        None => Ok(()),
+    }
+}
+
+/// A Long Integer, in a newtype of this name. Where it is absent, nothing is told.
+#[inline(always)]
+pub fn optional_long_integer<V: Visitor>(
+    visitor: &mut V,
+    name: &'static str,
+    number: &Option<i64>,
+) -> Result<(), AllocError>
+    ensures told { OnOk result (TellsEach V.knows V.step (optional (option_map (λ x. newtype_value name.now (i64_value (by_bits w64 x))) number.now)) visitor.old visitor.new) }
+    ensures stopped { OnErr result (V.stopped visitor.new) }
+{
+    match number {
+        Some(number) => parts::long_integer(visitor, name, *number),
+        None => Ok(()),
+    }
+}
+
+/// A Date-Time, in seconds since 1970, in a newtype of this name. Where it is absent, nothing is told.
+#[inline(always)]
+pub fn optional_date_time<V: Visitor>(
+    visitor: &mut V,
+    name: &'static str,
+    seconds: &Option<i64>,
+) -> Result<(), AllocError>
+    ensures told { OnOk result (TellsEach V.knows V.step (optional (option_map (λ x. newtype_value name.now (written_date (by_bits w64 x))) seconds.now)) visitor.old visitor.new) }
+    ensures stopped { OnErr result (V.stopped visitor.new) }
+{
+    match seconds {
+        Some(seconds) => date_time(visitor, name, *seconds),
+        None => Ok(()),
+    }
 }
 
 /// A Boolean, in a newtype of this name. Where it is absent, nothing is told.
@@ -57,6 +109,22 @@ pub fn optional_interval<V: Visitor>(
 {
     match seconds {
         Some(seconds) => parts::interval(visitor, name, *seconds),
+        None => Ok(()),
+    }
+}
+
+/// An Enumeration of any number, in a newtype of this name. Where it is absent, nothing is told.
+#[inline(always)]
+pub fn optional_enumeration<V: Visitor>(
+    visitor: &mut V,
+    name: &'static str,
+    number: &Option<u32>,
+) -> Result<(), AllocError>
+    ensures told { OnOk result (TellsEach V.knows V.step (optional (option_map (λ x. newtype_value name.now (u32_value x)) number.now)) visitor.old visitor.new) }
+    ensures stopped { OnErr result (V.stopped visitor.new) }
+{
+    match number {
+        Some(number) => parts::enumeration(visitor, name, *number),
         None => Ok(()),
     }
 }
