@@ -1,0 +1,7 @@
+use Rattle.std.proofs.Common.{refl}
+use Rattle.create_destroy.specs.Requests.{request_form, read_request, written_request}
+use Rattle.create_destroy.proofs.Agreeing.{request_agrees}
+use Rattle.create_destroy.proofs.laws.requests_come_back.Goals as goal
+
+pub returns : goal.returns
+returns g c = λ x n written v is consistent w. c.agreeing_values_come_back.ensures.read request_form (written_request x) (read_request x) v n written refl (request_agrees x is consistent) w

@@ -1,0 +1,177 @@
+//! Attributes of a key, and the template that has them (KMIP 1.0, sections 2.1.1 and 2.1.8).
+
+ghost use Rattle.std.specs.Prelude.{◌≡◌, OnErr, OnOk};
+ghost use Rattle.kmip_ttlv.specs.Visits.{Tells};
+ghost use Rattle.kmip_ttlv.specs.Values.{view, i32_value};
+ghost use Rattle.kmip_ttlv.specs.Gives.{IsI32};
+ghost use Rattle.create_destroy.specs.Attributes.{attribute_form, attribute_value_form, kind_value, read_attribute, read_attribute_value, read_template, template_form, written_attribute, written_attribute_value};
+
+use kmip_ttlv::messages::reading::Readable;
+use kmip_ttlv::messages::{choices, reading, shapes, writing};
+use kmip_ttlv::shape::{Data, Deserialize, Serialize, Shape};
+use kmip_ttlv::visit::{Leaf, Visitor};
+use std::alloc::{AllocError, Allocator, Global};
+
+/// What an attribute says.
+#[derive(Clone, Copy, Debug, PartialEq, Eq)]
+pub enum AttributeValue {
+    /// The algorithm AES.
+    Aes,
+    /// A number: of bits, or the sum of flags.
+    Integer(i32),
+}
+
+// The rules that choose a value by the name before it.
+const BY_NAME: [&str; 2] = [
+    "if 0x42000A==Cryptographic Algorithm",
+    "if 0x42000A in [Cryptographic Length, Cryptographic Usage Mask]",
+];
+
+// The number that data is.
+fn number_of<A: Allocator>(value: &Data<A>) -> i32
+    requires { IsI32 (view value.now) }
+    ensures { view value.now ≡ i32_value result }
+{
+    match value {
+        Data::I32(number) => *number,
+        _ => unreachable!(),
+    }
+}
+
+// The algorithm or the number.
+#[tactic(auto, unfolding(crate::specs::Attributes::kind_value))]
+fn kind<V: Visitor>(visitor: &mut V, value: &AttributeValue) -> Result<(), AllocError>
+    ensures told { OnOk result (Tells V.knows V.step (kind_value value.now) visitor.old visitor.new) }
+    ensures stopped { OnErr result (V.stopped visitor.new) }
+{
+    match value {
+        AttributeValue::Aes => writing::unit_variant(visitor, "420028", "0x00000003"),
+        AttributeValue::Integer(number) => visitor.leaf(Leaf::I32(*number)),
+    }
+}
+
+impl Serialize for AttributeValue {
+    ghost stated = { written_attribute_value };
+
+    #[tactic(auto, unfolding(crate::specs::Attributes::written_attribute_value))]
+    fn visit<V: Visitor>(&self, visitor: &mut V) -> Result<(), AllocError> {
+        writing::begin_newtype_variant(visitor, "Override:0x42000B", "Transparent")?;
+        kind(visitor, self)?;
+        writing::end_newtype_variant(visitor, "Override:0x42000B", "Transparent")?;
+        Ok(())
+    }
+}
+
+impl Readable for AttributeValue {
+    ghost read_by = { attribute_value_form };
+
+    ghost read_as = { read_attribute_value };
+}
+
+impl<A: Allocator + Copy> Deserialize<A> for AttributeValue {
+    ghost form = { attribute_value_form };
+
+    ghost is_value = { λ v x. v ≡ read_attribute_value x };
+
+    fn shape(alloc: A) -> Result<Shape<A>, AllocError> {
+        let mut algorithms = Vec::new(alloc);
+        algorithms.push(shapes::unit("0x00000003"))?;
+        let algorithm = shapes::enumeration("algorithm", algorithms);
+        let mut variants = Vec::new(alloc);
+        variants.push(shapes::rule(alloc, BY_NAME[0], algorithm)?)?;
+        variants.push(shapes::rule(alloc, BY_NAME[1], Shape::I32)?)?;
+        Ok(shapes::enumeration("value", variants))
+    }
+
+    #[tactic(auto, unfolding(crate::specs::Attributes::read_attribute_value))]
+    fn from_data(_alloc: A, value: &Data<A>) -> Result<AttributeValue, AllocError> {
+        let (which, inner) = choices::variant::<Self, A>(value, &BY_NAME);
+        match which {
+            0 => Ok(AttributeValue::Aes),
+            1 => Ok(AttributeValue::Integer(number_of(inner))),
+            _ => unreachable!(),
+        }
+    }
+}
+
+/// What is known of a key, by its name.
+#[derive(Drop)]
+#[derive_where(Debug, PartialEq)]
+pub struct Attribute<A: Allocator = Global> {
+    /// The name of the attribute.
+    pub name: String<A>,
+    /// What it says.
+    pub value: AttributeValue,
+}
+
+impl<B: Allocator> Serialize for Attribute<B> {
+    ghost stated = { written_attribute };
+
+    #[tactic(auto, unfolding(crate::specs::Attributes::written_attribute))]
+    fn visit<V: Visitor>(&self, visitor: &mut V) -> Result<(), AllocError> {
+        writing::begin_struct(visitor, "0x420008")?;
+        writing::text_string(visitor, "Transparent:0x42000A", self.name.as_str())?;
+        self.value.visit(visitor)?;
+        writing::end_struct(visitor, "0x420008")?;
+        Ok(())
+    }
+}
+
+impl<A: Allocator> Readable for Attribute<A> {
+    ghost read_by = { attribute_form };
+
+    ghost read_as = { read_attribute };
+}
+
+impl<A: Allocator + Copy> Deserialize<A> for Attribute<A> {
+    ghost form = { attribute_form };
+
+    ghost is_value = { λ v x. v ≡ read_attribute x };
+
+    fn shape(alloc: A) -> Result<Shape<A>, AllocError> {
+        let mut fields = Vec::new(alloc);
+        fields.push(shapes::text_string(alloc, "0x42000A", "Transparent:0x42000A")?)?;
+        fields.push(shapes::field("0x42000B", AttributeValue::shape(alloc)?))?;
+        Ok(shapes::structure("0x420008", fields))
+    }
+
+    #[tactic(auto, unfolding(crate::specs::Attributes::read_attribute))]
+    fn from_data(alloc: A, value: &Data<A>) -> Result<Attribute<A>, AllocError> {
+        let name = reading::text_string::<Self, A>(alloc, value, 0, "Transparent:0x42000A")?;
+        let value = AttributeValue::from_data(alloc, reading::part::<Self, A>(value, 1))?;
+        Ok(Attribute { name, value })
+    }
+}
+
+/// The attributes of a key that is to be made, as they are read.
+#[derive(Drop)]
+#[derive_where(Debug, PartialEq)]
+pub struct Template<A: Allocator = Global> {
+    /// One or more.
+    pub attributes: Vec<Attribute<A>, A>,
+}
+
+impl<A: Allocator> Readable for Template<A> {
+    ghost read_by = { template_form };
+
+    ghost read_as = { read_template };
+}
+
+impl<A: Allocator + Copy> Deserialize<A> for Template<A> {
+    ghost form = { template_form };
+
+    ghost is_value = { λ v x. v ≡ read_template x };
+
+    fn shape(alloc: A) -> Result<Shape<A>, AllocError> {
+        let attribute = Attribute::<A>::shape(alloc)?;
+        let mut fields = Vec::new(alloc);
+        fields.push(shapes::sequence(alloc, "0x420008", attribute)?)?;
+        Ok(shapes::structure("0x420091", fields))
+    }
+
+    #[tactic(auto, unfolding(crate::specs::Attributes::read_template))]
+    fn from_data(alloc: A, value: &Data<A>) -> Result<Template<A>, AllocError> {
+        let attributes = reading::sequence::<Self, Attribute<A>, A>(alloc, value, 0)?;
+        Ok(Template { attributes })
+    }
+}

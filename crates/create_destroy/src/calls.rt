@@ -1,0 +1,135 @@
+//! Whether a message is consistent, and the four calls.
+
+ghost use Rattle.std.specs.Prelude.{◌≡◌, ◌↔◌, IfOk, IfErr, IsTrue};
+ghost use Rattle.kmip_ttlv.specs.WriteAnswers.{Writes};
+ghost use Rattle.kmip_ttlv.specs.Reads.{Begins};
+ghost use Rattle.kmip_ttlv.specs.ReadAnswers.{RefusalStands, early_end, sort_of};
+ghost use Rattle.kmip_ttlv.specs.RootFacts.{RefusalFacts, root_fault};
+ghost use Rattle.kmip_ttlv.specs.Wholes.{BeginsWhole};
+ghost use Rattle.create_destroy.specs.Requests.{read_request, request_form, written_request};
+ghost use Rattle.create_destroy.specs.Responses.{read_response, response_form, written_response};
+ghost use Rattle.create_destroy.specs.Consistent.{IsConsistentAttribute, IsConsistentItem, IsConsistentAnswer, IsConsistentRequest, IsConsistentResponse};
+
+use crate::attribute::{Attribute, AttributeValue};
+use crate::operation::Operation;
+use crate::request::{Request, RequestItem, RequestPayload};
+use crate::response::{Response, ResponseItem, ResponsePayload};
+use kmip_ttlv::error::Result;
+use kmip_ttlv::{from_slice, to_vec};
+use std::alloc::Allocator;
+
+/// The canonical bytes of a request, consistent or not.
+///
+/// `OutOfMemory` where memory was refused, and `LengthOverflow` where a length doesn't fit its four bytes.
+pub fn write_request<A: Allocator + Copy, B: Allocator>(
+    alloc: A,
+    request: &Request<B>,
+) -> Result<Vec<u8, A>, A>
+    ensures { Writes (written_request request.now) result }
+{
+    to_vec(alloc, request)
+}
+
+/// The request that bytes begin with, of which `is_consistent` says whether its parts agree. What stands behind it is not
+/// read.
+///
+/// It refuses as `kmip_ttlv::from_slice` does, by the place of what it can't read; beside memory and an early end,
+/// these are refusals of bytes that no request begins with.
+pub fn read_request<A: Allocator + Copy>(alloc: A, bytes: &[u8]) -> Result<Request<A>, A>
+    // The request is the one with which the bytes begin.
+    ensures found { IfOk result (λ x. Begins request_form bytes.now (read_request x)) }
+    // Bytes that are refused begin with none; but for an early end, whatever bytes follow.
+    ensures refused { IfErr result (λ e. RefusalStands request_form bytes.now e) }
+    // What a refusal names stands in the bytes, and is refused exactly where it is due.
+    ensures facts { RefusalFacts (root_fault request_form bytes.now) request_form bytes.now result }
+    // A whole message is never refused as ending too early.
+    ensures whole { IfErr result (λ e. BeginsWhole bytes.now → sort_of e ≡ early_end → ⊥) }
+{
+    from_slice(alloc, bytes)
+}
+
+/// The canonical bytes of a response, consistent or not.
+///
+/// `OutOfMemory` where memory was refused, and `LengthOverflow` where a length doesn't fit its four bytes.
+pub fn write_response<A: Allocator + Copy, B: Allocator>(
+    alloc: A,
+    response: &Response<B>,
+) -> Result<Vec<u8, A>, A>
+    ensures { Writes (written_response response.now) result }
+{
+    to_vec(alloc, response)
+}
+
+/// The response that bytes begin with, of which `is_consistent` says whether its parts agree. What stands behind it is not
+/// read.
+///
+/// It refuses as `kmip_ttlv::from_slice` does, by the place of what it can't read; beside memory and an early end,
+/// these are refusals of bytes that no response begins with.
+pub fn read_response<A: Allocator + Copy>(alloc: A, bytes: &[u8]) -> Result<Response<A>, A>
+    // The response is the one with which the bytes begin.
+    ensures found { IfOk result (λ x. Begins response_form bytes.now (read_response x)) }
+    // Bytes that are refused begin with none; but for an early end, whatever bytes follow.
+    ensures refused { IfErr result (λ e. RefusalStands response_form bytes.now e) }
+    // What a refusal names stands in the bytes, and is refused exactly where it is due.
+    ensures facts { RefusalFacts (root_fault response_form bytes.now) response_form bytes.now result }
+    // A whole message is never refused as ending too early.
+    ensures whole { IfErr result (λ e. BeginsWhole bytes.now → sort_of e ≡ early_end → ⊥) }
+{
+    from_slice(alloc, bytes)
+}
+
+// An attribute's name chooses its kind of value.
+fn is_consistent_attribute<A: Allocator>(attribute: &Attribute<A>) -> bool
+    ensures { IsTrue result ↔ IsConsistentAttribute attribute.now }
+{
+    let name = attribute.name.as_str();
+    match attribute.value {
+        AttributeValue::Aes => name == "Cryptographic Algorithm",
+        AttributeValue::Integer(_) => {
+            name == "Cryptographic Length" || name == "Cryptographic Usage Mask"
+        }
+    }
+}
+
+// The operation agrees with the payload, which has an attribute where it is one that creates.
+fn is_consistent_item<A: Allocator>(item: &RequestItem<A>) -> bool
+    ensures { IsTrue result ↔ IsConsistentItem item.now }
+{
+    match (item.operation, &item.payload) {
+        (Operation::Create, RequestPayload::Create(attributes)) => {
+            !attributes.is_empty() && attributes.iter().all(|a| is_consistent_attribute(a))
+        }
+        (Operation::Destroy, RequestPayload::Destroy(_)) => true,
+        _ => false,
+    }
+}
+
+// The operation agrees with what was done.
+fn is_consistent_answer<A: Allocator>(item: &ResponseItem<A>) -> bool
+    ensures { IsTrue result ↔ IsConsistentAnswer item.now }
+{
+    matches!(
+        (item.operation, &item.payload),
+        (Operation::Create, ResponsePayload::Create(_))
+            | (Operation::Destroy, ResponsePayload::Destroy(_))
+    )
+}
+
+impl<A: Allocator> Request<A> {
+    /// Whether there is an item, each operation agrees with its payload, each item that creates has an
+    /// attribute, and each attribute's name chooses its kind of value.
+    pub fn is_consistent(&self) -> bool
+        ensures { IsTrue result ↔ IsConsistentRequest self.now }
+    {
+        !self.items.is_empty() && self.items.iter().all(|item| is_consistent_item(item))
+    }
+}
+
+impl<A: Allocator> Response<A> {
+    /// Whether there is an item, and each operation agrees with its payload.
+    pub fn is_consistent(&self) -> bool
+        ensures { IsTrue result ↔ IsConsistentResponse self.now }
+    {
+        !self.items.is_empty() && self.items.iter().all(|item| is_consistent_answer(item))
+    }
+}

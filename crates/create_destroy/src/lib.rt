@@ -1,0 +1,15 @@
+//! The messages that create and destroy a symmetric key (KMIP 1.0, sections 4.1 and 4.20), as a layer that users
+//! can copy: its types, whether a message is consistent, and the four calls.
+//!
+//! Left out: results other than success, object types other than a symmetric key, algorithms other than AES,
+//! and each field that is not named here.
+#![tactic(auto)]
+
+pub mod attribute;
+pub mod calls;
+pub mod laws;
+pub mod operation;
+pub mod request;
+pub mod response;
+#[cfg(test)]
+mod tests;

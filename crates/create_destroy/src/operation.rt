@@ -1,0 +1,61 @@
+//! What an item asks for.
+
+ghost use Rattle.std.specs.Prelude.{◌≡◌};
+ghost use Rattle.create_destroy.specs.Operations.{operation_form, operation_value};
+
+use kmip_ttlv::messages::reading::Readable;
+use kmip_ttlv::messages::{choices, shapes, writing};
+use kmip_ttlv::shape::{Data, Deserialize, Serialize, Shape};
+use kmip_ttlv::visit::Visitor;
+use std::alloc::{AllocError, Allocator};
+
+/// What an item asks for (KMIP 1.0, section 9.1.3.2.26).
+#[derive(Clone, Copy, Debug, PartialEq, Eq)]
+pub enum Operation {
+    /// A key is to be made.
+    Create,
+    /// A key is to be destroyed.
+    Destroy,
+}
+
+/// The operations, each by its number.
+pub const OPERATIONS: [(&str, Operation); 2] = [
+    ("0x00000001", Operation::Create),
+    ("0x00000014", Operation::Destroy),
+];
+
+/// The rules that choose a payload by the operation before it.
+pub const BY_OPERATION: [&str; 2] = ["if 0x42005C==0x00000001", "if 0x42005C==0x00000014"];
+
+impl Serialize for Operation {
+    ghost stated = { operation_value };
+
+    #[tactic(auto, unfolding(crate::specs::Operations::operation_value))]
+    fn visit<V: Visitor>(&self, visitor: &mut V) -> Result<(), AllocError> {
+        match self {
+            Operation::Create => writing::unit_variant(visitor, "0x42005C", "0x00000001"),
+            Operation::Destroy => writing::unit_variant(visitor, "0x42005C", "0x00000014"),
+        }
+    }
+}
+
+impl Readable for Operation {
+    ghost read_by = { operation_form };
+
+    ghost read_as = { operation_value };
+}
+
+impl<A: Allocator + Copy> Deserialize<A> for Operation {
+    ghost form = { operation_form };
+
+    ghost is_value = { λ v x. v ≡ operation_value x };
+
+    fn shape(alloc: A) -> Result<Shape<A>, AllocError> {
+        shapes::units(alloc, "0x42005C", &OPERATIONS)
+    }
+
+    #[tactic(auto, unfolding(crate::specs::Operations::operation_value))]
+    fn from_data(_alloc: A, value: &Data<A>) -> Result<Operation, AllocError> {
+        Ok(choices::unit::<Self, A>(value, &OPERATIONS))
+    }
+}
