@@ -65,8 +65,8 @@ fn one_answer(alloc: Global, task: Task<'_>, text: &str, before: u64) -> Answer 
 
 fn one_back(alloc: Global, before: u64) -> Answer {
     let heap = RefusingAllocator::new(alloc, before);
-    let text = "Tag: Protocol Version (0x420069), Type: Structure (0x01)\n";
-    match back_with(&heap, alloc, "4200", b"69[") {
+    let text = "Tag: Protocol Version (0x420069), Type: Structure (0x01), Data:\n";
+    match back_with(&heap, alloc, "4200", b"69[]") {
         Ok(outcome) => answer_of(&outcome, text, heap.has_refused(), before),
         Err(AllocError) if heap.has_refused() => Answer::Refused,
         Err(AllocError) => Answer::Wrong(before),

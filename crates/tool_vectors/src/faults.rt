@@ -171,3 +171,78 @@ fn is_no_text(alloc: Global) -> bool {
 fn diagnostics_that_are_no_text(rt: HostRuntime) {
     assert!(rt; is_no_text(rt.alloc()));
 }
+
+// A prefix, diagnostics of which one is not whole, what they are read back as, and the line.
+const NOT_WHOLE: [(&str, &str, &str, &str); 8] = [
+    // A structure stays open.
+    (
+        "4200",
+        "69[",
+        "Tag: Protocol Version (0x420069), Type: Structure (0x01)\n",
+        "capture: byte 0: no whole part of a diagnostic\n",
+    ),
+    (
+        "4200",
+        "69[6A[]",
+        "Tag: Protocol Version (0x420069), Type: Structure (0x01), Data: \n  Tag: Protocol Version Major (0x42006A), Type: Structure (0x01), Data:\n",
+        "capture: byte 7: a structure is not closed\n",
+    ),
+    // The last item is cut off.
+    (
+        "4200",
+        "69[6Ai6B",
+        "Tag: Protocol Version (0x420069), Type: Structure (0x01), Data: \n  Tag: Protocol Version Major (0x42006A), Type: Integer (0x02), Data: <redacted>\n  Tag: Protocol Version Minor (0x42006B)\n",
+        "capture: byte 6: no whole part of a diagnostic\n",
+    ),
+    // What the diagnostic of an empty structure has in its place: a digit, and no type behind it.
+    (
+        "4200",
+        "69[ERR",
+        "Tag: Protocol Version (0x420069), Type: Structure (0x01), Data: \n  Tag: 0x4200E\n",
+        "capture: byte 3: no whole part of a diagnostic\n",
+    ),
+    // One bracket too many.
+    (
+        "4200",
+        "69[]]\n",
+        "Tag: Protocol Version (0x420069), Type: Structure (0x01), Data:\n",
+        "capture: byte 4: no whole part of a diagnostic\n",
+    ),
+    // An enumeration without its colon.
+    (
+        "4200",
+        "0F[5CeA]",
+        "Tag: Batch Item (0x42000F), Type: Structure (0x01), Data: \n  Tag: Operation (0x42005C), Type: Enumeration (0x05)\n",
+        "capture: byte 3: no whole part of a diagnostic\n",
+    ),
+    // The second of three lines, and then the third, is none; both are read back. In front of `é` stand no
+    // digits, so the prefix is the tag: four digits are the fewest of one that is printed.
+    (
+        "4200",
+        "69[]\né\n6A[]]\n",
+        "Tag: Protocol Version (0x420069), Type: Structure (0x01), Data:\nTag: 0x4200\nTag: Protocol Version Major (0x42006A), Type: Structure (0x01), Data:\n",
+        "capture: byte 5: no whole part of a diagnostic\n",
+    ),
+    // Behind a prefix of six digits two more are no tag: it has three bytes.
+    (
+        "420000",
+        "69[]",
+        "\n",
+        "capture: byte 0: no whole part of a diagnostic\n",
+    ),
+];
+
+fn is_not_whole(alloc: Global, row: (&str, &str, &str, &str)) -> bool {
+    let (prefix, input, text, line) = row;
+    match back_with(alloc, alloc, prefix, input.as_bytes()) {
+        Ok(outcome) => outcome.is(1, text, line),
+        Err(AllocError) => false,
+    }
+}
+
+#[test]
+fn diagnostics_that_are_not_whole(rt: HostRuntime) {
+    for row in NOT_WHOLE {
+        assert!(rt; is_not_whole(rt.alloc(), row), "{row:?}");
+    }
+}

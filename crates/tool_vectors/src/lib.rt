@@ -8,6 +8,10 @@ mod failing;
 #[cfg(test)]
 mod faults;
 #[cfg(test)]
+mod files;
+#[cfg(test)]
+mod names;
+#[cfg(test)]
 mod printed;
 #[cfg(test)]
 mod runs;

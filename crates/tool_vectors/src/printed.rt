@@ -118,22 +118,22 @@ fn raw_messages(rt: HostRuntime) {
     assert!(rt; raw_prints(rt.alloc(), Encoding::Raw));
 }
 
-// A prefix, diagnostics, and what they are read back as.
+// A prefix, whole diagnostics, and what they are read back as.
 const BACK: [(&str, &str, &str); 5] = [
     (
         "4200",
-        "69[6Ai",
-        "Tag: Protocol Version (0x420069), Type: Structure (0x01), Data: \n  Tag: Protocol Version Major (0x42006A), Type: Integer (0x02)\n",
+        "69[6Ai6Bi]",
+        "Tag: Protocol Version (0x420069), Type: Structure (0x01), Data: \n  Tag: Protocol Version Major (0x42006A), Type: Integer (0x02), Data: <redacted>\n  Tag: Protocol Version Minor (0x42006B), Type: Integer (0x02), Data: <redacted>\n",
     ),
     (
         "",
-        "420069[",
-        "Tag: Protocol Version (0x420069), Type: Structure (0x01)\n",
+        "42000F[42005CeA:]",
+        "Tag: Batch Item (0x42000F), Type: Structure (0x01), Data: \n  Tag: Operation (0x42005C), Type: Enumeration (0x05), Data: A\n",
     ),
     (
         "4200",
-        "69[ \r\n\n6A[\n",
-        "Tag: Protocol Version (0x420069), Type: Structure (0x01)\nTag: Protocol Version Major (0x42006A), Type: Structure (0x01)\n",
+        "69[] \r\n\n6A[]\n",
+        "Tag: Protocol Version (0x420069), Type: Structure (0x01), Data:\nTag: Protocol Version Major (0x42006A), Type: Structure (0x01), Data:\n",
     ),
     ("4200", "", ""),
     ("4200", "\n\n", ""),

@@ -1,8 +1,8 @@
 //! What the words of the command line ask for.
 
 use std::alloc::{AllocError, Global};
-use ttlv_run::{Encoding, Task};
-use ttlv_words::{Asked, request_of};
+use ttlv_run::{Asked, Encoding, Task};
+use ttlv_words::request_of;
 
 // Words, what is asked, the file of names, and how many files are read.
 type Row = (&'static str, Asked<'static>, Option<&'static str>, usize);

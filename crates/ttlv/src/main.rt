@@ -4,15 +4,18 @@
 //! `ttlv_words` and `ttlv_run`, which do the rest over any reader and any writers.
 #![tactic(auto)]
 
-use kmip_ttlv_names::{STANDARD_TAGS, TableError, standard_values, tag_names};
+use kmip_ttlv_names::{STANDARD_TAGS, standard_values, tag_names};
 use std::alloc::{AllocError, Global};
-use std::io::{ErrorKind, Read, Write};
+use std::fs::File;
+use std::io::{IsTerminal, Stderr};
 use std::process::ExitCode;
 use std::rt::Env;
 use std::{env, fs, io};
-use ttlv_run::run::{read_back, run};
-use ttlv_run::{BackJob, Job, Names};
-use ttlv_words::{Asked, Request, request_of};
+use ttlv_run::Names;
+use ttlv_run::files::{Opener, run_asked, run_files};
+use ttlv_run::progress::Progress;
+use ttlv_run::table::own_table;
+use ttlv_words::{Request, request_of};
 
 /// The status of usage, and of input that can't be read.
 const USAGE: u8 = 2;
@@ -31,118 +34,71 @@ fn words(rt: &(impl Env + Alloc<A = Global>)) -> io::Result<Vec<String>> {
     Ok(words)
 }
 
-// Does with one input what is asked.
-fn do_one<R: Read, W: Write, E: Write>(
-    alloc: Global,
-    asked: Asked<'_>,
-    name: &str,
-    names: &Names<'_>,
-    input: &mut R,
-    output: &mut W,
-    errors: &mut E,
-) -> u8 {
-    match asked {
-        Asked::Print { task, encoding } => {
-            let job = Job {
-                name,
-                task,
-                encoding,
-            };
-            run(alloc, &job, names, input, output, errors)
-        }
-        Asked::ReadBack { prefix } => {
-            let job = BackJob { name, prefix };
-            read_back(alloc, &job, names, input, output, errors)
-        }
+// The files of the machine. On a terminal it is shown how far each was read.
+#[derive(Drop)]
+struct Disk<'r> {
+    rt: &'r HostRuntime,
+}
+
+impl Opener for Disk<'_> {
+    type Input = Progress<File, Stderr>;
+
+    fn open(&mut self, name: &str) -> Option<Progress<File, Stderr>> {
+        let file = fs::open(self.rt, name).ok()?;
+        let total = match file.metadata() {
+            Ok(metadata) => Some(metadata.len()),
+            Err(_) => None,
+        };
+        let errors = self.rt.stderr();
+        let shown = errors.is_terminal();
+        Some(Progress::new(file, errors, total, shown))
     }
 }
 
-// Does it with a file.
-fn do_file(rt: &HostRuntime, asked: Asked<'_>, name: &str, names: &Names<'_>) -> u8 {
-    let alloc = rt.alloc();
-    let mut output = rt.stdout();
+// Does with standard input what is asked.
+fn run_stdin(rt: &HostRuntime, request: &Request<'_>, names: &Names<'_>) -> u8 {
     let mut errors = rt.stderr();
-    match fs::open(rt, name) {
-        Ok(mut input) => do_one(
-            alloc,
-            asked,
-            name,
-            names,
-            &mut input,
-            &mut output,
-            &mut errors,
-        ),
-        Err(_) => {
-            let _ = eprintln!(rt; "{name}: it can't be opened");
-            USAGE
-        }
-    }
+    let shown = errors.is_terminal();
+    let mut input = Progress::new(rt.stdin(), rt.stderr(), None, shown);
+    run_asked(
+        rt.alloc(),
+        request.asked,
+        "standard input",
+        names,
+        &mut input,
+        &mut rt.stdout(),
+        &mut errors,
+    )
 }
 
-// Does it with each input, and answers the greatest status. Where memory or the output fails, the
-// inputs behind are not read.
+// Does with each input what is asked.
 fn do_all(rt: &HostRuntime, request: &Request<'_>, names: &Names<'_>) -> u8 {
     if request.files.is_empty() {
-        let alloc = rt.alloc();
-        let mut input = rt.stdin();
-        let mut output = rt.stdout();
-        let mut errors = rt.stderr();
-        return do_one(
-            alloc,
-            request.asked,
-            "standard input",
-            names,
-            &mut input,
-            &mut output,
-            &mut errors,
-        );
+        return run_stdin(rt, request, names);
     }
-    let mut status = 0;
-    for name in request.files.as_slice() {
-        status = status.max(do_file(rt, request.asked, *name, names));
-        if status == NO_MEMORY {
-            return status;
-        }
-    }
-    status
-}
-
-// Says that a file of names can't be read, and answers the status.
-fn no_names(rt: &HostRuntime, path: &str, error: TableError) -> u8 {
-    match error {
-        TableError::BadLine(line) => {
-            let _ = eprintln!(rt; "{path}: line {line} names no tag");
-            USAGE
-        }
-        TableError::OutOfMemory => NO_MEMORY,
-    }
-}
-
-// The standard's table of tags, and behind it that of a file.
-fn joined(alloc: Global, table: &str) -> Result<String, AllocError> {
-    let mut all = String::from_str(alloc, STANDARD_TAGS)?;
-    all.push_str(table)?;
-    Ok(all)
+    run_files(
+        rt.alloc(),
+        request.asked,
+        names,
+        request.files.as_slice(),
+        &mut Disk { rt },
+        &mut rt.stdout(),
+        &mut rt.stderr(),
+    )
 }
 
 // The table of the names of tags; or the status where that of the file can't be read.
 fn table(rt: &HostRuntime, path: Option<&str>) -> Result<String, u8> {
     let alloc = rt.alloc();
     let Some(path) = path else {
-        return joined(alloc, "").map_err(|_| NO_MEMORY);
+        let standard: Result<String, AllocError> = String::from_str(alloc, STANDARD_TAGS);
+        return standard.map_err(|_| NO_MEMORY);
     };
-    let text = match fs::read_to_string(rt, path) {
-        Ok(text) => text,
-        Err(e) if e.kind() == ErrorKind::OutOfMemory => return Err(NO_MEMORY),
-        Err(_) => {
-            let _ = eprintln!(rt; "{path}: it can't be read");
-            return Err(USAGE);
-        }
+    let Ok(mut file) = fs::open(rt, path) else {
+        let _ = eprintln!(rt; "{path}: it can't be opened");
+        return Err(USAGE);
     };
-    if let Err(error) = tag_names(alloc, text.as_str()) {
-        return Err(no_names(rt, path, error));
-    }
-    joined(alloc, text.as_str()).map_err(|_| NO_MEMORY)
+    own_table(alloc, STANDARD_TAGS, path, &mut file, &mut rt.stderr())
 }
 
 fn run_all(rt: &HostRuntime, request: &Request<'_>) -> u8 {

@@ -8,7 +8,7 @@ use Rattle.ttlv_run.specs.declared.job.Encoding.{Encoding}
 use Rattle.ttlv_run.specs.declared.job.Encoding.TheVariants.{Detected, Raw, Hexadecimal, Base64}
 use Rattle.ttlv_run.specs.declared.job.Job.{Job}
 use Rattle.ttlv_run.specs.declared.refusal.Refusal.{Refusal}
-use Rattle.ttlv_run.specs.declared.refusal.Refusal.TheVariants.{UnreadableInput, BadCharacter, WrongCount, NotUtf8, UnwritableOutput, ClosedPipe, RefusedMemory}
+use Rattle.ttlv_run.specs.declared.refusal.Refusal.TheVariants.{UnopenedInput, UnreadableInput, BadCharacter, WrongCount, NotUtf8, UnwritableOutput, ClosedPipe, RefusedMemory}
 use Rattle.ttlv_run.specs.Inputs.{TakesAll, IsNoneAs, encoding_of, IsUndecoded}
 use Rattle.ttlv_run.specs.Reasons.{Tells, place_told, offset_told, words_of, refusal_line}
 use Rattle.ttlv_run.specs.Runs.{Streams, Fails, Responds}
@@ -38,6 +38,7 @@ tells_more (Err e) goes said known mid new front text is says all some h =
 
 -- the parts of a line are the line
 line_of : (name : List ℕ) (why : Refusal) → why ≢ ClosedPipe → place_told name (offset_told why) ++ codes ": " ++ words_of why ++ codes "\n" ≡ refusal_line name why
+line_of name UnopenedInput ne = refl
 line_of name UnreadableInput ne = refl
 line_of name (BadCharacter at) ne = refl
 line_of name (WrongCount at) ne = refl
@@ -65,6 +66,7 @@ not_closed Base64 s h = h
 
 -- an input that was taken stands for no bytes, and the output stays as it was
 undecoded : (names : Names) (job : Job) (s : Streams) (why : Refusal) (input : List ℕ) → TakesAll s.input s.input_left input → IsUndecoded job.encoding input why → Keeps s.output s.output_now → Fails names job s why
+undecoded names job s UnopenedInput input taken none kept = (record { input = input; taken = taken; undecoded = none }, kept)
 undecoded names job s UnreadableInput input taken none kept = kept
 undecoded names job s (BadCharacter at) input taken none kept = (record { input = input; taken = taken; undecoded = none }, kept)
 undecoded names job s (WrongCount at) input taken none kept = (record { input = input; taken = taken; undecoded = none }, kept)

@@ -1,6 +1,9 @@
+pub mod Backs
+pub mod Files
 pub mod Inputs
 pub mod Items
 pub mod Messages
 pub mod Reasons
 pub mod Runs
+pub mod Tables
 pub mod Texts

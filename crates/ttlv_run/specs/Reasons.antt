@@ -4,11 +4,13 @@ use Rattle.std.specs.Io.KnownBytes.{Appends}
 use Rattle.std.specs.Fmt.{decimal}
 use Rattle.kmip_ttlv_types.specs.Streams.{AppendsFront}
 use Rattle.ttlv_run.specs.declared.refusal.Refusal.{Refusal}
-use Rattle.ttlv_run.specs.declared.refusal.Refusal.TheVariants.{UnreadableInput, BadCharacter, WrongCount, NotUtf8}
-use Rattle.ttlv_run.specs.declared.refusal.Refusal.TheVariants.{UnwritableOutput, ClosedPipe, RefusedMemory}
+use Rattle.ttlv_run.specs.declared.refusal.Refusal.TheVariants.{UnopenedInput, UnreadableInput, BadCharacter}
+use Rattle.ttlv_run.specs.declared.refusal.Refusal.TheVariants.{WrongCount, NotUtf8, UnwritableOutput, ClosedPipe}
+use Rattle.ttlv_run.specs.declared.refusal.Refusal.TheVariants.{RefusedMemory}
 
 -- 2 for an input that can't be read or decoded, 3 where memory or the output fails
 abbrev pub status_of : Refusal → ℕ
+status_of UnopenedInput = 2
 status_of UnreadableInput = 2
 status_of (BadCharacter at) = 2
 status_of (WrongCount at) = 2
@@ -19,6 +21,7 @@ status_of RefusedMemory = 3
 
 -- what is wrong, in words
 abbrev pub words_of : Refusal → List ℕ
+words_of UnopenedInput = codes "it can't be opened"
 words_of UnreadableInput = codes "it can't be read"
 words_of (BadCharacter at) = codes "this is no digit of the encoding"
 words_of (WrongCount at) = codes "digits are missing at the end, or too many are there"

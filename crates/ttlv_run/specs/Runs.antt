@@ -9,6 +9,9 @@ use Rattle.ttlv_run.specs.declared.messages.Place.{Place}
 use Rattle.ttlv_run.specs.declared.refusal.Refusal.{Refusal}
 use Rattle.ttlv_run.specs.declared.refusal.Refusal.TheVariants.{UnreadableInput, BadCharacter, WrongCount, NotUtf8}
 use Rattle.ttlv_run.specs.declared.refusal.Refusal.TheVariants.{UnwritableOutput, ClosedPipe, RefusedMemory}
+use Rattle.kmip_ttlv_names.specs.NameTables.{lines_of}
+use Rattle.ttlv_run.specs.declared.back.BackFault.{BackFault}
+use Rattle.ttlv_run.specs.Backs.{FirstBreak, back_line}
 use Rattle.ttlv_run.specs.Inputs.{TakesAll, Stands, IsUndecoded}
 use Rattle.ttlv_run.specs.Messages.{Prints, fault_line}
 use Rattle.ttlv_run.specs.Reasons.{status_of, refusal_line}
@@ -87,18 +90,28 @@ pub record Refused
   pub status_is : status ≡ status_of why
   pub told : AppendsFront errors errors_now (refusal_line job.name.now why)
 
--- the whole input was taken, and this text is what its diagnostics are read back as
-pub record HasBack (names : Names) (job : BackJob) (s : Streams) (text : List ℕ) : Type 0 where
+-- the whole input was taken, and this text is what its diagnostics are read back as; and the first line that is not
+-- whole stops being a diagnostic here, or all lines are whole
+pub record HasBack
+    (names : Names) (job : BackJob) (s : Streams) (text : List ℕ) (fault : Option BackFault) : Type 0 where
   pub input : List ℕ
   pub taken : TakesAll s.input s.input_left input
   pub is_text : IsUtf8 input
   pub is : text ≡ text_back names.tags job.prefix.now input
+  pub first : FirstBreak job.prefix.now 0 (lines_of input) fault
 
 -- exactly that was appended to the output
-pub record PrintedBack (names : Names) (job : BackJob) (s : Streams) : Type 0 where
+pub record PrintedBack (names : Names) (job : BackJob) (s : Streams) (fault : Option BackFault) : Type 0 where
   pub text : List ℕ
-  pub has : HasBack names job s text
+  pub has : HasBack names job s text fault
   pub appended : Appends s.output s.output_now text
+
+-- a line is not whole, and a beginning of the line that says so was appended to the errors
+pub record MalformedBack
+    (names : Names) (job : BackJob) (s : Streams) (errors errors_now : Option (List ℕ)) : Type 0 where
+  pub fault : BackFault
+  pub printed : PrintedBack names job s (Some fault)
+  pub told : AppendsFront errors errors_now (back_line job.name.now fault)
 
 -- the whole input was taken, and it is no text
 pub record NoText (s : Streams) : Type 0 where
@@ -109,7 +122,8 @@ pub record NoText (s : Streams) : Type 0 where
 -- a beginning of what the input is read back as was appended to the output
 pub record UnwrittenBack (names : Names) (job : BackJob) (s : Streams) : Type 0 where
   pub text : List ℕ
-  pub has : HasBack names job s text
+  pub fault : Option BackFault
+  pub has : HasBack names job s text fault
   pub appended : AppendsFront s.output s.output_now text
 
 -- why diagnostics were not printed, and what was done by then
@@ -121,8 +135,8 @@ FailsBack names job s ClosedPipe = UnwrittenBack names job s
 FailsBack names job s RefusedMemory = Keeps s.output s.output_now
 FailsBack names job s _ = ⊥
 
-abbrev pub RespondsBack : {T : Type 0} → Names → BackJob → Streams → Result T Refusal → Type 0
-RespondsBack names job s (Ok x) = PrintedBack names job s
+abbrev pub RespondsBack : Names → BackJob → Streams → Result (Option BackFault) Refusal → Type 0
+RespondsBack names job s (Ok fault) = PrintedBack names job s fault
 RespondsBack names job s (Err why) = FailsBack names job s why
 
 -- there is a reason for the status, and a beginning of its line was appended to the errors

@@ -1,35 +1,85 @@
 //! Diagnostics read back as readable lines: a line of the input for each.
 
-ghost use Rattle.std.specs.Prelude.{◌≡◌, ◌++◌, IfOk, OnOk, string_bytes};
+ghost use Rattle.std.specs.Prelude.{◌≡◌, ◌<◌, ◌+◌, ◌++◌, ◌^◌, length, IfOk, OnOk, string_bytes};
 ghost use Rattle.kmip_ttlv_util.specs.TagNames.{name_in};
+ghost use Rattle.kmip_ttlv_names.specs.NameTables.{lines_of};
+ghost use Rattle.ttlv_run.specs.Backs.{Stopped, Tries, FirstBreak, back_words};
 ghost use Rattle.ttlv_run.specs.Texts.{line_back, text_back};
 
-use kmip_ttlv_util::{LentTagMap, read_back_named};
+use kmip_ttlv_util::{LentTagMap, read_back_counted};
 use std::alloc::{AllocError, Allocator};
 
-// Adds what a line is read back as, but for white space at its end, and a line feed; nothing for an
-// empty line.
+/// What is wrong with a line of diagnostics.
+#[derive(Clone, Copy, Debug, PartialEq, Eq)]
+pub enum BackFaultKind {
+    /// No whole part of a diagnostic stands here.
+    NoPart,
+    /// The line ends here, and a structure is not closed.
+    LeftOpen,
+}
+
+impl BackFaultKind {
+    /// What is wrong, in words.
+    pub fn words(self) -> &'static str
+        ensures { result.now ≡ back_words self }
+    {
+        match self {
+            BackFaultKind::NoPart => "no whole part of a diagnostic",
+            BackFaultKind::LeftOpen => "a structure is not closed",
+        }
+    }
+}
+
+/// Where a text of diagnostics stops being one.
+#[derive(Clone, Copy, Debug, PartialEq, Eq)]
+pub struct BackFault {
+    /// The first byte that is no part, in bytes from the input's first.
+    pub offset: usize,
+    /// What is wrong.
+    pub kind: BackFaultKind,
+}
+
+// What is wrong where reading a line ended, so deep and with so many bytes left.
+fn stopped_at(offset: usize, depth: usize, left: usize) -> Option<BackFault>
+    ensures { Stopped offset depth left result }
+{
+    let kind = if left > 0 {
+        BackFaultKind::NoPart
+    } else if depth > 0 {
+        BackFaultKind::LeftOpen
+    } else {
+        return None;
+    };
+    Some(BackFault { offset, kind })
+}
+
+// Adds what a line, which begins at an offset, is read back as, but for white space at its end, and a
+// line feed; nothing for an empty line. Answers where it stops being a diagnostic, if it does.
 fn push_back<A: Allocator + Copy>(
     alloc: A,
     out: &mut String<A>,
     names: &LentTagMap<'_, A>,
     prefix: &str,
+    at: usize,
     line: &str,
-) -> Result<(), AllocError>
-    ensures { OnOk result (string_bytes out.new
+) -> Result<Option<BackFault>, AllocError>
+    requires { at + length line.now < 2 ^ 64 }
+    ensures text { OnOk result (string_bytes out.new
         ≡ string_bytes out.old ++ line_back (name_in names.now) prefix.now line.now) }
+    ensures fault { IfOk result (λ fault. Tries prefix.now at line.now fault) }
 {
     let line = line.trim_end();
     if line.is_empty() {
-        return Ok(());
+        return Ok(None);
     }
-    let text = read_back_named(alloc, prefix, names, line)?;
-    out.push_str(text.as_str())?;
+    let read = read_back_counted(alloc, prefix, names, line)?;
+    out.push_str(read.text.as_str())?;
     out.push_str("\n")?;
-    Ok(())
+    Ok(stopped_at(at + read.used, read.depth, line.len() - read.used))
 }
 
-/// What diagnostics under a prefix are read back as, each in a line of its own.
+/// What diagnostics under a prefix are read back as, each in a line of its own, and where the first of
+/// them that is not whole stops being one.
 ///
 /// It refuses for want of memory alone.
 pub fn text_back<A: Allocator + Copy>(
@@ -37,15 +87,20 @@ pub fn text_back<A: Allocator + Copy>(
     names: &LentTagMap<'_, A>,
     prefix: &str,
     text: &str,
-) -> Result<String<A>, AllocError>
-    ensures { IfOk result (λ r. string_bytes r ≡ text_back (name_in names.now) prefix.now text.now) }
+) -> Result<(String<A>, Option<BackFault>), AllocError>
+    ensures text { IfOk result (λ r. string_bytes r.0 ≡ text_back (name_in names.now) prefix.now text.now) }
+    ensures fault { IfOk result (λ r. FirstBreak prefix.now 0 (lines_of text.now) r.1) }
 {
     let mut out = String::new(alloc);
     let mut rest = text;
+    let mut first = None;
     'lines: while let Some((line, more)) = rest.split_once('\n') {
-        push_back(alloc, &mut out, names, prefix, line)?;
+        let at = text.len() - rest.len();
+        let found = push_back(alloc, &mut out, names, prefix, at, line)?;
+        first = first.or(found);
         rest = more;
     }
-    push_back(alloc, &mut out, names, prefix, rest)?;
-    Ok(out)
+    let at = text.len() - rest.len();
+    let found = push_back(alloc, &mut out, names, prefix, at, rest)?;
+    Ok((out, first.or(found)))
 }

@@ -32,6 +32,15 @@ pub enum Encoding {
     Base64,
 }
 
+/// What is to be done with each input.
+#[derive(Clone, Copy, Debug, PartialEq, Eq)]
+pub enum Asked<'w> {
+    /// To print its messages, which stand in it so.
+    Print { task: Task<'w>, encoding: Encoding },
+    /// To read back its diagnostics, which leave these digits out of tags.
+    ReadBack { prefix: &'w str },
+}
+
 /// What a run is to do with its input.
 #[derive(Clone, Copy, Debug, PartialEq, Eq)]
 pub struct Job<'w> {

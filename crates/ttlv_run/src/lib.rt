@@ -2,19 +2,23 @@
 //! one after the other, as raw bytes, hexadecimal or base64, and prints them as readable lines, as
 //! diagnostics or in hexadecimal, or checks them; or it reads diagnostics back.
 //!
-//! `run` is the entry. `job` says what is to be done, `coding` takes the bytes out of the input,
-//! `messages` goes from message to message, `texts` and `lines` print one, and `refusal` has the
-//! reasons for statuses 2 and 3. Items, faults and diagnostics are those of kmip_ttlv_items and
+//! `files` is the entry, for several inputs, and `run` for one. `job` says what is to be done, `coding` takes
+//! the bytes out of the input, `messages` goes from message to message, `texts` and `lines` print one, `back`
+//! reads diagnostics back, and `refusal` has the reasons for statuses 2 and 3. `table` reads a file of names,
+//! and `progress` tells how far the reading is. Items, faults and diagnostics are those of kmip_ttlv_items and
 //! kmip_ttlv_util.
 #![tactic(auto)]
 
 mod back;
 mod coding;
+pub mod files;
 mod job;
 mod lines;
 mod messages;
+pub mod progress;
 mod refusal;
 pub mod run;
+pub mod table;
 mod texts;
 
-pub use job::{BackJob, Encoding, Job, Names, Task};
+pub use job::{Asked, BackJob, Encoding, Job, Names, Task};

@@ -8,6 +8,8 @@ use std::alloc::AllocError;
 /// Why a run ends with status 2 or 3. Offsets are in bytes from the input's first.
 #[derive(Clone, Copy, Debug, PartialEq, Eq)]
 pub enum Refusal {
+    /// The input can't be opened.
+    UnopenedInput,
     /// The input can't be read.
     UnreadableInput,
     /// The character at this offset is none of the encoding.
@@ -31,7 +33,8 @@ impl Refusal {
         ensures { result ≡ status_of self }
     {
         match self {
-            Refusal::UnreadableInput
+            Refusal::UnopenedInput
+            | Refusal::UnreadableInput
             | Refusal::BadCharacter(_)
             | Refusal::WrongCount(_)
             | Refusal::NotUtf8 => 2,
@@ -44,6 +47,7 @@ impl Refusal {
         ensures { result.now ≡ words_of self }
     {
         match self {
+            Refusal::UnopenedInput => "it can't be opened",
             Refusal::UnreadableInput => "it can't be read",
             Refusal::BadCharacter(_) => "this is no digit of the encoding",
             Refusal::WrongCount(_) => "digits are missing at the end, or too many are there",

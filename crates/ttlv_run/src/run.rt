@@ -1,13 +1,14 @@
 //! The whole run over one input, for any reader and any writers.
 
-ghost use Rattle.std.specs.Prelude.{◌≡◌, ◌≤◌, ◌⊎◌, ◌++◌, ℕ, List, Option, string_bytes};
+ghost use Rattle.std.specs.Prelude.{◌≡◌, ◌≤◌, ◌⊎◌, ◌++◌, ℕ, List, Option, Some, None, string_bytes};
 ghost use Rattle.std.specs.Io.KnownBytes.{Keeps};
 ghost use Rattle.kmip_ttlv_types.specs.Streams.{AppendsFront};
+ghost use Rattle.ttlv_run.specs.Backs.{back_line};
 ghost use Rattle.ttlv_run.specs.Reasons.{Tells, place_told, refusal_line};
-ghost use Rattle.ttlv_run.specs.Runs.{Responds, Printed, Malformed, Refused, RespondsBack, PrintedBack, RefusedBack};
+ghost use Rattle.ttlv_run.specs.Runs.{Responds, Printed, Malformed, Refused, RespondsBack, PrintedBack, MalformedBack, RefusedBack};
 ghost use Rattle.ttlv_run.specs.Texts.{names_of};
 
-use crate::back::text_back;
+use crate::back::{BackFault, text_back};
 use crate::coding::{bytes_of, read_all};
 use crate::job::{BackJob, Job, Names};
 use crate::messages::{fault_line, print_all};
@@ -49,14 +50,15 @@ fn respond<A: Allocator + Copy, R: Read, W: Write>(
     }
 }
 
-// Prints what diagnostics are read back as. The whole text is made before its first byte is written.
+// Prints what diagnostics are read back as, and answers where the first line that is not whole stops being
+// one, if there is such a line. The whole text is made before its first byte is written.
 fn respond_back<A: Allocator + Copy, R: Read, W: Write>(
     alloc: A,
     job: &BackJob<'_>,
     names: &Names<'_, A>,
     input: &mut R,
     output: &mut W,
-) -> Result<(), Refusal>
+) -> Result<Option<BackFault>, Refusal>
     ensures { RespondsBack (names_of names.now) job.now
         (record {
           input = R.remaining input.old;
@@ -69,9 +71,9 @@ fn respond_back<A: Allocator + Copy, R: Read, W: Write>(
     let Ok(diagnostics) = str::from_utf8(taken.as_slice()) else {
         return Err(Refusal::NotUtf8);
     };
-    let text = text_back(alloc, &names.tags, job.prefix, diagnostics)?;
+    let (text, fault) = text_back(alloc, &names.tags, job.prefix, diagnostics)?;
     match output.send(text.as_bytes()) {
-        Ok(()) => Ok(()),
+        Ok(()) => Ok(fault),
         Err(e) if e.kind() == ErrorKind::BrokenPipe => Err(Refusal::ClosedPipe),
         Err(_) => Err(Refusal::UnwritableOutput),
     }
@@ -97,8 +99,8 @@ fn tell_place<E: Write>(errors: &mut E, name: &str, offset: Option<usize>) -> bo
     tell(errors, goes, Buffer::new().format(at))
 }
 
-// Writes the line of a refusal, as far as it can be written. It takes no memory.
-fn tell_refusal<E: Write>(errors: &mut E, name: &str, refusal: Refusal)
+/// Writes the line of a refusal, as far as it can be written. It takes no memory.
+pub(crate) fn tell_refusal<E: Write>(errors: &mut E, name: &str, refusal: Refusal)
     ensures { AppendsFront (E.contents errors.old) (E.contents errors.new) (refusal_line name.now refusal) }
 {
     if refusal == Refusal::ClosedPipe {
@@ -107,6 +109,16 @@ fn tell_refusal<E: Write>(errors: &mut E, name: &str, refusal: Refusal)
     let goes = tell_place(errors, name, refusal.offset());
     let goes = tell(errors, goes, ": ");
     let goes = tell(errors, goes, refusal.words());
+    tell(errors, goes, "\n");
+}
+
+// Writes the line of a text that stops being a diagnostic, as far as it can be written. It takes no memory.
+fn tell_back_fault<E: Write>(errors: &mut E, name: &str, fault: BackFault)
+    ensures { AppendsFront (E.contents errors.old) (E.contents errors.new) (back_line name.now fault) }
+{
+    let goes = tell_place(errors, name, Some(fault.offset));
+    let goes = tell(errors, goes, ": ");
+    let goes = tell(errors, goes, fault.kind.words());
     tell(errors, goes, "\n");
 }
 
@@ -168,10 +180,12 @@ pub fn run<A: Allocator + Copy, R: Read, W: Write, E: Write>(
 }
 
 /// Reads `input` to its end and prints to `output` what its diagnostics, each in a line of its own, are
-/// read back as. It answers the exit status: 0, 2 where the input can't be read or is not UTF-8, or 3
-/// where memory is refused or the output can't be written.
+/// read back as. It answers the exit status: 0 where each of them is whole, 1 where a line stops being a
+/// diagnostic or leaves a structure open, 2 where the input can't be read or is not UTF-8, or 3 where memory
+/// is refused or the output can't be written.
 ///
-/// Statuses 2 and 3 are told on `errors` as [`run`] tells them.
+/// With status 1 too all lines are read back, each as far as it goes, and the first that is not whole is
+/// told on `errors`. Statuses 2 and 3 are told there as [`run`] tells them.
 pub fn read_back<A: Allocator + Copy, R: Read, W: Write, E: Write>(
     alloc: A,
     job: &BackJob<'_>,
@@ -180,17 +194,27 @@ pub fn read_back<A: Allocator + Copy, R: Read, W: Write, E: Write>(
     output: &mut W,
     errors: &mut E,
 ) -> u8
-    ensures status { (result ≡ 0) ⊎ ((result ≡ 2) ⊎ (result ≡ 3)) }
-    // With status 0 exactly what the whole input is read back as was appended.
+    ensures status { result ≤ 3 }
+    // With status 0 each line is whole, and exactly what the whole input is read back as was appended.
     ensures printed { result ≡ 0 → PrintedBack (names_of names.now) job.now
         (record {
           input = R.remaining input.old;
           input_left = R.remaining input.new;
           output = W.contents output.old;
           output_now = W.contents output.new;
-        })
+        }) None
         × Keeps (E.contents errors.old) (E.contents errors.new) }
-    // With any other there is a reason that is true of the input or of the output, and it is told.
+    // With status 1 a line is not whole: what the whole input is read back as was appended, and the first such line
+    // is told.
+    ensures malformed { result ≡ 1 → MalformedBack (names_of names.now) job.now
+        (record {
+          input = R.remaining input.old;
+          input_left = R.remaining input.new;
+          output = W.contents output.old;
+          output_now = W.contents output.new;
+        })
+        (E.contents errors.old) (E.contents errors.new) }
+    // With statuses 2 and 3 there is a reason that is true of the input or of the output, and it is told.
     ensures refused { (result ≡ 2) ⊎ (result ≡ 3) → RefusedBack (names_of names.now) job.now
         (record {
           input = R.remaining input.old;
@@ -201,7 +225,11 @@ pub fn read_back<A: Allocator + Copy, R: Read, W: Write, E: Write>(
         result (E.contents errors.old) (E.contents errors.new) }
 {
     match respond_back(alloc, job, names, input, output) {
-        Ok(()) => 0,
+        Ok(None) => 0,
+        Ok(Some(fault)) => {
+            tell_back_fault(errors, job.name, fault);
+            1
+        }
         Err(refusal) => {
             tell_refusal(errors, job.name, refusal);
             refusal.status()

@@ -3,16 +3,7 @@
 use crate::command::program;
 use clap::{ArgMatches, Error};
 use std::alloc::{AllocError, Global};
-use ttlv_run::{Encoding, Task};
-
-/// What is to be done with each input.
-#[derive(Clone, Copy, Debug, PartialEq, Eq)]
-pub enum Asked<'w> {
-    /// To print its messages, which stand in it so.
-    Print { task: Task<'w>, encoding: Encoding },
-    /// To read back its diagnostics, which leave these digits out of tags.
-    ReadBack { prefix: &'w str },
-}
+use ttlv_run::{Asked, Encoding, Task};
 
 /// What the program is to do.
 #[derive(Drop)]

@@ -1,0 +1,330 @@
+//! Runs over several inputs: their order, the greatest status, and a line for each that is at fault.
+
+use crate::runs::{Outcome, VERSION};
+use kmip_ttlv_names::{STANDARD_TAGS, TableError, standard_values, tag_names};
+use std::alloc::{AllocError, Global};
+use std::io;
+use std::io::{ErrorKind, Read};
+use ttlv_run::files::{Opener, run_files};
+use ttlv_run::progress::Progress;
+use ttlv_run::table::own_table;
+use ttlv_run::{Asked, Encoding, Names, Task};
+
+// An input in memory, which may fail in place of its end.
+#[derive(Drop)]
+struct Held {
+    bytes: &'static [u8],
+    fails: bool,
+}
+
+impl Read for Held {
+    fn read(&mut self, buf: &mut [u8]) -> io::Result<usize> {
+        if self.bytes.is_empty() && self.fails {
+            return Err(io::Error::from(ErrorKind::Other));
+        }
+        self.bytes.read(buf)
+    }
+}
+
+// Inputs by name; one that isn't here can't be opened.
+#[derive(Drop)]
+struct Folder;
+
+impl Opener for Folder {
+    type Input = Held;
+
+    fn open(&mut self, name: &str) -> Option<Held> {
+        let (bytes, fails) = match name {
+            "whole" => (VERSION.as_bytes(), false),
+            "two" => (b"420069010000000042006A0100000000".as_slice(), false),
+            "cut" => (b"420069010000000042006901".as_slice(), false),
+            "empty" => (b"".as_slice(), false),
+            "text" => (b"hello".as_slice(), false),
+            "failing" => (b"42".as_slice(), true),
+            _ => return None,
+        };
+        Some(Held { bytes, fails })
+    }
+}
+
+// Files, a status, what is printed of them, and the lines on standard error.
+type Row = (&'static [&'static str], u8, &'static str, &'static str);
+
+// The hexadecimal lines of the version, of the two messages, and of the one before the cut.
+const ROWS: [Row; 10] = [
+    (
+        &["whole"],
+        0,
+        "420069010000002042006A0200000004000000010000000042006B02000000040000000000000000\n",
+        "",
+    ),
+    (
+        &["two", "whole"],
+        0,
+        "4200690100000000\n42006A0100000000\n420069010000002042006A0200000004000000010000000042006B02000000040000000000000000\n",
+        "",
+    ),
+    (&["empty"], 0, "", ""),
+    (
+        &["two", "empty", "two"],
+        0,
+        "4200690100000000\n42006A0100000000\n4200690100000000\n42006A0100000000\n",
+        "",
+    ),
+    // A malformed one between two that are whole.
+    (
+        &["two", "cut", "two"],
+        1,
+        "4200690100000000\n42006A0100000000\n4200690100000000\n42006901\n4200690100000000\n42006A0100000000\n",
+        "cut: byte 8: Protocol Version (0x420069): the input ends within the message\n",
+    ),
+    // One that isn't there, in front and behind.
+    (
+        &["none", "two"],
+        2,
+        "4200690100000000\n42006A0100000000\n",
+        "none: it can't be opened\n",
+    ),
+    (
+        &["two", "none"],
+        2,
+        "4200690100000000\n42006A0100000000\n",
+        "none: it can't be opened\n",
+    ),
+    // One that fails while it is read, and one that stands for no bytes.
+    (
+        &["failing", "text", "two"],
+        2,
+        "4200690100000000\n42006A0100000000\n",
+        "failing: it can't be read\ntext: byte 5: digits are missing at the end, or too many are there\n",
+    ),
+    // The greatest counts, wherever it stands.
+    (
+        &["none", "cut"],
+        2,
+        "4200690100000000\n42006901\n",
+        "none: it can't be opened\ncut: byte 8: Protocol Version (0x420069): the input ends within the message\n",
+    ),
+    (
+        &["cut", "none", "empty"],
+        2,
+        "4200690100000000\n42006901\n",
+        "cut: byte 8: Protocol Version (0x420069): the input ends within the message\nnone: it can't be opened\n",
+    ),
+];
+
+const HEXADECIMAL: Asked<'static> = Asked::Print {
+    task: Task::Hexadecimal,
+    encoding: Encoding::Detected,
+};
+
+fn outcome_of(
+    alloc: Global,
+    asked: Asked<'_>,
+    table: &str,
+    files: &[&str],
+) -> Result<Outcome, TableError> {
+    let tags = tag_names(alloc, table)?;
+    let values = standard_values(alloc)?;
+    let names = Names { tags, values };
+    let mut output = Vec::new(alloc);
+    let mut errors = Vec::new(alloc);
+    let status = run_files(
+        alloc,
+        asked,
+        &names,
+        files,
+        &mut Folder,
+        &mut output,
+        &mut errors,
+    );
+    Ok(Outcome {
+        status,
+        output,
+        errors,
+    })
+}
+
+fn runs_so(alloc: Global, row: Row) -> bool {
+    let (files, status, text, lines) = row;
+    match outcome_of(alloc, HEXADECIMAL, STANDARD_TAGS, files) {
+        Ok(outcome) => outcome.is(status, text, lines),
+        Err(_) => false,
+    }
+}
+
+#[test]
+fn several_files(rt: HostRuntime) {
+    for row in ROWS {
+        assert!(rt; runs_so(rt.alloc(), row), "{row:?}");
+    }
+}
+
+// An output that takes nothing.
+#[derive(Drop)]
+struct Full;
+
+impl io::Write for Full {
+    fn write(&mut self, _buf: &[u8]) -> io::Result<usize> {
+        Err(io::Error::from(ErrorKind::Other))
+    }
+
+    fn flush(&mut self) -> io::Result<()> {
+        Ok(())
+    }
+}
+
+// Behind a file with status 3 no other is read.
+fn stops_at_three(alloc: Global) -> Result<bool, TableError> {
+    let tags = tag_names(alloc, STANDARD_TAGS)?;
+    let values = standard_values(alloc)?;
+    let names = Names { tags, values };
+    let files = ["none", "two", "cut"];
+    let mut errors = Vec::new(alloc);
+    let status = run_files(
+        alloc,
+        HEXADECIMAL,
+        &names,
+        &files,
+        &mut Folder,
+        &mut Full,
+        &mut errors,
+    );
+    let lines = b"none: it can't be opened\ntwo: the output can't be written\n";
+    Ok(status == 3 && errors.as_slice() == lines.as_slice())
+}
+
+#[test]
+fn an_output_that_fails_ends_it(rt: HostRuntime) {
+    assert!(rt; matches!(stops_at_three(rt.alloc()), Ok(true)));
+}
+
+// A table, what reading it answers, and the line.
+const TABLES: [(&[u8], Result<&str, u8>, &str); 4] = [
+    (
+        b"540001 Own Tag\n",
+        Ok("420069 Standard\n540001 Own Tag\n"),
+        "",
+    ),
+    (b"", Ok("420069 Standard\n"), ""),
+    (
+        b"540001 Own Tag\n# a comment\nnothing\n",
+        Err(2),
+        "names: line 3 names no tag\n",
+    ),
+    (&[0x35, 0xFF], Err(2), "names: it is not UTF-8\n"),
+];
+
+fn reads_table(alloc: Global, row: (&[u8], Result<&str, u8>, &str)) -> bool {
+    let (bytes, answer, line) = row;
+    let mut input = bytes;
+    let mut errors = Vec::new(alloc);
+    let read = own_table(alloc, "420069 Standard\n", "names", &mut input, &mut errors);
+    let same = match (&read, answer) {
+        (Ok(table), Ok(text)) => table.as_str() == text,
+        (Err(status), Err(wanted)) => *status == wanted,
+        _ => false,
+    };
+    same && errors.as_slice() == line.as_bytes()
+}
+
+#[test]
+fn tables_of_names(rt: HostRuntime) {
+    for row in TABLES {
+        assert!(rt; reads_table(rt.alloc(), row), "{row:?}");
+    }
+    let mut failing = Held {
+        bytes: b"540001 Own",
+        fails: true,
+    };
+    let mut errors = Vec::new(rt.alloc());
+    let read = own_table(rt.alloc(), "", "names", &mut failing, &mut errors);
+    assert!(rt; matches!(read, Err(2)));
+    assert_eq!(rt; errors.as_slice(), b"names: it can't be read\n".as_slice());
+}
+
+// A table's names go before the standard's.
+fn named(alloc: Global) -> Result<Outcome, TableError> {
+    let mut input = b"420069 Which Version\n".as_slice();
+    let mut errors = Vec::new(alloc);
+    let Ok(all) = own_table(alloc, STANDARD_TAGS, "names", &mut input, &mut errors) else {
+        return Err(TableError::OutOfMemory);
+    };
+    let asked = Asked::Print {
+        task: Task::Show { redacted: false },
+        encoding: Encoding::Hexadecimal,
+    };
+    outcome_of(alloc, asked, all.as_str(), &["whole"])
+}
+
+#[test]
+fn a_users_names(rt: HostRuntime) {
+    let Ok(outcome) = named(rt.alloc()) else {
+        assert!(rt; false);
+        return;
+    };
+    let text =
+        "Tag: Which Version (0x420069), Type: Structure (0x01), Data:\n  Tag: Protocol Version Major (0x42006A), Type: Integer (0x02), Data: 0x000001 (1)\n  Tag: Protocol Version Minor (0x42006B), Type: Integer (0x02), Data: 0x000000 (0)\n";
+    assert!(rt; outcome.is(0, text, ""));
+}
+
+// Gives so many bytes, at most 65,536 a read.
+#[derive(Drop)]
+struct Zeros {
+    left: usize,
+}
+
+impl Read for Zeros {
+    fn read(&mut self, buf: &mut [u8]) -> io::Result<usize> {
+        let most = buf.len().min(self.left).min(65_536);
+        self.left -= most;
+        Ok(most)
+    }
+}
+
+fn told(
+    alloc: Global,
+    bytes: usize,
+    total: Option<u64>,
+    shown: bool,
+) -> Result<Vec<u8>, AllocError> {
+    let mut errors = Vec::new(alloc);
+    let mut all: Vec<u8> = Vec::new(alloc);
+    let mut input = Progress::new(Zeros { left: bytes }, &mut errors, total, shown);
+    let read = input.read_to_end(&mut all);
+    drop(input);
+    match read {
+        Ok(count) if count == bytes => Ok(errors),
+        _ => Err(AllocError),
+    }
+}
+
+fn tells(alloc: Global, row: (usize, Option<u64>, bool, &str)) -> bool {
+    let (bytes, total, shown, text) = row;
+    match told(alloc, bytes, total, shown) {
+        Ok(line) => line.as_slice() == text.as_bytes(),
+        Err(AllocError) => false,
+    }
+}
+
+// How long an input is, whether that is known, whether a terminal is there, and what is told.
+const TOLD: [(usize, Option<u64>, bool, &str); 6] = [
+    (1_048_575, None, true, ""),
+    (1_048_576, None, true, "\r1 MiB read\r\x1b[K"),
+    (2_200_000, None, true, "\r1 MiB read\r2 MiB read\r\x1b[K"),
+    (
+        2_200_000,
+        Some(2_200_000),
+        true,
+        "\r1 of 2 MiB read\r2 of 2 MiB read\r\x1b[K",
+    ),
+    (2_200_000, None, false, ""),
+    (0, Some(0), true, ""),
+];
+
+#[test]
+fn long_inputs(rt: HostRuntime) {
+    for row in TOLD {
+        assert!(rt; tells(rt.alloc(), row), "{row:?}");
+    }
+}

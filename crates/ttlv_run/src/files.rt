@@ -1,0 +1,110 @@
+//! A run over several inputs, one after the other, and which of them is which.
+
+ghost use Rattle.std.specs.Prelude.{◌≡◌, ◌≤◌, length};
+ghost use Rattle.ttlv_run.specs.Files.{IsDone, FileDone, greater, FilesDone};
+ghost use Rattle.ttlv_run.specs.Texts.{names_of};
+
+use crate::job::{Asked, BackJob, Job, Names};
+use crate::refusal::Refusal;
+use crate::run::{read_back, run, tell_refusal};
+use std::alloc::Allocator;
+use std::io::{Read, Write};
+
+/// What opens inputs by their names.
+pub trait Opener {
+    /// An input that was opened.
+    type Input: Read + Drop;
+
+    /// The input of this name; none where it can't be opened.
+    fn open(&mut self, name: &str) -> Option<Self::Input>;
+}
+
+/// Does with an input what is asked, and answers the exit status, of [`run`] or of [`read_back`].
+pub fn run_asked<A: Allocator + Copy, R: Read, W: Write, E: Write>(
+    alloc: A,
+    asked: Asked<'_>,
+    name: &str,
+    names: &Names<'_, A>,
+    input: &mut R,
+    output: &mut W,
+    errors: &mut E,
+) -> u8
+    ensures { IsDone (names_of names.now) asked.entry name.entry
+        (record {
+          input = R.remaining input.old;
+          input_left = R.remaining input.new;
+          output = W.contents output.old;
+          output_now = W.contents output.new;
+        })
+        (E.contents errors.old) (E.contents errors.new) result }
+{
+    match asked {
+        Asked::Print { task, encoding } => {
+            let job = Job {
+                name,
+                task,
+                encoding,
+            };
+            run(alloc, &job, names, input, output, errors)
+        }
+        Asked::ReadBack { prefix } => {
+            let job = BackJob { name, prefix };
+            read_back(alloc, &job, names, input, output, errors)
+        }
+    }
+}
+
+// Does it with a file.
+fn run_file<A: Allocator + Copy, O: Opener, W: Write, E: Write>(
+    alloc: A,
+    asked: Asked<'_>,
+    name: &str,
+    names: &Names<'_, A>,
+    opener: &mut O,
+    output: &mut W,
+    errors: &mut E,
+) -> u8
+    ensures { FileDone (names_of names.now) asked.entry name.entry
+        (W.contents output.old) (W.contents output.new) (E.contents errors.old) (E.contents errors.new) result }
+{
+    match opener.open(name) {
+        Some(mut input) => run_asked(alloc, asked, name, names, &mut input, output, errors),
+        None => {
+            tell_refusal(errors, name, Refusal::UnopenedInput);
+            2
+        }
+    }
+}
+
+// The greater of two statuses.
+fn greater(a: u8, b: u8) -> u8
+    ensures { result ≡ greater a b }
+{
+    if a < b { b } else { a }
+}
+
+/// Does with each file what is asked, one after the other, and answers the greatest of their exit statuses:
+/// those of [`run`] and [`read_back`], and 2 for a file that can't be opened. Behind a file with status 3,
+/// want of memory or an output that fails, no other is read.
+pub fn run_files<A: Allocator + Copy, O: Opener, W: Write, E: Write>(
+    alloc: A,
+    asked: Asked<'_>,
+    names: &Names<'_, A>,
+    files: &[&str],
+    opener: &mut O,
+    output: &mut W,
+    errors: &mut E,
+) -> u8
+    ensures { FilesDone (names_of names.now) asked.entry files.now
+        (W.contents output.old) (W.contents output.new) (E.contents errors.old) (E.contents errors.new) result }
+{
+    let mut status = 0;
+    'files: for name in files {
+        let next = run_file(alloc, asked, name, names, opener, output, errors);
+        status = greater(status, next);
+        if status == 3 {
+            return status;
+        }
+    }
+    status
+}

@@ -1,0 +1,76 @@
+//! The table of the names of tags: the standard's, and behind it that of a user's file.
+
+ghost use Rattle.std.specs.Prelude.{◌≡◌, ◌⊎◌, ◌++◌, IfOk, IfErr, string_bytes};
+ghost use Rattle.ttlv_run.specs.Tables.{IsJoined};
+
+use crate::coding::read_all;
+use crate::refusal::Refusal;
+use crate::run::tell_refusal;
+use itoa::Buffer;
+use kmip_ttlv_names::{TableError, tag_names};
+use kmip_ttlv_types::stream::Sink;
+use std::alloc::{AllocError, Allocator};
+use std::io::{Read, Write};
+use std::str;
+
+// A table, and behind it another.
+fn joined<A: Allocator>(alloc: A, front: &str, table: &str) -> Result<String<A>, AllocError>
+    ensures { IfOk result (λ all. string_bytes all ≡ front.now ++ table.now) }
+{
+    let mut all = String::from_str(alloc, front)?;
+    all.push_str(table)?;
+    Ok(all)
+}
+
+// Tells that a line of a table names no tag.
+fn tell_line<E: Write>(errors: &mut E, name: &str, line: usize) {
+    let _ = errors.send(name.as_bytes());
+    let _ = errors.send(b": line ");
+    let _ = errors.send(Buffer::new().format(line).as_bytes());
+    let _ = errors.send(b" names no tag\n");
+}
+
+// Tells why a table is none, and answers the exit status.
+fn refuse<E: Write>(errors: &mut E, name: &str, refusal: Refusal) -> u8
+    ensures { (result ≡ 2) ⊎ (result ≡ 3) }
+{
+    tell_refusal(errors, name, refusal);
+    refusal.status()
+}
+
+/// The standard's table and behind it that which `input` has to its end. It is called `name` in the line on
+/// `errors` that says why there is none.
+///
+/// The error is the exit status: 2 where the input can't be read, is not UTF-8 or has a line that names no
+/// tag, and 3 where memory is refused.
+pub fn own_table<A: Allocator + Copy, R: Read, E: Write>(
+    alloc: A,
+    standard: &str,
+    name: &str,
+    input: &mut R,
+    errors: &mut E,
+) -> Result<String<A>, u8>
+    ensures ok { IfOk result (λ all. IsJoined standard.now (R.remaining input.old) (R.remaining input.new)
+        (string_bytes all)) }
+    ensures err { IfErr result (λ status. (status ≡ 2) ⊎ (status ≡ 3)) }
+{
+    let bytes = match read_all(alloc, input) {
+        Ok(bytes) => bytes,
+        Err(refusal) => return Err(refuse(errors, name, refusal)),
+    };
+    let Ok(table) = str::from_utf8(bytes.as_slice()) else {
+        return Err(refuse(errors, name, Refusal::NotUtf8));
+    };
+    match tag_names(alloc, table) {
+        Ok(_) => {}
+        Err(TableError::BadLine(line)) => {
+            tell_line(errors, name, line);
+            return Err(2);
+        }
+        Err(TableError::OutOfMemory) => return Err(refuse(errors, name, Refusal::RefusedMemory)),
+    }
+    match joined(alloc, standard, table) {
+        Ok(all) => Ok(all),
+        Err(_) => Err(refuse(errors, name, Refusal::RefusedMemory)),
+    }
+}
