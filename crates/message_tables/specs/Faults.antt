@@ -1,0 +1,29 @@
+-- What is wrong with rows of a table, and the lines that say so.
+use Rattle.std.specs.Prelude.{ℕ, List, [], ◌∷◌, ◌++◌, codes}
+use Rattle.std.specs.Fmt.{decimal}
+use Rattle.message_tables.specs.declared.fault.Fault.{Fault}
+use Rattle.message_tables.specs.declared.fault.FaultKind.{FaultKind}
+use Rattle.message_tables.specs.declared.fault.FaultKind.TheVariants as kinds
+
+-- what is wrong, in words
+abbrev pub words_of : FaultKind → List ℕ
+words_of kinds.UnknownRow =
+    codes "a row begins with crate, module, structure, message, leaf, enumeration, by_hand, or a space for a part"
+words_of kinds.MissingColumn = codes "a word is missing"
+words_of kinds.BadName = codes "a name of small letters, digits and _, no word of Rust's, is wanted"
+words_of kinds.BadTypeName = codes "a name that begins with a capital, of letters and digits, is wanted"
+words_of kinds.BadDigits = codes "a tag has six hexadecimal digits, a number eight, letters as capitals"
+words_of kinds.NameTwice = codes "this name stands for something else already"
+words_of kinds.UnknownKind = codes "this is no kind of leaf, and no type of a row before"
+words_of kinds.BadCount = codes "this part can't come so often: a row leaf gives it a type of its own, which can"
+words_of kinds.NothingBefore = codes "the row that this one belongs to is missing before it"
+words_of kinds.NoPart = codes "this type has no part"
+
+-- the line of a fault
+abbrev pub line_told : Fault → List ℕ
+line_told f = codes "line " ++ decimal f.line ++ codes ": " ++ words_of f.kind ++ codes "\n"
+
+-- the lines of faults
+abbrev pub lines_told : List Fault → List ℕ
+lines_told [] = []
+lines_told (f ∷ fs) = line_told f ++ lines_told fs

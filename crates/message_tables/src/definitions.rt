@@ -1,0 +1,565 @@
+//! The files of `specs/` with the form and the value of each type.
+
+use crate::code::{Side, definitions_of, lives_in, module_uses, snake, value_name, value_of};
+use crate::fill::{Holes, Imports, filled, joined, put, put_imports};
+use crate::kinds::Leaf;
+use crate::table::{Count, Link, MessageType, Module, Part, PartKind, Table, TypeKind, Values};
+use std::alloc::{AllocError, Global};
+
+const PRELUDE: &str = "Rattle.std.specs.Prelude";
+
+const VALUES: &str = "Rattle.kmip_ttlv.specs.Values";
+
+const FORMS: &str = "Rattle.kmip_ttlv.specs.Forms";
+
+const PARTS: &str = "Rattle.kmip_ttlv.specs.MessageParts";
+
+// Adds names of one module.
+fn import(
+    imports: &mut Imports,
+    module: &'static str,
+    names: &[&'static str],
+) -> Result<(), AllocError> {
+    for name in names {
+        imports.push((module, *name))?;
+    }
+    Ok(())
+}
+
+// Adds what a leaf's form and value name.
+fn import_leaf(imports: &mut Imports, leaf: Leaf) -> Result<(), AllocError> {
+    import(imports, FORMS, &["newtype", leaf.form])?;
+    import(imports, VALUES, &["newtype_value"])?;
+    if !leaf.value.is_empty() {
+        import(imports, VALUES, &[leaf.value])?;
+    }
+    if leaf.held.starts_with('(') {
+        import(imports, PRELUDE, &["string_bytes"])?;
+    }
+    Ok(())
+}
+
+// Adds what a part's form and value name.
+fn import_part(imports: &mut Imports, part: &Part<'_>) -> Result<(), AllocError> {
+    match part.kind {
+        PartKind::Leaf(leaf) => import_leaf(imports, leaf)?,
+        PartKind::Constant(_) | PartKind::Variant(_) => {
+            import(imports, FORMS, &["enum", "no_variants", "unit", "variant"])?;
+            import(imports, VALUES, &["unit_variant_value"])?;
+        }
+        PartKind::Type(_) => {}
+    }
+    match part.count {
+        Count::One => Ok(()),
+        Count::Several => {
+            import(imports, FORMS, &["seq"])?;
+            import(imports, PARTS, &["sequence"])
+        }
+        Count::Optional => {
+            import(imports, FORMS, &["option"])?;
+            import(imports, PRELUDE, &["option_map"])?;
+            import(imports, PARTS, &["optional"])?;
+            import(imports, "Rattle.kmip_ttlv.specs.Visits", &["joined"])
+        }
+    }
+}
+
+// Whether a part's value is a date's.
+fn is_dated(part: &Part<'_>) -> bool {
+    match part.kind {
+        PartKind::Leaf(leaf) => leaf.value.is_empty(),
+        PartKind::Type(link) => link.values == Values::Dated,
+        _ => false,
+    }
+}
+
+// Adds what a type's definitions name.
+fn import_type(imports: &mut Imports, owner: &MessageType<'_>) -> Result<(), AllocError> {
+    import(imports, PRELUDE, &["codes"])?;
+    import(imports, FORMS, &["Form"])?;
+    import(imports, VALUES, &["Value"])?;
+    if owner.kind == TypeKind::Structure || owner.kind == TypeKind::Message {
+        import(imports, PRELUDE, &["false"])?;
+        import(imports, FORMS, &["field", "no_fields", "struct"])?;
+        import(imports, VALUES, &["no_values", "struct_value", "value"])?;
+    }
+    if owner.link.values == Values::Dated {
+        import(imports, PRELUDE, &["ℤ"])?;
+    }
+    for part in &owner.parts {
+        import_part(imports, part)?;
+        if owner.link.values == Values::Two && is_dated(part) {
+            import(imports, PARTS, &["read_date", "written_date"])?;
+        }
+    }
+    Ok(())
+}
+
+// The module of a type's declaration.
+fn put_path(out: &mut String, crate_name: &str, link: &Link<'_>) -> Result<(), AllocError> {
+    put(out, &["use Rattle.", crate_name, ".specs.declared."])?;
+    put(out, &[link.module.name, ".", link.name])
+}
+
+// The lines that import the types of a module.
+fn put_declared(
+    alloc: Global,
+    out: &mut String,
+    table: &Table<'_>,
+    module: &Module<'_>,
+) -> Result<(), AllocError> {
+    for owner in &table.types {
+        if lives_in(owner, module) {
+            put_path(out, table.crate_name, &owner.link)?;
+            put(out, &[".{", owner.link.name, "}\n"])?;
+            if owner.kind == TypeKind::Enumeration {
+                let snake = snake(alloc, owner.link.name)?;
+                put_path(out, table.crate_name, &owner.link)?;
+                put(out, &[".TheVariants as ", snake.as_str(), "\n"])?;
+            }
+        }
+    }
+    Ok(())
+}
+
+// The lines that import the definitions of other modules.
+fn put_others(
+    alloc: Global,
+    out: &mut String,
+    table: &Table<'_>,
+    module: &Module<'_>,
+) -> Result<(), AllocError> {
+    for owner in &table.types {
+        if !lives_in(owner, module) && module_uses(table, module, owner.link.name) {
+            let names = definitions_of(alloc, owner)?;
+            let of = owner.link.module.definitions;
+            put(
+                out,
+                &[
+                    "use Rattle.",
+                    table.crate_name,
+                    ".specs.",
+                    of,
+                    ".{",
+                    names.as_str(),
+                    "}\n",
+                ],
+            )?;
+        }
+    }
+    Ok(())
+}
+
+// A name in definitions.
+fn codes(alloc: Global, front: &str, digits: &str) -> Result<String, AllocError> {
+    joined(alloc, &["(codes \"", front, "0x", digits, "\")"])
+}
+
+// The form of a part.
+fn form_of(alloc: Global, part: &Part<'_>) -> Result<String, AllocError> {
+    let single = match part.kind {
+        PartKind::Leaf(leaf) => {
+            let name = codes(alloc, "Transparent:", part.tag)?;
+            joined(alloc, &["(newtype ", name.as_str(), " ", leaf.form, ")"])?
+        }
+        PartKind::Constant(number) => {
+            let name = codes(alloc, "", part.tag)?;
+            let only = codes(alloc, "", number)?;
+            joined(
+                alloc,
+                &[
+                    "(enum ",
+                    name.as_str(),
+                    " (variant ",
+                    only.as_str(),
+                    " unit no_variants))",
+                ],
+            )?
+        }
+        PartKind::Type(link) => {
+            let snake = snake(alloc, link.name)?;
+            joined(alloc, &[snake.as_str(), "_form"])?
+        }
+        PartKind::Variant(_) => String::new(alloc),
+    };
+    match part.count {
+        Count::One => Ok(single),
+        Count::Optional => joined(alloc, &["(option ", single.as_str(), ")"]),
+        Count::Several => joined(alloc, &["(seq ", single.as_str(), ")"]),
+    }
+}
+
+// What stands behind a part: the opening of the next, or the end of so many.
+fn put_rest(out: &mut String, place: usize, count: usize, end: &str) -> Result<(), AllocError> {
+    if place.saturating_add(1) < count {
+        return put(out, &[" (\n"]);
+    }
+    put(out, &[" ", end])?;
+    for _ in 0..count {
+        put(out, &[")"])?;
+    }
+    Ok(())
+}
+
+// The form of a structure.
+fn put_form(alloc: Global, out: &mut String, owner: &MessageType<'_>) -> Result<(), AllocError> {
+    let tag = codes(alloc, "", owner.link.tag)?;
+    put(out, &["    struct ", tag.as_str(), " (\n"])?;
+    let count = owner.parts.len();
+    for (place, part) in owner.parts.as_slice().iter().enumerate() {
+        let tag = codes(alloc, "", part.tag)?;
+        let form = form_of(alloc, part)?;
+        put(out, &["    field ", tag.as_str(), " ", form.as_str()])?;
+        put_rest(out, place, count, "no_fields")?;
+    }
+    put(out, &[" false\n"])
+}
+
+// The value of a leaf that stands at a place in Rust.
+fn leaf_value(
+    alloc: Global,
+    leaf: Leaf,
+    tag: &str,
+    at: &str,
+    side: Side,
+) -> Result<String, AllocError> {
+    let name = codes(alloc, "Transparent:", tag)?;
+    let mut holes: Holes = Vec::new(alloc);
+    holes.push(("at", String::from_str(alloc, at)?))?;
+    let held = filled(alloc, leaf.held, holes.as_slice())?;
+    let value = match (leaf.value, side) {
+        ("", Side::Written) => "written_date",
+        ("", Side::Read) => "read_date",
+        ("", Side::Given) => "date",
+        (value, _) => value,
+    };
+    joined(
+        alloc,
+        &[
+            "newtype_value ",
+            name.as_str(),
+            " (",
+            value,
+            " ",
+            held.as_str(),
+            ")",
+        ],
+    )
+}
+
+// The function that gives the value of a part of another type; in brackets where it is applied.
+fn type_value(alloc: Global, name: &str, values: Values, side: Side) -> Result<String, AllocError> {
+    let function = value_of(alloc, name, values, side)?;
+    if values == Values::Dated {
+        return joined(alloc, &["(", function.as_str(), ")"]);
+    }
+    Ok(function)
+}
+
+// The function that gives the value of a part that may be absent, or comes several times, and what stands before it.
+fn each_value(alloc: Global, part: &Part<'_>, side: Side) -> Result<String, AllocError> {
+    match part.kind {
+        PartKind::Leaf(leaf) => {
+            let value = leaf_value(alloc, leaf, part.tag, "y", side)?;
+            joined(alloc, &["\n    (λ y. ", value.as_str(), ")"])
+        }
+        PartKind::Type(link) => {
+            let function = type_value(alloc, link.name, link.values, side)?;
+            joined(alloc, &[" ", function.as_str()])
+        }
+        _ => Ok(String::new(alloc)),
+    }
+}
+
+// The value of a part that comes once.
+fn once_value(alloc: Global, part: &Part<'_>, at: &str, side: Side) -> Result<String, AllocError> {
+    match part.kind {
+        PartKind::Leaf(leaf) => leaf_value(alloc, leaf, part.tag, at, side),
+        PartKind::Type(link) => {
+            let function = value_of(alloc, link.name, link.values, side)?;
+            joined(alloc, &[function.as_str(), " ", at])
+        }
+        PartKind::Constant(number) => {
+            let name = codes(alloc, "", part.tag)?;
+            let only = codes(alloc, "", number)?;
+            joined(
+                alloc,
+                &["unit_variant_value ", name.as_str(), " ", only.as_str()],
+            )
+        }
+        PartKind::Variant(_) => Ok(String::new(alloc)),
+    }
+}
+
+// The value of a part, in front of those behind it.
+fn put_value(
+    alloc: Global,
+    out: &mut String,
+    part: &Part<'_>,
+    side: Side,
+) -> Result<(), AllocError> {
+    let at = joined(alloc, &["x.", part.name])?;
+    let at = at.as_str();
+    if part.count == Count::One {
+        let value = once_value(alloc, part, at, side)?;
+        return put(out, &["    value (", value.as_str(), ")"]);
+    }
+    let each = each_value(alloc, part, side)?;
+    let each = each.as_str();
+    match (part.count, side) {
+        (Count::Several, _) => put(out, &["    value (sequence", each, " ", at, ".items)"]),
+        (_, Side::Read) => put(out, &["    value (optional", each, " ", at, ")"]),
+        _ => put(
+            out,
+            &["    joined (told.optional (option_map", each, " ", at, "))"],
+        ),
+    }
+}
+
+// The value of a structure, by a definition of this name.
+fn put_values(
+    alloc: Global,
+    out: &mut String,
+    owner: &MessageType<'_>,
+    side: Side,
+) -> Result<(), AllocError> {
+    let tag = codes(alloc, "", owner.link.tag)?;
+    put(out, &["    struct_value ", tag.as_str(), " (\n"])?;
+    let count = owner.parts.len();
+    for (place, part) in owner.parts.as_slice().iter().enumerate() {
+        put_value(alloc, out, part, side)?;
+        put_rest(out, place, count, "no_values")?;
+    }
+    put(out, &["\n"])
+}
+
+// What stands before a value: its comment, its type and its name.
+fn put_value_head(
+    alloc: Global,
+    out: &mut String,
+    owner: &MessageType<'_>,
+    side: Side,
+    word: &str,
+) -> Result<(), AllocError> {
+    let name = value_name(alloc, owner.link.name, owner.link.values, side)?;
+    let dated = owner.link.values == Values::Dated;
+    let comment = match side {
+        Side::Written => "\n-- what is written of a `",
+        Side::Read => "\n-- what is read of a `",
+        Side::Given => "\n-- the value of a `",
+    };
+    put(out, &[comment, owner.link.name, "`"])?;
+    put(
+        out,
+        &[if dated {
+            "; a date is written and read as this says\n"
+        } else {
+            "\n"
+        }],
+    )?;
+    put(out, &[word, " pub ", name.as_str(), " : "])?;
+    put(
+        out,
+        &[if owner.link.owns {
+            "{A : Type 0} → "
+        } else {
+            ""
+        }],
+    )?;
+    put(
+        out,
+        &[if dated { "(ℤ → Value) → " } else { "" }, owner.link.name],
+    )?;
+    put(
+        out,
+        &[if owner.link.owns {
+            " A → Value\n"
+        } else {
+            " → Value\n"
+        }],
+    )?;
+    if owner.kind != TypeKind::Enumeration {
+        put(
+            out,
+            &[name.as_str(), if dated { " date x =" } else { " x =" }],
+        )?;
+    }
+    Ok(())
+}
+
+// What stands before a form.
+fn put_form_head(
+    alloc: Global,
+    out: &mut String,
+    owner: &MessageType<'_>,
+) -> Result<(), AllocError> {
+    let snake = snake(alloc, owner.link.name)?;
+    put(out, &["\n-- the form of a `", owner.link.name, "`\n"])?;
+    put(out, &["abbrev pub ", snake.as_str(), "_form : Form\n"])?;
+    put(out, &[snake.as_str(), "_form ="])
+}
+
+// The definitions of a structure.
+fn put_structure(
+    alloc: Global,
+    out: &mut String,
+    owner: &MessageType<'_>,
+) -> Result<(), AllocError> {
+    put_form_head(alloc, out, owner)?;
+    put(out, &["\n"])?;
+    put_form(alloc, out, owner)?;
+    if owner.link.values == Values::Two {
+        put_value_head(alloc, out, owner, Side::Written, "unfoldable")?;
+        put(out, &["\n"])?;
+        put_values(alloc, out, owner, Side::Written)?;
+        put_value_head(alloc, out, owner, Side::Read, "unfoldable")?;
+        put(out, &["\n"])?;
+        return put_values(alloc, out, owner, Side::Read);
+    }
+    put_value_head(alloc, out, owner, Side::Given, "unfoldable")?;
+    put(out, &["\n"])?;
+    put_values(alloc, out, owner, Side::Given)
+}
+
+// The definitions of a leaf.
+fn put_leaf(
+    alloc: Global,
+    out: &mut String,
+    owner: &MessageType<'_>,
+    part: &Part<'_>,
+) -> Result<(), AllocError> {
+    let at = joined(alloc, &["x.", part.name])?;
+    let form = form_of(alloc, part)?;
+    let value = once_value(alloc, part, at.as_str(), Side::Given)?;
+    put_form_head(alloc, out, owner)?;
+    put(out, &[" ", form.as_str(), "\n"])?;
+    put_value_head(alloc, out, owner, Side::Given, "abbrev")?;
+    put(out, &[" ", value.as_str(), "\n"])
+}
+
+// The form of an Enumeration.
+fn put_variants(
+    alloc: Global,
+    out: &mut String,
+    owner: &MessageType<'_>,
+) -> Result<(), AllocError> {
+    let tag = codes(alloc, "", owner.link.tag)?;
+    put(out, &["    enum ", tag.as_str(), " (\n"])?;
+    let count = owner.parts.len();
+    for (place, part) in owner.parts.as_slice().iter().enumerate() {
+        if let PartKind::Variant(number) = part.kind {
+            let number = codes(alloc, "", number)?;
+            put(out, &["    variant ", number.as_str(), " unit"])?;
+            put_rest(out, place, count, "no_variants")?;
+        }
+    }
+    put(out, &["\n"])
+}
+
+// The definitions of an Enumeration.
+fn put_enumeration(
+    alloc: Global,
+    out: &mut String,
+    owner: &MessageType<'_>,
+) -> Result<(), AllocError> {
+    put_form_head(alloc, out, owner)?;
+    put(out, &["\n"])?;
+    put_variants(alloc, out, owner)?;
+    put_value_head(alloc, out, owner, Side::Given, "unfoldable")?;
+    let tag = codes(alloc, "", owner.link.tag)?;
+    let snake = snake(alloc, owner.link.name)?;
+    for part in &owner.parts {
+        if let PartKind::Variant(number) = part.kind {
+            let number = codes(alloc, "", number)?;
+            put(
+                out,
+                &[
+                    snake.as_str(),
+                    "_value ",
+                    snake.as_str(),
+                    ".",
+                    part.name,
+                    " = ",
+                ],
+            )?;
+            put(
+                out,
+                &[
+                    "unit_variant_value ",
+                    tag.as_str(),
+                    " ",
+                    number.as_str(),
+                    "\n",
+                ],
+            )?;
+        }
+    }
+    Ok(())
+}
+
+// The definitions of a type.
+fn put_type(alloc: Global, out: &mut String, owner: &MessageType<'_>) -> Result<(), AllocError> {
+    match owner.kind {
+        TypeKind::Structure | TypeKind::Message => put_structure(alloc, out, owner),
+        TypeKind::Enumeration => put_enumeration(alloc, out, owner),
+        TypeKind::Leaf => match owner.parts.as_slice().first() {
+            Some(part) => put_leaf(alloc, out, owner, part),
+            None => Ok(()),
+        },
+        TypeKind::ByHand => Ok(()),
+    }
+}
+
+// Whether any type of a module has a part that may be absent.
+fn has_optional(table: &Table<'_>, module: &Module<'_>) -> bool {
+    table.types.as_slice().iter().any(|owner| {
+        lives_in(owner, module)
+            && owner
+                .parts
+                .as_slice()
+                .iter()
+                .any(|part| part.count == Count::Optional)
+    })
+}
+
+/// The file `specs/DEFINITIONS.antt`.
+pub fn definitions_text(
+    alloc: Global,
+    table: &Table<'_>,
+    module: &Module<'_>,
+) -> Result<String, AllocError> {
+    let mut out = String::new(alloc);
+    put(
+        &mut out,
+        &["-- Forms and values of the types in `", module.name, "`.\n"],
+    )?;
+    let mut imports: Imports = Vec::new(alloc);
+    for owner in &table.types {
+        if lives_in(owner, module) {
+            import_type(&mut imports, owner)?;
+        }
+    }
+    put_imports(&mut out, &mut imports)?;
+    if has_optional(table, module) {
+        put(&mut out, &["use Rattle.kmip_ttlv.specs.Visits as told\n"])?;
+    }
+    put_declared(alloc, &mut out, table, module)?;
+    put_others(alloc, &mut out, table, module)?;
+    put_definitions(alloc, &mut out, table, module)?;
+    Ok(out)
+}
+
+// The definitions of a module's types.
+fn put_definitions(
+    alloc: Global,
+    out: &mut String,
+    table: &Table<'_>,
+    module: &Module<'_>,
+) -> Result<(), AllocError> {
+    for owner in &table.types {
+        if lives_in(owner, module) {
+            put_type(alloc, out, owner)?;
+        }
+    }
+    Ok(())
+}

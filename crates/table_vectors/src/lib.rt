@@ -1,0 +1,7 @@
+//! Tests of tables of message types: which row is told for what, and what a run writes.
+#![tactic(auto)]
+
+#[cfg(test)]
+mod faults;
+#[cfg(test)]
+mod files;
