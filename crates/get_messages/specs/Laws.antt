@@ -1,4 +1,4 @@
--- Messages that were written are read back equal.
+-- What the bytes of messages are read back as.
 use Rattle.std.specs.Prelude.{◌≡◌, ◌↔◌, List, ℕ}
 use Rattle.kmip_ttlv.specs.Values.{Value}
 use Rattle.kmip_ttlv.specs.WriteAnswers.{IsWrittenAs}
