@@ -20,7 +20,7 @@ pub fn tag_at(bytes: &[u8], pos: usize) -> TtlvTag
     requires { pos + 3 ≤ length bytes.now }
     ensures { result ≡ tag_at bytes.now pos }
 {
-    TtlvTag::from([bytes[pos], bytes[pos + 1], bytes[pos + 2]])
+    TtlvTag::of_bytes(bytes[pos], bytes[pos + 1], bytes[pos + 2])
 }
 
 /// The type whose code stands at a place, in its fourth byte, if it is that of one.

@@ -1,8 +1,8 @@
 //! The tag of an item.
 
 ghost use Rattle.std.specs.Prelude.{◌≡◌, true, ℕ, ◌≤◌, ◌^◌, ◌++◌, IfNone, IfSome, IfOk, IfErr, Some, None};
-ghost use Rattle.std.specs.Prelude.{string_bytes};
-ghost use Rattle.std.specs.Int.{bytes_high_first};
+ghost use Rattle.std.specs.Prelude.{string_bytes, [], ◌∷◌};
+ghost use Rattle.std.specs.Int.{bytes_high_first, from_be_bytes, w32};
 ghost use Rattle.std.specs.Str.{IsAscii};
 ghost use Rattle.std.specs.Fmt.{WritesOnOk, digits};
 ghost use Rattle.kmip_ttlv_types.specs.Names.{tag_of, IsNamed};
@@ -46,6 +46,14 @@ impl TtlvTag {
         } else {
             None
         }
+    }
+
+    // The tag of three bytes, the highest first: as `From`, without an array of them.
+    #[inline(always)]
+    pub(crate) fn of_bytes(a: u8, b: u8, c: u8) -> TtlvTag
+        ensures { result ≡ from_be_bytes w32 (0 ∷ a ∷ b ∷ c ∷ []) }
+    {
+        TtlvTag(u32::from_be_bytes([0, a, b, c]))
     }
 
     /// The tag that a name is, where it is one. Takes no memory.
