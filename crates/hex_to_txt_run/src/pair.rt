@@ -62,8 +62,8 @@ impl<A: Allocator> Deserialize<A> for Pair {
         })
     }
 
-    fn from_data(_alloc: A, value: &Data<A>) -> Result<Pair, AllocError> {
-        let Data::Struct { name: _, fields } = value else {
+    fn from_data(_alloc: A, value: &mut Data<A>) -> Result<Pair, AllocError> {
+        let Data::Struct { name: _, fields } = &*value else {
             unreachable!()
         };
         Ok(Pair {

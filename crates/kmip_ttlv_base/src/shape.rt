@@ -190,8 +190,9 @@ pub trait Deserialize<A: Allocator>: Sized + Drop {
     fn shape(alloc: A) -> Result<Shape<A>, AllocError>
         ensures { IfOk result (λ s. form_of s ≡ form) };
 
-    /// The value for data that the shape gives.
-    fn from_data(alloc: A, value: &Data<A>) -> Result<Self, AllocError>
-        requires { Gives form (view value.now) }
-        ensures { IfOk result (λ v. is_value (view value.now) v) };
+    /// The value for data that the shape gives. Texts and bytes may be moved out of the data: nothing is said of
+    /// what is left in it. An AllocError where memory is refused.
+    fn from_data(alloc: A, value: &mut Data<A>) -> Result<Self, AllocError>
+        requires { Gives form (view value.old) }
+        ensures { IfOk result (λ v. is_value (view value.old) v) };
 }

@@ -78,8 +78,8 @@ pub fn from_slice<T: Deserialize<A>, A: Allocator + Copy>(alloc: A, bytes: &[u8]
     ensures whole { IfErr result (λ e. BeginsWhole bytes.now → sort_of e ≡ early_end → ⊥) }
 {
     let shape = T::shape(alloc)?;
-    let data = read_root(alloc, &shape, bytes)?;
-    Ok(T::from_data(alloc, &data)?)
+    let mut data = read_root(alloc, &shape, bytes)?;
+    Ok(T::from_data(alloc, &mut data)?)
 }
 
 /// What is read, from items or from bytes, is of the form's kind and names.

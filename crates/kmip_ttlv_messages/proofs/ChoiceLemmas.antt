@@ -1,10 +1,10 @@
 -- Which unit or variant of an enum a value is.
-use Rattle.std.proofs.Common.{◌≡◌, ◌⊎◌, inl, inr, ℕ, zero, suc, List, [], ◌∷◌, refl, ap, sym, ◌∙◌, false, true, Bor, ◌<◌, ◌≤◌, length, drop, slice_index_or, get_or, arith}
+use Rattle.std.proofs.Common.{◌≡◌, inl, inr, ℕ, zero, suc, List, [], ◌∷◌, ap, sym, ◌∙◌, false, true, Bor, ◌<◌, ◌≤◌, length, drop, slice_index_or, get_or, arith}
 use Rattle.std.specs.Str.{bytes_eq}
 use Rattle.std.proofs.lemmas.Slice.Eq.{bytes_eq-Decides}
 use Rattle.kmip_ttlv_base.specs.Values.{Value, unit_variant_value, newtype_variant_value}
 use Rattle.kmip_ttlv_base.specs.Forms.{Form, enum, Variants, no_variants, variant, unit, wrapped, tuple}
-use Rattle.kmip_ttlv_base.specs.Gives.{Gives, VariantsGive, UnitGives}
+use Rattle.kmip_ttlv_base.specs.Gives.{Gives, VariantsGive}
 use Rattle.kmip_ttlv_messages.specs.MessageChoices.{EachUnit, AreUnits, HasRow, IsFirst, IsAmong, IsPlace, IsNew, IsUnit, IsHolder, EachName, AreNames, HoldsAt, Holds}
 
 -- a table has the name of each unit

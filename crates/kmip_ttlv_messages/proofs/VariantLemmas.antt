@@ -1,14 +1,17 @@
 -- Which variant of a choice a value is, and the parts of one that contains several forms.
-use Rattle.std.proofs.Common.{◌≡◌, ◌⊎◌, inl, inr, ℕ, zero, suc, ◌<◌, List, [], ◌∷◌, refl, ap, sym, ◌∙◌, length, slice_index_or, arith, false, true, Bor}
-use Rattle.std.specs.Str.{bytes_eq}
-use Rattle.kmip_ttlv_base.specs.declared.shape.Data.{Data}
-use Rattle.kmip_ttlv_base.specs.Values.{Value, view, views, unit_variant_value, newtype_variant_value, tuple_variant_value, Values, no_values, value}
-use Rattle.kmip_ttlv_base.specs.Forms.{Form, enum, Variants, no_variants, variant, Content, unit, wrapped, tuple, Forms, no_forms, form}
+use Rattle.std.proofs.Common.{◌≡◌, inl, inr, ℕ, zero, suc, List, [], ◌∷◌, refl, ap, sym, ◌∙◌, subst}
+use Rattle.std.proofs.Common.{add-one, ◌+◌, Bor}
+use Rattle.kmip_ttlv_base.specs.Values.{Value, unit_variant_value, newtype_variant_value, tuple_variant_value}
+use Rattle.kmip_ttlv_base.specs.Values.{Values, no_values, value}
+use Rattle.kmip_ttlv_base.specs.Forms.{Form, enum, Variants, no_variants, variant, Content, unit, wrapped, tuple}
+use Rattle.kmip_ttlv_base.specs.Forms.{Forms, no_forms, form}
 use Rattle.kmip_ttlv_base.specs.Gives.{Gives, VariantsGive, ContentGives, FormsGive}
-use Rattle.kmip_ttlv_messages.specs.MessageParts.{nth}
-use Rattle.kmip_ttlv_messages.specs.MessageChoices.{IsAmong, IsPlace, IsNew, IsAnyVariant, variant_name, tuple_parts, EachVariant, AreVariants, Holds, HoldsAt, IsHolder, IsTuple, content_in, content_at, IsThe, IsVariantAt, IsOfOne, HasFormIn, nth_of, HasFormAt, form_in, spread, WholeContent, WholeIn, IsWholeVariant}
+use Rattle.kmip_ttlv_messages.specs.MessageParts.{HasNext}
+use Rattle.kmip_ttlv_messages.specs.MessageChoices.{IsAmong, IsPlace, IsNew, IsAnyVariant, variant_name, EachVariant}
+use Rattle.kmip_ttlv_messages.specs.MessageChoices.{AreVariants, Holds, HoldsAt, IsHolder, IsTuple, content_in}
+use Rattle.kmip_ttlv_messages.specs.MessageChoices.{content_at, IsThe, IsVariantAt, IsOfOne, IsOfSeveral, forms_in}
+use Rattle.kmip_ttlv_messages.specs.MessageChoices.{behind, forms_from, HasOne, first_of, IsEndOf, HoldsEachAt, HoldsEach}
 use Rattle.kmip_ttlv_messages.proofs.ChoiceLemmas.{same_bytes}
-use Rattle.kmip_ttlv_messages.proofs.PartLemmas.{nth_views}
 
 -- what content gives is a variant of its name
 content_named : (own name : List ℕ) (c : Content) (v : Value) → ContentGives own name c v → IsAnyVariant v × (variant_name v ≡ name)
@@ -90,80 +93,70 @@ pub holds_one : (s : Form) (k : ℕ) (n vn : List ℕ) (w : Value) → IsVariant
 holds_one (enum own vs) k n vn w h o = holds_in own vs k n vn w h o
 holds_one _ k n vn w h o = absurd h
 
-tuple_in : (own : List ℕ) (vs : Variants) (k i : ℕ) (v : Value) → IsThe own vs k v → HasFormAt (content_in vs k) i → IsTuple v
-tuple_in own no_variants k i v h o = absurd h
-tuple_in own (variant name (tuple ss) vs) zero i (tuple_variant_value n vn ws) h o = tt
-tuple_in own (variant name (tuple ss) vs) zero i _ h o = absurd h
-tuple_in own (variant name unit vs) zero i v h o = absurd o
-tuple_in own (variant name (wrapped s) vs) zero i v h o = absurd o
-tuple_in own (variant name c vs) (suc k) i v h o = tuple_in own vs k i v h o
+several_in : (own : List ℕ) (vs : Variants) (k : ℕ) (v : Value) → IsThe own vs k v → IsOfSeveral (content_in vs k)
+    → IsTuple v
+several_in own no_variants k v h o = absurd h
+several_in own (variant name (tuple ss) vs) zero (tuple_variant_value n vn ws) h o = tt
+several_in own (variant name (tuple ss) vs) zero _ h o = absurd h
+several_in own (variant name unit vs) zero v h o = absurd o
+several_in own (variant name (wrapped s) vs) zero v h o = absurd o
+several_in own (variant name c vs) (suc k) v h o = several_in own vs k v h o
 
 -- a variant that contains several forms has several values in it
-pub tuple_at : (s : Form) (k i : ℕ) (v : Value) → IsVariantAt s k v → HasFormAt (content_at s k) i → IsTuple v
-tuple_at (enum own vs) k i v h o = tuple_in own vs k i v h o
-tuple_at _ k i v h o = absurd h
+pub several_at : (s : Form) (k : ℕ) (v : Value) → IsVariantAt s k v → IsOfSeveral (content_at s k) → IsTuple v
+several_at (enum own vs) k v h o = several_in own vs k v h o
+several_at _ k v h o = absurd h
 
--- where forms give what data is, there is data at each form's place
-in_forms : {A : Type 0} (ss : Forms) (ds : List (Data A)) (i : ℕ) → FormsGive ss (views ds) → HasFormIn ss i → i < length ds
-in_forms no_forms ds i g h = absurd h
-in_forms (form s ss) [] i g h = absurd g
-in_forms (form s ss) (d ∷ ds) zero g h = omega arith
-in_forms (form s ss) (d ∷ ds) (suc i) g h = let l = in_forms ss ds i g.1 h in omega arith
+each_in : (own : List ℕ) (vs : Variants) (k : ℕ) (n vn : List ℕ) (ws : Values)
+    → IsThe own vs k (tuple_variant_value n vn ws) → IsOfSeveral (content_in vs k)
+    → HoldsEachAt own vs k (tuple_variant_value n vn ws) ws × FormsGive (forms_in (content_in vs k)) ws
+each_in own no_variants k n vn ws h o = absurd h
+each_in own (variant name (tuple ss) vs) zero n vn ws h o =
+    (ap (λ m. tuple_variant_value m vn ws) h.0 ∙ ap (λ m. tuple_variant_value own m ws) h.1, h.2)
+each_in own (variant name unit vs) zero n vn ws h o = absurd o
+each_in own (variant name (wrapped s) vs) zero n vn ws h o = absurd o
+each_in own (variant name c vs) (suc k) n vn ws h o = each_in own vs k n vn ws h o
 
-nth_given : (ss : Forms) (vs : Values) (i : ℕ) → FormsGive ss vs → HasFormIn ss i → Gives (nth_of ss i) (nth vs i)
-nth_given no_forms vs i g h = absurd h
-nth_given (form s ss) no_values i g h = absurd g
-nth_given (form s ss) (value v vs) zero g h = g.0
-nth_given (form s ss) (value v vs) (suc i) g h = nth_given ss vs i g.1 h
+-- they are these, and what the forms give
+pub each_at : (s : Form) (k : ℕ) (n vn : List ℕ) (ws : Values) → IsVariantAt s k (tuple_variant_value n vn ws)
+    → IsOfSeveral (content_at s k)
+    → HoldsEach s k (tuple_variant_value n vn ws) ws × FormsGive (forms_from s k 0) ws
+each_at (enum own vs) k n vn ws h o = each_in own vs k n vn ws h o
+each_at _ k n vn ws h o = absurd h
 
-spread_next : (i : ℕ) (ss : Forms) (v : Value) (vs : Values) → spread (suc i) ss (value v vs) ≡ spread i ss vs
-spread_next i no_forms v vs = refl
-spread_next i (form s ss) v vs = ap (value (nth vs i)) (spread_next (suc i) ss v vs)
+-- no values where there are no forms
+pub forms_end : (ss : Forms) (vs : Values) → FormsGive ss vs → IsEndOf ss vs
+forms_end no_forms no_values g = refl
+forms_end no_forms (value v vs) g = absurd g
+forms_end (form s ss) vs g = tt
 
-spread_all : (ss : Forms) (vs : Values) → FormsGive ss vs → vs ≡ spread 0 ss vs
-spread_all no_forms no_values g = refl
-spread_all no_forms (value v vs) g = absurd g
-spread_all (form s ss) no_values g = absurd g
-spread_all (form s ss) (value v vs) g = ap (value v) (spread_all ss vs g.1 ∙ sym (spread_next 0 ss v vs))
+one_there : (ss : Forms) → FormsGive ss no_values → HasOne ss → ⊥
+one_there no_forms g h = h
+one_there (form s ss) g h = g
 
-data_in : {A : Type 0} (own : List ℕ) (vs : Variants) (k i : ℕ) (n vn : List ℕ) (ds : List (Data A)) → IsThe own vs k (tuple_variant_value n vn (views ds)) → HasFormAt (content_in vs k) i → i < length ds
-data_in own no_variants k i n vn ds h o = absurd h
-data_in own (variant name (tuple ss) vs) zero i n vn ds h o = in_forms ss ds i h.2 o
-data_in own (variant name unit vs) zero i n vn ds h o = absurd o
-data_in own (variant name (wrapped s) vs) zero i n vn ds h o = absurd o
-data_in own (variant name c vs) (suc k) i n vn ds h o = data_in own vs k i n vn ds h o
+-- a first form gives a first value
+pub form_left : (ss : Forms) (vs : Values) → FormsGive ss vs → HasOne ss → HasNext vs
+form_left ss no_values g h = one_there ss g h
+form_left ss (value v vs) g h = tt
 
--- there is data at each place
-pub data_at : {A : Type 0} (s : Form) (k i : ℕ) (n vn : List ℕ) (ds : List (Data A)) → IsVariantAt s k (tuple_variant_value n vn (views ds)) → HasFormAt (content_at s k) i → i < length ds
-data_at (enum own vs) k i n vn ds h o = data_in own vs k i n vn ds h o
-data_at _ k i n vn ds h o = absurd h
+one_gives : (ss : Forms) (v : Value) (vs : Values) → FormsGive ss (value v vs) → HasOne ss → Gives (first_of ss) v
+one_gives no_forms v vs g h = absurd h
+one_gives (form s ss) v vs g h = g.0
 
-gives_in : (own : List ℕ) (vs : Variants) (k i : ℕ) (v : Value) → IsThe own vs k v → HasFormAt (content_in vs k) i → Gives (form_in (content_in vs k) i) (nth (tuple_parts v) i)
-gives_in own no_variants k i v h o = absurd h
-gives_in own (variant name (tuple ss) vs) zero i (tuple_variant_value n vn ws) h o = nth_given ss ws i h.2 o
-gives_in own (variant name (tuple ss) vs) zero i _ h o = absurd h
-gives_in own (variant name unit vs) zero i v h o = absurd o
-gives_in own (variant name (wrapped s) vs) zero i v h o = absurd o
-gives_in own (variant name c vs) (suc k) i v h o = gives_in own vs k i v h o
+-- which is what that form gives
+pub form_gives : (ss : Forms) (v : Value) (all vs : Values) → all ≡ value v vs → FormsGive ss all → HasOne ss
+    → Gives (first_of ss) v
+form_gives ss v all vs e g h = one_gives ss v vs (subst (FormsGive ss) e g) h
 
--- each is what its form gives
-pub gives_at : (s : Form) (k i : ℕ) (v : Value) → IsVariantAt s k v → HasFormAt (content_at s k) i → Gives (form_in (content_at s k) i) (nth (tuple_parts v) i)
-gives_at (enum own vs) k i v h o = gives_in own vs k i v h o
-gives_at _ k i v h o = absurd h
+behind_give : (ss : Forms) (i : ℕ) (v : Value) (vs : Values) → FormsGive (behind i ss) (value v vs)
+    → HasOne (behind i ss) → FormsGive (behind (suc i) ss) vs
+behind_give no_forms zero v vs g h = absurd h
+behind_give no_forms (suc i) v vs g h = absurd h
+behind_give (form s ss) zero v vs g h = g.1
+behind_give (form s ss) (suc i) v vs g h = behind_give ss i v vs g h
 
-whole_in : (own : List ℕ) (vs : Variants) (k : ℕ) (v : Value) → IsThe own vs k v → WholeIn own vs k v
-whole_in own no_variants k v h = absurd h
-whole_in own (variant name (tuple ss) vs) zero (tuple_variant_value n vn ws) h = ap (λ m. tuple_variant_value m vn ws) h.0 ∙ ap (λ m. tuple_variant_value own m ws) h.1 ∙ ap (tuple_variant_value own name) (spread_all ss ws h.2)
-whole_in own (variant name (tuple ss) vs) zero _ h = absurd h
-whole_in own (variant name unit vs) zero v h = tt
-whole_in own (variant name (wrapped s) vs) zero v h = tt
-whole_in own (variant name c vs) (suc k) v h = whole_in own vs k v h
-
--- and these are all
-pub whole_at : (s : Form) (k : ℕ) (v : Value) → IsVariantAt s k v → IsWholeVariant s k v
-whole_at (enum own vs) k v h = whole_in own vs k v h
-whole_at _ k v h = absurd h
-
--- which is the value at a place
-pub at_place : {A : Type 0} (n vn : List ℕ) (ds : List (Data A)) (i : ℕ) (x : Data A) → i < length ds → x ≡ slice_index_or ds i x → view x ≡ nth (tuple_parts (tuple_variant_value n vn (views ds))) i
-at_place n vn ds i x h e = nth_views ds i x h e
+-- and behind it are those of the forms behind
+pub forms_give : (s : Form) (k i : ℕ) (v : Value) (all vs : Values) → all ≡ value v vs
+    → FormsGive (forms_from s k i) all → HasOne (forms_from s k i) → FormsGive (forms_from s k (i + 1)) vs
+forms_give s k i v all vs e g h = rw add-one (behind_give (forms_in (content_at s k)) i v vs
+    (subst (FormsGive (forms_from s k i)) e g) h)

@@ -1,14 +1,14 @@
 -- Enumerations: units that a number names, and variants that a rule chooses.
-use Rattle.std.specs.Prelude.{◌≡◌, ◌⊎◌, ℕ, Bool, false, List, [], ◌∷◌, zero, suc}
+use Rattle.std.specs.Prelude.{◌≡◌, ◌⊎◌, ℕ, false, List, [], ◌∷◌, zero, suc}
 use Rattle.std.specs.Borrow.{Bor}
 use Rattle.std.specs.Str.{bytes_eq}
 use Rattle.kmip_ttlv_base.specs.declared.shape.VariantShape.{VariantShape}
 use Rattle.kmip_ttlv_base.specs.Values.{Value, unit_variant_value, newtype_variant_value, tuple_variant_value}
-use Rattle.kmip_ttlv_base.specs.Values.{Values, no_values, value}
-use Rattle.kmip_ttlv_base.specs.Forms.{Form, enum, boolean, Variants, no_variants, variant, Content, unit, wrapped, tuple}
+use Rattle.kmip_ttlv_base.specs.Values.{Values, no_values}
+use Rattle.kmip_ttlv_base.specs.Forms.{Form, enum, boolean, Variants, no_variants}
+use Rattle.kmip_ttlv_base.specs.Forms.{variant, Content, unit, wrapped, tuple}
 use Rattle.kmip_ttlv_base.specs.Forms.{Forms, no_forms, form, content_of}
 use Rattle.kmip_ttlv_base.specs.Gives.{Gives, ContentGives}
-use Rattle.kmip_ttlv_messages.specs.MessageParts.{nth}
 
 -- a unit, and a variant with a value in it
 abbrev pub IsUnit : Value → Type 0
@@ -44,11 +44,6 @@ variant_name (unit_variant_value own name) = name
 variant_name (newtype_variant_value own name v) = name
 variant_name (tuple_variant_value own name vs) = name
 variant_name _ = []
-
--- the values in a variant of several
-abbrev pub tuple_parts : Value → Values
-tuple_parts (tuple_variant_value own name vs) = vs
-tuple_parts _ = no_values
 
 -- the units of these names
 abbrev pub units : {T : Type 0} → List (Bor (List ℕ) × T) → Variants
@@ -156,44 +151,48 @@ abbrev pub IsOfOne : Content → Type 0
 IsOfOne (wrapped s) = Unit {0}
 IsOfOne _ = ⊥
 
--- there is a form at this place among several
-abbrev pub HasFormIn : Forms → ℕ → Type 0
-HasFormIn no_forms i = ⊥
-HasFormIn (form s ss) zero = Unit {0}
-HasFormIn (form s ss) (suc i) = HasFormIn ss i
+-- several forms read what a variant contains
+abbrev pub IsOfSeveral : Content → Type 0
+IsOfSeveral (tuple ss) = Unit {0}
+IsOfSeveral _ = ⊥
 
--- the form at a place; where there is none, any form
-abbrev pub nth_of : Forms → ℕ → Form
-nth_of no_forms i = boolean
-nth_of (form s ss) zero = s
-nth_of (form s ss) (suc i) = nth_of ss i
+-- the forms that read what a variant contains
+abbrev pub forms_in : Content → Forms
+forms_in (tuple ss) = ss
+forms_in _ = no_forms
 
--- several forms read what a variant contains, and one of them is at this place
-abbrev pub HasFormAt : Content → ℕ → Type 0
-HasFormAt (tuple ss) i = HasFormIn ss i
-HasFormAt _ i = ⊥
+-- the forms from a place on
+abbrev pub behind : ℕ → Forms → Forms
+behind zero ss = ss
+behind (suc i) no_forms = no_forms
+behind (suc i) (form s ss) = behind i ss
 
--- the form at a place of what a variant contains
-abbrev pub form_in : Content → ℕ → Form
-form_in (tuple ss) i = nth_of ss i
-form_in _ i = boolean
+-- the forms from a place on, of the variant at another place
+abbrev pub forms_from : Form → ℕ → ℕ → Forms
+forms_from s k i = behind i (forms_in (content_at s k))
 
--- as many values as there are forms: those at the places from this one on
-abbrev pub spread : ℕ → Forms → Values → Values
-spread i no_forms vs = no_values
-spread i (form s ss) vs = value (nth vs i) (spread (suc i) ss vs)
+-- there is a first form
+abbrev pub HasOne : Forms → Type 0
+HasOne no_forms = ⊥
+HasOne (form s ss) = Unit {0}
 
--- a variant of several forms is that of its names, of as many values as there are forms
-abbrev pub WholeContent : List ℕ → List ℕ → Content → Value → Type 0
-WholeContent own name (tuple ss) v = v ≡ tuple_variant_value own name (spread 0 ss (tuple_parts v))
-WholeContent own name _ v = Unit {0}
+-- the first form; where there is none, any form
+abbrev pub first_of : Forms → Form
+first_of no_forms = boolean
+first_of (form s ss) = s
 
-abbrev pub WholeIn : List ℕ → Variants → ℕ → Value → Type 0
-WholeIn own no_variants k v = Unit {0}
-WholeIn own (variant name c vs) zero v = WholeContent own name c v
-WholeIn own (variant name c vs) (suc k) v = WholeIn own vs k v
+-- where no forms are left, no values are
+abbrev pub IsEndOf : Forms → Values → Type 0
+IsEndOf no_forms vs = vs ≡ no_values
+IsEndOf (form s ss) vs = Unit {0}
 
--- the same of the variant at a place of an enum's form
-abbrev pub IsWholeVariant : Form → ℕ → Value → Type 0
-IsWholeVariant (enum own vs) k v = WholeIn own vs k v
-IsWholeVariant _ k v = Unit {0}
+-- a value is the variant at this place, with these values in it
+abbrev pub HoldsEachAt : List ℕ → Variants → ℕ → Value → Values → Type 0
+HoldsEachAt own no_variants k v ws = ⊥
+HoldsEachAt own (variant name c vs) zero v ws = v ≡ tuple_variant_value own name ws
+HoldsEachAt own (variant name c vs) (suc k) v ws = HoldsEachAt own vs k v ws
+
+-- the same of an enum's form
+abbrev pub HoldsEach : Form → ℕ → Value → Values → Type 0
+HoldsEach (enum own vs) k v ws = HoldsEachAt own vs k v ws
+HoldsEach _ k v ws = ⊥

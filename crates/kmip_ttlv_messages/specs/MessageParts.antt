@@ -1,65 +1,80 @@
 -- The parts of a structure, and the forms that they are read by.
 use Rattle.std.specs.Prelude.{◌≡◌, ℕ, ℤ, List, [], ◌∷◌, zero, suc, Option, Some, None, map}
 use Rattle.std.specs.Int.{Width, w64, cast_signed, cast_unsigned}
-use Rattle.std.specs.Borrow.{Bor}
-use Rattle.kmip_ttlv_base.specs.declared.shape.Data.{Data}
+use Rattle.std.specs.Vec.Iter.{into_iter_items}
+use Rattle.kmip_ttlv_messages.specs.declared.reading.RemainingParts.{RemainingParts}
 use Rattle.kmip_ttlv_base.specs.declared.shape.FieldShape.{FieldShape}
-use Rattle.kmip_ttlv_base.specs.Values.{Value, view, none_value, i64_value, u64_value, some_value, struct_value, seq_value, Values, no_values}
-use Rattle.kmip_ttlv_base.specs.Values.{value, values_of}
+use Rattle.kmip_ttlv_base.specs.Values.{Value, views, none_value, i64_value, u64_value, some_value, seq_value, Values}
+use Rattle.kmip_ttlv_base.specs.Values.{no_values, value, values_of}
 use Rattle.kmip_ttlv_base.specs.Forms.{Form, Fields, no_fields, field, struct, option, boolean, form_of}
-use Rattle.kmip_ttlv_base.specs.Gives.{Gives}
 
--- the values in a structure
-abbrev pub parts_of : Value → Values
-parts_of (struct_value name vs) = vs
-parts_of _ = no_values
+-- the values that are not taken yet
+abbrev pub left : {A : Type 0} → RemainingParts A → Values
+left p = views (into_iter_items p.rest)
 
--- the value at a place; where there is none, a value that is none
-abbrev pub nth : Values → ℕ → Value
-nth no_values k = none_value
-nth (value v vs) zero = v
-nth (value v vs) (suc k) = nth vs k
+-- there is a first one
+abbrev pub HasNext : Values → Type 0
+HasNext no_values = ⊥
+HasNext (value v vs) = Unit {0}
 
--- the part of a structure at a place
-abbrev pub part_at : Value → ℕ → Value
-part_at v k = nth (parts_of v) k
+-- the name of a struct
+abbrev pub name_of : Form → List ℕ
+name_of (struct name fs deny) = name
+name_of _ = []
 
--- there is a field at a place
-abbrev pub HasField : Fields → ℕ → Type 0
-HasField no_fields k = ⊥
-HasField (field name s fs) zero = Unit {0}
-HasField (field name s fs) (suc k) = HasField fs k
+-- the fields of a struct
+abbrev pub fields_in : Form → Fields
+fields_in (struct name fs deny) = fs
+fields_in _ = no_fields
 
--- the form of the field at a place; where there is none, any form
-abbrev pub nth_form : Fields → ℕ → Form
-nth_form no_fields k = boolean
-nth_form (field name s fs) zero = s
-nth_form (field name s fs) (suc k) = nth_form fs k
+-- the fields from a place on
+abbrev pub later : ℕ → Fields → Fields
+later zero fs = fs
+later (suc k) no_fields = no_fields
+later (suc k) (field name s fs) = later k fs
+
+-- the fields of a struct from a place on
+abbrev pub fields_from : Form → ℕ → Fields
+fields_from s k = later k (fields_in s)
+
+-- there is a first field
+abbrev pub HasFirst : Fields → Type 0
+HasFirst no_fields = ⊥
+HasFirst (field name s fs) = Unit {0}
+
+-- the form of the first field; where there is none, any form
+abbrev pub first_form : Fields → Form
+first_form no_fields = boolean
+first_form (field name s fs) = s
 
 -- a struct has a part at a place
 abbrev pub HasPart : Form → ℕ → Type 0
-HasPart (struct name fs deny) k = HasField fs k
-HasPart _ k = ⊥
+HasPart s k = HasFirst (fields_from s k)
 
 -- the form of a struct's part
 abbrev pub form_at : Form → ℕ → Form
-form_at (struct name fs deny) k = nth_form fs k
-form_at _ k = boolean
+form_at s k = first_form (fields_from s k)
 
--- as many values as there are fields: those at the places from this one on
-abbrev pub span : ℕ → Fields → Values → Values
-span k no_fields vs = no_values
-span k (field name s fs) vs = value (nth vs k) (span (suc k) fs vs)
+-- a struct's form
+abbrev pub IsStruct : Form → Type 0
+IsStruct (struct name fs deny) = Unit {0}
+IsStruct _ = ⊥
 
--- the value of a struct's form is the structure of its name, of as many parts as there are fields
-abbrev pub IsWhole : Form → Value → Type 0
-IsWhole (struct name fs deny) v = v ≡ struct_value name (span 0 fs (parts_of v))
-IsWhole _ v = Unit {0}
+-- where no fields are left, no values are
+abbrev pub IsEnd : Fields → Values → Type 0
+IsEnd no_fields vs = vs ≡ no_values
+IsEnd (field name s fs) vs = Unit {0}
 
 -- an option's form
 abbrev pub IsOption : Form → Type 0
 IsOption (option s) = Unit {0}
 IsOption _ = ⊥
+
+-- None, or Some of any value
+abbrev pub IsOptional : Value → Type 0
+IsOptional none_value = Unit {0}
+IsOptional (some_value v) = Unit {0}
+IsOptional _ = ⊥
 
 -- the form in an option
 abbrev pub inside : Form → Form
@@ -70,11 +85,6 @@ inside _ = boolean
 abbrev pub optional : {T : Type 0} → (T → Value) → Option T → Value
 optional as_value None = none_value
 optional as_value (Some x) = some_value (as_value x)
-
--- what an option of this form holds, if anything
-abbrev pub IsPresent : {A : Type 0} → Value → Form → Option (Bor (Data A)) → Type 0
-IsPresent v s None = v ≡ none_value
-IsPresent v s (Some d) = (v ≡ some_value (view d.now)) × Gives s (view d.now)
 
 -- the values that these stand for, one after the other
 abbrev pub EachIs : {T : Type 0} → (Value → T → Type 0) → Values → List T → Type 0

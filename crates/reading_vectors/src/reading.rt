@@ -24,8 +24,8 @@ impl<P: Part, A: Allocator + Copy> Deserialize<A> for Reading<P, A> {
         P::shape(alloc)
     }
 
-    fn from_data(alloc: A, value: &Data<A>) -> Result<Reading<P, A>, AllocError> {
-        let text = format!(in alloc; "{value:?}")?;
+    fn from_data(alloc: A, value: &mut Data<A>) -> Result<Reading<P, A>, AllocError> {
+        let text = format!(in alloc; "{:?}", &*value)?;
         Ok(Reading {
             text,
             shape: PhantomData,

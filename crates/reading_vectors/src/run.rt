@@ -35,8 +35,8 @@ impl<P: Part> Deserialize<Global> for Run<P> {
         P::shape(alloc)
     }
 
-    fn from_data(alloc: Global, value: &Data) -> Result<Run<P>, AllocError> {
-        let all = elements(value);
+    fn from_data(alloc: Global, value: &mut Data) -> Result<Run<P>, AllocError> {
+        let all = elements(&*value);
         let last = match all.last() {
             Some(one) => format!(in alloc; "{one:?}")?,
             None => String::new(alloc),

@@ -40,8 +40,8 @@ impl<A: Allocator> Deserialize<A> for Single {
         })
     }
 
-    fn from_data(_alloc: A, value: &Data<A>) -> Result<Single, AllocError> {
-        let Data::Struct { name: _, fields } = value else {
+    fn from_data(_alloc: A, value: &mut Data<A>) -> Result<Single, AllocError> {
+        let Data::Struct { name: _, fields } = &*value else {
             unreachable!()
         };
         Ok(Single {

@@ -1,4 +1,4 @@
-use Rattle.std.proofs.Common.{◌≡◌, ap, ◌∙◌, refl}
+use Rattle.std.proofs.Common.{ap, ◌∙◌, refl}
 use Rattle.kmip_ttlv_base.specs.Values.{view}
 use Rattle.kmip_ttlv_base.proofs.Views.{view-TupleVariant}
 use Rattle.kmip_ttlv_messages.proofs.choices.several.Goals as goal
@@ -6,4 +6,4 @@ use Rattle.kmip_ttlv_messages.proofs.choices.several.Goals as goal
 pub returns : goal.returns
 returns g c =
     let seen = ap view c.in-TupleVariant.is ∙ view-TupleVariant c.in-TupleVariant.name c.in-TupleVariant.variant c.in-TupleVariant.fields in
-    rw (seen, c.as_slice.ensures.value) refl
+    rw seen refl
