@@ -1,5 +1,5 @@
 -- What is wrong with rows of a table, and the lines that say so.
-use Rattle.std.specs.Prelude.{ℕ, List, [], ◌∷◌, ◌++◌, codes}
+use Rattle.std.specs.Prelude.{◌≡◌, ◌<◌, ◌⊎◌, ℕ, List, [], ◌∷◌, ◌++◌, codes}
 use Rattle.std.specs.Fmt.{decimal}
 use Rattle.message_tables.specs.declared.fault.Fault.{Fault}
 use Rattle.message_tables.specs.declared.fault.FaultKind.{FaultKind}
@@ -27,3 +27,13 @@ line_told f = codes "line " ++ decimal f.line ++ codes ": " ++ words_of f.kind +
 abbrev pub lines_told : List Fault → List ℕ
 lines_told [] = []
 lines_told (f ∷ fs) = line_told f ++ lines_told fs
+
+-- each is of an earlier line than the one behind it
+abbrev pub AreInOrder : List Fault → Type 0
+AreInOrder [] = Unit {0}
+AreInOrder (f ∷ []) = Unit {0}
+AreInOrder (f ∷ g ∷ fs) = (f.line < g.line) × AreInOrder (g ∷ fs)
+
+-- no more is told than was, or one fault of this line
+abbrev pub Tells : List Fault → List Fault → ℕ → Type 0
+Tells old new line = (new ≡ old) ⊎ ((f : Fault) × (f.line ≡ line) × (new ≡ old ++ (f ∷ [])))

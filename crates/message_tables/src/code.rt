@@ -1,6 +1,9 @@
 //! The files of `src/`: types, and how each is told and read.
 
-use crate::fill::{Holes, fill, joined, put, put_call, put_literal};
+use crate::fill::{
+    Holes, fill, hole, joined, put, put_call, put_literal, put_typed_call, put_use, text_if,
+};
+use crate::kinds::Leaf;
 use crate::table::{Count, MessageType, Module, Part, PartKind, Table, TypeKind, Values};
 use crate::templates;
 use std::alloc::{AllocError, Global};
@@ -71,24 +74,13 @@ pub fn value_of(
     }
 }
 
-// Adds what stands for a hole.
-fn hole(
-    alloc: Global,
-    holes: &mut Holes,
-    name: &'static str,
-    text: &str,
-) -> Result<(), AllocError> {
-    holes.push((name, String::from_str(alloc, text)?))?;
-    Ok(())
-}
-
 // Whether taking a type apart needs memory.
 fn takes_memory(owner: &MessageType<'_>) -> bool {
-    owner.parts.as_slice().iter().any(|part| match part.kind {
-        PartKind::Leaf(leaf) => leaf.owns,
-        PartKind::Type(_) => true,
-        _ => false,
-    })
+    owner
+        .parts
+        .as_slice()
+        .iter()
+        .any(|part| matches!(part.kind, PartKind::Type(_)))
 }
 
 // Adds the holes that depend on whether a type owns memory.
@@ -207,53 +199,58 @@ fn quoted(alloc: Global, front: &str, digits: &str) -> Result<String, AllocError
     joined(alloc, &["\"", front, "0x", digits, "\""])
 }
 
-// The statement that tells a part.
-fn put_told(alloc: Global, out: &mut String, part: &Part<'_>) -> Result<(), AllocError> {
-    let tag = quoted(alloc, "", part.tag)?;
+// The statement that tells a leaf.
+fn put_told_leaf(
+    alloc: Global,
+    out: &mut String,
+    part: &Part<'_>,
+    leaf: Leaf,
+    field: &str,
+) -> Result<(), AllocError> {
+    let is_optional = part.count == Count::Optional;
+    let optional = text_if(is_optional, "optional_");
+    let head = joined(alloc, &["writing::", optional, leaf.word])?;
     let wrapper = quoted(alloc, "Transparent:", part.tag)?;
-    let field = joined(alloc, &["self.", part.name])?;
-    let lent = joined(alloc, &["&self.", part.name])?;
-    match (part.kind, part.count) {
-        (PartKind::Leaf(leaf), Count::One) => {
-            let head = joined(alloc, &["writing::", leaf.word])?;
-            let told = joined(alloc, &[field.as_str(), leaf.told])?;
-            put_call(
-                out,
-                head.as_str(),
-                &["visitor", wrapper.as_str(), told.as_str()],
-                "?;",
-            )
-        }
-        (PartKind::Leaf(leaf), _) => {
-            let head = joined(alloc, &["writing::optional_", leaf.word])?;
-            put_call(
-                out,
-                head.as_str(),
-                &["visitor", wrapper.as_str(), lent.as_str()],
-                "?;",
-            )
-        }
-        (PartKind::Constant(number), _) => {
-            let number = quoted(alloc, "", number)?;
-            put_call(
-                out,
-                "writing::unit_variant",
-                &["visitor", tag.as_str(), number.as_str()],
-                "?;",
-            )
-        }
-        (PartKind::Type(_), Count::One) => put(
-            out,
-            &["        ", field.as_str(), ".visit(visitor)?;\n"],
-        ),
-        (PartKind::Type(_), Count::Optional) => {
+    let mut told = String::from_str(alloc, text_if(is_optional, "&"))?;
+    told.push_str(field)?;
+    told.push_str(text_if(!is_optional, leaf.told))?;
+    let arguments = ["visitor", wrapper.as_str(), told.as_str()];
+    put_call(out, head.as_str(), &arguments, "?;")
+}
+
+// The statement that tells a part of another type, which comes so often.
+fn put_told_type(
+    alloc: Global,
+    out: &mut String,
+    count: Count,
+    field: &str,
+) -> Result<(), AllocError> {
+    match count {
+        Count::One => put(out, &["        ", field, ".visit(visitor)?;\n"]),
+        Count::Optional => {
+            let lent = joined(alloc, &["&", field])?;
             put_call(out, "writing::option", &["visitor", lent.as_str()], "?;")
         }
-        (PartKind::Type(_), Count::Several) => {
-            let items = joined(alloc, &[field.as_str(), ".as_slice()"])?;
+        Count::Several => {
+            let items = joined(alloc, &[field, ".as_slice()"])?;
             put_call(out, "writing::seq", &["visitor", items.as_str()], "?;")
         }
-        (PartKind::Variant(_), _) => Ok(()),
+    }
+}
+
+// The statement that tells a part.
+fn put_told(alloc: Global, out: &mut String, part: &Part<'_>) -> Result<(), AllocError> {
+    let field = joined(alloc, &["self.", part.name])?;
+    match part.kind {
+        PartKind::Leaf(leaf) => put_told_leaf(alloc, out, part, leaf, field.as_str()),
+        PartKind::Constant(number) => {
+            let tag = quoted(alloc, "", part.tag)?;
+            let number = quoted(alloc, "", number)?;
+            let arguments = ["visitor", tag.as_str(), number.as_str()];
+            put_call(out, "writing::unit_variant", &arguments, "?;")
+        }
+        PartKind::Type(_) => put_told_type(alloc, out, part.count, field.as_str()),
+        PartKind::Variant(_) => Ok(()),
     }
 }
 
@@ -295,37 +292,21 @@ fn put_shaped(alloc: Global, out: &mut String, part: &Part<'_>) -> Result<(), Al
     let shape = shape.as_str();
     let tag = tag.as_str();
     match (part.kind, part.count) {
-        (PartKind::Type(_), Count::One) => put(
-            out,
-            &[
-                "        let shape = ",
-                shape,
-                ";\n        fields.push(shapes::field(",
-                tag,
-                ", shape))?;\n",
-            ],
-        ),
-        (PartKind::Type(_), Count::Several) => put(
-            out,
-            &[
-                "        let shape = ",
-                shape,
-                ";\n        fields.push(shapes::sequence(alloc, ",
-                tag,
-                ", shape)?)?;\n",
-            ],
-        ),
-        (PartKind::Type(_), Count::Optional) => put(
-            out,
-            &[
-                "        let field = shapes::field(",
-                tag,
-                ", ",
-                shape,
-                ");\n",
-                "        fields.push(shapes::optional(alloc, field)?)?;\n",
-            ],
-        ),
+        (PartKind::Type(_), Count::One) => {
+            put_call(out, "fields.push(shapes::field", &[tag, shape], ")?;")
+        }
+        (PartKind::Type(_), Count::Several) => {
+            put_call(
+                out,
+                "fields.push(shapes::sequence",
+                &["alloc", tag, shape],
+                "?)?;",
+            )
+        }
+        (PartKind::Type(_), Count::Optional) => {
+            put_call(out, "let field = shapes::field", &[tag, shape], ";")?;
+            out.push_str("        fields.push(shapes::optional(alloc, field)?)?;\n")
+        }
         (_, Count::Optional) => put(
             out,
             &[
@@ -344,7 +325,6 @@ fn put_taken_leaf(
     out: &mut String,
     part: &Part<'_>,
     word: &str,
-    owns: bool,
     at: &str,
 ) -> Result<(), AllocError> {
     let optional = if part.count == Count::Optional {
@@ -364,16 +344,12 @@ fn put_taken_leaf(
         ],
     )?;
     let wrapper = quoted(alloc, "Transparent:", part.tag)?;
-    if owns {
-        put_call(
-            out,
-            head.as_str(),
-            &["alloc", "value", at, wrapper.as_str()],
-            "?;",
-        )
-    } else {
-        put_call(out, head.as_str(), &["value", at, wrapper.as_str()], ";")
-    }
+    put_call(
+        out,
+        head.as_str(),
+        &["&mut parts", at, wrapper.as_str()],
+        ";",
+    )
 }
 
 // The statement that takes a part of another type.
@@ -383,41 +359,16 @@ fn put_taken_type(
     part: &Part<'_>,
     at: &str,
 ) -> Result<(), AllocError> {
+    let call = match part.count {
+        Count::One => "nested",
+        Count::Several => "sequence",
+        Count::Optional => "optional",
+    };
     let single = single_type(alloc, part)?;
-    let single = single.as_str();
-    match (part.kind, part.count) {
-        (PartKind::Type(link), Count::One) => {
-            let head = joined(alloc, &["let ", part.name, " = ", link.name, "::from_data"])?;
-            let inner = joined(alloc, &["reading::part::<Self, A>(value, ", at, ")"])?;
-            put_call(out, head.as_str(), &["alloc", inner.as_str()], "?;")
-        }
-        (_, Count::Several) => {
-            let head = joined(
-                alloc,
-                &[
-                    "let ",
-                    part.name,
-                    " = reading::sequence::<Self, ",
-                    single,
-                    ", A>",
-                ],
-            )?;
-            put_call(out, head.as_str(), &["alloc", "value", at], "?;")
-        }
-        _ => {
-            let head = joined(
-                alloc,
-                &[
-                    "let ",
-                    part.name,
-                    " = reading::optional::<Self, ",
-                    single,
-                    ", A>",
-                ],
-            )?;
-            put_call(out, head.as_str(), &["alloc", "value", at], "?;")
-        }
-    }
+    let head = joined(alloc, &["let ", part.name, " = reading::", call])?;
+    let types = ["Self", single.as_str(), "A"];
+    let arguments = ["alloc", "&mut parts", at];
+    put_typed_call(out, head.as_str(), &types, &arguments, "?;")
 }
 
 // The statement that takes a part, which stands at this place.
@@ -430,11 +381,11 @@ fn put_taken(
     let at = place.to_string(alloc)?;
     let at = at.as_str();
     match part.kind {
-        PartKind::Leaf(leaf) => put_taken_leaf(alloc, out, part, leaf.word, leaf.owns, at),
+        PartKind::Leaf(leaf) => put_taken_leaf(alloc, out, part, leaf.word, at),
         PartKind::Constant(number) => {
             let tag = quoted(alloc, "", part.tag)?;
             let number = quoted(alloc, "", number)?;
-            let arguments = ["value", at, tag.as_str(), number.as_str()];
+            let arguments = ["&mut parts", at, tag.as_str(), number.as_str()];
             put_call(out, "reading::constant::<Self, A>", &arguments, ";")
         }
         _ => put_taken_type(alloc, out, part, at),
@@ -463,6 +414,7 @@ fn put_structure(
     put_shapes(alloc, out, owner)?;
     fill(out, templates::SHAPE_STRUCT_END, holes)?;
     fill(out, templates::FROM_DATA, holes)?;
+    fill(out, templates::PARTS, holes)?;
     put_parts_taken(alloc, out, owner)?;
     fill(out, templates::END, holes)
 }
@@ -526,16 +478,7 @@ fn put_leaf(
     )?;
     fill(out, templates::FROM_DATA_LEAF, holes)?;
     let head = leaf_head(alloc, part.name, leaf.inner)?;
-    if leaf.owns {
-        put_call(
-            out,
-            head.as_str(),
-            &["alloc", "value", wrapper.as_str()],
-            "?;",
-        )?;
-    } else {
-        put_call(out, head.as_str(), &["value", wrapper.as_str()], ";")?;
-    }
+    put_call(out, head.as_str(), &["value", wrapper.as_str()], ";")?;
     let mut fields = Vec::new(alloc);
     fields.push(part.name)?;
     put_literal(out, owner.link.name, fields.as_slice())?;
@@ -575,9 +518,9 @@ fn put_enumeration(
     put_variants(alloc, out, owner, templates::VARIANT)?;
     fill(out, templates::NUMBERS, holes)?;
     put_variants(alloc, out, owner, templates::NUMBER)?;
+    fill(out, templates::NUMBERED, holes)?;
+    put_variants(alloc, out, owner, templates::VARIANT_NUMBER)?;
     fill(out, templates::SERIALIZE_ENUM, holes)?;
-    put_variants(alloc, out, owner, templates::TELL_VARIANT)?;
-    fill(out, templates::MATCH_END, holes)?;
     fill(out, templates::READABLE, holes)?;
     fill(out, templates::SHAPE_ENUM, holes)?;
     fill(out, templates::FROM_DATA, holes)?;
@@ -695,10 +638,37 @@ fn put_ghost_uses(
             }
             let names = definitions_of(alloc, owner)?;
             out.push_str(names.as_str())?;
+            if owner.kind == TypeKind::Enumeration {
+                let snake = snake(alloc, owner.link.name)?;
+                put(out, &[", ", snake.as_str(), "_number"])?;
+            }
             is_first = false;
         }
     }
     out.push_str("};\n\n")
+}
+
+// Whether a module has to import a type.
+fn is_imported(table: &Table<'_>, module: &Module<'_>, owner: &MessageType<'_>) -> bool {
+    !lives_in(owner, module) && module_uses(table, module, owner.link.name)
+}
+
+// The line that imports the types of another module, of this name.
+fn put_types_of(
+    alloc: Global,
+    out: &mut String,
+    table: &Table<'_>,
+    module: &Module<'_>,
+    other: &str,
+) -> Result<(), AllocError> {
+    let mut names = Vec::new(alloc);
+    for owner in &table.types {
+        if owner.link.module.name == other && is_imported(table, module, owner) {
+            names.push(owner.link.name)?;
+        }
+    }
+    names.sort()?;
+    put_use(out, other, names.as_slice())
 }
 
 // The lines that import the types of other modules.
@@ -708,16 +678,16 @@ fn put_type_uses(
     table: &Table<'_>,
     module: &Module<'_>,
 ) -> Result<(), AllocError> {
-    let mut lines = Vec::new(alloc);
+    let mut others = Vec::new(alloc);
     for owner in &table.types {
-        if !lives_in(owner, module) && module_uses(table, module, owner.link.name) {
-            let of = owner.link.module.name;
-            lines.push(joined(alloc, &["use crate::", of, "::", owner.link.name, ";\n"])?)?;
+        if is_imported(table, module, owner) {
+            others.push(owner.link.module.name)?;
         }
     }
-    lines.sort()?;
-    for line in &lines {
-        out.push_str(line.as_str())?;
+    others.sort()?;
+    others.dedup();
+    for other in &others {
+        put_types_of(alloc, out, table, module, other)?;
     }
     Ok(())
 }
@@ -742,7 +712,11 @@ fn put_uses(out: &mut String, table: &Table<'_>, module: &Module<'_>) -> Result<
     if needs.owned {
         out.push_str(", Global")?;
     }
-    out.push_str("};\n")
+    out.push_str("};\n")?;
+    if needs.leaves {
+        out.push_str("use std::mem;\n")?;
+    }
+    Ok(())
 }
 
 /// The file `src/MODULE.rt`.

@@ -1,7 +1,7 @@
 //! The files of `specs/` with the form and the value of each type.
 
 use crate::code::{Side, definitions_of, lives_in, module_uses, snake, value_name, value_of};
-use crate::fill::{Holes, Imports, filled, joined, put, put_imports};
+use crate::fill::{Holes, Imports, filled, joined, put, put_imports, text_if};
 use crate::kinds::Leaf;
 use crate::table::{Count, Link, MessageType, Module, Part, PartKind, Table, TypeKind, Values};
 use std::alloc::{AllocError, Global};
@@ -85,6 +85,9 @@ fn import_type(imports: &mut Imports, owner: &MessageType<'_>) -> Result<(), All
     }
     if owner.link.values == Values::Dated {
         import(imports, PRELUDE, &["ℤ"])?;
+    }
+    if owner.kind == TypeKind::Enumeration {
+        import(imports, PRELUDE, &["List", "ℕ"])?;
     }
     for part in &owner.parts {
         import_part(imports, part)?;
@@ -333,6 +336,22 @@ fn put_values(
     put(out, &["\n"])
 }
 
+// The comment of a value.
+fn put_value_comment(
+    out: &mut String,
+    owner: &MessageType<'_>,
+    side: Side,
+) -> Result<(), AllocError> {
+    let is_dated = owner.link.values == Values::Dated;
+    let front = match side {
+        Side::Written => "\n-- what is written of a `",
+        Side::Read => "\n-- what is read of a `",
+        Side::Given => "\n-- the value of a `",
+    };
+    let dates = text_if(is_dated, "; a date is written and read as this says");
+    put(out, &[front, owner.link.name, "`", dates, "\n"])
+}
+
 // What stands before a value: its comment, its type and its name.
 fn put_value_head(
     alloc: Global,
@@ -342,49 +361,14 @@ fn put_value_head(
     word: &str,
 ) -> Result<(), AllocError> {
     let name = value_name(alloc, owner.link.name, owner.link.values, side)?;
-    let dated = owner.link.values == Values::Dated;
-    let comment = match side {
-        Side::Written => "\n-- what is written of a `",
-        Side::Read => "\n-- what is read of a `",
-        Side::Given => "\n-- the value of a `",
-    };
-    put(out, &[comment, owner.link.name, "`"])?;
-    put(
-        out,
-        &[if dated {
-            "; a date is written and read as this says\n"
-        } else {
-            "\n"
-        }],
-    )?;
+    let owns = owner.link.owns;
+    let is_dated = owner.link.values == Values::Dated;
+    put_value_comment(out, owner, side)?;
     put(out, &[word, " pub ", name.as_str(), " : "])?;
-    put(
-        out,
-        &[if owner.link.owns {
-            "{A : Type 0} → "
-        } else {
-            ""
-        }],
-    )?;
-    put(
-        out,
-        &[if dated { "(ℤ → Value) → " } else { "" }, owner.link.name],
-    )?;
-    put(
-        out,
-        &[if owner.link.owns {
-            " A → Value\n"
-        } else {
-            " → Value\n"
-        }],
-    )?;
-    if owner.kind != TypeKind::Enumeration {
-        put(
-            out,
-            &[name.as_str(), if dated { " date x =" } else { " x =" }],
-        )?;
-    }
-    Ok(())
+    put(out, &[text_if(owns, "{A : Type 0} → ")])?;
+    put(out, &[text_if(is_dated, "(ℤ → Value) → "), owner.link.name])?;
+    put(out, &[text_if(owns, " A"), " → Value\n"])?;
+    put(out, &[name.as_str(), text_if(is_dated, " date"), " x ="])
 }
 
 // What stands before a form.
@@ -456,45 +440,40 @@ fn put_variants(
     put(out, &["\n"])
 }
 
+// The number of each variant of an Enumeration.
+fn put_numbers(alloc: Global, out: &mut String, owner: &MessageType<'_>) -> Result<(), AllocError> {
+    let name = owner.link.name;
+    let snake = snake(alloc, name)?;
+    let snake = snake.as_str();
+    put(out, &["\n-- the number of a `", name, "`\n"])?;
+    put(
+        out,
+        &["abbrev pub ", snake, "_number : ", name, " → List ℕ\n"],
+    )?;
+    for part in &owner.parts {
+        if let PartKind::Variant(number) = part.kind {
+            put(out, &[snake, "_number ", snake, ".", part.name])?;
+            put(out, &[" = codes \"0x", number, "\"\n"])?;
+        }
+    }
+    Ok(())
+}
+
 // The definitions of an Enumeration.
 fn put_enumeration(
     alloc: Global,
     out: &mut String,
     owner: &MessageType<'_>,
 ) -> Result<(), AllocError> {
+    let tag = codes(alloc, "", owner.link.tag)?;
+    let snake = snake(alloc, owner.link.name)?;
     put_form_head(alloc, out, owner)?;
     put(out, &["\n"])?;
     put_variants(alloc, out, owner)?;
+    put_numbers(alloc, out, owner)?;
     put_value_head(alloc, out, owner, Side::Given, "unfoldable")?;
-    let tag = codes(alloc, "", owner.link.tag)?;
-    let snake = snake(alloc, owner.link.name)?;
-    for part in &owner.parts {
-        if let PartKind::Variant(number) = part.kind {
-            let number = codes(alloc, "", number)?;
-            put(
-                out,
-                &[
-                    snake.as_str(),
-                    "_value ",
-                    snake.as_str(),
-                    ".",
-                    part.name,
-                    " = ",
-                ],
-            )?;
-            put(
-                out,
-                &[
-                    "unit_variant_value ",
-                    tag.as_str(),
-                    " ",
-                    number.as_str(),
-                    "\n",
-                ],
-            )?;
-        }
-    }
-    Ok(())
+    put(out, &[" unit_variant_value ", tag.as_str()])?;
+    put(out, &[" (", snake.as_str(), "_number x)\n"])
 }
 
 // The definitions of a type.

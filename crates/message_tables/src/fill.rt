@@ -19,6 +19,22 @@ const DEFINITION: usize = 120;
 /// What stands for the holes of a template, each by its name.
 pub type Holes = Vec<(&'static str, String)>;
 
+/// A text where a condition holds, and nothing where it doesn't.
+pub fn text_if(condition: bool, text: &str) -> &str {
+    if condition { text } else { "" }
+}
+
+/// Adds what stands for a hole.
+pub fn hole(
+    alloc: Global,
+    holes: &mut Holes,
+    name: &'static str,
+    text: &str,
+) -> Result<(), AllocError> {
+    holes.push((name, String::from_str(alloc, text)?))?;
+    Ok(())
+}
+
 /// Appends these texts, one behind the other.
 pub fn put(out: &mut String, texts: &[&str]) -> Result<(), AllocError> {
     for text in texts {
@@ -135,6 +151,40 @@ pub fn put_call(
     put(out, &[")", tail, "\n"])
 }
 
+/// Appends a statement of a function's body that is a call with types, its arguments short: `head::<TYPES>(ARGUMENTS)tail`.
+pub fn put_typed_call(
+    out: &mut String,
+    head: &str,
+    types: &[&str],
+    arguments: &[&str],
+    tail: &str,
+) -> Result<(), AllocError> {
+    let front = width_of(types)
+        .saturating_add(head.chars().count())
+        .saturating_add(13);
+    let whole = front
+        .saturating_add(width_of(arguments))
+        .saturating_add(tail.chars().count())
+        .saturating_add(1);
+    put(out, &["        ", head, "::<"])?;
+    if front >= LINE {
+        put(out, &["\n"])?;
+        put_in_lines(out, types)?;
+        put(out, &["        "])?;
+    } else {
+        put_in_line(out, types)?;
+    }
+    put(out, &[">("])?;
+    if front < LINE && whole > LINE {
+        put(out, &["\n            "])?;
+        put_in_line(out, arguments)?;
+        put(out, &[",\n        "])?;
+    } else {
+        put_in_line(out, arguments)?;
+    }
+    put(out, &[")", tail, "\n"])
+}
+
 /// Appends the last expression of a function's body: `Ok` of a literal of a struct with fields of these names.
 pub fn put_literal(out: &mut String, name: &str, fields: &[&str]) -> Result<(), AllocError> {
     put(out, &["        Ok(", name, " {"])?;
@@ -148,6 +198,40 @@ pub fn put_literal(out: &mut String, name: &str, fields: &[&str]) -> Result<(), 
         put(out, &["        "])?;
     }
     put(out, &["})\n"])
+}
+
+// Appends names in lines of their own, as many in each as it has room for.
+fn put_filled(out: &mut String, names: &[&str]) -> Result<(), AllocError> {
+    let mut width = LINE;
+    for name in names {
+        let more = width.saturating_add(name.chars().count()).saturating_add(2);
+        if more <= LINE {
+            put(out, &[" ", name, ","])?;
+            width = more;
+        } else {
+            put(out, &["\n    ", name, ","])?;
+            width = name.chars().count().saturating_add(5);
+        }
+    }
+    put(out, &["\n"])
+}
+
+/// Appends the item that imports these types of a module of the crate.
+pub fn put_use(out: &mut String, module: &str, names: &[&str]) -> Result<(), AllocError> {
+    put(out, &["use crate::", module, "::"])?;
+    if let [name] = names {
+        return put(out, &[name, ";\n"]);
+    }
+    let whole = width_of(names)
+        .saturating_add(module.chars().count())
+        .saturating_add(16);
+    put(out, &["{"])?;
+    if whole <= LINE {
+        put_in_line(out, names)?;
+    } else {
+        put_filled(out, names)?;
+    }
+    put(out, &["};\n"])
 }
 
 /// What definitions name of others: modules, and names in them.

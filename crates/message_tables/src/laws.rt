@@ -4,13 +4,15 @@
 //! They hold the structures whose parts all come once, and are leaves, constants or such structures.
 
 use crate::code::{Side, definitions_of, snake, value_name, value_of};
-use crate::fill::{Holes, Imports, fill, filled, joined, put, put_imports};
+use crate::fill::{Holes, Imports, fill, filled, hole, joined, put, put_imports, text_if};
 use crate::kinds::Leaf;
 use crate::table::{Link, MessageType, Part, PartKind, Table, TypeKind, Values};
 use crate::templates;
 use std::alloc::{AllocError, Global};
 
 const LEMMAS: &str = "Rattle.kmip_ttlv_laws.proofs.MessageParts";
+
+const DATES: &str = "use Rattle.kmip_ttlv.specs.MessageParts.{read_date, written_date}\n";
 
 // Whether a type is a message with a law.
 fn has_law(owner: &MessageType<'_>) -> bool {
@@ -169,41 +171,22 @@ fn words_of(
 ) -> Result<Holes, AllocError> {
     let link = &owner.link;
     let mut holes: Holes = Vec::new(alloc);
-    holes.push(("name", String::from_str(alloc, link.name)?))?;
+    hole(alloc, &mut holes, "name", link.name)?;
+    hole(alloc, &mut holes, "crate", table.crate_name)?;
+    hole(alloc, &mut holes, "definitions", link.module.definitions)?;
+    hole(alloc, &mut holes, "a", text_if(link.owns, " A"))?;
+    let is_dated = link.values == Values::Dated;
+    hole(alloc, &mut holes, "dates", text_if(is_dated, DATES))?;
+    let is_ranged = has_range(owner);
+    hole(alloc, &mut holes, "is", text_if(is_ranged, " is"))?;
+    let premise = joined(alloc, &["    → Is", link.name, " x\n"])?;
+    let premise = text_if(is_ranged, premise.as_str());
+    hole(alloc, &mut holes, "premise", premise)?;
     holes.push(("snake", snake(alloc, link.name)?))?;
-    holes.push(("crate", String::from_str(alloc, table.crate_name)?))?;
-    holes.push((
-        "definitions",
-        String::from_str(alloc, link.module.definitions)?,
-    ))?;
     holes.push(("named", definitions_of(alloc, owner)?))?;
-    holes.push((
-        "written",
-        value_of(alloc, link.name, link.values, Side::Written)?,
-    ))?;
+    let written = value_of(alloc, link.name, link.values, Side::Written)?;
+    holes.push(("written", written))?;
     holes.push(("read", value_of(alloc, link.name, link.values, Side::Read)?))?;
-    let dates = "use Rattle.kmip_ttlv.specs.MessageParts.{read_date, written_date}\n";
-    let dates = if link.values == Values::Dated {
-        dates
-    } else {
-        ""
-    };
-    holes.push(("dates", String::from_str(alloc, dates)?))?;
-    let ranged = has_range(owner);
-    let premise = if ranged {
-        joined(alloc, &["    → Is", link.name, " x\n"])?
-    } else {
-        String::new(alloc)
-    };
-    holes.push(("premise", premise))?;
-    holes.push((
-        "is",
-        String::from_str(alloc, if ranged { " is" } else { "" })?,
-    ))?;
-    holes.push((
-        "a",
-        String::from_str(alloc, if link.owns { " A" } else { "" })?,
-    ))?;
     Ok(holes)
 }
 
@@ -302,7 +285,7 @@ fn put_law_names(
 
 /// The file `specs/Laws.antt`.
 pub fn laws_text(alloc: Global, table: &Table<'_>) -> Result<String, AllocError> {
-    let head = "-- Messages that were written are read back equal.
+    let head = "-- What the bytes of messages are read back as.
 use Rattle.std.specs.Prelude.{◌≡◌, ◌↔◌, List, ℕ}
 use Rattle.kmip_ttlv.specs.Values.{Value}
 use Rattle.kmip_ttlv.specs.WriteAnswers.{IsWrittenAs}
@@ -324,10 +307,7 @@ fn put_dates(out: &mut String, table: &Table<'_>) -> Result<(), AllocError> {
     let dated = table.types.as_slice().iter().any(|owner| has_law(owner)
         && owner.link.values == Values::Dated);
     if dated {
-        put(
-            out,
-            &["use Rattle.kmip_ttlv.specs.MessageParts.{read_date, written_date}\n"],
-        )?;
+        out.push_str(DATES)?;
     }
     Ok(())
 }
@@ -437,36 +417,32 @@ fn leaf_line(alloc: Global, leaf: Leaf, at: &str, is: &str) -> Result<String, Al
     )
 }
 
+// The line of a part of another type.
+fn type_line(alloc: Global, link: &Link<'_>, at: &str, is: &str) -> Result<String, AllocError> {
+    if let Some((leaf, field)) = link.leaf {
+        let at = joined(alloc, &[at, ".", field])?;
+        return leaf_line(alloc, leaf, at.as_str(), is);
+    }
+    let lemma = snake(alloc, link.name)?;
+    let lemma = lemma.as_str();
+    if link.is_ranged {
+        return joined(
+            alloc,
+            &["part_then refl refl (", lemma, "_agrees ", at, " ", is, ")"],
+        );
+    }
+    joined(
+        alloc,
+        &["part_then refl refl (", lemma, "_agrees ", at, ")"],
+    )
+}
+
 // The line of a part.
 fn part_line(alloc: Global, part: &Part<'_>, is: &str) -> Result<String, AllocError> {
     let at = joined(alloc, &["x.", part.name])?;
     match part.kind {
         PartKind::Leaf(leaf) => leaf_line(alloc, leaf, at.as_str(), is),
-        PartKind::Type(link) => match link.leaf {
-            Some((leaf, field)) => {
-                let at = joined(alloc, &[at.as_str(), ".", field])?;
-                leaf_line(alloc, leaf, at.as_str(), is)
-            }
-            None => {
-                let lemma = snake(alloc, link.name)?;
-                let is = if link.is_ranged {
-                    joined(alloc, &[" ", is])?
-                } else {
-                    String::new(alloc)
-                };
-                joined(
-                    alloc,
-                    &[
-                        "part_then refl refl (",
-                        lemma.as_str(),
-                        "_agrees ",
-                        at.as_str(),
-                        is.as_str(),
-                        ")",
-                    ],
-                )
-            }
-        },
+        PartKind::Type(link) => type_line(alloc, &link, at.as_str(), is),
         PartKind::Constant(number) => joined(
             alloc,
             &[
@@ -520,11 +496,7 @@ fn put_unfolded(
 // What a lemma says of which values.
 fn put_subject(alloc: Global, out: &mut String, owner: &MessageType<'_>) -> Result<(), AllocError> {
     let snake = snake(alloc, owner.link.name)?;
-    out.push_str("\n")?;
-    if owner.kind == TypeKind::Message {
-        out.push_str("pub ")?;
-    }
-    put(out, &[snake.as_str(), "_agrees :"])?;
+    put(out, &["\npub ", snake.as_str(), "_agrees :"])?;
     if owner.link.owns {
         put(out, &[" {A : Type 0} (x : ", owner.link.name, " A)"])?;
     } else {

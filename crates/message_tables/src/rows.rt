@@ -3,8 +3,11 @@
 //! A row is a line. One that is empty or begins with `#` says nothing; one that begins with a space is a part of the
 //! type before it; any other begins with `crate`, `module`, `structure`, `message`, `leaf`, `enumeration` or `by_hand`.
 
+ghost use Rattle.std.specs.Prelude.{IfOk, OnOk};
+ghost use Rattle.message_tables.specs.Faults.{AreInOrder, Tells};
+
 use crate::fault::{Fault, FaultKind, RowError};
-use crate::kinds::leaf_called;
+use crate::kinds::{Leaf, leaf_called};
 use crate::table::{Count, Link, MessageType, Module, Part, PartKind, Table, TypeKind, Values};
 use crate::words::Columns;
 use std::alloc::{AllocError, Global};
@@ -230,6 +233,43 @@ fn count_of(columns: &mut Columns<'_>) -> Count {
     count
 }
 
+// What stands behind a leaf's kind: `TAG What it is for.`
+fn leaf_part<'t>(
+    name: &'t str,
+    count: Count,
+    leaf: Leaf,
+    columns: &mut Columns<'t>,
+) -> Result<Part<'t>, FaultKind> {
+    if count == Count::Several || (count == Count::Optional && !leaf.is_told_absent) {
+        return Err(FaultKind::BadCount);
+    }
+    Ok(Part {
+        name,
+        tag: columns.digits(TAG)?,
+        count,
+        kind: PartKind::Leaf(leaf),
+        doc: columns.doc()?,
+    })
+}
+
+// What stands behind `constant`: `TAG NUMBER`
+fn constant_part<'t>(
+    name: &'t str,
+    count: Count,
+    columns: &mut Columns<'t>,
+) -> Result<Part<'t>, FaultKind> {
+    if count != Count::One {
+        return Err(FaultKind::BadCount);
+    }
+    Ok(Part {
+        name,
+        tag: columns.digits(TAG)?,
+        count,
+        kind: PartKind::Constant(columns.digits(NUMBER)?),
+        doc: columns.rest(),
+    })
+}
+
 // `NAME [optional] KIND TAG What it is for.`, `NAME [optional|several] TYPE What it is for.` or
 // `NAME constant TAG NUMBER`, in a structure.
 fn structure_part<'t>(
@@ -240,28 +280,10 @@ fn structure_part<'t>(
     let count = count_of(columns);
     let word = columns.word()?;
     if let Some(leaf) = leaf_called(word) {
-        if count == Count::Several || (count == Count::Optional && !leaf.is_told_absent) {
-            return Err(FaultKind::BadCount);
-        }
-        return Ok(Part {
-            name,
-            tag: columns.digits(TAG)?,
-            count,
-            kind: PartKind::Leaf(leaf),
-            doc: columns.doc()?,
-        });
+        return leaf_part(name, count, leaf, columns);
     }
     if word == "constant" {
-        if count != Count::One {
-            return Err(FaultKind::BadCount);
-        }
-        return Ok(Part {
-            name,
-            tag: columns.digits(TAG)?,
-            count,
-            kind: PartKind::Constant(columns.digits(NUMBER)?),
-            doc: columns.rest(),
-        });
+        return constant_part(name, count, columns);
     }
     let Some(link) = type_called(types, word) else {
         return Err(FaultKind::UnknownKind);
@@ -342,6 +364,24 @@ fn without_part(types: &[MessageType<'_>]) -> Option<usize> {
     None
 }
 
+// Adds to the faults, where there are none, the first type that has no part.
+#[tactic(auto, using(crate::proofs::Told::one_told))]
+fn tell_no_part(types: &[MessageType<'_>], faults: &mut Vec<Fault>) -> Result<(), AllocError>
+    ensures { OnOk result (AreInOrder faults.old.items → AreInOrder faults.new.items) }
+{
+    if !faults.is_empty() {
+        return Ok(());
+    }
+    let Some(line) = without_part(types) else {
+        return Ok(());
+    };
+    let kind = FaultKind::NoPart;
+    match faults.push(Fault { line, kind }) {
+        Ok(()) => Ok(()),
+        Err(_) => Err(AllocError),
+    }
+}
+
 // Adds what a row says, or what is wrong with it to the faults.
 fn read_row<'t>(
     alloc: Global,
@@ -349,7 +389,9 @@ fn read_row<'t>(
     faults: &mut Vec<Fault>,
     line: usize,
     row: &'t str,
-) -> Result<(), AllocError> {
+) -> Result<(), AllocError>
+    ensures { OnOk result (Tells faults.old.items faults.new.items line) }
+{
     match add_row(alloc, table, line, row) {
         Ok(()) => Ok(()),
         Err(RowError::OutOfMemory) => Err(AllocError),
@@ -363,7 +405,9 @@ fn read_row<'t>(
 /// What a table says, and what is wrong with its rows, line by line.
 ///
 /// AllocError where memory is refused.
-pub fn read_table(alloc: Global, text: &str) -> Result<(Table<'_>, Vec<Fault>), AllocError> {
+pub fn read_table(alloc: Global, text: &str) -> Result<(Table<'_>, Vec<Fault>), AllocError>
+    ensures { IfOk result (λ read. AreInOrder read.1.items) }
+{
     let mut table = Table {
         crate_name: "",
         modules: Vec::new(alloc),
@@ -378,14 +422,6 @@ pub fn read_table(alloc: Global, text: &str) -> Result<(Table<'_>, Vec<Fault>), 
         line += 1;
     }
     read_row(alloc, &mut table, &mut faults, line, rest)?;
-    if faults.is_empty() {
-        if let Some(line) = without_part(table.types.as_slice()) {
-            let kind = FaultKind::NoPart;
-            match faults.push(Fault { line, kind }) {
-                Ok(()) => {}
-                Err(_) => return Err(AllocError),
-            }
-        }
-    }
+    tell_no_part(table.types.as_slice(), &mut faults)?;
     Ok((table, faults))
 }

@@ -69,13 +69,18 @@ pub const SHAPE_STRUCT_END: &str = "        Ok(shapes::structure(\"0x$tag$\", fi
 pub const FROM_DATA: &str = "    }
 
     #[tactic(auto, unfolding(crate::specs::$definitions$::$opened_read$))]
-    fn from_data($alloc$: A, value: &Data<A>) -> Result<Self, AllocError> {
+    fn from_data($alloc$: A, value: &mut Data<A>) -> Result<Self, AllocError> {
 ";
 
-/// The same of a leaf, whose value every proof sees.
+/// What moves the parts out of a structure.
+pub const PARTS: &str = "        let mut parts = reading::parts::<Self, A>(value);
+";
+
+/// What takes a leaf, whose value every proof sees, up to what its newtype holds.
 pub const FROM_DATA_LEAF: &str = "    }
 
-    fn from_data($alloc$: A, value: &Data<A>) -> Result<Self, AllocError> {
+    fn from_data($alloc$: A, value: &mut Data<A>) -> Result<Self, AllocError> {
+        let value = mem::replace(value, Data::None);
 ";
 
 /// What ends a type.
@@ -106,24 +111,33 @@ const $screaming$: [(&str, $name$); $count$] = [
 pub const NUMBER: &str = "    (\"0x$number$\", $owner$::$name$),
 ";
 
-/// How an Enumeration is told, up to its variants.
-pub const SERIALIZE_ENUM: &str = "];
+/// What answers the number of a variant, up to the variants.
+pub const NUMBERED: &str = "];
+
+impl $name$ {
+    // Its number.
+    fn number(self) -> &'static str
+        ensures { result.now ≡ $snake$_number self }
+    {
+        match self {
+";
+
+/// The number of a variant.
+pub const VARIANT_NUMBER: &str = "            $owner$::$name$ => \"0x$number$\",
+";
+
+/// How an Enumeration is told.
+pub const SERIALIZE_ENUM: &str = "        }
+    }
+}
 
 impl Serialize for $name$ {
     ghost stated = { $written$ };
 
     #[tactic(auto, unfolding(crate::specs::$definitions$::$opened_written$))]
     fn visit<V: Visitor>(&self, visitor: &mut V) -> Result<(), AllocError> {
-        match self {
-";
-
-/// What tells a variant.
-pub const TELL_VARIANT: &str =
-    "            $owner$::$name$ => writing::unit_variant(visitor, \"0x$tag$\", \"0x$number$\"),
-";
-
-/// What stands behind the variants.
-pub const MATCH_END: &str = "        }
+        writing::unit_variant(visitor, \"0x$tag$\", self.number())?;
+        Ok(())
 ";
 
 /// The shape of an Enumeration.
@@ -136,7 +150,8 @@ pub const TAKE_ENUM: &str = "        Ok(choices::unit::<Self, A>(value, &$scream
 
 /// The law of a message, as a function of `src/laws.rt`.
 pub const LAW: &str = "
-/// What was written of a `$name$` is read back as an equal one, whatever stands behind it.
+/// The bytes of a `$name$` begin with the value that it is read from and with no other,
+/// whatever stands behind them.
 pub fn $snake$s_come_back<A: Allocator>()
     ensures { $name$sComeBack A }
 {
