@@ -1,40 +1,40 @@
--- What requests and responses begin with: forms and values.
-use Rattle.std.specs.Prelude.{codes, false, ℤ}
-use Rattle.kmip_ttlv.specs.Values.{Value, i32_value, newtype_value, no_values, struct_value, value}
+-- Forms and values of the types in `header`.
 use Rattle.kmip_ttlv.specs.Forms.{Form, field, int32, int64, newtype, no_fields, struct}
+use Rattle.kmip_ttlv.specs.Values.{Value, i32_value, newtype_value, no_values, struct_value, value}
+use Rattle.std.specs.Prelude.{codes, false, ℤ}
 use Rattle.get_messages.specs.declared.header.ProtocolVersion.{ProtocolVersion}
 use Rattle.get_messages.specs.declared.header.RequestHeader.{RequestHeader}
 use Rattle.get_messages.specs.declared.header.ResponseHeader.{ResponseHeader}
 
--- the form of a version
+-- the form of a `ProtocolVersion`
 abbrev pub protocol_version_form : Form
 protocol_version_form =
     struct (codes "0x420069") (
     field (codes "0x42006A") (newtype (codes "Transparent:0x42006A") int32) (
     field (codes "0x42006B") (newtype (codes "Transparent:0x42006B") int32) no_fields)) false
 
--- the value of a version
+-- the value of a `ProtocolVersion`
 unfoldable pub protocol_version_value : ProtocolVersion → Value
 protocol_version_value x =
     struct_value (codes "0x420069") (
     value (newtype_value (codes "Transparent:0x42006A") (i32_value x.major)) (
     value (newtype_value (codes "Transparent:0x42006B") (i32_value x.minor)) no_values))
 
--- the form of a request's header
+-- the form of a `RequestHeader`
 abbrev pub request_header_form : Form
 request_header_form =
     struct (codes "0x420077") (
     field (codes "0x420069") protocol_version_form (
     field (codes "0x42000D") (newtype (codes "Transparent:0x42000D") int32) no_fields)) false
 
--- the value of a request's header
+-- the value of a `RequestHeader`
 unfoldable pub request_header_value : RequestHeader → Value
 request_header_value x =
     struct_value (codes "0x420077") (
     value (protocol_version_value x.version) (
     value (newtype_value (codes "Transparent:0x42000D") (i32_value x.batch_count)) no_values))
 
--- the form of a response's header
+-- the form of a `ResponseHeader`
 abbrev pub response_header_form : Form
 response_header_form =
     struct (codes "0x42007A") (
@@ -42,7 +42,7 @@ response_header_form =
     field (codes "0x420092") (newtype (codes "Transparent:0x420092") int64) (
     field (codes "0x42000D") (newtype (codes "Transparent:0x42000D") int32) no_fields))) false
 
--- the value of a response's header; a date is written and read as this says
+-- the value of a `ResponseHeader`; a date is written and read as this says
 unfoldable pub response_header_value : (ℤ → Value) → ResponseHeader → Value
 response_header_value date x =
     struct_value (codes "0x42007A") (

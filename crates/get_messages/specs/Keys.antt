@@ -1,47 +1,44 @@
--- A symmetric key: forms and values.
-use Rattle.std.specs.Prelude.{codes, false}
-use Rattle.kmip_ttlv.specs.Values.{Value, Values, bytes_value, i32_value, newtype_value, no_values, struct_value}
+-- Forms and values of the types in `key`.
+use Rattle.kmip_ttlv.specs.Forms.{Form, enum, field, int32, newtype, no_fields, no_variants, octets, struct, unit}
+use Rattle.kmip_ttlv.specs.Forms.{variant}
+use Rattle.kmip_ttlv.specs.Values.{Value, bytes_value, i32_value, newtype_value, no_values, struct_value}
 use Rattle.kmip_ttlv.specs.Values.{unit_variant_value, value}
-use Rattle.kmip_ttlv.specs.Forms.{Form, enum, field, int32, newtype, no_fields, no_variants, octets, struct}
-use Rattle.kmip_ttlv.specs.Forms.{unit, variant}
-use Rattle.get_messages.specs.declared.key.KeyLength.{KeyLength}
+use Rattle.std.specs.Prelude.{codes, false}
 use Rattle.get_messages.specs.declared.key.KeyValue.{KeyValue}
+use Rattle.get_messages.specs.declared.key.KeyLength.{KeyLength}
 use Rattle.get_messages.specs.declared.key.KeyBlock.{KeyBlock}
 use Rattle.get_messages.specs.declared.key.SymmetricKey.{SymmetricKey}
 
--- the form of a key's value
+-- the form of a `KeyValue`
 abbrev pub key_value_form : Form
 key_value_form =
     struct (codes "0x420045") (
     field (codes "0x420043") (newtype (codes "Transparent:0x420043") octets) no_fields) false
 
--- the value of a key's value
+-- the value of a `KeyValue`
 unfoldable pub key_value_value : {A : Type 0} → KeyValue A → Value
 key_value_value x =
     struct_value (codes "0x420045") (
     value (newtype_value (codes "Transparent:0x420043") (bytes_value x.key_material.items)) no_values)
 
--- the form of a key
+-- the form of a `KeyLength`
+abbrev pub key_length_form : Form
+key_length_form = (newtype (codes "Transparent:0x42002A") int32)
+
+-- the value of a `KeyLength`
+abbrev pub key_length_value : KeyLength → Value
+key_length_value x = newtype_value (codes "Transparent:0x42002A") (i32_value x.bits)
+
+-- the form of a `KeyBlock`
 abbrev pub key_block_form : Form
 key_block_form =
     struct (codes "0x420040") (
     field (codes "0x420042") (enum (codes "0x420042") (variant (codes "0x00000001") unit no_variants)) (
     field (codes "0x420045") key_value_form (
     field (codes "0x420028") (enum (codes "0x420028") (variant (codes "0x00000003") unit no_variants)) (
-    field (codes "0x42002A") (newtype (codes "Transparent:0x42002A") int32) no_fields)))) false
+    field (codes "0x42002A") key_length_form no_fields)))) false
 
--- the length of a key
-abbrev pub key_length_value : KeyLength → Value
-key_length_value x = newtype_value (codes "Transparent:0x42002A") (i32_value x.bits)
-
--- the format, the value and the algorithm of a raw AES key
-abbrev pub raw_aes_values : {A : Type 0} → KeyValue A → Values
-raw_aes_values x =
-    value (unit_variant_value (codes "0x420042") (codes "0x00000001")) (
-    value (key_value_value x) (
-    value (unit_variant_value (codes "0x420028") (codes "0x00000003")) no_values))
-
--- the value of a key
+-- the value of a `KeyBlock`
 unfoldable pub key_block_value : {A : Type 0} → KeyBlock A → Value
 key_block_value x =
     struct_value (codes "0x420040") (
@@ -50,13 +47,13 @@ key_block_value x =
     value (unit_variant_value (codes "0x420028") (codes "0x00000003")) (
     value (key_length_value x.cryptographic_length) no_values))))
 
--- the form of a symmetric key
+-- the form of a `SymmetricKey`
 abbrev pub symmetric_key_form : Form
 symmetric_key_form =
     struct (codes "0x42008F") (
     field (codes "0x420040") key_block_form no_fields) false
 
--- the value of a symmetric key
+-- the value of a `SymmetricKey`
 unfoldable pub symmetric_key_value : {A : Type 0} → SymmetricKey A → Value
 symmetric_key_value x =
     struct_value (codes "0x42008F") (

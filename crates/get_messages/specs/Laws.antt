@@ -5,12 +5,13 @@ use Rattle.kmip_ttlv.specs.WriteAnswers.{IsWrittenAs}
 use Rattle.kmip_ttlv.specs.Reads.{Begins}
 use Rattle.kmip_ttlv.specs.MessageParts.{read_date, written_date}
 use Rattle.get_messages.specs.Requests.{get_request_form, get_request_value}
-use Rattle.get_messages.specs.Responses.{get_response_form, get_response_value}
-use Rattle.get_messages.specs.Ranges.{IsGetRequest, IsGetResponse}
+use Rattle.get_messages.specs.Ranges.{IsGetRequest}
 use Rattle.get_messages.specs.declared.request.GetRequest.{GetRequest}
+use Rattle.get_messages.specs.Responses.{get_response_form, get_response_value}
+use Rattle.get_messages.specs.Ranges.{IsGetResponse}
 use Rattle.get_messages.specs.declared.response.GetResponse.{GetResponse}
 
--- the bytes of a request, behind any others, begin by its form with its own value and with no other
+-- the bytes of a `GetRequest`, behind any others, begin by its form with its own value and with no other
 abbrev pub GetRequestsComeBack : Type 0 → Type 0
 GetRequestsComeBack A =
     (x : GetRequest A) (n : ℕ) (written : List ℕ) (v : Value)
@@ -18,7 +19,7 @@ GetRequestsComeBack A =
     → IsWrittenAs (get_request_value x) n written
     → Begins get_request_form written v ↔ (v ≡ get_request_value x)
 
--- the same of a response
+-- the bytes of a `GetResponse`, behind any others, begin by its form with its own value and with no other
 abbrev pub GetResponsesComeBack : Type 0 → Type 0
 GetResponsesComeBack A =
     (x : GetResponse A) (n : ℕ) (written : List ℕ) (v : Value)

@@ -1,32 +1,77 @@
--- What each value of a message's Rust type is known to be: its numbers fit their types, and its texts are UTF-8.
-use Rattle.std.specs.Prelude.{◌≡◌, true, FitsSigned, string_bytes}
+-- What each value of a type is known to be.
 use Rattle.std.specs.Int.{w32, w64}
+use Rattle.std.specs.Prelude.{FitsSigned, string_bytes, true, ◌≡◌}
 use Rattle.std.specs.Str.{is_utf8}
 use Rattle.get_messages.specs.declared.header.ProtocolVersion.{ProtocolVersion}
 use Rattle.get_messages.specs.declared.header.RequestHeader.{RequestHeader}
 use Rattle.get_messages.specs.declared.header.ResponseHeader.{ResponseHeader}
+use Rattle.get_messages.specs.declared.key.KeyBlock.{KeyBlock}
+use Rattle.get_messages.specs.declared.key.SymmetricKey.{SymmetricKey}
+use Rattle.get_messages.specs.declared.request.GetRequestPayload.{GetRequestPayload}
+use Rattle.get_messages.specs.declared.request.GetRequestItem.{GetRequestItem}
 use Rattle.get_messages.specs.declared.request.GetRequest.{GetRequest}
+use Rattle.get_messages.specs.declared.response.GetResponsePayload.{GetResponsePayload}
+use Rattle.get_messages.specs.declared.response.GetResponseItem.{GetResponseItem}
 use Rattle.get_messages.specs.declared.response.GetResponse.{GetResponse}
 
--- a version's numbers
-abbrev pub IsVersion : ProtocolVersion → Type 0
-IsVersion x = FitsSigned w32 x.major × FitsSigned w32 x.minor
+-- what is known of each `ProtocolVersion`
+abbrev pub IsProtocolVersion : ProtocolVersion → Type 0
+IsProtocolVersion x =
+    FitsSigned w32 x.major
+    × FitsSigned w32 x.minor
 
--- the numbers of a request's header
+-- what is known of each `RequestHeader`
 abbrev pub IsRequestHeader : RequestHeader → Type 0
-IsRequestHeader x = IsVersion x.version × FitsSigned w32 x.batch_count
+IsRequestHeader x =
+    IsProtocolVersion x.version
+    × FitsSigned w32 x.batch_count
 
--- the numbers of a response's header
+-- what is known of each `ResponseHeader`
 abbrev pub IsResponseHeader : ResponseHeader → Type 0
-IsResponseHeader x = IsVersion x.version × FitsSigned w64 x.time_stamp × FitsSigned w32 x.batch_count
+IsResponseHeader x =
+    IsProtocolVersion x.version
+    × FitsSigned w64 x.time_stamp
+    × FitsSigned w32 x.batch_count
 
--- the numbers and the identifier of a request
+-- what is known of each `KeyBlock`
+abbrev pub IsKeyBlock : {A : Type 0} → KeyBlock A → Type 0
+IsKeyBlock x =
+    FitsSigned w32 x.cryptographic_length.bits
+
+-- what is known of each `SymmetricKey`
+abbrev pub IsSymmetricKey : {A : Type 0} → SymmetricKey A → Type 0
+IsSymmetricKey x =
+    IsKeyBlock x.key_block
+
+-- what is known of each `GetRequestPayload`
+abbrev pub IsGetRequestPayload : {A : Type 0} → GetRequestPayload A → Type 0
+IsGetRequestPayload x =
+    (is_utf8 (string_bytes x.unique_identifier) ≡ true)
+
+-- what is known of each `GetRequestItem`
+abbrev pub IsGetRequestItem : {A : Type 0} → GetRequestItem A → Type 0
+IsGetRequestItem x =
+    IsGetRequestPayload x.payload
+
+-- what is known of each `GetRequest`
 abbrev pub IsGetRequest : {A : Type 0} → GetRequest A → Type 0
 IsGetRequest x =
-    IsRequestHeader x.header × (is_utf8 (string_bytes x.item.payload.unique_identifier) ≡ true)
+    IsRequestHeader x.header
+    × IsGetRequestItem x.item
 
--- the numbers and the identifier of a response
+-- what is known of each `GetResponsePayload`
+abbrev pub IsGetResponsePayload : {A : Type 0} → GetResponsePayload A → Type 0
+IsGetResponsePayload x =
+    (is_utf8 (string_bytes x.unique_identifier) ≡ true)
+    × IsSymmetricKey x.symmetric_key
+
+-- what is known of each `GetResponseItem`
+abbrev pub IsGetResponseItem : {A : Type 0} → GetResponseItem A → Type 0
+IsGetResponseItem x =
+    IsGetResponsePayload x.payload
+
+-- what is known of each `GetResponse`
 abbrev pub IsGetResponse : {A : Type 0} → GetResponse A → Type 0
 IsGetResponse x =
-    IsResponseHeader x.header × (is_utf8 (string_bytes x.item.payload.unique_identifier) ≡ true)
-    × FitsSigned w32 x.item.payload.symmetric_key.key_block.cryptographic_length.bits
+    IsResponseHeader x.header
+    × IsGetResponseItem x.item

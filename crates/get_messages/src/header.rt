@@ -51,9 +51,10 @@ impl<A: Allocator + Copy> Deserialize<A> for ProtocolVersion {
     }
 
     #[tactic(auto, unfolding(crate::specs::Headers::protocol_version_value))]
-    fn from_data(_alloc: A, value: &Data<A>) -> Result<ProtocolVersion, AllocError> {
-        let major = reading::integer::<Self, A>(value, 0, "Transparent:0x42006A");
-        let minor = reading::integer::<Self, A>(value, 1, "Transparent:0x42006B");
+    fn from_data(_alloc: A, value: &mut Data<A>) -> Result<Self, AllocError> {
+        let mut parts = reading::parts::<Self, A>(value);
+        let major = reading::integer::<Self, A>(&mut parts, 0, "Transparent:0x42006A");
+        let minor = reading::integer::<Self, A>(&mut parts, 1, "Transparent:0x42006B");
         Ok(ProtocolVersion { major, minor })
     }
 }
@@ -99,9 +100,10 @@ impl<A: Allocator + Copy> Deserialize<A> for RequestHeader {
     }
 
     #[tactic(auto, unfolding(crate::specs::Headers::request_header_value))]
-    fn from_data(alloc: A, value: &Data<A>) -> Result<RequestHeader, AllocError> {
-        let version = ProtocolVersion::from_data(alloc, reading::part::<Self, A>(value, 0))?;
-        let batch_count = reading::integer::<Self, A>(value, 1, "Transparent:0x42000D");
+    fn from_data(alloc: A, value: &mut Data<A>) -> Result<Self, AllocError> {
+        let mut parts = reading::parts::<Self, A>(value);
+        let version = reading::nested::<Self, ProtocolVersion, A>(alloc, &mut parts, 0)?;
+        let batch_count = reading::integer::<Self, A>(&mut parts, 1, "Transparent:0x42000D");
         Ok(RequestHeader {
             version,
             batch_count,
@@ -154,10 +156,11 @@ impl<A: Allocator + Copy> Deserialize<A> for ResponseHeader {
     }
 
     #[tactic(auto, unfolding(crate::specs::Headers::response_header_value))]
-    fn from_data(alloc: A, value: &Data<A>) -> Result<ResponseHeader, AllocError> {
-        let version = ProtocolVersion::from_data(alloc, reading::part::<Self, A>(value, 0))?;
-        let time_stamp = reading::date_time::<Self, A>(value, 1, "Transparent:0x420092");
-        let batch_count = reading::integer::<Self, A>(value, 2, "Transparent:0x42000D");
+    fn from_data(alloc: A, value: &mut Data<A>) -> Result<Self, AllocError> {
+        let mut parts = reading::parts::<Self, A>(value);
+        let version = reading::nested::<Self, ProtocolVersion, A>(alloc, &mut parts, 0)?;
+        let time_stamp = reading::date_time::<Self, A>(&mut parts, 1, "Transparent:0x420092");
+        let batch_count = reading::integer::<Self, A>(&mut parts, 2, "Transparent:0x42000D");
         Ok(ResponseHeader {
             version,
             time_stamp,

@@ -1,14 +1,14 @@
 //! A symmetric key as an object (KMIP 1.0, sections 2.1.3, 2.1.4 and 2.2.2).
 
-ghost use Rattle.std.specs.Prelude.{◌≡◌, OnErr, OnOk};
-ghost use Rattle.kmip_ttlv.specs.Visits.{TellsEach};
-ghost use Rattle.get_messages.specs.Keys.{raw_aes_values, key_length_value, key_value_form, key_value_value, key_block_form, key_block_value, symmetric_key_form, symmetric_key_value};
+ghost use Rattle.std.specs.Prelude.{◌≡◌};
+ghost use Rattle.get_messages.specs.Keys.{key_value_form, key_value_value, key_length_form, key_length_value, key_block_form, key_block_value, symmetric_key_form, symmetric_key_value};
 
 use kmip_ttlv::messages::reading::Readable;
-use kmip_ttlv::messages::{reading, shapes, writing};
+use kmip_ttlv::messages::{leaves, reading, shapes, writing};
 use kmip_ttlv::shape::{Data, Deserialize, Serialize, Shape};
 use kmip_ttlv::visit::Visitor;
 use std::alloc::{AllocError, Allocator, Global};
+use std::mem;
 
 /// The value of a key in raw form.
 #[derive(Drop)]
@@ -52,22 +52,17 @@ impl<A: Allocator + Copy> Deserialize<A> for KeyValue<A> {
     }
 
     #[tactic(auto, unfolding(crate::specs::Keys::key_value_value))]
-    fn from_data(alloc: A, value: &Data<A>) -> Result<KeyValue<A>, AllocError> {
-        let key_material = reading::byte_string::<Self, A>(
-            alloc,
-            value,
-            0,
-            "Transparent:0x420043",
-        )?;
+    fn from_data(_alloc: A, value: &mut Data<A>) -> Result<Self, AllocError> {
+        let mut parts = reading::parts::<Self, A>(value);
+        let key_material = reading::byte_string::<Self, A>(&mut parts, 0, "Transparent:0x420043");
         Ok(KeyValue { key_material })
     }
 }
 
-/// The length of a key. It is a type of its own, since the prover knows the range of a number in a type that owns no
-/// memory, and not in one that does, as `KeyBlock`.
+/// The length of a key, in bits.
 #[derive(Clone, Copy, Debug, PartialEq, Eq)]
 pub struct KeyLength {
-    /// Bits.
+    /// What it holds.
     pub bits: i32,
 }
 
@@ -77,6 +72,29 @@ impl Serialize for KeyLength {
     fn visit<V: Visitor>(&self, visitor: &mut V) -> Result<(), AllocError> {
         writing::integer(visitor, "Transparent:0x42002A", self.bits)?;
         Ok(())
+    }
+}
+
+impl Readable for KeyLength {
+    ghost read_by = { key_length_form };
+
+    ghost read_as = { key_length_value };
+}
+
+impl<A: Allocator + Copy> Deserialize<A> for KeyLength {
+    ghost form = { key_length_form };
+
+    ghost is_value = { λ v x. v ≡ key_length_value x };
+
+    fn shape(alloc: A) -> Result<Shape<A>, AllocError> {
+        let field = shapes::integer(alloc, "0x42002A", "Transparent:0x42002A")?;
+        Ok(field.shape)
+    }
+
+    fn from_data(_alloc: A, value: &mut Data<A>) -> Result<Self, AllocError> {
+        let value = mem::replace(value, Data::None);
+        let bits = leaves::integer(value, "Transparent:0x42002A");
+        Ok(KeyLength { bits })
     }
 }
 
@@ -90,25 +108,15 @@ pub struct KeyBlock<A: Allocator = Global> {
     pub cryptographic_length: KeyLength,
 }
 
-// The format, the value and the algorithm of a raw AES key. Apart, so that the proof of `visit` has few steps.
-#[inline]
-fn raw_aes<V: Visitor, B: Allocator>(visitor: &mut V, key: &KeyValue<B>) -> Result<(), AllocError>
-    ensures told { OnOk result (TellsEach V.knows V.step (raw_aes_values key.now) visitor.old visitor.new) }
-    ensures stopped { OnErr result (V.stopped visitor.new) }
-{
-    writing::unit_variant(visitor, "0x420042", "0x00000001")?;
-    key.visit(visitor)?;
-    writing::unit_variant(visitor, "0x420028", "0x00000003")?;
-    Ok(())
-}
-
 impl<B: Allocator> Serialize for KeyBlock<B> {
     ghost stated = { key_block_value };
 
     #[tactic(auto, unfolding(crate::specs::Keys::key_block_value))]
     fn visit<V: Visitor>(&self, visitor: &mut V) -> Result<(), AllocError> {
         writing::begin_struct(visitor, "0x420040")?;
-        raw_aes(visitor, &self.key_value)?;
+        writing::unit_variant(visitor, "0x420042", "0x00000001")?;
+        self.key_value.visit(visitor)?;
+        writing::unit_variant(visitor, "0x420028", "0x00000003")?;
         self.cryptographic_length.visit(visitor)?;
         writing::end_struct(visitor, "0x420040")?;
         Ok(())
@@ -131,17 +139,17 @@ impl<A: Allocator + Copy> Deserialize<A> for KeyBlock<A> {
         fields.push(shapes::constant(alloc, "0x420042", "0x00000001")?)?;
         fields.push(shapes::field("0x420045", KeyValue::<A>::shape(alloc)?))?;
         fields.push(shapes::constant(alloc, "0x420028", "0x00000003")?)?;
-        fields.push(shapes::integer(alloc, "0x42002A", "Transparent:0x42002A")?)?;
+        fields.push(shapes::field("0x42002A", KeyLength::shape(alloc)?))?;
         Ok(shapes::structure("0x420040", fields))
     }
 
     #[tactic(auto, unfolding(crate::specs::Keys::key_block_value))]
-    fn from_data(alloc: A, value: &Data<A>) -> Result<KeyBlock<A>, AllocError> {
-        reading::constant::<Self, A>(value, 0, "0x420042", "0x00000001");
-        let key_value = KeyValue::from_data(alloc, reading::part::<Self, A>(value, 1))?;
-        reading::constant::<Self, A>(value, 2, "0x420028", "0x00000003");
-        let bits = reading::integer::<Self, A>(value, 3, "Transparent:0x42002A");
-        let cryptographic_length = KeyLength { bits };
+    fn from_data(alloc: A, value: &mut Data<A>) -> Result<Self, AllocError> {
+        let mut parts = reading::parts::<Self, A>(value);
+        reading::constant::<Self, A>(&mut parts, 0, "0x420042", "0x00000001");
+        let key_value = reading::nested::<Self, KeyValue<A>, A>(alloc, &mut parts, 1)?;
+        reading::constant::<Self, A>(&mut parts, 2, "0x420028", "0x00000003");
+        let cryptographic_length = reading::nested::<Self, KeyLength, A>(alloc, &mut parts, 3)?;
         Ok(KeyBlock {
             key_value,
             cryptographic_length,
@@ -187,8 +195,9 @@ impl<A: Allocator + Copy> Deserialize<A> for SymmetricKey<A> {
     }
 
     #[tactic(auto, unfolding(crate::specs::Keys::symmetric_key_value))]
-    fn from_data(alloc: A, value: &Data<A>) -> Result<SymmetricKey<A>, AllocError> {
-        let key_block = KeyBlock::from_data(alloc, reading::part::<Self, A>(value, 0))?;
+    fn from_data(alloc: A, value: &mut Data<A>) -> Result<Self, AllocError> {
+        let mut parts = reading::parts::<Self, A>(value);
+        let key_block = reading::nested::<Self, KeyBlock<A>, A>(alloc, &mut parts, 0)?;
         Ok(SymmetricKey { key_block })
     }
 }

@@ -5,7 +5,7 @@ ghost use Rattle.get_messages.specs.Laws.{GetRequestsComeBack, GetResponsesComeB
 use kmip_ttlv::laws::agreeing_values_come_back;
 use std::alloc::Allocator;
 
-/// The bytes of a request begin, by its form, with the value that it is read from and with no other,
+/// The bytes of a `GetRequest` begin with the value that it is read from and with no other,
 /// whatever stands behind them.
 pub fn get_requests_come_back<A: Allocator>()
     ensures { GetRequestsComeBack A }
@@ -13,7 +13,8 @@ pub fn get_requests_come_back<A: Allocator>()
     agreeing_values_come_back();
 }
 
-/// The same of a response.
+/// The bytes of a `GetResponse` begin with the value that it is read from and with no other,
+/// whatever stands behind them.
 pub fn get_responses_come_back<A: Allocator>()
     ensures { GetResponsesComeBack A }
 {

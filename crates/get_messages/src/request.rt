@@ -52,13 +52,13 @@ impl<A: Allocator + Copy> Deserialize<A> for GetRequestPayload<A> {
     }
 
     #[tactic(auto, unfolding(crate::specs::Requests::get_request_payload_value))]
-    fn from_data(alloc: A, value: &Data<A>) -> Result<GetRequestPayload<A>, AllocError> {
+    fn from_data(_alloc: A, value: &mut Data<A>) -> Result<Self, AllocError> {
+        let mut parts = reading::parts::<Self, A>(value);
         let unique_identifier = reading::text_string::<Self, A>(
-            alloc,
-            value,
+            &mut parts,
             0,
             "Transparent:0x420094",
-        )?;
+        );
         Ok(GetRequestPayload { unique_identifier })
     }
 }
@@ -103,9 +103,10 @@ impl<A: Allocator + Copy> Deserialize<A> for GetRequestItem<A> {
     }
 
     #[tactic(auto, unfolding(crate::specs::Requests::get_request_item_value))]
-    fn from_data(alloc: A, value: &Data<A>) -> Result<GetRequestItem<A>, AllocError> {
-        reading::constant::<Self, A>(value, 0, "0x42005C", "0x0000000A");
-        let payload = GetRequestPayload::from_data(alloc, reading::part::<Self, A>(value, 1))?;
+    fn from_data(alloc: A, value: &mut Data<A>) -> Result<Self, AllocError> {
+        let mut parts = reading::parts::<Self, A>(value);
+        reading::constant::<Self, A>(&mut parts, 0, "0x42005C", "0x0000000A");
+        let payload = reading::nested::<Self, GetRequestPayload<A>, A>(alloc, &mut parts, 1)?;
         Ok(GetRequestItem { payload })
     }
 }
@@ -152,9 +153,10 @@ impl<A: Allocator + Copy> Deserialize<A> for GetRequest<A> {
     }
 
     #[tactic(auto, unfolding(crate::specs::Requests::get_request_value))]
-    fn from_data(alloc: A, value: &Data<A>) -> Result<GetRequest<A>, AllocError> {
-        let header = RequestHeader::from_data(alloc, reading::part::<Self, A>(value, 0))?;
-        let item = GetRequestItem::from_data(alloc, reading::part::<Self, A>(value, 1))?;
+    fn from_data(alloc: A, value: &mut Data<A>) -> Result<Self, AllocError> {
+        let mut parts = reading::parts::<Self, A>(value);
+        let header = reading::nested::<Self, RequestHeader, A>(alloc, &mut parts, 0)?;
+        let item = reading::nested::<Self, GetRequestItem<A>, A>(alloc, &mut parts, 1)?;
         Ok(GetRequest { header, item })
     }
 }

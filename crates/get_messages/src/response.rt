@@ -60,15 +60,15 @@ impl<A: Allocator + Copy> Deserialize<A> for GetResponsePayload<A> {
     }
 
     #[tactic(auto, unfolding(crate::specs::Responses::get_response_payload_value))]
-    fn from_data(alloc: A, value: &Data<A>) -> Result<GetResponsePayload<A>, AllocError> {
-        reading::constant::<Self, A>(value, 0, "0x420057", "0x00000002");
+    fn from_data(alloc: A, value: &mut Data<A>) -> Result<Self, AllocError> {
+        let mut parts = reading::parts::<Self, A>(value);
+        reading::constant::<Self, A>(&mut parts, 0, "0x420057", "0x00000002");
         let unique_identifier = reading::text_string::<Self, A>(
-            alloc,
-            value,
+            &mut parts,
             1,
             "Transparent:0x420094",
-        )?;
-        let symmetric_key = SymmetricKey::from_data(alloc, reading::part::<Self, A>(value, 2))?;
+        );
+        let symmetric_key = reading::nested::<Self, SymmetricKey<A>, A>(alloc, &mut parts, 2)?;
         Ok(GetResponsePayload {
             unique_identifier,
             symmetric_key,
@@ -118,10 +118,11 @@ impl<A: Allocator + Copy> Deserialize<A> for GetResponseItem<A> {
     }
 
     #[tactic(auto, unfolding(crate::specs::Responses::get_response_item_value))]
-    fn from_data(alloc: A, value: &Data<A>) -> Result<GetResponseItem<A>, AllocError> {
-        reading::constant::<Self, A>(value, 0, "0x42005C", "0x0000000A");
-        reading::constant::<Self, A>(value, 1, "0x42007F", "0x00000000");
-        let payload = GetResponsePayload::from_data(alloc, reading::part::<Self, A>(value, 2))?;
+    fn from_data(alloc: A, value: &mut Data<A>) -> Result<Self, AllocError> {
+        let mut parts = reading::parts::<Self, A>(value);
+        reading::constant::<Self, A>(&mut parts, 0, "0x42005C", "0x0000000A");
+        reading::constant::<Self, A>(&mut parts, 1, "0x42007F", "0x00000000");
+        let payload = reading::nested::<Self, GetResponsePayload<A>, A>(alloc, &mut parts, 2)?;
         Ok(GetResponseItem { payload })
     }
 }
@@ -168,9 +169,10 @@ impl<A: Allocator + Copy> Deserialize<A> for GetResponse<A> {
     }
 
     #[tactic(auto, unfolding(crate::specs::Responses::get_response_value))]
-    fn from_data(alloc: A, value: &Data<A>) -> Result<GetResponse<A>, AllocError> {
-        let header = ResponseHeader::from_data(alloc, reading::part::<Self, A>(value, 0))?;
-        let item = GetResponseItem::from_data(alloc, reading::part::<Self, A>(value, 1))?;
+    fn from_data(alloc: A, value: &mut Data<A>) -> Result<Self, AllocError> {
+        let mut parts = reading::parts::<Self, A>(value);
+        let header = reading::nested::<Self, ResponseHeader, A>(alloc, &mut parts, 0)?;
+        let item = reading::nested::<Self, GetResponseItem<A>, A>(alloc, &mut parts, 1)?;
         Ok(GetResponse { header, item })
     }
 }
