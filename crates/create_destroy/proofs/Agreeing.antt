@@ -17,7 +17,7 @@ use Rattle.kmip_ttlv.specs.MessageParts.{read_date, sequence, written_date}
 use Rattle.kmip_ttlv_laws.proofs.MessageParts.{PartAgrees, PartsAgree, a_structure, constant_then, each_agrees, last_then, leaf_then, message, newtype_structure, nothing_left, part_then, sequence_part, structure, wrapped_leaf, wrapped_unit}
 use Rattle.kmip_ttlv_laws.proofs.MessageRules.{by_rules, in_any_case, kept_then, rule_then, silent_then, text_kept, unit_kept}
 use Rattle.get_messages.specs.Headers.{request_header_value, response_header_value}
-use Rattle.get_messages.proofs.Agreeing.{request_header, response_header}
+use Rattle.get_messages.proofs.Agreeing.{request_header_agrees, response_header_agrees}
 use Rattle.create_destroy.specs.Operations.{operation_value}
 use Rattle.create_destroy.specs.Attributes.{attribute_form, kind_value, read_attribute, read_attribute_value, read_template, template_form, written_attribute, written_attribute_value, written_template}
 use Rattle.create_destroy.specs.Requests.{create_form, create_value, destroy_form, destroy_value, read_request, read_request_item, read_request_payload, request_form, request_header_of, request_item_form, written_request, written_request_item, written_request_payload}
@@ -152,7 +152,7 @@ unfolding take_tag tag_of number transparent_name written_request read_request r
 request_agrees x is consistent =
     let items = recursion_from_All (λ i. IsAsked i.payload × IsConsistentItem i) x.items.items (λ k d l. (is.3 k d l, consistent.1 k d l)) in
     message (structure refl refl (
-    part_then refl refl (request_header (request_header_of x.major x.minor x.batch_count) ((is.0, is.1), is.2)) (
+    part_then refl refl (request_header_agrees (request_header_of x.major x.minor x.batch_count) ((is.0, is.1), is.2)) (
     last_then refl (
     sequence_part written_request_item read_request_item x.items.items consistent.0 (each_agrees request_item (λ i. refl) x.items.items items)))))
 
@@ -205,6 +205,6 @@ unfolding take_tag tag_of number transparent_name written_response read_response
 response_agrees x is consistent =
     let items = recursion_from_All (λ i. IsAnswered i.payload × IsConsistentAnswer i) x.items.items (λ k d l. (is.4 k d l, consistent.1 k d l)) in
     message (structure refl refl (
-    part_then refl refl (response_header (response_header_of x.major x.minor x.timestamp x.batch_count) ((is.0, is.1), is.2, is.3)) (
+    part_then refl refl (response_header_agrees (response_header_of x.major x.minor x.timestamp x.batch_count) ((is.0, is.1), is.2, is.3)) (
     last_then refl (
     sequence_part written_response_item read_response_item x.items.items consistent.0 (each_agrees response_item (λ i. refl) x.items.items items)))))

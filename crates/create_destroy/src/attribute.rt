@@ -84,11 +84,11 @@ impl<A: Allocator + Copy> Deserialize<A> for AttributeValue {
     }
 
     #[tactic(auto, unfolding(crate::specs::Attributes::read_attribute_value))]
-    fn from_data(_alloc: A, value: &Data<A>) -> Result<AttributeValue, AllocError> {
+    fn from_data(_alloc: A, value: &mut Data<A>) -> Result<AttributeValue, AllocError> {
         let (which, inner) = choices::variant::<Self, A>(value, &BY_NAME);
         match which {
             0 => Ok(AttributeValue::Aes),
-            1 => Ok(AttributeValue::Integer(number_of(inner))),
+            1 => Ok(AttributeValue::Integer(number_of(&inner))),
             _ => unreachable!(),
         }
     }
@@ -136,9 +136,10 @@ impl<A: Allocator + Copy> Deserialize<A> for Attribute<A> {
     }
 
     #[tactic(auto, unfolding(crate::specs::Attributes::read_attribute))]
-    fn from_data(alloc: A, value: &Data<A>) -> Result<Attribute<A>, AllocError> {
-        let name = reading::text_string::<Self, A>(alloc, value, 0, "Transparent:0x42000A")?;
-        let value = AttributeValue::from_data(alloc, reading::part::<Self, A>(value, 1))?;
+    fn from_data(alloc: A, value: &mut Data<A>) -> Result<Attribute<A>, AllocError> {
+        let mut parts = reading::parts::<Self, A>(value);
+        let name = reading::text_string::<Self, A>(&mut parts, 0, "Transparent:0x42000A");
+        let value = reading::nested::<Self, AttributeValue, A>(alloc, &mut parts, 1)?;
         Ok(Attribute { name, value })
     }
 }
@@ -170,8 +171,9 @@ impl<A: Allocator + Copy> Deserialize<A> for Template<A> {
     }
 
     #[tactic(auto, unfolding(crate::specs::Attributes::read_template))]
-    fn from_data(alloc: A, value: &Data<A>) -> Result<Template<A>, AllocError> {
-        let attributes = reading::sequence::<Self, Attribute<A>, A>(alloc, value, 0)?;
+    fn from_data(alloc: A, value: &mut Data<A>) -> Result<Template<A>, AllocError> {
+        let mut parts = reading::parts::<Self, A>(value);
+        let attributes = reading::sequence::<Self, Attribute<A>, A>(alloc, &mut parts, 0)?;
         Ok(Template { attributes })
     }
 }

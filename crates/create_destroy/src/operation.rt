@@ -55,7 +55,7 @@ impl<A: Allocator + Copy> Deserialize<A> for Operation {
     }
 
     #[tactic(auto, unfolding(crate::specs::Operations::operation_value))]
-    fn from_data(_alloc: A, value: &Data<A>) -> Result<Operation, AllocError> {
+    fn from_data(_alloc: A, value: &mut Data<A>) -> Result<Operation, AllocError> {
         Ok(choices::unit::<Self, A>(value, &OPERATIONS))
     }
 }

@@ -42,9 +42,10 @@ impl<A: Allocator + Copy> Deserialize<A> for CreatePayload<A> {
     }
 
     #[tactic(auto, unfolding(crate::specs::Requests::create_value))]
-    fn from_data(alloc: A, value: &Data<A>) -> Result<CreatePayload<A>, AllocError> {
-        reading::constant::<Self, A>(value, 0, "0x420057", "0x00000002");
-        let template = Template::from_data(alloc, reading::part::<Self, A>(value, 1))?;
+    fn from_data(alloc: A, value: &mut Data<A>) -> Result<CreatePayload<A>, AllocError> {
+        let mut parts = reading::parts::<Self, A>(value);
+        reading::constant::<Self, A>(&mut parts, 0, "0x420057", "0x00000002");
+        let template = reading::nested::<Self, Template<A>, A>(alloc, &mut parts, 1)?;
         Ok(CreatePayload { template })
     }
 }
@@ -75,13 +76,13 @@ impl<A: Allocator + Copy> Deserialize<A> for DestroyPayload<A> {
     }
 
     #[tactic(auto, unfolding(crate::specs::Requests::destroy_value))]
-    fn from_data(alloc: A, value: &Data<A>) -> Result<DestroyPayload<A>, AllocError> {
+    fn from_data(alloc: A, value: &mut Data<A>) -> Result<DestroyPayload<A>, AllocError> {
+        let mut parts = reading::parts::<Self, A>(value);
         let unique_identifier = reading::text_string::<Self, A>(
-            alloc,
-            value,
+            &mut parts,
             0,
             "Transparent:0x420094",
-        )?;
+        );
         Ok(DestroyPayload { unique_identifier })
     }
 }
@@ -153,15 +154,15 @@ impl<A: Allocator + Copy> Deserialize<A> for RequestPayload<A> {
     }
 
     #[tactic(auto, unfolding(crate::specs::Requests::read_request_payload))]
-    fn from_data(alloc: A, value: &Data<A>) -> Result<RequestPayload<A>, AllocError> {
-        let (which, inner) = choices::variant::<Self, A>(value, &BY_OPERATION);
+    fn from_data(alloc: A, value: &mut Data<A>) -> Result<RequestPayload<A>, AllocError> {
+        let (which, mut inner) = choices::variant::<Self, A>(value, &BY_OPERATION);
         match which {
             0 => {
-                let payload = CreatePayload::from_data(alloc, inner)?;
+                let payload = CreatePayload::from_data(alloc, &mut inner)?;
                 Ok(RequestPayload::Create(payload.template.attributes))
             }
             1 => {
-                let payload = DestroyPayload::from_data(alloc, inner)?;
+                let payload = DestroyPayload::from_data(alloc, &mut inner)?;
                 Ok(RequestPayload::Destroy(payload.unique_identifier))
             }
             _ => unreachable!(),
@@ -213,9 +214,10 @@ impl<A: Allocator + Copy> Deserialize<A> for RequestItem<A> {
     }
 
     #[tactic(auto, unfolding(crate::specs::Requests::read_request_item))]
-    fn from_data(alloc: A, value: &Data<A>) -> Result<RequestItem<A>, AllocError> {
-        let operation = Operation::from_data(alloc, reading::part::<Self, A>(value, 0))?;
-        let payload = RequestPayload::from_data(alloc, reading::part::<Self, A>(value, 1))?;
+    fn from_data(alloc: A, value: &mut Data<A>) -> Result<RequestItem<A>, AllocError> {
+        let mut parts = reading::parts::<Self, A>(value);
+        let operation = reading::nested::<Self, Operation, A>(alloc, &mut parts, 0)?;
+        let payload = reading::nested::<Self, RequestPayload<A>, A>(alloc, &mut parts, 1)?;
         Ok(RequestItem { operation, payload })
     }
 }
@@ -243,6 +245,19 @@ fn header(major: &i32, minor: &i32, batch_count: &i32) -> RequestHeader
             minor: *minor,
         },
         batch_count: *batch_count,
+    }
+}
+
+// The request with this header and these items.
+fn request_of<A: Allocator>(header: RequestHeader, items: Vec<RequestItem<A>, A>) -> Request<A>
+    ensures header { request_header_of result.major result.minor result.batch_count ≡ header }
+    ensures items { result.items ≡ items }
+{
+    Request {
+        major: header.version.major,
+        minor: header.version.minor,
+        batch_count: header.batch_count,
+        items,
     }
 }
 
@@ -280,14 +295,10 @@ impl<A: Allocator + Copy> Deserialize<A> for Request<A> {
     }
 
     #[tactic(auto, unfolding(crate::specs::Requests::read_request))]
-    fn from_data(alloc: A, value: &Data<A>) -> Result<Request<A>, AllocError> {
-        let header = RequestHeader::from_data(alloc, reading::part::<Self, A>(value, 0))?;
-        let items = reading::sequence::<Self, RequestItem<A>, A>(alloc, value, 1)?;
-        Ok(Request {
-            major: header.version.major,
-            minor: header.version.minor,
-            batch_count: header.batch_count,
-            items,
-        })
+    fn from_data(alloc: A, value: &mut Data<A>) -> Result<Request<A>, AllocError> {
+        let mut parts = reading::parts::<Self, A>(value);
+        let header = reading::nested::<Self, RequestHeader, A>(alloc, &mut parts, 0)?;
+        let items = reading::sequence::<Self, RequestItem<A>, A>(alloc, &mut parts, 1)?;
+        Ok(request_of(header, items))
     }
 }

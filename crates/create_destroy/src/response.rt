@@ -38,14 +38,14 @@ impl<A: Allocator + Copy> Deserialize<A> for Created<A> {
     }
 
     #[tactic(auto, unfolding(crate::specs::Responses::created_value))]
-    fn from_data(alloc: A, value: &Data<A>) -> Result<Created<A>, AllocError> {
-        reading::constant::<Self, A>(value, 0, "0x420057", "0x00000002");
+    fn from_data(alloc: A, value: &mut Data<A>) -> Result<Created<A>, AllocError> {
+        let mut parts = reading::parts::<Self, A>(value);
+        reading::constant::<Self, A>(&mut parts, 0, "0x420057", "0x00000002");
         let unique_identifier = reading::text_string::<Self, A>(
-            alloc,
-            value,
+            &mut parts,
             1,
             "Transparent:0x420094",
-        )?;
+        );
         Ok(Created { unique_identifier })
     }
 }
@@ -76,13 +76,13 @@ impl<A: Allocator + Copy> Deserialize<A> for Destroyed<A> {
     }
 
     #[tactic(auto, unfolding(crate::specs::Responses::destroyed_value))]
-    fn from_data(alloc: A, value: &Data<A>) -> Result<Destroyed<A>, AllocError> {
+    fn from_data(alloc: A, value: &mut Data<A>) -> Result<Destroyed<A>, AllocError> {
+        let mut parts = reading::parts::<Self, A>(value);
         let unique_identifier = reading::text_string::<Self, A>(
-            alloc,
-            value,
+            &mut parts,
             0,
             "Transparent:0x420094",
-        )?;
+        );
         Ok(Destroyed { unique_identifier })
     }
 }
@@ -140,15 +140,15 @@ impl<A: Allocator + Copy> Deserialize<A> for ResponsePayload<A> {
     }
 
     #[tactic(auto, unfolding(crate::specs::Responses::read_response_payload))]
-    fn from_data(alloc: A, value: &Data<A>) -> Result<ResponsePayload<A>, AllocError> {
-        let (which, inner) = choices::variant::<Self, A>(value, &BY_OPERATION);
+    fn from_data(alloc: A, value: &mut Data<A>) -> Result<ResponsePayload<A>, AllocError> {
+        let (which, mut inner) = choices::variant::<Self, A>(value, &BY_OPERATION);
         match which {
             0 => {
-                let payload = Created::from_data(alloc, inner)?;
+                let payload = Created::from_data(alloc, &mut inner)?;
                 Ok(ResponsePayload::Create(payload.unique_identifier))
             }
             1 => {
-                let payload = Destroyed::from_data(alloc, inner)?;
+                let payload = Destroyed::from_data(alloc, &mut inner)?;
                 Ok(ResponsePayload::Destroy(payload.unique_identifier))
             }
             _ => unreachable!(),
@@ -202,10 +202,11 @@ impl<A: Allocator + Copy> Deserialize<A> for ResponseItem<A> {
     }
 
     #[tactic(auto, unfolding(crate::specs::Responses::read_response_item))]
-    fn from_data(alloc: A, value: &Data<A>) -> Result<ResponseItem<A>, AllocError> {
-        let operation = Operation::from_data(alloc, reading::part::<Self, A>(value, 0))?;
-        reading::constant::<Self, A>(value, 1, "0x42007F", "0x00000000");
-        let payload = ResponsePayload::from_data(alloc, reading::part::<Self, A>(value, 2))?;
+    fn from_data(alloc: A, value: &mut Data<A>) -> Result<ResponseItem<A>, AllocError> {
+        let mut parts = reading::parts::<Self, A>(value);
+        let operation = reading::nested::<Self, Operation, A>(alloc, &mut parts, 0)?;
+        reading::constant::<Self, A>(&mut parts, 1, "0x42007F", "0x00000000");
+        let payload = reading::nested::<Self, ResponsePayload<A>, A>(alloc, &mut parts, 2)?;
         Ok(ResponseItem { operation, payload })
     }
 }
@@ -236,6 +237,20 @@ fn header(major: &i32, minor: &i32, timestamp: &i64, batch_count: &i32) -> Respo
         },
         time_stamp: *timestamp,
         batch_count: *batch_count,
+    }
+}
+
+// The response with this header and these items.
+fn response_of<A: Allocator>(header: ResponseHeader, items: Vec<ResponseItem<A>, A>) -> Response<A>
+    ensures header { response_header_of result.major result.minor result.timestamp result.batch_count ≡ header }
+    ensures items { result.items ≡ items }
+{
+    Response {
+        major: header.version.major,
+        minor: header.version.minor,
+        timestamp: header.time_stamp,
+        batch_count: header.batch_count,
+        items,
     }
 }
 
@@ -273,15 +288,10 @@ impl<A: Allocator + Copy> Deserialize<A> for Response<A> {
     }
 
     #[tactic(auto, unfolding(crate::specs::Responses::read_response))]
-    fn from_data(alloc: A, value: &Data<A>) -> Result<Response<A>, AllocError> {
-        let header = ResponseHeader::from_data(alloc, reading::part::<Self, A>(value, 0))?;
-        let items = reading::sequence::<Self, ResponseItem<A>, A>(alloc, value, 1)?;
-        Ok(Response {
-            major: header.version.major,
-            minor: header.version.minor,
-            timestamp: header.time_stamp,
-            batch_count: header.batch_count,
-            items,
-        })
+    fn from_data(alloc: A, value: &mut Data<A>) -> Result<Response<A>, AllocError> {
+        let mut parts = reading::parts::<Self, A>(value);
+        let header = reading::nested::<Self, ResponseHeader, A>(alloc, &mut parts, 0)?;
+        let items = reading::sequence::<Self, ResponseItem<A>, A>(alloc, &mut parts, 1)?;
+        Ok(response_of(header, items))
     }
 }
