@@ -1,0 +1,4 @@
+pub mod Choices
+pub mod Leaves
+pub mod Messages
+pub mod Numbers

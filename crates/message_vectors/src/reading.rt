@@ -1,0 +1,309 @@
+//! Parts of every kind, read: there and absent, refused, and with each growth refused in turn.
+
+use crate::bytes::{
+    CONSTANT, CONTENTS, MANY, MOMENTS, NAMED, NUMBERS, OPTIONAL_CONTENTS, OPTIONAL_NUMBERS, PAIR,
+    REASONS, SECOND, SMALL, TEXT, THREE, WHOLE, joined,
+};
+use crate::choice::{Choice, Selection};
+use crate::leaves::{Contents, Kind, Moments, Numbers, OptionalContents};
+use crate::message::Every;
+use crate::numbers::{Many, Named, OptionalNumbers, Reasons};
+use kmip_ttlv::error::ErrorKind;
+use kmip_ttlv::from_slice;
+use refusing_allocator::RefusingAllocator;
+use std::alloc::{Allocator, Global};
+use std::test::Fail;
+
+const ALL: [&str; 12] = [
+    WHOLE,
+    CONSTANT,
+    SECOND,
+    NUMBERS,
+    MOMENTS,
+    OPTIONAL_NUMBERS,
+    CONTENTS,
+    OPTIONAL_CONTENTS,
+    REASONS,
+    TEXT,
+    PAIR,
+    THREE,
+];
+
+const FEW: [&str; 10] = [
+    SMALL, CONSTANT, SECOND, NUMBERS, MOMENTS, CONTENTS, REASONS, TEXT, PAIR, THREE,
+];
+
+const BIG: [u8; 8] = [0, 0, 0, 0, 0, 0, 1, 1];
+
+fn are_numbers(numbers: &Numbers) -> bool {
+    *numbers
+        == Numbers {
+            count: -2,
+            long: i64::MAX,
+        }
+}
+
+fn are_moments(moments: &Moments) -> bool {
+    *moments
+        == Moments {
+            date: 0x4AFB_E7C2,
+            truth: true,
+            seconds: 3600,
+        }
+}
+
+fn are_contents<A: Allocator>(contents: &Contents<A>) -> bool {
+    contents.text.as_str() == "ABC"
+        && contents.bytes.as_slice() == [0xFF, 0xFE].as_slice()
+        && contents.big.as_slice() == BIG.as_slice()
+}
+
+fn are_optional_contents<A: Allocator>(contents: &OptionalContents<A>) -> bool {
+    let is_text = match &contents.text {
+        Some(text) => text.as_str() == "ABC",
+        None => false,
+    };
+    let are_bytes = match (&contents.bytes, &contents.big) {
+        (Some(bytes), Some(big)) => {
+            bytes.as_slice() == [0xFF, 0xFE].as_slice() && big.as_slice() == BIG.as_slice()
+        }
+        _ => false,
+    };
+    contents.truth == Some(true) && contents.seconds == Some(3600) && is_text && are_bytes
+}
+
+fn is_text<A: Allocator>(choice: &Choice<A>) -> bool {
+    match &choice.selection {
+        Selection::Text(text) => choice.name.as_str() == "Text" && text.as_str() == "ABC",
+        _ => false,
+    }
+}
+
+fn is_pair<A: Allocator>(choice: &Choice<A>) -> bool {
+    match &choice.selection {
+        Selection::Pair(count, bytes) => {
+            choice.name.as_str() == "Pair" && *count == 5 && bytes.as_slice() == [0xFF].as_slice()
+        }
+        _ => false,
+    }
+}
+
+fn is_three<A: Allocator>(choice: &Choice<A>) -> bool {
+    match &choice.selection {
+        Selection::Three => choice.name.as_str() == "Three",
+        _ => false,
+    }
+}
+
+// What is always there.
+fn is_small<A: Allocator>(every: &Every<A>) -> bool {
+    let [first, second, third] = every.choices.as_slice() else {
+        return false;
+    };
+    every.kind == Kind::Second
+        && are_numbers(&every.numbers)
+        && are_moments(&every.moments)
+        && are_contents(&every.contents)
+        && every.reasons
+            == Reasons {
+                first: 0x8000_0001,
+                second: Some(9),
+            }
+        && is_text(first)
+        && is_pair(second)
+        && is_three(third)
+}
+
+// That, and what may be absent.
+fn is_whole<A: Allocator>(every: &Every<A>) -> bool {
+    let numbers = OptionalNumbers {
+        count: Some(-2),
+        long: Some(i64::MAX),
+        date: Some(0x4AFB_E7C2),
+    };
+    let are_there = match &every.optional_contents {
+        Some(contents) => are_optional_contents(contents),
+        None => false,
+    };
+    is_small(every) && every.optional_numbers == Some(numbers) && are_there
+}
+
+#[test]
+fn every_part(rt: HostRuntime) -> Result<(), Fail> {
+    let bytes = joined(rt.alloc(), &ALL)?;
+    let read: kmip_ttlv::error::Result<Every> = from_slice(rt.alloc(), bytes.as_slice());
+    assert!(rt; matches!(&read, Ok(every) if is_whole(every)));
+    Ok(())
+}
+
+#[test]
+fn parts_that_are_absent(rt: HostRuntime) -> Result<(), Fail> {
+    let alloc = rt.alloc();
+    let bytes = joined(alloc, &FEW)?;
+    let read: kmip_ttlv::error::Result<Every> = from_slice(alloc, bytes.as_slice());
+    let Ok(every) = read else {
+        assert!(rt; false);
+        return Ok(());
+    };
+    assert!(rt; is_small(&every));
+    assert!(rt; every.optional_numbers.is_none() && every.optional_contents.is_none());
+    let bytes = joined(alloc, &["5400100100000000"])?;
+    let read: kmip_ttlv::error::Result<OptionalNumbers> = from_slice(alloc, bytes.as_slice());
+    assert!(rt;
+        matches!(
+            read,
+            Ok(OptionalNumbers {
+                count: None,
+                long: None,
+                date: None
+            })
+        )
+    );
+    let bytes = joined(alloc, &["5400300100000000"])?;
+    let read: kmip_ttlv::error::Result<OptionalContents> = from_slice(alloc, bytes.as_slice());
+    let Ok(contents) = read else {
+        assert!(rt; false);
+        return Ok(());
+    };
+    assert!(rt; contents.truth.is_none() && contents.seconds.is_none());
+    assert!(rt; contents.text.is_none() && contents.bytes.is_none() && contents.big.is_none());
+    let bytes = joined(alloc, &["540015010000001054000705000000040000000A00000000"])?;
+    let read: kmip_ttlv::error::Result<Reasons> = from_slice(alloc, bytes.as_slice());
+    assert!(rt;
+        matches!(
+            read,
+            Ok(Reasons {
+                first: 10,
+                second: None
+            })
+        )
+    );
+    Ok(())
+}
+
+#[test]
+fn numbers_beside_a_text(rt: HostRuntime) -> Result<(), Fail> {
+    let bytes = joined(rt.alloc(), &[NAMED])?;
+    let read: kmip_ttlv::error::Result<Named> = from_slice(rt.alloc(), bytes.as_slice());
+    let Ok(named) = read else {
+        assert!(rt; false);
+        return Ok(());
+    };
+    assert!(rt; named.name.as_str() == "Text" && named.count == -2 && named.date == 0x4AFB_E7C2);
+    Ok(())
+}
+
+// The leaves of a type that has many.
+pub const LEAVES: Many = Many {
+    count: -2,
+    other: 5,
+    long: i64::MAX,
+    date: 0x4AFB_E7C2,
+    truth: true,
+    seconds: 3600,
+};
+
+#[test]
+fn many_leaves(rt: HostRuntime) -> Result<(), Fail> {
+    let bytes = joined(rt.alloc(), &[MANY])?;
+    let read: kmip_ttlv::error::Result<Many> = from_slice(rt.alloc(), bytes.as_slice());
+    assert!(rt; matches!(read, Ok(many) if many == LEAVES));
+    Ok(())
+}
+
+// Messages that are refused: a kind of 3, a name that chooses nothing before a text, no choice at all, another constant.
+const REFUSED: [[&str; 10]; 4] = [
+    [
+        SMALL,
+        CONSTANT,
+        "54004005000000040000000300000000",
+        NUMBERS,
+        MOMENTS,
+        CONTENTS,
+        REASONS,
+        TEXT,
+        PAIR,
+        THREE,
+    ],
+    [
+        SMALL,
+        CONSTANT,
+        SECOND,
+        NUMBERS,
+        MOMENTS,
+        CONTENTS,
+        REASONS,
+        "54005001000000205400420700000004466F75720000000054004107000000034142430000000000",
+        PAIR,
+        THREE,
+    ],
+    [
+        "54006001000000E0",
+        CONSTANT,
+        SECOND,
+        NUMBERS,
+        MOMENTS,
+        CONTENTS,
+        REASONS,
+        "",
+        "",
+        "",
+    ],
+    [
+        SMALL,
+        "54006105000000040000000200000000",
+        SECOND,
+        NUMBERS,
+        MOMENTS,
+        CONTENTS,
+        REASONS,
+        TEXT,
+        PAIR,
+        THREE,
+    ],
+];
+
+#[test]
+fn messages_that_are_refused(rt: HostRuntime) -> Result<(), Fail> {
+    for parts in &REFUSED {
+        let bytes = joined(rt.alloc(), parts)?;
+        let read: kmip_ttlv::error::Result<Every> = from_slice(rt.alloc(), bytes.as_slice());
+        assert!(rt; read.is_err());
+    }
+    Ok(())
+}
+
+// What one refused growth comes to.
+#[derive(Clone, Copy, PartialEq, Eq)]
+enum Outcome {
+    Refused,
+    Ample,
+    Wrong,
+}
+
+// Reads where the growth after the first `before` is refused.
+fn with_refused_growth(alloc: Global, before: u64) -> Result<Outcome, Fail> {
+    let bytes = joined(alloc, &ALL)?;
+    let heap = RefusingAllocator::new(alloc, before);
+    let read: kmip_ttlv::error::Result<Every<_>, _> = from_slice(&heap, bytes.as_slice());
+    match &read {
+        Ok(every) if is_whole(every) && !heap.has_refused() => Ok(Outcome::Ample),
+        Err(e) if matches!(e.kind(), ErrorKind::OutOfMemory) && heap.has_refused() => {
+            Ok(Outcome::Refused)
+        }
+        _ => Ok(Outcome::Wrong),
+    }
+}
+
+#[test]
+fn each_growth_is_refused(rt: HostRuntime) -> Result<(), Fail> {
+    let mut last = Outcome::Refused;
+    for before in 0..1000u64 {
+        last = with_refused_growth(rt.alloc(), before)?;
+        if last != Outcome::Refused {
+            break;
+        }
+    }
+    assert!(rt; last == Outcome::Ample);
+    Ok(())
+}
