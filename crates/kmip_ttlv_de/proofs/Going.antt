@@ -12,7 +12,7 @@ use Rattle.kmip_ttlv_types.specs.declared.typ.TtlvType.TheVariants.{BigInteger, 
 use Rattle.kmip_ttlv_base.specs.Errors.{Mismatch}
 use Rattle.kmip_ttlv_base.specs.Forms.{Fields, Form, Variants, any_number, big_integer, boolean, content_of, enum, field, fields_of, form, form_of, forms_of, int32, int64, interval, newtype, octets, option, seq, struct, text, variants_of}
 use Rattle.kmip_ttlv_base.specs.Values.{Value, Values, no_values, none_value, seq_value, struct_value, value, view, views}
-use Rattle.kmip_ttlv_base.specs.declared.error.Error.{Error}
+use Rattle.kmip_ttlv_de.specs.declared.refusal.Refusal.{Refusal}
 use Rattle.kmip_ttlv_base.specs.declared.shape.Data.{Data}
 use Rattle.kmip_ttlv_base.specs.declared.shape.FieldShape.{FieldShape}
 use Rattle.kmip_ttlv_base.specs.declared.shape.Shape.{Shape}
@@ -21,7 +21,8 @@ use Rattle.kmip_ttlv_de.proofs.Front.{join_more, join_nil, seq_front, with_front
 use Rattle.kmip_ttlv_de.proofs.Heads.{accepted_leaf, code_more, first_of_items, goes_item, item_more, length_more, refused_any, refused_first, tag_more}
 use Rattle.kmip_ttlv_types.proofs.PlaceLemmas.{code_one, item_one, items_at_splits, items_in_order, raw_with, splits_items_at}
 use Rattle.kmip_ttlv_de.proofs.ReadLemmas.{option_no_struct, reads_read_of, reads_shorter, split_of_splits, splits_split_of}
-use Rattle.kmip_ttlv_de.specs.ReadAnswers.{Sort, early_end, memory, other, sort_of}
+use Rattle.kmip_ttlv_de.specs.ReadAnswers.{Sort, early_end, memory, other}
+use Rattle.kmip_ttlv_de.specs.Refusals.{refusal_sort}
 use Rattle.kmip_ttlv_de.specs.ReaderSteps.{Accepted, Answers, Goes, ReadsNothing}
 use Rattle.kmip_ttlv_de.specs.Keeps.{Keep}
 use Rattle.kmip_ttlv_de.specs.ReadPlaces.{LeafAt, StructAt}
@@ -268,9 +269,9 @@ refused_via r s b p e k h f to g = by_sort f g
     by_sort early_end g = λ zs items. to [] zs (rw append-nil items) (g zs items)
     by_sort other g = λ after zs items. to after zs items (g after zs items)
 
-pub answers_via : {V X A : Type 0} (view' : X → V) (r s : Reads' V) (b : List ℕ) (p e : ℕ) (k k' : List Keep) (x : Result (X × ℕ) (Error A)) → ((after : List ℕ) (zs : List Raw) → ItemsAt (b ++ after) p e zs → s k zs ≡ r k zs) → Answers view' r b p e k k' x → Answers view' s b p e k k' x
+pub answers_via : {V X A : Type 0} (view' : X → V) (r s : Reads' V) (b : List ℕ) (p e : ℕ) (k k' : List Keep) (x : Result (X × ℕ) (Refusal A)) → ((after : List ℕ) (zs : List Raw) → ItemsAt (b ++ after) p e zs → s k zs ≡ r k zs) → Answers view' r b p e k k' x → Answers view' s b p e k k' x
 answers_via view' r s b p e k k' (Ok y) same g = record { in_order = g.in_order; within = g.within; taken = g.taken; are_taken = g.are_taken; left = λ after zs items. let z = g.left after zs items in (z.0, same after zs items ∙ z.1, z.2) }
-answers_via view' r s b p e k k' (Err f) same g = refused_via r s b p e k k (sort_of f) (λ after zs items h. same after zs items ∙ h) g
+answers_via view' r s b p e k k' (Err f) same g = refused_via r s b p e k k (refusal_sort f) (λ after zs items h. same after zs items ∙ h) g
 
 pub goes_none : (name : List ℕ) (s : Form) (b : List ℕ) (p e : ℕ) (k : List Keep) → p ≤ length b → is_option s ≡ true → ((after : List ℕ) (zs : List Raw) → ItemsAt (b ++ after) p e zs → names name zs ≡ false) → Accepted (read_field name s (read_of s)) b p e k k none_value p
 goes_none name s b p e k le o n = record { in_order = omega arith; within = le; taken = []; are_taken = refl; left = λ after zs items. (zs, field_absent name s k zs o (n after zs items), items) }
@@ -522,12 +523,12 @@ pub enum_refused : (name : List ℕ) (vs : Variants) (read : ℕ → Reader) (b 
 enum_refused name vs read b p e k t m r lt le typ c = refused_any (read_enum name vs read) b p e k r (λ after zs items. choice_at name b after p e zs t vs k read lt le typ items ∙ ap (λ y. read_choice y read (read_number name vs) k zs) c)
 
 -- by a number
-pub enum_number : {X A : Type 0} (view' : X → Value) (name : List ℕ) (vs : Variants) (read : ℕ → Reader) (b : List ℕ) (p e : ℕ) (k k' : List Keep) (t : TtlvType) (x : Result (X × ℕ) (Error A)) → p < e → p + 4 ≤ length b → code_at b p ≡ code t → choice vs k t ≡ by_value → Answers view' (read_number name vs) b p e k k' x → Answers view' (read_enum name vs read) b p e k k' x
+pub enum_number : {X A : Type 0} (view' : X → Value) (name : List ℕ) (vs : Variants) (read : ℕ → Reader) (b : List ℕ) (p e : ℕ) (k k' : List Keep) (t : TtlvType) (x : Result (X × ℕ) (Refusal A)) → p < e → p + 4 ≤ length b → code_at b p ≡ code t → choice vs k t ≡ by_value → Answers view' (read_number name vs) b p e k k' x → Answers view' (read_enum name vs read) b p e k k' x
 enum_number view' name vs read b p e k k' t x lt le typ c a =
     answers_via view' (read_number name vs) (read_enum name vs read) b p e k k' x (λ after zs items.
     choice_at name b after p e zs t vs k read lt le typ items ∙ ap (λ y. read_choice y read (read_number name vs) k zs) c) a
 
-pub enum_chosen : {A : Type 0} (name : List ℕ) (vs : List (VariantShape A)) (i : ℕ) (v : VariantShape A) (b : List ℕ) (p e : ℕ) (k k' : List Keep) (t : TtlvType) (x : Result (Data A × ℕ) (Error A)) → p < e → p + 4 ≤ length b → code_at b p ≡ code t → choice (variants_of vs) k t ≡ chosen i → i < length vs → v ≡ get_or vs i v → Answers view (read_content name v.name.now (content_of v.content)) b p e k k' x → Answers view (read_enum name (variants_of vs) (read_variant name (variants_of vs))) b p e k k' x
+pub enum_chosen : {A : Type 0} (name : List ℕ) (vs : List (VariantShape A)) (i : ℕ) (v : VariantShape A) (b : List ℕ) (p e : ℕ) (k k' : List Keep) (t : TtlvType) (x : Result (Data A × ℕ) (Refusal A)) → p < e → p + 4 ≤ length b → code_at b p ≡ code t → choice (variants_of vs) k t ≡ chosen i → i < length vs → v ≡ get_or vs i v → Answers view (read_content name v.name.now (content_of v.content)) b p e k k' x → Answers view (read_enum name (variants_of vs) (read_variant name (variants_of vs))) b p e k k' x
 enum_chosen name vs i v b p e k k' t x lt le typ c in_list is a =
     answers_via view (read_content name v.name.now (content_of v.content)) (read_enum name (variants_of vs) (read_variant name (variants_of vs))) b p e k k' x (λ after zs items.
     choice_at name b after p e zs t (variants_of vs) k (read_variant name (variants_of vs)) lt le typ items ∙ ap (λ y. read_choice y (read_variant name (variants_of vs)) (read_number name (variants_of vs)) k zs) c ∙ variant_at name vs i v in_list is k zs) a
@@ -556,7 +557,7 @@ same_default (x ∷ vs) zero a b lt = refl
 same_default (x ∷ vs) (suc i) a b lt = same_default vs i a b (omega arith)
 
 -- the variant is read twice, once for its name
-pub enum_chosen_at : {A : Type 0} (name : List ℕ) (vs : List (VariantShape A)) (i : ℕ) (r1 r2 : VariantShape A) (b : List ℕ) (p e : ℕ) (k k' : List Keep) (t : TtlvType) (x : Result (Data A × ℕ) (Error A)) → p < e → p + 4 ≤ length b → code_at b p ≡ code t → choice (variants_of vs) k t ≡ chosen i → i < length vs → Answers view (read_content name (get_or vs i r1).name.now (content_of (get_or vs i r2).content)) b p e k k' x → Answers view (read_enum name (variants_of vs) (read_variant name (variants_of vs))) b p e k k' x
+pub enum_chosen_at : {A : Type 0} (name : List ℕ) (vs : List (VariantShape A)) (i : ℕ) (r1 r2 : VariantShape A) (b : List ℕ) (p e : ℕ) (k k' : List Keep) (t : TtlvType) (x : Result (Data A × ℕ) (Refusal A)) → p < e → p + 4 ≤ length b → code_at b p ≡ code t → choice (variants_of vs) k t ≡ chosen i → i < length vs → Answers view (read_content name (get_or vs i r1).name.now (content_of (get_or vs i r2).content)) b p e k k' x → Answers view (read_enum name (variants_of vs) (read_variant name (variants_of vs))) b p e k k' x
 enum_chosen_at name vs i r1 r2 b p e k k' t x lt le typ c in_list a =
     let v = get_or vs i r1 in
     enum_chosen name vs i v b p e k k' t x lt le typ c in_list (same_default vs i r1 v in_list) (subst (λ w. Answers view (read_content name v.name.now (content_of w.content)) b p e k k' x) (same_default vs i r2 r1 in_list) a)

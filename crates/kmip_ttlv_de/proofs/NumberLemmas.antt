@@ -1,10 +1,9 @@
 -- The text of a number, and the variant that it names.
-use Rattle.std.proofs.Common.{◌≡◌, ◌≢◌, ℕ, ◌+◌, ◌<◌, ◌≤◌, ◌/◌, ◌%◌, Bool, true, false, cond, List, [], ◌∷◌, ◌++◌, length, get_or, take, drop, eqb, Option, Some, None, refl, sym, ap, ◌∙◌, append_assoc, ◌&&◌, arith}
-use Rattle.std.specs.List.{flat_map}
+use Rattle.std.proofs.Common.{◌≡◌, ◌≢◌, ℕ, ◌+◌, ◌<◌, ◌≤◌, ◌/◌, ◌%◌, Bool, true, false, cond, List, [], ◌∷◌, ◌++◌, length, get_or, take, drop, eqb, Option, Some, None, refl, sym, ap, ◌∙◌, ◌&&◌, arith}
 use Rattle.std.specs.Str.{bytes_eq}
 use Rattle.std.specs.Fmt.{digit_glyph}
 use Rattle.std.proofs.lemmas.Bool.{eq-eqb, eqb-true}
-use Rattle.std.proofs.lemmas.List.{drop_more, drop_all, append-nil, length-drop, length-take-le}
+use Rattle.std.proofs.lemmas.List.{drop_more, drop_all, length-drop, length-take-le}
 use Rattle.kmip_ttlv_types.specs.ItemTypes.{code, fixed_length}
 use Rattle.kmip_ttlv_types.specs.Items.{Raw}
 use Rattle.kmip_ttlv_types.specs.Leaves.{is_valid}
@@ -24,7 +23,7 @@ use Rattle.kmip_ttlv_de.specs.Keeps.{Keep}
 use Rattle.kmip_ttlv_de.specs.Facts.{WrongLength, WrongValue}
 use Rattle.kmip_ttlv_de.specs.ReadPlaces.{LeafAt, content_at}
 use Rattle.kmip_ttlv_de.specs.Reading.{Got, any_leaf, got, read_number, unit_of, ◌>>=◌}
-use Rattle.kmip_ttlv_de.specs.Reads.{byte_digits, first_named, is_number_type, number_text}
+use Rattle.kmip_ttlv_de.specs.Reads.{first_named, is_number_type, number_text}
 
 -- the text of four bytes, digit by digit
 pub four_texts : (content : List ℕ) → length content ≡ 4

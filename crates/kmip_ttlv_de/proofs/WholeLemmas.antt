@@ -7,11 +7,12 @@ use Rattle.kmip_ttlv_types.specs.Places.{ItemAt, ItemsAt, code_at, length_at, si
 use Rattle.kmip_ttlv_types.specs.declared.typ.TtlvType.{TtlvType}
 use Rattle.kmip_ttlv_types.specs.declared.typ.TtlvType.TheVariants.{Structure}
 use Rattle.kmip_ttlv_base.specs.Forms.{Form}
-use Rattle.kmip_ttlv_base.specs.declared.error.Error.{Error}
+use Rattle.kmip_ttlv_de.specs.declared.refusal.Refusal.{Refusal}
 use Rattle.kmip_ttlv_de.proofs.Going.{content_items, items_then}
 use Rattle.kmip_ttlv_types.proofs.PlaceLemmas.{code_one, items_one}
 use Rattle.kmip_ttlv_de.specs.ReaderSteps.{Goes}
-use Rattle.kmip_ttlv_de.specs.Facts.{Facts, NotBefore, Says, place_of}
+use Rattle.kmip_ttlv_de.specs.Facts.{NotBefore, ReaderFacts, Says}
+use Rattle.kmip_ttlv_de.specs.Refusals.{refusal_place}
 use Rattle.kmip_ttlv_de.specs.Keeps.{Keep}
 use Rattle.kmip_ttlv_de.specs.Reading.{Got}
 use Rattle.kmip_ttlv_de.specs.Wholes.{AllSplitThroughout, AreWhole, SplitThroughout, leaf_item, more_split, split_item}
@@ -58,7 +59,7 @@ whole_there b p e t lt typ w =
 
 -- ---- so an early end is refused nowhere
 
-pub early_says : {A : Type 0} (f : Form) (b : List ℕ) (p e : ℕ) (r : Error A) → Facts f b r → (place_of r).offset ≡ None → (AreWhole b p e → ⊥) → Says f b p e r
+pub early_says : {A : Type 0} (f : Form) (b : List ℕ) (p e : ℕ) (r : Refusal A) → ReaderFacts f b r → (refusal_place r).offset ≡ None → (AreWhole b p e → ⊥) → Says f b p e r
 early_says f b p e r facts none never = record { facts = facts; late = subst (λ o. NotBefore p o) (sym none) tt; not_early = λ w s. never w }
 
 -- the header is cut

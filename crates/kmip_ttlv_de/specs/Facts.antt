@@ -18,7 +18,6 @@ use Rattle.kmip_ttlv_base.specs.Errors.{Mismatch, invalid_variant, invalid_rule,
 use Rattle.kmip_ttlv_base.specs.Errors.{other_cause, unexpected_tag, unexpected_type, unsupported_rust_type, Kind}
 use Rattle.kmip_ttlv_base.specs.Errors.{io_error, exceeds_limit, malformed, mismatch, out_of_memory, length_overflow}
 use Rattle.kmip_ttlv_base.specs.Errors.{Location, unknown, kind_of, view_of_kind, location_of, view_of_location}
-use Rattle.kmip_ttlv_base.specs.Errors.{IsMemory}
 use Rattle.kmip_ttlv_base.specs.Forms.{Form, struct, enum, Fields, Variants, unit, wrapped, tuple, Forms}
 use Rattle.kmip_ttlv_de.specs.declared.leaf.Leaf.{Leaf}
 use Rattle.kmip_ttlv_de.specs.ReadLeaves.{form_of_leaf, first_type}
@@ -27,7 +26,9 @@ use Rattle.kmip_ttlv_de.specs.Reads.{has_fields, is_number_type, names_tag, is_o
 use Rattle.kmip_ttlv_de.specs.Reads.{first_named}
 use Rattle.kmip_ttlv_de.specs.ReadPlaces.{HasType, InContent, PartAt, StructRead, TupleRead, Opens, ItemMayBegin}
 use Rattle.kmip_ttlv_de.specs.ReadPlaces.{WholeItems, content_at, stated_end}
-use Rattle.kmip_ttlv_de.specs.ReadAnswers.{early_end, sort_of}
+use Rattle.kmip_ttlv_de.specs.ReadAnswers.{early_end}
+use Rattle.kmip_ttlv_de.specs.Refusals.{IsWant, refusal_cause, refusal_place, refusal_sort}
+use Rattle.kmip_ttlv_de.specs.declared.refusal.Refusal.{Refusal}
 use Rattle.kmip_ttlv_de.specs.Wholes.{AreWhole}
 
 -- ---- places, their parents left out
@@ -357,31 +358,40 @@ cause_of e = view_of_kind (kind_of e)
 abbrev pub Facts : {A : Type 0} → Form → List ℕ → Error A → Type 0
 Facts f b e = KindFacts f b (place_of e) (cause_of e)
 
+-- the same of a reader's
+abbrev pub ReaderFacts : {A : Type 0} → Form → List ℕ → Refusal A → Type 0
+ReaderFacts f b r = KindFacts f b (refusal_place r) (refusal_cause r)
+
 -- a place that is known isn't before this one
 abbrev pub NotBefore : ℕ → Option ℕ → Type 0
 NotBefore low None = Unit {0}
 NotBefore low (Some o) = low ≤ o
 
--- what a refusal says of the items from one place to another
-pub record Says {A : Type 0} (f : Form) (b : List ℕ) (low end : ℕ) (e : Error A) : Type 0 where
-  pub facts : Facts f b e
-  pub late : NotBefore low (place_of e).offset
-  pub not_early : AreWhole b low end → sort_of e ≡ early_end → ⊥
+-- what a reader's refusal says of the items from one place to another
+pub record Says {A : Type 0} (f : Form) (b : List ℕ) (low end : ℕ) (r : Refusal A) : Type 0 where
+  pub facts : ReaderFacts f b r
+  pub late : NotBefore low (refusal_place r).offset
+  pub not_early : AreWhole b low end → refusal_sort r ≡ early_end → ⊥
 
--- the refusal is of this kind, at this place
-abbrev pub IsRefusal : {A : Type 0} → Kind → Location → Error A → Type 0
-IsRefusal k l e = (cause_of e ≡ k) × (place_of e ≡ l)
+-- it is of this kind, at this place
+abbrev pub IsRefusal : {A : Type 0} → Kind → Location → Refusal A → Type 0
+IsRefusal k l r = (refusal_cause r ≡ k) × (refusal_place r ≡ l)
 
 -- the same, or want of memory
-abbrev pub MayBeRefusal : {A : Type 0} → Kind → Location → Error A → Type 0
-MayBeRefusal k l e = IsMemory e ⊎ IsRefusal k l e
+abbrev pub MayBeRefusal : {A : Type 0} → Kind → Location → Refusal A → Type 0
+MayBeRefusal k l r = IsWant r ⊎ IsRefusal k l r
 
--- the same but for its parents, or want of memory
-abbrev pub Widened : {A : Type 0} → Error A → Error A → Type 0
-Widened e r =
-    IsMemory r
-    ⊎ ((cause_of r ≡ cause_of e)
-    × ((place_of r).offset ≡ (place_of e).offset)
-    × ((place_of r).tag ≡ (place_of e).tag)
-    × ((place_of r).typ ≡ (place_of e).typ)
-    × ((place_of e).offset ≡ None → place_of r ≡ place_of e))
+-- the same refusal, or want of memory
+abbrev pub SameOrWant : {A : Type 0} → Refusal A → Refusal A → Type 0
+SameOrWant q r = IsWant r ⊎ (r ≡ q)
+
+-- the error of the same kind, at the same place
+abbrev pub IsTold : {A : Type 0} → Refusal A → Error A → Type 0
+IsTold r e = (cause_of e ≡ refusal_cause r) × (place_of e ≡ refusal_place r)
+
+-- the same, its parents left out where it has a place
+abbrev pub IsToldWithin : {A : Type 0} → Refusal A → Error A → Type 0
+IsToldWithin r e =
+    (cause_of e ≡ refusal_cause r)
+    × (without_parents (place_of e) ≡ refusal_place r)
+    × ((refusal_place r).offset ≡ None → place_of e ≡ refusal_place r)

@@ -9,6 +9,7 @@ pub mod Reading
 pub mod ReadPlaces
 pub mod ReadLeaves
 pub mod ReadAnswers
+pub mod Refusals
 pub mod ReaderSteps
 pub mod Wholes
 pub mod Facts

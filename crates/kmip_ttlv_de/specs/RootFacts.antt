@@ -1,6 +1,6 @@
 -- What a refusal says, the root's own ones first.
 use Rattle.std.specs.Prelude.{ℕ, ◌≤◌, List, [], length, Option, Some, None, nat_le, ◌==◌, if◌then◌else◌, codes, Result}
-use Rattle.std.specs.Prelude.{Ok, Err, IfErr}
+use Rattle.std.specs.Prelude.{Ok, Err, IfErr, ◌≡◌, ◌⊎◌}
 use Rattle.kmip_ttlv_types.specs.declared.typ.TtlvType.{TtlvType}
 use Rattle.kmip_ttlv_types.specs.declared.typ.TtlvType.TheVariants.{Structure}
 use Rattle.kmip_ttlv_types.specs.declared.field.FieldType.TheVariants as fields
@@ -10,8 +10,11 @@ use Rattle.kmip_ttlv_types.specs.Places.{tag_at, code_at}
 use Rattle.kmip_ttlv_base.specs.declared.error.Error.{Error}
 use Rattle.kmip_ttlv_base.specs.declared.error.MalformedTtlvError.TheVariants as malformeds
 use Rattle.kmip_ttlv_base.specs.Errors.{invalid_tag, other_cause, unexpected_tag, Kind, malformed, mismatch, Location}
+use Rattle.kmip_ttlv_base.specs.Errors.{IsMemory}
 use Rattle.kmip_ttlv_base.specs.Forms.{Form, struct, option, seq, newtype, enum}
-use Rattle.kmip_ttlv_de.specs.Facts.{Facts, NotBefore, MayBeRefusal, place_of, code_place, item_place}
+use Rattle.kmip_ttlv_de.specs.Facts.{Facts, NotBefore, MayBeRefusal, cause_of, place_of, code_place, item_place}
+use Rattle.kmip_ttlv_de.specs.Refusals.{refusal_place}
+use Rattle.kmip_ttlv_de.specs.declared.refusal.Refusal.{Refusal}
 
 -- a refusal, and where
 pub record Fault : Type 0 where
@@ -64,7 +67,7 @@ root_fault _ b = leaf_fault
 -- this refusal, or want of memory
 abbrev pub IsFault : {X A : Type 0} → Fault → Result X (Error A) → Type 0
 IsFault f (Ok x) = ⊥
-IsFault f (Err e) = MayBeRefusal f.kind f.place e
+IsFault f (Err e) = IsMemory e ⊎ ((cause_of e ≡ f.kind) × (place_of e ≡ f.place))
 
 -- nothing stands against the root: what is refused with a place stands behind the first item's header
 abbrev pub IsBehind : {X A : Type 0} → List ℕ → Result X (Error A) → Type 0
@@ -81,3 +84,10 @@ RootFacts (Some fault) b r = IsFault fault r
 abbrev pub RefusalFacts : {X A : Type 0} → Option Fault → Form → List ℕ → Result X (Error A) → Type 0
 RefusalFacts None f b r = IsBehind b r × IfErr r (λ e. Facts f b e)
 RefusalFacts (Some fault) f b r = IsFault fault r
+
+-- the same of the first item's header: its refusal comes exactly where it is due, and any other stands behind it
+abbrev pub HeaderFacts : {X A : Type 0} → Option Fault → List ℕ → Result X (Refusal A) → Type 0
+HeaderFacts None b (Ok x) = Unit {0}
+HeaderFacts None b (Err r) = 8 ≤ length b → NotBefore 8 (refusal_place r).offset
+HeaderFacts (Some fault) b (Ok x) = ⊥
+HeaderFacts (Some fault) b (Err r) = MayBeRefusal fault.kind fault.place r

@@ -9,11 +9,12 @@ ghost use Rattle.kmip_ttlv_base.specs.Errors.{malformed};
 ghost use Rattle.kmip_ttlv_base.specs.declared.error.MalformedTtlvError.TheVariants as malformeds;
 ghost use Rattle.kmip_ttlv_base.specs.Forms.{Form};
 ghost use Rattle.kmip_ttlv_de.specs.ReadPlaces.{ItemMayBegin};
-ghost use Rattle.kmip_ttlv_de.specs.ReadAnswers.{sort_of, early_end};
-ghost use Rattle.kmip_ttlv_de.specs.Facts.{Says, cause_of, place_of, code_place};
+ghost use Rattle.kmip_ttlv_de.specs.ReadAnswers.{early_end};
+ghost use Rattle.kmip_ttlv_de.specs.Refusals.{refusal_cause, refusal_place, refusal_sort};
+ghost use Rattle.kmip_ttlv_de.specs.Facts.{Says, code_place};
 
+use crate::refusal::{Answer, Refusal};
 use crate::refuse::{bad_code, early};
-use kmip_ttlv_base::error::{Error, Result};
 pub use kmip_ttlv_base::types::places::{end_of, tag_at};
 use kmip_ttlv_base::types::{TtlvType, places};
 use std::alloc::Allocator;
@@ -36,14 +37,14 @@ pub fn type_there(bytes: &[u8], pos: usize) -> Option<TtlvType>
 ///
 /// UnexpectedEof where its byte is missing, InvalidType where it is the code of none.
 #[cold]
-pub fn no_type<A: Allocator>(bytes: &[u8], pos: usize) -> Error<A>
+pub fn no_type<A: Allocator>(bytes: &[u8], pos: usize) -> Refusal<A>
     requires none { (length bytes.now < pos + 4) ⊎ (type_of (code_at bytes.now pos) ≡ None) }
     requires inside { pos ≤ length bytes.now }
-    ensures sort { ((sort_of result ≡ early_end) × (length bytes.now < pos + 4))
+    ensures sort { ((refusal_sort result ≡ early_end) × (length bytes.now < pos + 4))
         ⊎ ((pos + 4 ≤ length bytes.now) × (type_of (code_at bytes.now pos) ≡ None)) }
     ensures fault { pos + 4 ≤ length bytes.now
-        → (cause_of result ≡ malformed (malformeds.InvalidType (code_at bytes.now pos)))
-        × (place_of result ≡ code_place bytes.now pos) }
+        → (refusal_cause result ≡ malformed (malformeds.InvalidType (code_at bytes.now pos)))
+        × (refusal_place result ≡ code_place bytes.now pos) }
     ensures says { (f : Form) (e : ℕ)
         → pos < e
         → ItemMayBegin f bytes.now pos
@@ -59,15 +60,15 @@ pub fn no_type<A: Allocator>(bytes: &[u8], pos: usize) -> Error<A>
 ///
 /// UnexpectedEof where its byte is missing, InvalidType where it is the code of none.
 #[inline(always)]
-pub fn type_at<A: Allocator>(bytes: &[u8], pos: usize) -> Result<TtlvType, A>
+pub fn type_at<A: Allocator>(bytes: &[u8], pos: usize) -> Answer<TtlvType, A>
     requires inside { pos ≤ length bytes.now }
     ensures ok { IfOk result (λ t. (pos + 4 ≤ length bytes.now) × (code_at bytes.now pos ≡ code t)) }
     ensures err { IfErr result (λ r.
-        ((sort_of r ≡ early_end) × (length bytes.now < pos + 4))
+        ((refusal_sort r ≡ early_end) × (length bytes.now < pos + 4))
         ⊎ ((pos + 4 ≤ length bytes.now) × (type_of (code_at bytes.now pos) ≡ None))) }
     ensures fault { IfErr result (λ r. pos + 4 ≤ length bytes.now
-        → (cause_of r ≡ malformed (malformeds.InvalidType (code_at bytes.now pos)))
-        × (place_of r ≡ code_place bytes.now pos)) }
+        → (refusal_cause r ≡ malformed (malformeds.InvalidType (code_at bytes.now pos)))
+        × (refusal_place r ≡ code_place bytes.now pos)) }
     ensures says { IfErr result (λ r. (f : Form) (e : ℕ)
         → pos < e
         → ItemMayBegin f bytes.now pos

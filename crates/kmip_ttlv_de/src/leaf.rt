@@ -7,22 +7,21 @@ ghost use Rattle.kmip_ttlv_types.specs.Leaves.{is_valid};
 ghost use Rattle.kmip_ttlv_types.specs.Places.{tag_at, code_at, length_at};
 ghost use Rattle.kmip_ttlv_types.specs.Items.{Raw};
 ghost use Rattle.kmip_ttlv_base.specs.Values.{view};
-ghost use Rattle.kmip_ttlv_base.specs.Errors.{IsMemory};
 ghost use Rattle.kmip_ttlv_base.specs.Forms.{Form};
 ghost use Rattle.kmip_ttlv_de.specs.ReadPlaces.{LeafAt, IsItem, PartAt};
 ghost use Rattle.kmip_ttlv_de.specs.Keeps.{Keep};
 ghost use Rattle.kmip_ttlv_de.specs.Reads.{takes, leaf_value, with_leaf, byte_digits, number_text};
 ghost use Rattle.kmip_ttlv_de.specs.Reading.{any_leaf, read_leaf};
 ghost use Rattle.kmip_ttlv_de.specs.ReadLeaves.{form_of_leaf, first_type};
-ghost use Rattle.kmip_ttlv_de.specs.ReadAnswers.{sort_of};
+ghost use Rattle.kmip_ttlv_de.specs.Refusals.{IsWant, refusal_sort};
 ghost use Rattle.kmip_ttlv_de.specs.ReaderSteps.{Answers, ReadsNothing};
 ghost use Rattle.kmip_ttlv_de.specs.Facts.{Says, WrongLength, WrongValue, LeafRead};
 
 use crate::head::{content_at, end_of, length_at, no_type, tag_at, type_there};
 use crate::keep::KeptTexts;
 use crate::number::number_string;
+use crate::refusal::Answer;
 use crate::refuse::{bad_length, bad_value, early, other_type};
-use kmip_ttlv_base::error::Result;
 use kmip_ttlv_base::shape::Data;
 use kmip_ttlv_base::types::numbers::{number_of_eight, number_of_four};
 use kmip_ttlv_base::types::places::{fixed_length, is_valid};
@@ -80,7 +79,7 @@ impl Leaf {
 
 /// The content of a leaf, checked on the slice, and the place behind its padding.
 #[inline(always)]
-pub fn leaf_at<A: Allocator>(bytes: &[u8], pos: usize, typ: TtlvType) -> Result<(&[u8], usize), A>
+pub fn leaf_at<A: Allocator>(bytes: &[u8], pos: usize, typ: TtlvType) -> Answer<(&[u8], usize), A>
     requires there { pos + 4 ≤ length bytes.now }
     requires typ_is { code_at bytes.now pos ≡ code typ }
     requires leaf { typ ≢ TtlvType.Structure }
@@ -89,7 +88,7 @@ pub fn leaf_at<A: Allocator>(bytes: &[u8], pos: usize, typ: TtlvType) -> Result<
         × (is_valid typ r.0.now ≡ true)) }
     ensures err { IfErr result (λ r. (k : List Keep) (e : ℕ)
         → pos < e
-        → ReadsNothing any_leaf bytes.now pos e k (sort_of r)) }
+        → ReadsNothing any_leaf bytes.now pos e k (refusal_sort r)) }
     ensures says { IfErr result (λ r. (f : Form) (e : ℕ)
         → pos < e
         → ((w n : ℕ) → WrongLength bytes.now pos typ w n → LeafRead f bytes.now pos typ)
@@ -132,7 +131,7 @@ fn leaf_data<A: Allocator + Copy>(
     leaf: Leaf,
     typ: TtlvType,
     content: &[u8],
-) -> std::result::Result<Data<A>, AllocError>
+) -> Result<Data<A>, AllocError>
     requires takes { takes (form_of_leaf leaf) typ ≡ true }
     requires valid { is_valid typ content.now ≡ true }
     ensures { IfOk result (λ d. view d ≡ leaf_value (form_of_leaf leaf) content.now) }
@@ -158,14 +157,14 @@ fn keep_leaf<'b, A: Allocator + Copy>(
     typ: TtlvType,
     content: &'b [u8],
     kept: &mut KeptTexts<'b, A>,
-) -> Result<(), A>
+) -> Answer<(), A>
     requires takes { takes (form_of_leaf leaf) typ ≡ true }
     requires valid { is_valid typ content.now ≡ true }
     ensures ok { IfOk result (λ _. (x : Raw)
         → x.tag ≡ tag
         → x.content ≡ content.now
         → kept.new ≡ with_leaf (form_of_leaf leaf) x kept.old) }
-    ensures err { IfErr result (λ e. IsMemory e) }
+    ensures err { IfErr result (λ e. IsWant e) }
 {
     match leaf {
         Leaf::Text => kept.keep(tag, text_of(content))?,
@@ -185,7 +184,7 @@ pub fn read_leaf<'b, A: Allocator + Copy>(
     pos: usize,
     end: usize,
     kept: &mut KeptTexts<'b, A>,
-) -> Result<(Data<A>, usize), A>
+) -> Answer<(Data<A>, usize), A>
     requires before_end { pos < end }
     requires inside { pos ≤ length bytes.now }
     ensures answers { Answers view (read_leaf (form_of_leaf leaf)) bytes.now pos end

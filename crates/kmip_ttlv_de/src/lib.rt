@@ -27,7 +27,9 @@ mod keep;
 mod leaf;
 mod number;
 mod read;
+mod refusal;
 mod refuse;
+mod refuse_root;
 mod rules;
 
 use crate::read::read_root;

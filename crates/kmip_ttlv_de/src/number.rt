@@ -18,8 +18,8 @@ ghost use Rattle.kmip_ttlv_de.specs.Facts.{Says};
 use crate::head::{length_at, tag_at};
 use crate::keep::KeptTexts;
 use crate::leaf::leaf_at;
+use crate::refusal::Answer;
 use crate::refuse::{bad_number_length, named_content, other_type, unknown_variant};
-use kmip_ttlv_base::error::Result;
 use kmip_ttlv_base::shape::{Data, VariantContent, VariantShape};
 use kmip_ttlv_base::types::{FieldType, TtlvTag, TtlvType};
 use std::alloc::{AllocError, Allocator};
@@ -57,10 +57,7 @@ fn number_text(content: &[u8]) -> [u8; 10]
 }
 
 /// The same as a text of its own.
-pub fn number_string<A: Allocator>(
-    alloc: A,
-    content: &[u8],
-) -> std::result::Result<String<A>, AllocError>
+pub fn number_string<A: Allocator>(alloc: A, content: &[u8]) -> Result<String<A>, AllocError>
     requires { length content.now ≡ 4 }
     ensures { IfOk result (λ s. string_bytes s ≡ number_text content.now) }
 {
@@ -103,7 +100,7 @@ fn named_unit<A: Allocator + Copy>(
     bytes: &[u8],
     pos: usize,
     text: &str,
-) -> Result<&'static str, A>
+) -> Answer<&'static str, A>
     requires there { pos + 16 ≤ length bytes.now }
     requires typ_is { code_at bytes.now pos ≡ code typ }
     requires number { is_number_type typ ≡ true }
@@ -141,7 +138,7 @@ pub fn read_number<'b, A: Allocator + Copy>(
     pos: usize,
     end: usize,
     kept: &mut KeptTexts<'b, A>,
-) -> Result<(Data<A>, usize), A>
+) -> Answer<(Data<A>, usize), A>
     requires before_end { pos < end }
     requires there { pos + 4 ≤ length bytes.now }
     requires typ_is { code_at bytes.now pos ≡ code typ }

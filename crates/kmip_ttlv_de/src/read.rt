@@ -23,9 +23,10 @@ ghost use Rattle.kmip_ttlv_de.specs.Reading.{FieldsReader, read_of, read_fields,
 ghost use Rattle.kmip_ttlv_de.specs.Reading.{read_struct, read_seq, read_enum, read_variant, read_content, read_tuple};
 ghost use Rattle.kmip_ttlv_de.specs.Reading.{read_used, read_forms};
 ghost use Rattle.kmip_ttlv_de.specs.ReadAnswers.{RefusalStands, early_end, sort_of};
+ghost use Rattle.kmip_ttlv_de.specs.Refusals.{refusal_sort};
 ghost use Rattle.kmip_ttlv_de.specs.ReaderSteps.{Chooses, Answers, AnswersAll, Answers3, Ignores, GoesOn, ReadsNothing};
 ghost use Rattle.kmip_ttlv_de.specs.Facts.{NameWanted, Says};
-ghost use Rattle.kmip_ttlv_de.specs.RootFacts.{root_fault, named_fault, RootFacts, RefusalFacts};
+ghost use Rattle.kmip_ttlv_de.specs.RootFacts.{root_fault, named_fault, HeaderFacts, RefusalFacts};
 ghost use Rattle.kmip_ttlv_de.specs.Wholes.{BeginsWhole};
 
 use crate::field_tags::{is_field, tags_of};
@@ -33,12 +34,14 @@ use crate::head::{end_of, is_structure, length_at, no_type, tag_at, type_at, typ
 use crate::keep::KeptTexts;
 use crate::leaf::{Leaf, leaf_at, read_leaf};
 use crate::number::read_number;
+use crate::refusal::{Answer, Refusal, told};
 use crate::refuse::{
-    at_end, chosen_unit, closed, early, no_fields, no_root_tag, no_struct, no_structure, no_tag,
-    other_tag, overflow, refused_rule, root_leaf, surplus, turned, within,
+    at_end, chosen_unit, closed, early, no_fields, no_structure, no_tag, other_tag, overflow,
+    refused_rule, surplus, within,
 };
+use crate::refuse_root::{no_root_tag, no_struct, root_leaf};
 use crate::rules::choose;
-use kmip_ttlv_base::error::{Error, Result};
+use kmip_ttlv_base::error::Result;
 use kmip_ttlv_base::shape::{Data, FieldShape, Shape, VariantContent, VariantShape};
 use kmip_ttlv_base::types::{TtlvTag, TtlvType};
 use std::alloc::Allocator;
@@ -74,7 +77,7 @@ fn read_shape<'b, A: Allocator + Copy>(
     pos: usize,
     end: usize,
     kept: &mut KeptTexts<'b, A>,
-) -> Result<(Data<A>, usize), A>
+) -> Answer<(Data<A>, usize), A>
     requires before_end { pos < end }
     requires inside { pos ≤ length bytes.now }
     ensures answers { Answers view (read_of (form_of shape.now)) bytes.now pos end
@@ -131,12 +134,12 @@ fn open_struct<A: Allocator + Copy>(
     name: &str,
     bytes: &[u8],
     pos: usize,
-) -> Result<(TtlvTag, u32), A>
+) -> Answer<(TtlvTag, u32), A>
     requires inside { pos ≤ length bytes.now }
     ensures ok { IfOk result (λ r. StructAt name.now bytes.now pos r.0 r.1) }
     ensures err { IfErr result (λ r. (fs : Fields) (deny : Bool) (read : FieldsReader) (k : List Keep) (e : ℕ)
         → pos < e
-        → ReadsNothing (read_struct name.now fs deny read) bytes.now pos e k (sort_of r)) }
+        → ReadsNothing (read_struct name.now fs deny read) bytes.now pos e k (refusal_sort r)) }
     ensures says { IfErr result (λ r. (f : Form) (fs : Fields) (deny : Bool) (o e : ℕ)
         → pos < e
         → PartAt f bytes.now (struct name.now fs deny) pos o e
@@ -144,7 +147,7 @@ fn open_struct<A: Allocator + Copy>(
     ensures root { pos ≡ 0
         → (t : ℕ)
         → tag_of name.now ≡ Some t
-        → RootFacts (named_fault name.now bytes.now (Some t)) bytes.now result }
+        → HeaderFacts (named_fault name.now bytes.now (Some t)) bytes.now result }
 {
     let typ = type_at(bytes, pos)?;
     let Some(tag) = TtlvTag::from_name(name) else {
@@ -174,7 +177,7 @@ fn read_struct<'b, A: Allocator + Copy>(
     bytes: &'b [u8],
     pos: usize,
     kept: &mut KeptTexts<'b, A>,
-) -> Result<(Vec<Data<A>, A>, usize), A>
+) -> Answer<(Vec<Data<A>, A>, usize), A>
     requires inside { pos ≤ length bytes.now }
     ensures answers { (e : ℕ)
         → pos < e
@@ -193,7 +196,7 @@ fn read_struct<'b, A: Allocator + Copy>(
     let stop = start + n as usize;
     match read_content(alloc, tag, fields, deny, bytes, start, stop, kept) {
         Ok(values) => Ok((values, stop)),
-        Err(e) => Err(within(alloc, tag, e)),
+        Err(refusal) => Err(within(kept, tag, refusal)),
     }
 }
 
@@ -210,7 +213,7 @@ fn read_content<'b, A: Allocator + Copy>(
     pos: usize,
     end: usize,
     kept: &mut KeptTexts<'b, A>,
-) -> Result<Vec<Data<A>, A>, A>
+) -> Answer<Vec<Data<A>, A>, A>
     requires inside { pos ≤ length bytes.now }
     ensures answers { AnswersAll (λ v. views v.items)
         (read_all (fields_of fields.now) deny (read_fields (fields_of fields.now)))
@@ -238,7 +241,7 @@ fn read_fields<'b, A: Allocator + Copy>(
     pos: usize,
     end: usize,
     kept: &mut KeptTexts<'b, A>,
-) -> Result<(Vec<Data<A>, A>, usize, usize), A>
+) -> Answer<(Vec<Data<A>, A>, usize, usize), A>
     requires inside { pos ≤ length bytes.now }
     ensures answers { Answers3 (λ v. views v.items) (read_fields (fields_of fields.now))
         bytes.now pos end kept.old kept.new result }
@@ -284,7 +287,7 @@ fn read_rest<A: Allocator + Copy>(
     last: usize,
     pos: usize,
     end: usize,
-) -> Result<(), A>
+) -> Answer<(), A>
     requires inside { pos ≤ length bytes.now }
     ensures answers { (k : List Keep)
         → AnswersAll (λ u. tt) (rest_of (fields_of fields.now) deny) bytes.now pos end k k result }
@@ -317,7 +320,7 @@ fn read_others<A: Allocator + Copy>(
     last: usize,
     pos: usize,
     end: usize,
-) -> Result<(), A>
+) -> Answer<(), A>
     requires inside { pos ≤ length bytes.now }
     requires tags { HasTagsOf (fields_of fields.now) tags.now }
     ensures answers { (k : List Keep)
@@ -352,7 +355,7 @@ fn read_ignored<A: Allocator + Copy>(
     deny: bool,
     bytes: &[u8],
     pos: usize,
-) -> Result<usize, A>
+) -> Answer<usize, A>
     requires inside { pos ≤ length bytes.now }
     requires tags { HasTagsOf (fields_of fields.now) tags.now }
     ensures answers { (k : List Keep) (e : ℕ) → pos < e → Ignores (fields_of fields.now) deny bytes.now pos e k result }
@@ -401,7 +404,7 @@ fn read_field<'b, A: Allocator + Copy>(
     pos: usize,
     end: usize,
     kept: &mut KeptTexts<'b, A>,
-) -> Result<(Data<A>, usize), A>
+) -> Answer<(Data<A>, usize), A>
     requires inside { pos ≤ length bytes.now }
     ensures answers { Answers view (read_field name.now (form_of shape.now) (read_of (form_of shape.now)))
         bytes.now pos end kept.old kept.new result }
@@ -444,7 +447,7 @@ fn wrong_tag<A: Allocator + Copy>(
     pos: usize,
     typ: TtlvType,
     name: &str,
-) -> Error<A>
+) -> Refusal<A>
     requires there { pos + 4 ≤ length bytes.now }
     requires typ_is { code_at bytes.now pos ≡ code typ }
     requires differs { tag_of name.now ≢ Some (tag_at bytes.now pos) }
@@ -467,7 +470,7 @@ fn read_seq<'b, A: Allocator + Copy>(
     pos: usize,
     end: usize,
     kept: &mut KeptTexts<'b, A>,
-) -> Result<(Vec<Data<A>, A>, usize), A>
+) -> Answer<(Vec<Data<A>, A>, usize), A>
     requires before_end { pos < end }
     requires inside { pos ≤ length bytes.now }
     ensures answers { Answers (λ v. seq_value (views v.items)) (read_seq (read_of (form_of shape.now)))
@@ -500,7 +503,7 @@ fn goes_on<A: Allocator>(
     last: usize,
     next: usize,
     end: usize,
-) -> Result<bool, A>
+) -> Answer<bool, A>
     requires first_inside { first + 4 ≤ length bytes.now }
     requires inside { next ≤ length bytes.now }
     ensures answers { (h : Raw) → ItemAt bytes.now first h → GoesOn h bytes.now next end result }
@@ -542,7 +545,7 @@ fn chosen<'b, A: Allocator + Copy>(
     typ: TtlvType,
     bytes: &[u8],
     pos: usize,
-) -> Result<Option<usize>, A>
+) -> Answer<Option<usize>, A>
     requires there { pos + 4 ≤ length bytes.now }
     requires typ_is { code_at bytes.now pos ≡ code typ }
     ensures answers { Chooses (choice (variants_of variants.now) kept.now typ) result }
@@ -570,7 +573,7 @@ fn read_enum<'b, A: Allocator + Copy>(
     pos: usize,
     end: usize,
     kept: &mut KeptTexts<'b, A>,
-) -> Result<(Data<A>, usize), A>
+) -> Answer<(Data<A>, usize), A>
     requires before_end { pos < end }
     requires inside { pos ≤ length bytes.now }
     ensures answers { Answers view
@@ -616,7 +619,7 @@ fn read_variant<'b, A: Allocator + Copy>(
     pos: usize,
     end: usize,
     kept: &mut KeptTexts<'b, A>,
-) -> Result<(Data<A>, usize), A>
+) -> Answer<(Data<A>, usize), A>
     requires before_end { pos < end }
     requires there { pos + 4 ≤ length bytes.now }
     requires typ_is { code_at bytes.now pos ≡ code typ }
@@ -664,7 +667,7 @@ fn read_tuple<'b, A: Allocator + Copy>(
     bytes: &'b [u8],
     pos: usize,
     kept: &mut KeptTexts<'b, A>,
-) -> Result<(Vec<Data<A>, A>, usize), A>
+) -> Answer<(Vec<Data<A>, A>, usize), A>
     requires there { pos + 4 ≤ length bytes.now }
     requires typ_is { code_at bytes.now pos ≡ code typ }
     ensures answers { (e : ℕ)
@@ -702,7 +705,7 @@ fn read_parts<'b, A: Allocator + Copy>(
     pos: usize,
     end: usize,
     kept: &mut KeptTexts<'b, A>,
-) -> Result<Vec<Data<A>, A>, A>
+) -> Answer<Vec<Data<A>, A>, A>
     requires inside { pos ≤ length bytes.now }
     ensures answers { AnswersAll (λ v. views v.items) (read_used (read_forms (forms_of shapes.now)))
         bytes.now pos end kept.old kept.new result }
@@ -759,7 +762,10 @@ fn read_first<A: Allocator + Copy>(
     let stop = 8 + n as usize;
     match read_content(alloc, tag, fields, deny, bytes, 8, stop, &mut kept) {
         Ok(values) => Ok(values),
-        Err(e) => Err(turned(within(alloc, tag, e))),
+        Err(refusal) => {
+            let refusal = within(&mut kept, tag, refusal);
+            Err(told(refusal, kept.into_parents()))
+        }
     }
 }
 

@@ -4,76 +4,74 @@ ghost use Rattle.std.specs.Prelude.{◌≡◌, ℕ, ◌+◌, ◌^◌, ◌<◌, �
 ghost use Rattle.kmip_ttlv_types.specs.declared.field.FieldType.TheVariants.{Length, Tag};
 ghost use Rattle.kmip_ttlv_types.specs.Places.{tag_at, code_at, length_at};
 ghost use Rattle.kmip_ttlv_base.specs.Errors.{malformed, mismatch, invalid_tag, missing_identifier, other_cause};
-ghost use Rattle.kmip_ttlv_base.specs.Errors.{unexpected_tag, unexpected_type, IsMemory, view_of_location};
+ghost use Rattle.kmip_ttlv_base.specs.Errors.{unexpected_tag, unexpected_type};
 ghost use Rattle.kmip_ttlv_base.specs.declared.error.MalformedTtlvError.TheVariants as malformeds;
 ghost use Rattle.kmip_ttlv_base.specs.Forms.{Form};
-ghost use Rattle.kmip_ttlv_de.specs.ReadAnswers.{sort_of, early_end};
+ghost use Rattle.kmip_ttlv_de.specs.ReadAnswers.{early_end};
+ghost use Rattle.kmip_ttlv_de.specs.Refusals.{refusal_cause, refusal_place, refusal_sort, view_of_place};
 ghost use Rattle.kmip_ttlv_de.specs.ReadPlaces.{HasType};
 ghost use Rattle.kmip_ttlv_de.specs.Rules.{mismatch_of};
-ghost use Rattle.kmip_ttlv_de.specs.Facts.{tagged_place, item_place, code_place, struct_place, Facts, MayBeRefusal};
-ghost use Rattle.kmip_ttlv_de.specs.Facts.{Widened, cause_of, place_of};
-ghost use Rattle.kmip_ttlv_de.specs.RootFacts.{Fault, at_first, no_struct_fault, leaf_fault};
+ghost use Rattle.kmip_ttlv_de.specs.Facts.{tagged_place, item_place, code_place, struct_place, ReaderFacts};
+ghost use Rattle.kmip_ttlv_de.specs.Facts.{MayBeRefusal, SameOrWant};
 
 use crate::head::tag_at;
+use crate::keep::KeptTexts;
+use crate::refusal::{Cause, NOWHERE, Place, Refusal, want};
 use crate::rules::RuleError;
-use kmip_ttlv_base::error::{Error, ErrorKind, ErrorLocation, MalformedTtlvError, SerdeError};
+use kmip_ttlv_base::error::{MalformedTtlvError, SerdeError};
 use kmip_ttlv_base::types::{ByteOffset, FieldType, TtlvTag, TtlvType};
 use std::alloc::Allocator;
-use std::io;
 
 /// The bytes end too early.
-pub fn early<A: Allocator>() -> Error<A>
-    ensures sort { sort_of result ≡ early_end }
-    ensures facts { (f : Form) (b : List ℕ) → Facts f b result }
-    ensures place { (place_of result).offset ≡ None }
+pub fn early<A: Allocator>() -> Refusal<A>
+    ensures sort { refusal_sort result ≡ early_end }
+    ensures facts { (f : Form) (b : List ℕ) → ReaderFacts f b result }
+    ensures place { (refusal_place result).offset ≡ None }
 {
-    Error::new(
-        ErrorKind::IoError(io::Error::from(io::ErrorKind::UnexpectedEof)),
-        ErrorLocation::unknown(),
-    )
+    Refusal {
+        cause: Cause::EarlyEnd,
+        place: NOWHERE,
+    }
 }
 
 // So far behind an item's first byte.
-fn at<A: Allocator>(bytes: &[u8], pos: usize, typ: TtlvType, after: usize) -> ErrorLocation<A>
+fn at(bytes: &[u8], pos: usize, typ: TtlvType, after: usize) -> Place
     requires there { pos + 4 ≤ length bytes.now }
     requires fits { after < 2 ^ 33 }
-    ensures { view_of_location result ≡ item_place bytes.now pos after typ }
+    ensures { view_of_place result ≡ item_place bytes.now pos after typ }
 {
-    ErrorLocation::at(
-        Some(ByteOffset((pos + after) as u64)),
-        None,
-        Some(tag_at(bytes, pos)),
-        Some(typ),
-    )
+    Place {
+        offset: Some(ByteOffset((pos + after) as u64)),
+        tag: Some(tag_at(bytes, pos)),
+        typ: Some(typ),
+    }
 }
 
 // At an offset, in a struct of this tag.
-fn in_struct<A: Allocator>(offset: usize, tag: TtlvTag) -> ErrorLocation<A>
-    ensures { view_of_location result ≡ struct_place offset tag }
+fn in_struct(offset: usize, tag: TtlvTag) -> Place
+    ensures { view_of_place result ≡ struct_place offset tag }
 {
-    ErrorLocation::at(
-        Some(ByteOffset(offset as u64)),
-        None,
-        Some(tag),
-        Some(TtlvType::Structure),
-    )
+    Place {
+        offset: Some(ByteOffset(offset as u64)),
+        tag: Some(tag),
+        typ: Some(TtlvType::Structure),
+    }
 }
 
 /// The code of no type.
-pub fn bad_code<A: Allocator>(bytes: &[u8], pos: usize) -> Error<A>
+pub fn bad_code<A: Allocator>(bytes: &[u8], pos: usize) -> Refusal<A>
     requires there { pos + 4 ≤ length bytes.now }
-    ensures cause { cause_of result ≡ malformed (malformeds.InvalidType (code_at bytes.now pos)) }
-    ensures place { place_of result ≡ code_place bytes.now pos }
+    ensures cause { refusal_cause result ≡ malformed (malformeds.InvalidType (code_at bytes.now pos)) }
+    ensures place { refusal_place result ≡ code_place bytes.now pos }
 {
-    Error::new(
-        ErrorKind::MalformedTtlv(MalformedTtlvError::InvalidType(bytes[pos + 3])),
-        ErrorLocation::at(
-            Some(ByteOffset((pos + 3) as u64)),
-            None,
-            Some(tag_at(bytes, pos)),
-            None,
-        ),
-    )
+    Refusal {
+        cause: Cause::Malformed(MalformedTtlvError::InvalidType(bytes[pos + 3])),
+        place: Place {
+            offset: Some(ByteOffset((pos + 3) as u64)),
+            tag: Some(tag_at(bytes, pos)),
+            typ: None,
+        },
+    }
 }
 
 // Another length than the one of this type, so far behind an item's first byte.
@@ -84,20 +82,20 @@ fn other_length<A: Allocator>(
     expected: u32,
     actual: u32,
     after: usize,
-) -> Error<A>
+) -> Refusal<A>
     requires there { pos + 4 ≤ length bytes.now }
     requires fits { after < 2 ^ 33 }
-    ensures cause { cause_of result ≡ malformed (malformeds.InvalidLength expected actual typ) }
-    ensures place { place_of result ≡ item_place bytes.now pos after typ }
+    ensures cause { refusal_cause result ≡ malformed (malformeds.InvalidLength expected actual typ) }
+    ensures place { refusal_place result ≡ item_place bytes.now pos after typ }
 {
-    Error::new(
-        ErrorKind::MalformedTtlv(MalformedTtlvError::InvalidLength {
+    Refusal {
+        cause: Cause::Malformed(MalformedTtlvError::InvalidLength {
             expected,
             actual,
             typ,
         }),
-        at(bytes, pos, typ, after),
-    )
+        place: at(bytes, pos, typ, after),
+    }
 }
 
 /// A length that no value of this type has.
@@ -107,10 +105,10 @@ pub fn bad_length<A: Allocator>(
     typ: TtlvType,
     expected: u32,
     actual: u32,
-) -> Error<A>
+) -> Refusal<A>
     requires there { pos + 8 ≤ length bytes.now }
-    ensures cause { cause_of result ≡ malformed (malformeds.InvalidLength expected actual typ) }
-    ensures place { place_of result ≡ item_place bytes.now pos 8 typ }
+    ensures cause { refusal_cause result ≡ malformed (malformeds.InvalidLength expected actual typ) }
+    ensures place { refusal_place result ≡ item_place bytes.now pos 8 typ }
 {
     other_length(bytes, pos, typ, expected, actual, 8)
 }
@@ -122,39 +120,39 @@ pub fn bad_number_length<A: Allocator>(
     typ: TtlvType,
     expected: u32,
     actual: u32,
-) -> Error<A>
+) -> Refusal<A>
     requires there { pos + 8 ≤ length bytes.now }
-    ensures cause { cause_of result ≡ malformed (malformeds.InvalidLength expected actual typ) }
-    ensures place { place_of result ≡ item_place bytes.now pos 4 typ }
+    ensures cause { refusal_cause result ≡ malformed (malformeds.InvalidLength expected actual typ) }
+    ensures place { refusal_place result ≡ item_place bytes.now pos 4 typ }
 {
     other_length(bytes, pos, typ, expected, actual, 4)
 }
 
 /// Content that is no value of this type.
-pub fn bad_value<A: Allocator>(bytes: &[u8], pos: usize, typ: TtlvType, n: u32) -> Error<A>
+pub fn bad_value<A: Allocator>(bytes: &[u8], pos: usize, typ: TtlvType, n: u32) -> Refusal<A>
     requires there { pos + 8 + n ≤ length bytes.now }
-    ensures cause { cause_of result ≡ malformed (malformeds.InvalidValue typ) }
-    ensures place { place_of result ≡ item_place bytes.now pos (8 + n) typ }
+    ensures cause { refusal_cause result ≡ malformed (malformeds.InvalidValue typ) }
+    ensures place { refusal_place result ≡ item_place bytes.now pos (8 + n) typ }
 {
-    Error::new(
-        ErrorKind::MalformedTtlv(MalformedTtlvError::InvalidValue { typ }),
-        at(bytes, pos, typ, 8 + n as usize),
-    )
+    Refusal {
+        cause: Cause::Malformed(MalformedTtlvError::InvalidValue { typ }),
+        place: at(bytes, pos, typ, 8 + n as usize),
+    }
 }
 
 /// An item that has to be a Structure.
-pub fn no_structure<A: Allocator>(bytes: &[u8], pos: usize, typ: TtlvType) -> Error<A>
+pub fn no_structure<A: Allocator>(bytes: &[u8], pos: usize, typ: TtlvType) -> Refusal<A>
     requires there { pos + 4 ≤ length bytes.now }
-    ensures cause { cause_of result ≡ malformed (malformeds.UnexpectedType TtlvType.Structure typ) }
-    ensures place { place_of result ≡ item_place bytes.now pos 4 typ }
+    ensures cause { refusal_cause result ≡ malformed (malformeds.UnexpectedType TtlvType.Structure typ) }
+    ensures place { refusal_place result ≡ item_place bytes.now pos 4 typ }
 {
-    Error::new(
-        ErrorKind::MalformedTtlv(MalformedTtlvError::UnexpectedType {
+    Refusal {
+        cause: Cause::Malformed(MalformedTtlvError::UnexpectedType {
             expected: TtlvType::Structure,
             actual: typ,
         }),
-        at(bytes, pos, typ, 4),
-    )
+        place: at(bytes, pos, typ, 4),
+    }
 }
 
 /// A leaf of another type.
@@ -163,18 +161,18 @@ pub fn other_type<A: Allocator>(
     pos: usize,
     expected: TtlvType,
     typ: TtlvType,
-) -> Error<A>
+) -> Refusal<A>
     requires there { pos + 4 ≤ length bytes.now }
-    ensures cause { cause_of result ≡ mismatch (unexpected_type expected typ) }
-    ensures place { place_of result ≡ item_place bytes.now pos 4 typ }
+    ensures cause { refusal_cause result ≡ mismatch (unexpected_type expected typ) }
+    ensures place { refusal_place result ≡ item_place bytes.now pos 4 typ }
 {
-    Error::new(
-        ErrorKind::SerdeError(SerdeError::UnexpectedType {
+    Refusal {
+        cause: Cause::Mismatch(SerdeError::UnexpectedType {
             expected,
             actual: typ,
         }),
-        at(bytes, pos, typ, 4),
-    )
+        place: at(bytes, pos, typ, 4),
+    }
 }
 
 /// An item of another tag.
@@ -183,18 +181,18 @@ pub fn other_tag<A: Allocator>(
     pos: usize,
     typ: TtlvType,
     expected: TtlvTag,
-) -> Error<A>
+) -> Refusal<A>
     requires there { pos + 4 ≤ length bytes.now }
-    ensures cause { cause_of result ≡ mismatch (unexpected_tag expected (tag_at bytes.now pos)) }
-    ensures place { place_of result ≡ item_place bytes.now pos 4 typ }
+    ensures cause { refusal_cause result ≡ mismatch (unexpected_tag expected (tag_at bytes.now pos)) }
+    ensures place { refusal_place result ≡ item_place bytes.now pos 4 typ }
 {
-    Error::new(
-        ErrorKind::SerdeError(SerdeError::UnexpectedTag {
+    Refusal {
+        cause: Cause::Mismatch(SerdeError::UnexpectedTag {
             expected,
             actual: tag_at(bytes, pos),
         }),
-        at(bytes, pos, typ, 4),
-    )
+        place: at(bytes, pos, typ, 4),
+    }
 }
 
 /// A name that is no tag.
@@ -204,87 +202,47 @@ pub fn no_tag<A: Allocator + Copy>(
     pos: usize,
     typ: TtlvType,
     name: &str,
-) -> Error<A>
+) -> Refusal<A>
     requires there { pos + 4 ≤ length bytes.now }
     ensures { MayBeRefusal (mismatch (invalid_tag name.now)) (item_place bytes.now pos 4 typ) result }
 {
     match String::from_str(alloc, name) {
-        Ok(name) => Error::new(
-            ErrorKind::SerdeError(SerdeError::InvalidTag(name)),
-            at(bytes, pos, typ, 4),
-        ),
-        Err(e) => Error::from(e),
-    }
-}
-
-/// The root struct's name, which is no tag.
-pub fn no_root_tag<A: Allocator + Copy>(alloc: A, name: &str) -> Error<A>
-    ensures fault { IsMemory result
-        ⊎ ((cause_of result ≡ mismatch (invalid_tag name.now)) × (place_of result ≡ at_first)) }
-{
-    match String::from_str(alloc, name) {
-        Ok(name) => Error::new(
-            ErrorKind::SerdeError(SerdeError::InvalidTag(name)),
-            ErrorLocation::at(Some(ByteOffset(0)), None, None, None),
-        ),
-        Err(e) => Error::from(e),
-    }
-}
-
-/// A root that is a sequence or an enum.
-pub fn no_struct<A: Allocator + Copy>(alloc: A) -> Error<A>
-    ensures fault { (f : Fault)
-        → no_struct_fault ≡ Some f
-        → IsMemory result ⊎ ((cause_of result ≡ f.kind) × (place_of result ≡ f.place)) }
-{
-    match String::from_str(alloc, "no struct") {
-        Ok(text) => Error::new(
-            ErrorKind::SerdeError(SerdeError::Other(text)),
-            ErrorLocation::at(Some(ByteOffset(0)), None, None, None),
-        ),
-        Err(e) => Error::from(e),
+        Ok(name) => Refusal {
+            cause: Cause::Mismatch(SerdeError::InvalidTag(name)),
+            place: at(bytes, pos, typ, 4),
+        },
+        Err(e) => Refusal::from(e),
     }
 }
 
 // A field where another one is due.
-fn other_field<A: Allocator>(
-    expected: FieldType,
-    actual: FieldType,
-    place: ErrorLocation<A>,
-) -> Error<A>
-    ensures cause { cause_of result ≡ malformed (malformeds.UnexpectedTtlvField expected actual) }
-    ensures place { place_of result ≡ view_of_location place }
+fn other_field<A: Allocator>(expected: FieldType, actual: FieldType, place: Place) -> Refusal<A>
+    ensures cause { refusal_cause result ≡ malformed (malformeds.UnexpectedTtlvField expected actual) }
+    ensures place { refusal_place result ≡ view_of_place place }
 {
     let fault = MalformedTtlvError::UnexpectedTtlvField { expected, actual };
-    Error::new(ErrorKind::MalformedTtlv(fault), place)
-}
-
-/// A root that is a leaf.
-pub fn root_leaf<A: Allocator>() -> Error<A>
-    ensures fault { (f : Fault)
-        → leaf_fault ≡ Some f
-        → IsMemory result ⊎ ((cause_of result ≡ f.kind) × (place_of result ≡ f.place)) }
-{
-    let first = ErrorLocation::at(Some(ByteOffset(0)), None, None, None);
-    other_field(FieldType::Tag, FieldType::LengthAndValue, first)
+    Refusal {
+        cause: Cause::Malformed(fault),
+        place,
+    }
 }
 
 /// An item in a struct without fields.
-pub fn no_fields<A: Allocator>(bytes: &[u8], pos: usize, typ: TtlvType) -> Error<A>
+pub fn no_fields<A: Allocator>(bytes: &[u8], pos: usize, typ: TtlvType) -> Refusal<A>
     requires there { pos + 4 ≤ length bytes.now }
-    ensures cause { cause_of result ≡ mismatch missing_identifier }
-    ensures place { place_of result ≡ item_place bytes.now pos 4 typ }
+    ensures cause { refusal_cause result ≡ mismatch missing_identifier }
+    ensures place { refusal_place result ≡ item_place bytes.now pos 4 typ }
 {
-    Error::new(
-        ErrorKind::SerdeError(SerdeError::MissingIdentifier),
-        at(bytes, pos, typ, 4),
-    )
+    Refusal {
+        cause: Cause::Mismatch(SerdeError::MissingIdentifier),
+        place: at(bytes, pos, typ, 4),
+    }
 }
 
 /// The item that begins at `last` was read, and it ends at `next`, past the end.
-pub fn overflow<A: Allocator>(bytes: &[u8], last: usize, next: usize, end: usize) -> Error<A>
-    ensures cause { cause_of result ≡ malformed (malformeds.Overflow record { 0 = end }) }
-    ensures place { (t : TtlvType) → HasType bytes.now last t → place_of result ≡ tagged_place bytes.now last next t }
+pub fn overflow<A: Allocator>(bytes: &[u8], last: usize, next: usize, end: usize) -> Refusal<A>
+    ensures cause { refusal_cause result ≡ malformed (malformeds.Overflow record { 0 = end }) }
+    ensures place { (t : TtlvType) → HasType bytes.now last t → refusal_place result ≡ tagged_place bytes.now last next t }
 {
     let is_there = bytes.len() >= 4 && last <= bytes.len() - 4;
     let tag = if is_there {
@@ -297,12 +255,16 @@ pub fn overflow<A: Allocator>(bytes: &[u8], last: usize, next: usize, end: usize
     } else {
         None
     };
-    Error::new(
-        ErrorKind::MalformedTtlv(MalformedTtlvError::Overflow {
+    Refusal {
+        cause: Cause::Malformed(MalformedTtlvError::Overflow {
             field_end: ByteOffset(end as u64),
         }),
-        ErrorLocation::at(Some(ByteOffset(next as u64)), None, tag, typ),
-    )
+        place: Place {
+            offset: Some(ByteOffset(next as u64)),
+            tag,
+            typ,
+        },
+    }
 }
 
 /// A refusal at the end of a structure, in the struct of this tag.
@@ -312,15 +274,15 @@ pub fn at_end<A: Allocator + Copy>(
     end: usize,
     tag: TtlvTag,
     text: &str,
-) -> Error<A>
+) -> Refusal<A>
     ensures { MayBeRefusal (mismatch (other_cause text.now)) (struct_place end tag) result }
 {
     match String::from_str(alloc, text) {
-        Ok(text) => Error::new(
-            ErrorKind::SerdeError(SerdeError::Other(text)),
-            in_struct(end, tag),
-        ),
-        Err(e) => Error::from(e),
+        Ok(text) => Refusal {
+            cause: Cause::Mismatch(SerdeError::Other(text)),
+            place: in_struct(end, tag),
+        },
+        Err(e) => Refusal::from(e),
     }
 }
 
@@ -331,30 +293,30 @@ pub fn closed<A: Allocator + Copy>(
     pos: usize,
     tag: TtlvTag,
     text: &str,
-) -> Error<A>
+) -> Refusal<A>
     requires there { pos + 4 ≤ length bytes.now }
     ensures { MayBeRefusal (mismatch (other_cause text.now)) (struct_place (pos + 4) tag) result }
 {
     match String::from_str(alloc, text) {
-        Ok(text) => Error::new(
-            ErrorKind::SerdeError(SerdeError::Other(text)),
-            in_struct(pos + 4, tag),
-        ),
-        Err(e) => Error::from(e),
+        Ok(text) => Refusal {
+            cause: Cause::Mismatch(SerdeError::Other(text)),
+            place: in_struct(pos + 4, tag),
+        },
+        Err(e) => Refusal::from(e),
     }
 }
 
 /// An item too many for a tuple, in the struct of this tag.
-pub fn surplus<A: Allocator + Copy>(alloc: A, bytes: &[u8], pos: usize, tag: TtlvTag) -> Error<A>
+pub fn surplus<A: Allocator + Copy>(alloc: A, bytes: &[u8], pos: usize, tag: TtlvTag) -> Refusal<A>
     requires there { pos ≤ length bytes.now }
     ensures { MayBeRefusal (mismatch (other_cause (codes "too many items"))) (struct_place pos tag) result }
 {
     match String::from_str(alloc, "too many items") {
-        Ok(text) => Error::new(
-            ErrorKind::SerdeError(SerdeError::Other(text)),
-            in_struct(pos, tag),
-        ),
-        Err(e) => Error::from(e),
+        Ok(text) => Refusal {
+            cause: Cause::Mismatch(SerdeError::Other(text)),
+            place: in_struct(pos, tag),
+        },
+        Err(e) => Refusal::from(e),
     }
 }
 
@@ -364,24 +326,24 @@ pub fn unknown_variant<A: Allocator + Copy>(
     bytes: &[u8],
     pos: usize,
     tag: TtlvTag,
-) -> Error<A>
+) -> Refusal<A>
     requires there { pos + 16 ≤ length bytes.now }
     ensures { MayBeRefusal (mismatch (other_cause (codes "unknown variant"))) (struct_place (pos + 16) tag) result }
 {
     match String::from_str(alloc, "unknown variant") {
-        Ok(text) => Error::new(
-            ErrorKind::SerdeError(SerdeError::Other(text)),
-            in_struct(pos + 16, tag),
-        ),
-        Err(e) => Error::from(e),
+        Ok(text) => Refusal {
+            cause: Cause::Mismatch(SerdeError::Other(text)),
+            place: in_struct(pos + 16, tag),
+        },
+        Err(e) => Refusal::from(e),
     }
 }
 
 /// A unit variant that a rule chose.
-pub fn chosen_unit<A: Allocator>(bytes: &[u8], pos: usize, typ: TtlvType) -> Error<A>
+pub fn chosen_unit<A: Allocator>(bytes: &[u8], pos: usize, typ: TtlvType) -> Refusal<A>
     requires there { pos + 4 ≤ length bytes.now }
-    ensures cause { cause_of result ≡ malformed (malformeds.UnexpectedTtlvField Length Tag) }
-    ensures place { place_of result ≡ item_place bytes.now pos 4 typ }
+    ensures cause { refusal_cause result ≡ malformed (malformeds.UnexpectedTtlvField Length Tag) }
+    ensures place { refusal_place result ≡ item_place bytes.now pos 4 typ }
 {
     other_field(FieldType::Length, FieldType::Tag, at(bytes, pos, typ, 4))
 }
@@ -392,10 +354,10 @@ pub fn named_content<A: Allocator>(
     pos: usize,
     typ: TtlvType,
     actual: FieldType,
-) -> Error<A>
+) -> Refusal<A>
     requires there { pos + 16 ≤ length bytes.now }
-    ensures cause { cause_of result ≡ malformed (malformeds.UnexpectedTtlvField Tag actual) }
-    ensures place { place_of result ≡ item_place bytes.now pos 16 typ }
+    ensures cause { refusal_cause result ≡ malformed (malformeds.UnexpectedTtlvField Tag actual) }
+    ensures place { refusal_place result ≡ item_place bytes.now pos 16 typ }
 {
     other_field(FieldType::Tag, actual, at(bytes, pos, typ, 16))
 }
@@ -407,7 +369,7 @@ pub fn refused_rule<'n, A: Allocator + Copy>(
     pos: usize,
     typ: TtlvType,
     rule: RuleError<'n>,
-) -> Error<A>
+) -> Refusal<A>
     requires there { pos + 4 ≤ length bytes.now }
     ensures { MayBeRefusal (mismatch (mismatch_of rule.entry)) (item_place bytes.now pos 4 typ) result }
 {
@@ -422,45 +384,30 @@ pub fn refused_rule<'n, A: Allocator + Copy>(
             } else {
                 SerdeError::InvalidVariantMatcherSyntax(text)
             };
-            Error::new(ErrorKind::SerdeError(kind), at(bytes, pos, typ, 4))
+            Refusal {
+                cause: Cause::Mismatch(kind),
+                place: at(bytes, pos, typ, 4),
+            }
         }
-        Err(e) => Error::from(e),
+        Err(e) => Refusal::from(e),
     }
 }
 
-/// The same refusal, within the structure of this tag. Parents are added innermost first.
-pub fn within<A: Allocator + Copy>(alloc: A, tag: TtlvTag, error: Error<A>) -> Error<A>
-    ensures { Widened error result }
+/// The same refusal, from the structure of this tag, which stands around it if it has a place. Those
+/// around are kept innermost first.
+#[cold]
+pub fn within<'b, A: Allocator + Copy>(
+    kept: &mut KeptTexts<'b, A>,
+    tag: TtlvTag,
+    refusal: Refusal<A>,
+) -> Refusal<A>
+    ensures { SameOrWant refusal result }
 {
-    let (kind, location) = error.into_parts();
-    let (offset, parents, item, typ) = location.into_parts();
-    if offset.is_none() {
-        return Error::new(kind, ErrorLocation::at(offset, parents, item, typ));
+    if refusal.place.offset.is_none() {
+        return refusal;
     }
-    let mut tags = match parents {
-        Some(tags) => tags,
-        None => Vec::new(alloc),
-    };
-    match tags.push(tag) {
-        Ok(()) => Error::new(kind, ErrorLocation::at(offset, Some(tags), item, typ)),
-        Err(_) => Error::out_of_memory(),
-    }
-}
-
-/// The same refusal, its parents outermost first.
-pub fn turned<A: Allocator>(error: Error<A>) -> Error<A>
-    ensures { Widened error result }
-{
-    let (kind, location) = error.into_parts();
-    let (offset, parents, item, typ) = location.into_parts();
-    if offset.is_none() {
-        return Error::new(kind, ErrorLocation::at(offset, parents, item, typ));
-    }
-    match parents {
-        Some(mut tags) => {
-            tags.reverse();
-            Error::new(kind, ErrorLocation::at(offset, Some(tags), item, typ))
-        }
-        None => Error::new(kind, ErrorLocation::at(offset, None, item, typ)),
+    match kept.add_parent(tag) {
+        Ok(()) => refusal,
+        Err(_) => want(),
     }
 }

@@ -4,10 +4,10 @@ use Rattle.kmip_ttlv_types.specs.Primitives.{CanHaveLength}
 use Rattle.kmip_ttlv_types.specs.Leaves.{is_valid}
 use Rattle.kmip_ttlv_de.specs.ReadPlaces.{content_at}
 use Rattle.kmip_ttlv_base.specs.declared.error.MalformedTtlvError.TheVariants as malformeds
-use Rattle.kmip_ttlv_de.specs.ReadAnswers.{sort_of}
 use Rattle.kmip_ttlv_de.proofs.Leaves.{leaf_not_length, leaf_invalid, leaf_plain}
 use Rattle.kmip_ttlv_de.proofs.SayLemmas.{malformed_says}
 use Rattle.kmip_ttlv_de.specs.Facts.{WrongLength, WrongValue, item_place}
+use Rattle.kmip_ttlv_de.specs.Refusals.{refusal_sort}
 use Rattle.kmip_ttlv_de.proofs.WholeLemmas.{early_says, early_header, early_item}
 use Rattle.kmip_ttlv_de.proofs.leaf.leaf_at.Goals as goal
 
@@ -15,7 +15,7 @@ pub returns-in_default-clause-says : goal.returns-in_default-clause-says
 returns-in_default-clause-says g c = λ f e lt bad wrong. early_says f c.args.bytes.now c.args.pos e c.early.result (c.early.ensures.facts f c.args.bytes.now) c.early.ensures.place (early_header c.args.bytes.now c.args.pos e lt c.in_default.ensures.none)
 
 pub returns-then-n-w-clause-err : goal.returns-then-n-w-clause-err
-returns-then-n-w-clause-err g c = λ k e lt. leaf_not_length c.args.bytes.now c.args.pos e k c.args.typ c.in-Some.n c.in-Some-fixed_length.w (sort_of c.bad_length.result) lt c.in-Some.ensures.some.0 c.requires.typ_is c.in-Some.ensures.some.1 (search rules) c.if-n-w.true
+returns-then-n-w-clause-err g c = λ k e lt. leaf_not_length c.args.bytes.now c.args.pos e k c.args.typ c.in-Some.n c.in-Some-fixed_length.w (refusal_sort c.bad_length.result) lt c.in-Some.ensures.some.0 c.requires.typ_is c.in-Some.ensures.some.1 (search rules) c.if-n-w.true
 
 pub returns-then-n-w-clause-says : goal.returns-then-n-w-clause-says
 returns-then-n-w-clause-says g c =
@@ -32,7 +32,7 @@ returns-in_default-content_at-clause-says g c = λ f e lt bad wrong. early_says 
 
 pub returns-then-not-is_valid-clause-err : goal.returns-then-not-is_valid-clause-err
 returns-then-not-is_valid-clause-err g c =
-    λ k e lt. leaf_invalid c.args.bytes.now c.args.pos e k c.args.typ c.in-Some.n c.in-Some-content_at.content.now (sort_of c.bad_value.result) lt c.in-Some-content_at.ensures.some.1 c.requires.typ_is c.in-Some.ensures.some.1 c.in-Some-content_at.ensures.some.0 (search rules)
+    λ k e lt. leaf_invalid c.args.bytes.now c.args.pos e k c.args.typ c.in-Some.n c.in-Some-content_at.content.now (refusal_sort c.bad_value.result) lt c.in-Some-content_at.ensures.some.1 c.requires.typ_is c.in-Some.ensures.some.1 c.in-Some-content_at.ensures.some.0 (search rules)
 
 pub returns-then-not-is_valid-clause-says : goal.returns-then-not-is_valid-clause-says
 returns-then-not-is_valid-clause-says g c =

@@ -6,10 +6,10 @@ use Rattle.kmip_ttlv_base.specs.Values.{view, unit_variant_value}
 use Rattle.kmip_ttlv_base.specs.Forms.{variants_of, unit}
 use Rattle.kmip_ttlv_de.specs.Reads.{is_number_type, number_text, first_named}
 use Rattle.kmip_ttlv_de.specs.Reading.{any_leaf, read_number}
-use Rattle.kmip_ttlv_de.specs.ReadAnswers.{sort_of}
 use Rattle.kmip_ttlv_de.specs.Facts.{NumberRead, WrongLength, for_number}
 use Rattle.kmip_ttlv_de.specs.ReadPlaces.{HasType, content_at}
 use Rattle.kmip_ttlv_base.specs.Errors.{unexpected_type}
+use Rattle.kmip_ttlv_de.specs.Refusals.{refusal_sort}
 use Rattle.kmip_ttlv_base.specs.declared.error.MalformedTtlvError.TheVariants as malformeds
 use Rattle.kmip_ttlv_types.specs.declared.typ.TtlvType.TheVariants.{Enumeration}
 use Rattle.kmip_ttlv_de.proofs.SayLemmas.{malformed_says, mismatch_says}
@@ -28,7 +28,7 @@ from_utf8_unchecked-text-requires g c = IsUtf8-from_ascii _ c.number_text-digits
 pub returns-then-not-is_number_type-clause-answers : goal.returns-then-not-is_number_type-clause-answers
 returns-then-not-is_number_type-clause-answers g c =
     let other : is_number_type c.args.typ ≡ false = search rules in
-    number_not_type c.args.name.now (variants_of c.args.variants.now) c.args.bytes.now c.args.pos c.args.end c.args.kept.now c.args.typ (sort_of c.other_type.result) c.requires.before_end c.requires.there c.requires.typ_is other
+    number_not_type c.args.name.now (variants_of c.args.variants.now) c.args.bytes.now c.args.pos c.args.end c.args.kept.now c.args.typ (refusal_sort c.other_type.result) c.requires.before_end c.requires.there c.requires.typ_is other
 
 pub returns-then-not-is_number_type-clause-says : goal.returns-then-not-is_number_type-clause-says
 returns-then-not-is_number_type-clause-says g c =
@@ -44,7 +44,7 @@ returns-then-not-is_number_type-clause-says g c =
 pub returns-then-n-ne4-clause-answers : goal.returns-then-n-ne4-clause-answers
 returns-then-n-ne4-clause-answers g c =
     let number : is_number_type c.args.typ ≡ true = search rules in
-    number_not_length c.args.name.now (variants_of c.args.variants.now) c.args.bytes.now c.args.pos c.args.end c.args.kept.now c.args.typ c.in-Some.n (sort_of c.bad_number_length.result) c.requires.before_end c.in-Some.ensures.some.0 c.requires.typ_is c.in-Some.ensures.some.1 (number_length c.args.typ number) c.if-n-ne4.true
+    number_not_length c.args.name.now (variants_of c.args.variants.now) c.args.bytes.now c.args.pos c.args.end c.args.kept.now c.args.typ c.in-Some.n (refusal_sort c.bad_number_length.result) c.requires.before_end c.in-Some.ensures.some.0 c.requires.typ_is c.in-Some.ensures.some.1 (number_length c.args.typ number) c.if-n-ne4.true
 
 pub returns-then-n-ne4-clause-says : goal.returns-then-n-ne4-clause-says
 returns-then-n-ne4-clause-says g c =
@@ -63,7 +63,7 @@ returns-in_err-content-clause-answers g c =
     let p = err_from_is_err_and c.from_residual.result c.from_residual.ensures.1 in
     let k = c.args.kept.now in
     let r = read_number c.args.name.now (variants_of c.args.variants.now) in
-    rw (p.1, p.2) (refused_by any_leaf r c.args.bytes.now c.args.pos c.args.end k k (sort_of c.in_err-content.field-0.0) (number_no_value c.args.name.now (variants_of c.args.variants.now) k k) (c.in_err-content.ensures.err k c.args.end c.requires.before_end))
+    rw (p.1, p.2) (refused_by any_leaf r c.args.bytes.now c.args.pos c.args.end k k (refusal_sort c.in_err-content.field-0.0) (number_no_value c.args.name.now (variants_of c.args.variants.now) k k) (c.in_err-content.ensures.err k c.args.end c.requires.before_end))
 
 pub returns-in_err-content-clause-says : goal.returns-in_err-content-clause-says
 returns-in_err-content-clause-says g c =
@@ -82,7 +82,7 @@ returns-in_err-variant-clause-answers g c =
     let vs = variants_of c.args.variants.now in
     let name : c.from_utf8_unchecked-text.result.now ≡ number_text content = c.from_utf8_unchecked-text.ensures ∙ c.number_text-digits.ensures.text in
     let none : first_named (number_text content) vs ≢ Some unit = subst (λ s. first_named s vs ≢ Some unit) name c.in_err-variant.ensures.err in
-    rw (p.1, p.2) (number_not_unit c.args.name.now vs c.args.bytes.now c.args.pos c.args.end c.args.kept.now c.args.typ (length_at c.args.bytes.now c.args.pos) content c.in_ok-content.next (sort_of c.in_err-variant.field-0.0) c.requires.before_end (λ i. omega (arith, c.type_inv.bytes i)) c.in_ok-content.ensures.ok.0 (no_unit c.args.name.now (number_text content) (first_named (number_text content) vs) none))
+    rw (p.1, p.2) (number_not_unit c.args.name.now vs c.args.bytes.now c.args.pos c.args.end c.args.kept.now c.args.typ (length_at c.args.bytes.now c.args.pos) content c.in_ok-content.next (refusal_sort c.in_err-variant.field-0.0) c.requires.before_end (λ i. omega (arith, c.type_inv.bytes i)) c.in_ok-content.ensures.ok.0 (no_unit c.args.name.now (number_text content) (first_named (number_text content) vs) none))
 
 pub returns-in_err-variant-clause-says : goal.returns-in_err-variant-clause-says
 returns-in_err-variant-clause-says g c =

@@ -16,12 +16,12 @@ use Rattle.kmip_ttlv_de.proofs.PartLemmas.{field_in, form_in, inside_content, in
 use Rattle.kmip_ttlv_de.proofs.Going.{all_accepted, all_refused, answers_via, enum_chosen_at, enum_number, enum_refused, field_missing, field_not_named, fields_begin, fields_done, fields_refused, fields_step, first_taken, forms_begin, forms_done, forms_few, forms_left, forms_refused, forms_step, forms_surplus, goes_map, goes_none, goes_refused, names_at, names_end, names_not_at, not_there, past_end, refused_map, refused_widened, seq_done, seq_left, seq_refused, seq_start, seq_step, struct_accepted, struct_refused, tuple_accepted, tuple_not_type, tuple_refused}
 use Rattle.kmip_ttlv_de.proofs.Heads.{refused_any, refused_end, refused_type}
 use Rattle.kmip_ttlv_de.proofs.ReadLemmas.{is_structure_is}
-use Rattle.kmip_ttlv_de.proofs.SayLemmas.{field_item, field_says, item_past, leaf_says, malformed_says, not_structure, number_says, overflow_says, says_goes, says_widened, says_within, sort_widened, variant_says, words_say}
+use Rattle.kmip_ttlv_de.proofs.SayLemmas.{field_item, field_says, item_past, leaf_says, malformed_says, not_structure, number_says, overflow_says, says_goes, says_or_want, says_within, sort_or_want, variant_says, words_say}
 use Rattle.kmip_ttlv_base.proofs.Views.{view-Newtype, view-NewtypeVariant, view-None, view-Seq, view-Some, view-Struct, view-TupleVariant}
 use Rattle.kmip_ttlv_base.proofs.Shapes.{content_of-Tuple, form_of-Enum, form_of-Struct}
 use Rattle.kmip_ttlv_de.proofs.WholeLemmas.{early_header, early_says}
-use Rattle.kmip_ttlv_de.specs.ReadAnswers.{sort_of}
 use Rattle.kmip_ttlv_de.specs.Facts.{for_tuple as wanted_tuple, missing_field, missing_part, of_field, ruled_unit, struct_place, surplus_item}
+use Rattle.kmip_ttlv_de.specs.Refusals.{refusal_sort}
 use Rattle.kmip_ttlv_de.specs.Parts.{RuleChooses}
 use Rattle.kmip_ttlv_de.specs.ReadPlaces.{HasType, IsFieldItem, IsLast, TupleRead, WholeItems, first_of_seq, for_struct, for_tuple, in_newtype, in_option, in_variant, inner_item, later_of_seq, stated_end}
 use Rattle.kmip_ttlv_de.specs.Reading.{got, mapped, read_content, read_enum, read_field, read_fields, read_forms, read_of, read_seq, read_struct, read_tuple, read_used, read_variant, ◌>>=◌}
@@ -31,7 +31,7 @@ use Rattle.kmip_ttlv_de.specs.Rules.{by_value, choice, chosen}
 pub read_field-returns-then-end-pos-clause-answers : goal.read_field-returns-then-end-pos-clause-answers
 read_field-returns-then-end-pos-clause-answers g t c =
     let within : c.args.pos ≤ length c.args.bytes.now = omega arith in
-    refused_any (read_field c.args.name.now (form_of c.args.shape.now) (read_of (form_of c.args.shape.now))) c.args.bytes.now c.args.pos c.args.end c.args.kept.now (sort_of c.overflow.result) (λ after zs items. absurd (past_end c.args.bytes.now after c.args.pos c.args.end zs c.if-end-pos.true within items))
+    refused_any (read_field c.args.name.now (form_of c.args.shape.now) (read_of (form_of c.args.shape.now))) c.args.bytes.now c.args.pos c.args.end c.args.kept.now (refusal_sort c.overflow.result) (λ after zs items. absurd (past_end c.args.bytes.now after c.args.pos c.args.end zs c.if-end-pos.true within items))
 
 pub read_field-returns-then-is_option-clause-answers : goal.read_field-returns-then-is_option-clause-answers
 read_field-returns-then-is_option-clause-answers g t c =
@@ -41,7 +41,7 @@ read_field-returns-then-is_option-clause-answers g t c =
 pub read_field-returns-then-pos-end-clause-answers : goal.read_field-returns-then-pos-end-clause-answers
 read_field-returns-then-pos-end-clause-answers g t c =
     let within : c.args.pos ≤ length c.args.bytes.now = omega arith in
-    refused_any (read_field c.args.name.now (form_of c.args.shape.now) (read_of (form_of c.args.shape.now))) c.args.bytes.now c.args.pos c.args.end c.args.kept.now (sort_of c.at_end.result) (λ after zs items. ap (read_field c.args.name.now (form_of c.args.shape.now) (read_of (form_of c.args.shape.now)) c.args.kept.now) (names_end c.args.name.now c.args.bytes.now after c.args.pos c.args.end zs c.if-pos-end.true within items) ∙ field_missing c.args.name.now (form_of c.args.shape.now) c.args.kept.now (sym c.if-is_option.ensures))
+    refused_any (read_field c.args.name.now (form_of c.args.shape.now) (read_of (form_of c.args.shape.now))) c.args.bytes.now c.args.pos c.args.end c.args.kept.now (refusal_sort c.at_end.result) (λ after zs items. ap (read_field c.args.name.now (form_of c.args.shape.now) (read_of (form_of c.args.shape.now)) c.args.kept.now) (names_end c.args.name.now c.args.bytes.now after c.args.pos c.args.end zs c.if-pos-end.true within items) ∙ field_missing c.args.name.now (form_of c.args.shape.now) c.args.kept.now (sym c.if-is_option.ensures))
 
 pub read_field-returns-then-is_option-2-clause-answers : goal.read_field-returns-then-is_option-2-clause-answers
 read_field-returns-then-is_option-2-clause-answers g t c =
@@ -66,7 +66,7 @@ read_field-returns-clause-answers g t c =
 pub read_fields-returns-in_err-value-clause-answers : goal.read_fields-returns-in_err-value-clause-answers
 read_fields-returns-in_err-value-clause-answers g t c =
     let p = err_from_is_err_and c.from_residual-in_err-value.result c.from_residual-in_err-value.ensures.1 in
-    rw (p.1, p.2) (fields_refused (read_fields (fields_of c.args.fields.now)) c.args.fields.now c.loop-field.field-index c.field-item.result c.loop-field.values.items (sort_of c.in_err-value.field-0.0) c.args.bytes.now c.args.pos c.loop-field.next c.args.end c.args.kept.now c.loop-field.kept c.loop-field-test.true c.field-item.is c.loop-field.invariant.0 c.in_err-value.ensures.answers)
+    rw (p.1, p.2) (fields_refused (read_fields (fields_of c.args.fields.now)) c.args.fields.now c.loop-field.field-index c.field-item.result c.loop-field.values.items (refusal_sort c.in_err-value.field-0.0) c.args.bytes.now c.args.pos c.loop-field.next c.args.end c.args.kept.now c.loop-field.kept c.loop-field-test.true c.field-item.is c.loop-field.invariant.0 c.in_err-value.ensures.answers)
 
 pub read_fields-loop-field-preserved : goal.read_fields-loop-field-preserved
 read_fields-loop-field-preserved g t c =
@@ -90,13 +90,13 @@ pub read_seq-returns-in_err-goes_on-clause-answers :
     goal.read_seq-returns-in_err-goes_on-clause-answers
 read_seq-returns-in_err-goes_on-clause-answers g t c =
     let p = err_from_is_err_and c.from_residual-in_err-goes_on.result c.from_residual-in_err-goes_on.ensures.1 in
-    rw (p.1, p.2) (goes_refused (read_seq (read_of (form_of c.args.shape.now))) (seq_left c.loop-values.values.items c.loop-values.invariant.0 (form_of c.args.shape.now)) c.args.bytes.now c.args.pos c.loop-values.next c.args.end c.args.kept.now c.loop-values.kept (sort_of c.in_err-goes_on.field-0.0) c.loop-values.invariant.3 (not_there (seq_left c.loop-values.values.items c.loop-values.invariant.0 (form_of c.args.shape.now)) c.args.bytes.now c.loop-values.next c.args.end c.loop-values.kept (sort_of c.in_err-goes_on.field-0.0) (c.in_err-goes_on.ensures.answers c.loop-values.invariant.0 c.loop-values.invariant.1)))
+    rw (p.1, p.2) (goes_refused (read_seq (read_of (form_of c.args.shape.now))) (seq_left c.loop-values.values.items c.loop-values.invariant.0 (form_of c.args.shape.now)) c.args.bytes.now c.args.pos c.loop-values.next c.args.end c.args.kept.now c.loop-values.kept (refusal_sort c.in_err-goes_on.field-0.0) c.loop-values.invariant.3 (not_there (seq_left c.loop-values.values.items c.loop-values.invariant.0 (form_of c.args.shape.now)) c.args.bytes.now c.loop-values.next c.args.end c.loop-values.kept (refusal_sort c.in_err-goes_on.field-0.0) (c.in_err-goes_on.ensures.answers c.loop-values.invariant.0 c.loop-values.invariant.1)))
 
 pub read_seq-returns-in_err-value-clause-answers :
     goal.read_seq-returns-in_err-value-clause-answers
 read_seq-returns-in_err-value-clause-answers g t c =
     let p = err_from_is_err_and c.from_residual-in_err-value.result c.from_residual-in_err-value.ensures.1 in
-    rw (p.1, p.2) (seq_refused (read_seq (read_of (form_of c.args.shape.now))) (form_of c.args.shape.now) c.loop-values.invariant.0 c.loop-values.values.items (sort_of c.in_err-value.field-0.0) c.args.bytes.now c.args.pos c.loop-values.next c.args.end c.args.kept.now c.loop-values.kept (λ after zs items. (c.in_ok-goes_on.ensures.answers c.loop-values.invariant.0 c.loop-values.invariant.1).1 after zs items ∙ c.if-branch.true) c.loop-values.invariant.3 c.in_err-value.ensures.answers)
+    rw (p.1, p.2) (seq_refused (read_seq (read_of (form_of c.args.shape.now))) (form_of c.args.shape.now) c.loop-values.invariant.0 c.loop-values.values.items (refusal_sort c.in_err-value.field-0.0) c.args.bytes.now c.args.pos c.loop-values.next c.args.end c.args.kept.now c.loop-values.kept (λ after zs items. (c.in_ok-goes_on.ensures.answers c.loop-values.invariant.0 c.loop-values.invariant.1).1 after zs items ∙ c.if-branch.true) c.loop-values.invariant.3 c.in_err-value.ensures.answers)
 
 pub read_seq-loop-values-preserved : goal.read_seq-loop-values-preserved
 read_seq-loop-values-preserved g t c =
@@ -113,14 +113,14 @@ pub read_shape-returns-in_err-data-in-Option-clause-answers :
 unfolding read_of
 read_shape-returns-in_err-data-in-Option-clause-answers g t c =
     let p = err_from_is_err_and c.from_residual.result c.from_residual.ensures.1 in
-    rw (p.1, p.2, c.in-Option.is) (refused_map (mapped some_value) (read_of (form_of c.in-Option.inner.value)) c.args.bytes.now c.args.pos c.args.end c.args.kept.now (sort_of c.in_err-data-in-Option.field-0.0) refl (rw c.deref-in-Option.ensures at c.in_err-data-in-Option.ensures.answers))
+    rw (p.1, p.2, c.in-Option.is) (refused_map (mapped some_value) (read_of (form_of c.in-Option.inner.value)) c.args.bytes.now c.args.pos c.args.end c.args.kept.now (refusal_sort c.in_err-data-in-Option.field-0.0) refl (rw c.deref-in-Option.ensures at c.in_err-data-in-Option.ensures.answers))
 
 pub read_shape-returns-in_err-data-in-Newtype-clause-answers :
     goal.read_shape-returns-in_err-data-in-Newtype-clause-answers
 unfolding read_of
 read_shape-returns-in_err-data-in-Newtype-clause-answers g t c =
     let p = err_from_is_err_and c.from_residual-in_err-data-in-Newtype.result c.from_residual-in_err-data-in-Newtype.ensures.1 in
-    rw (p.1, p.2, c.in-Newtype.is) (refused_map (mapped (newtype_value c.in-Newtype.name.now)) (read_of (form_of c.in-Newtype.inner.value)) c.args.bytes.now c.args.pos c.args.end c.args.kept.now (sort_of c.in_err-data-in-Newtype.field-0.0) refl (rw c.deref-in-Newtype.ensures at c.in_err-data-in-Newtype.ensures.answers))
+    rw (p.1, p.2, c.in-Newtype.is) (refused_map (mapped (newtype_value c.in-Newtype.name.now)) (read_of (form_of c.in-Newtype.inner.value)) c.args.bytes.now c.args.pos c.args.end c.args.kept.now (refusal_sort c.in_err-data-in-Newtype.field-0.0) refl (rw c.deref-in-Newtype.ensures at c.in_err-data-in-Newtype.ensures.answers))
 
 pub read_shape-returns-in_err-all-in-Seq-clause-answers :
     goal.read_shape-returns-in_err-all-in-Seq-clause-answers
@@ -165,7 +165,7 @@ read_shape-returns-in_ok-fields-in-Struct-clause-answers g t c =
 pub read_field-returns-in_default-clause-answers : goal.read_field-returns-in_default-clause-answers
 read_field-returns-in_default-clause-answers g t c =
     let lt : c.args.pos < c.args.end = omega arith in
-    (refused_type (read_field c.args.name.now (form_of c.args.shape.now) (read_of (form_of c.args.shape.now))) c.args.bytes.now c.args.pos c.args.end c.args.kept.now (sort_of c.no_type.result) lt c.no_type.ensures.sort)
+    (refused_type (read_field c.args.name.now (form_of c.args.shape.now) (read_of (form_of c.args.shape.now))) c.args.bytes.now c.args.pos c.args.end c.args.kept.now (refusal_sort c.no_type.result) lt c.no_type.ensures.sort)
 
 pub read_field-returns-then-ne-clause-answers : goal.read_field-returns-then-ne-clause-answers
 read_field-returns-then-ne-clause-answers g t c =
@@ -173,13 +173,13 @@ read_field-returns-then-ne-clause-answers g t c =
     let no_struct : is_struct (form_of c.args.shape.now) ≡ false = search rules in
     let no_option : is_option (form_of c.args.shape.now) ≡ false = search rules in
     let differ : tag_of c.args.name.now ≡ Some (tag_at c.args.bytes.now c.args.pos) → ⊥ = search rules in
-    field_not_named c.args.name.now (form_of c.args.shape.now) (read_of (form_of c.args.shape.now)) c.args.bytes.now c.args.pos c.args.end c.args.kept.now (sort_of c.wrong_tag.result) lt c.in-Some.ensures.some.0 no_struct no_option differ
+    field_not_named c.args.name.now (form_of c.args.shape.now) (read_of (form_of c.args.shape.now)) c.args.bytes.now c.args.pos c.args.end c.args.kept.now (refusal_sort c.wrong_tag.result) lt c.in-Some.ensures.some.0 no_struct no_option differ
 
 pub read_content-returns-in_err-read_rest-clause-answers : goal.read_content-returns-in_err-read_rest-clause-answers
 read_content-returns-in_err-read_rest-clause-answers g t c =
     let p = err_from_is_err_and c.from_residual-in_err-read_rest.result c.from_residual-in_err-read_rest.ensures.1 in
     let k' = c.read_fields.new.kept in
-    rw (p.1, p.2) (all_refused (fields_of c.args.fields.now) c.args.deny (read_fields (fields_of c.args.fields.now)) c.args.bytes.now c.args.pos c.in_ok-values.next c.args.end c.args.kept.now k' (views c.in_ok-values.values.items) (sort_of c.in_err-read_rest.field-0.0) c.in_ok-values.ensures.answers (c.in_err-read_rest.ensures.answers k'))
+    rw (p.1, p.2) (all_refused (fields_of c.args.fields.now) c.args.deny (read_fields (fields_of c.args.fields.now)) c.args.bytes.now c.args.pos c.in_ok-values.next c.args.end c.args.kept.now k' (views c.in_ok-values.values.items) (refusal_sort c.in_err-read_rest.field-0.0) c.in_ok-values.ensures.answers (c.in_err-read_rest.ensures.answers k'))
 
 pub read_content-returns-clause-answers : goal.read_content-returns-clause-answers
 read_content-returns-clause-answers g t c =
@@ -195,13 +195,13 @@ pub read_variant-returns-in_err-data-in-Newtype-clause-answers : goal.read_varia
 unfolding read_content
 read_variant-returns-in_err-data-in-Newtype-clause-answers g t c =
     let p = err_from_is_err_and c.from_residual.result c.from_residual.ensures.1 in
-    rw (p.1, p.2, c.in-Newtype.is) (refused_map (mapped (newtype_variant_value c.args.name.now c.args.variant.now)) (read_of (form_of c.in-Newtype.inner.value)) c.args.bytes.now c.args.pos c.args.end c.args.kept.now (sort_of c.in_err-data-in-Newtype.field-0.0) refl (rw c.deref.ensures at c.in_err-data-in-Newtype.ensures.answers))
+    rw (p.1, p.2, c.in-Newtype.is) (refused_map (mapped (newtype_variant_value c.args.name.now c.args.variant.now)) (read_of (form_of c.in-Newtype.inner.value)) c.args.bytes.now c.args.pos c.args.end c.args.kept.now (refusal_sort c.in_err-data-in-Newtype.field-0.0) refl (rw c.deref.ensures at c.in_err-data-in-Newtype.ensures.answers))
 
 pub read_variant-returns-in_err-fields-in-Tuple-clause-answers : goal.read_variant-returns-in_err-fields-in-Tuple-clause-answers
 unfolding read_content
 read_variant-returns-in_err-fields-in-Tuple-clause-answers g t c =
     let p = err_from_is_err_and c.from_residual-in_err-fields-in-Tuple.result c.from_residual-in_err-fields-in-Tuple.ensures.1 in
-    rw (p.1, p.2, c.in-Tuple.is, content_of-Tuple c.in-Tuple.shapes) (refused_map (λ o. o >>= λ vs. got (tuple_variant_value c.args.name.now c.args.variant.now vs.value) vs.kept vs.rest) (read_tuple (read_forms (forms_of c.in-Tuple.shapes.items))) c.args.bytes.now c.args.pos c.args.end c.args.kept.now (sort_of c.in_err-fields-in-Tuple.field-0.0) refl (rw c.deref-in-Tuple.ensures.value at (c.in_err-fields-in-Tuple.ensures.answers c.args.end (omega arith))))
+    rw (p.1, p.2, c.in-Tuple.is, content_of-Tuple c.in-Tuple.shapes) (refused_map (λ o. o >>= λ vs. got (tuple_variant_value c.args.name.now c.args.variant.now vs.value) vs.kept vs.rest) (read_tuple (read_forms (forms_of c.in-Tuple.shapes.items))) c.args.bytes.now c.args.pos c.args.end c.args.kept.now (refusal_sort c.in_err-fields-in-Tuple.field-0.0) refl (rw c.deref-in-Tuple.ensures.value at (c.in_err-fields-in-Tuple.ensures.answers c.args.end (omega arith))))
 
 pub read_variant-returns-in_ok-inner-in-Newtype-clause-answers : goal.read_variant-returns-in_ok-inner-in-Newtype-clause-answers
 unfolding read_content
@@ -217,16 +217,16 @@ read_variant-returns-in_ok-fields-in-Tuple-clause-answers g t c =
 pub read_tuple-returns-then-not-is_structure-clause-answers : goal.read_tuple-returns-then-not-is_structure-clause-answers
 read_tuple-returns-then-not-is_structure-clause-answers g t c =
     let plain : c.args.typ ≡ Structure → ⊥ = not_structure c.args.typ (search rules) in
-    λ e lt. tuple_not_type (read_forms (forms_of c.args.shapes.now)) c.args.bytes.now c.args.pos e c.args.kept.now c.args.typ (sort_of c.no_structure.result) lt c.requires.there c.requires.typ_is plain
+    λ e lt. tuple_not_type (read_forms (forms_of c.args.shapes.now)) c.args.bytes.now c.args.pos e c.args.kept.now c.args.typ (refusal_sort c.no_structure.result) lt c.requires.there c.requires.typ_is plain
 
 pub read_tuple-returns-in_default-clause-answers : goal.read_tuple-returns-in_default-clause-answers
 read_tuple-returns-in_default-clause-answers g t c =
-    λ e lt. refused_end (read_tuple (read_forms (forms_of c.args.shapes.now))) c.args.bytes.now c.args.pos e c.args.kept.now (sort_of c.early.result) c.early.ensures.sort lt (λ x item. omega (arith, c.in_default.ensures.none, item.there))
+    λ e lt. refused_end (read_tuple (read_forms (forms_of c.args.shapes.now))) c.args.bytes.now c.args.pos e c.args.kept.now (refusal_sort c.early.result) c.early.ensures.sort lt (λ x item. omega (arith, c.in_default.ensures.none, item.there))
 
 pub read_tuple-returns-in_err-values-clause-answers : goal.read_tuple-returns-in_err-values-clause-answers
 read_tuple-returns-in_err-values-clause-answers g t c =
     let p = err_from_is_err_and c.from_residual.result c.from_residual.ensures.1 in
-    λ e lt. rw (p.1, p.2) (tuple_refused (read_forms (forms_of c.args.shapes.now)) c.args.bytes.now c.args.pos e c.in-Some.n c.args.kept.now (sort_of c.in_err-values.field-0.0) lt c.in-Some.ensures.some.0 c.in-Some.ensures.some.1 c.in_err-values.ensures.answers)
+    λ e lt. rw (p.1, p.2) (tuple_refused (read_forms (forms_of c.args.shapes.now)) c.args.bytes.now c.args.pos e c.in-Some.n c.args.kept.now (refusal_sort c.in_err-values.field-0.0) lt c.in-Some.ensures.some.0 c.in-Some.ensures.some.1 c.in_err-values.ensures.answers)
 
 pub read_tuple-returns-clause-answers : goal.read_tuple-returns-clause-answers
 read_tuple-returns-clause-answers g t c =
@@ -235,16 +235,16 @@ read_tuple-returns-clause-answers g t c =
 
 pub read_parts-returns-then-end-next-clause-answers : goal.read_parts-returns-then-end-next-clause-answers
 read_parts-returns-then-end-next-clause-answers g t c =
-    goes_refused (read_used (read_forms (forms_of c.args.shapes.now))) (forms_left c.loop-shape.values.items c.loop-shape.shape-index c.args.shapes.now) c.args.bytes.now c.args.pos c.loop-shape.next c.args.end c.args.kept.now c.loop-shape.kept (sort_of c.overflow.result) c.loop-shape.invariant.0 (refused_any (forms_left c.loop-shape.values.items c.loop-shape.shape-index c.args.shapes.now) c.args.bytes.now c.loop-shape.next c.args.end c.loop-shape.kept (sort_of c.overflow.result) (λ after zs items. absurd (past_end c.args.bytes.now after c.loop-shape.next c.args.end zs c.if-end-next.true c.loop-shape.invariant.0.within items)))
+    goes_refused (read_used (read_forms (forms_of c.args.shapes.now))) (forms_left c.loop-shape.values.items c.loop-shape.shape-index c.args.shapes.now) c.args.bytes.now c.args.pos c.loop-shape.next c.args.end c.args.kept.now c.loop-shape.kept (refusal_sort c.overflow.result) c.loop-shape.invariant.0 (refused_any (forms_left c.loop-shape.values.items c.loop-shape.shape-index c.args.shapes.now) c.args.bytes.now c.loop-shape.next c.args.end c.loop-shape.kept (refusal_sort c.overflow.result) (λ after zs items. absurd (past_end c.args.bytes.now after c.loop-shape.next c.args.end zs c.if-end-next.true c.loop-shape.invariant.0.within items)))
 
 pub read_parts-returns-then-next-end-clause-answers : goal.read_parts-returns-then-next-end-clause-answers
 read_parts-returns-then-next-end-clause-answers g t c =
-    forms_few (read_used (read_forms (forms_of c.args.shapes.now))) c.args.shapes.now c.loop-shape.shape-index c.shape-item.result c.loop-shape.values.items (sort_of c.at_end.result) c.args.bytes.now c.args.pos c.loop-shape.next c.args.end c.args.kept.now c.loop-shape.kept c.loop-shape-test.true c.shape-item.is c.if-next-end.true c.loop-shape.invariant.0
+    forms_few (read_used (read_forms (forms_of c.args.shapes.now))) c.args.shapes.now c.loop-shape.shape-index c.shape-item.result c.loop-shape.values.items (refusal_sort c.at_end.result) c.args.bytes.now c.args.pos c.loop-shape.next c.args.end c.args.kept.now c.loop-shape.kept c.loop-shape-test.true c.shape-item.is c.if-next-end.true c.loop-shape.invariant.0
 
 pub read_parts-returns-in_err-value-clause-answers : goal.read_parts-returns-in_err-value-clause-answers
 read_parts-returns-in_err-value-clause-answers g t c =
     let p = err_from_is_err_and c.from_residual-in_err-value.result c.from_residual-in_err-value.ensures.1 in
-    rw (p.1, p.2) (forms_refused (read_used (read_forms (forms_of c.args.shapes.now))) c.args.shapes.now c.loop-shape.shape-index c.shape-item.result c.loop-shape.values.items (sort_of c.in_err-value.field-0.0) c.args.bytes.now c.args.pos c.loop-shape.next c.args.end c.args.kept.now c.loop-shape.kept c.loop-shape-test.true c.shape-item.is c.loop-shape.invariant.0 c.in_err-value.ensures.answers)
+    rw (p.1, p.2) (forms_refused (read_used (read_forms (forms_of c.args.shapes.now))) c.args.shapes.now c.loop-shape.shape-index c.shape-item.result c.loop-shape.values.items (refusal_sort c.in_err-value.field-0.0) c.args.bytes.now c.args.pos c.loop-shape.next c.args.end c.args.kept.now c.loop-shape.kept c.loop-shape-test.true c.shape-item.is c.loop-shape.invariant.0 c.in_err-value.ensures.answers)
 
 pub read_parts-loop-shape-preserved : goal.read_parts-loop-shape-preserved
 read_parts-loop-shape-preserved g t c =
@@ -256,11 +256,11 @@ read_parts-loop-shape-preserved g t c =
 
 pub read_parts-returns-then-end-next-2-clause-answers : goal.read_parts-returns-then-end-next-2-clause-answers
 read_parts-returns-then-end-next-2-clause-answers g t c =
-    goes_refused (read_used (read_forms (forms_of c.args.shapes.now))) (forms_left c.loop-shape.values.items c.loop-shape.shape-index c.args.shapes.now) c.args.bytes.now c.args.pos c.loop-shape.next c.args.end c.args.kept.now c.loop-shape.kept (sort_of c.overflow-then-end-next-2.result) c.loop-shape.invariant.0 (refused_any (forms_left c.loop-shape.values.items c.loop-shape.shape-index c.args.shapes.now) c.args.bytes.now c.loop-shape.next c.args.end c.loop-shape.kept (sort_of c.overflow-then-end-next-2.result) (λ after zs items. absurd (past_end c.args.bytes.now after c.loop-shape.next c.args.end zs c.if-end-next-2.true c.loop-shape.invariant.0.within items)))
+    goes_refused (read_used (read_forms (forms_of c.args.shapes.now))) (forms_left c.loop-shape.values.items c.loop-shape.shape-index c.args.shapes.now) c.args.bytes.now c.args.pos c.loop-shape.next c.args.end c.args.kept.now c.loop-shape.kept (refusal_sort c.overflow-then-end-next-2.result) c.loop-shape.invariant.0 (refused_any (forms_left c.loop-shape.values.items c.loop-shape.shape-index c.args.shapes.now) c.args.bytes.now c.loop-shape.next c.args.end c.loop-shape.kept (refusal_sort c.overflow-then-end-next-2.result) (λ after zs items. absurd (past_end c.args.bytes.now after c.loop-shape.next c.args.end zs c.if-end-next-2.true c.loop-shape.invariant.0.within items)))
 
 pub read_parts-returns-then-next-end-2-clause-answers : goal.read_parts-returns-then-next-end-2-clause-answers
 read_parts-returns-then-next-end-2-clause-answers g t c =
-    forms_surplus (read_used (read_forms (forms_of c.args.shapes.now))) c.args.shapes.now c.loop-shape.shape-index c.loop-shape.values.items (sort_of c.surplus.result) c.args.bytes.now c.args.pos c.loop-shape.next c.args.end c.args.kept.now c.loop-shape.kept c.loop-shape-test.false (λ h. omega (arith, h)) c.loop-shape.invariant.0
+    forms_surplus (read_used (read_forms (forms_of c.args.shapes.now))) c.args.shapes.now c.loop-shape.shape-index c.loop-shape.values.items (refusal_sort c.surplus.result) c.args.bytes.now c.args.pos c.loop-shape.next c.args.end c.args.kept.now c.loop-shape.kept c.loop-shape-test.false (λ h. omega (arith, h)) c.loop-shape.invariant.0
 
 pub read_parts-returns-clause-answers : goal.read_parts-returns-clause-answers
 read_parts-returns-clause-answers g t c =
@@ -379,7 +379,7 @@ pub read_struct-returns-in-Err-clause-answers : goal.read_struct-returns-in-Err-
 read_struct-returns-in-Err-clause-answers g t c =
     let fs = fields_of c.args.fields.now in
     let n = c.in_ok-tag.n in
-    λ e lt. refused_widened (read_struct c.args.name.now fs c.args.deny (read_fields fs)) c.args.bytes.now c.args.pos e c.args.kept.now (sort_of c.in-Err.e) (sort_of c.within.result) (sort_widened c.in-Err.e c.within.result c.within.ensures) (struct_refused c.args.name.now fs c.args.deny (read_fields fs) c.args.bytes.now c.args.pos e n c.args.kept.now (sort_of c.in-Err.e) lt c.in_ok-tag.ensures.ok.header_there c.in_ok-tag.ensures.ok.len_is c.in-Err.ensures.answers)
+    λ e lt. refused_widened (read_struct c.args.name.now fs c.args.deny (read_fields fs)) c.args.bytes.now c.args.pos e c.args.kept.now (refusal_sort c.in-Err.refusal) (refusal_sort c.within.result) (sort_or_want c.in-Err.refusal c.within.result c.within.ensures) (struct_refused c.args.name.now fs c.args.deny (read_fields fs) c.args.bytes.now c.args.pos e n c.args.kept.now (refusal_sort c.in-Err.refusal) lt c.in_ok-tag.ensures.ok.header_there c.in_ok-tag.ensures.ok.len_is c.in-Err.ensures.answers)
 
 pub read_struct-returns-in-Err-clause-says : goal.read_struct-returns-in-Err-clause-says
 read_struct-returns-in-Err-clause-says g t c =
@@ -391,7 +391,7 @@ read_struct-returns-in-Err-clause-says g t c =
     λ f o e lt at.
     let read = opened_read f name b (fields_of c.args.fields.now) c.args.deny pos c.in_ok-tag.tag n o e s at in
     let told = c.in-Err.ensures.says f name pos read s.tag_is (opened_inside b pos n s.len_is) (omega arith) in
-    says_widened f b pos e c.in-Err.e c.within.result c.within.ensures (says_within f b pos e n c.in-Err.e lt s.typ_is s.len_is told)
+    says_or_want f b pos e c.in-Err.refusal c.within.result c.within.ensures (says_within f b pos e n c.in-Err.refusal lt s.typ_is s.len_is told)
 
 pub read_content-returns-in_err-values-clause-says : goal.read_content-returns-in_err-values-clause-says
 read_content-returns-in_err-values-clause-says g t c =
@@ -528,7 +528,7 @@ read_seq-returns-in_err-value-clause-says g t c =
 pub read_variant-returns-in-Unit-clause-answers : goal.read_variant-returns-in-Unit-clause-answers
 unfolding read_content
 read_variant-returns-in-Unit-clause-answers g t c =
-    refused_any (read_content c.args.name.now c.args.variant.now (content_of c.args.content.now)) c.args.bytes.now c.args.pos c.args.end c.args.kept.now (sort_of c.chosen_unit.result) (λ after zs items. rw c.in-Unit.is refl)
+    refused_any (read_content c.args.name.now c.args.variant.now (content_of c.args.content.now)) c.args.bytes.now c.args.pos c.args.end c.args.kept.now (refusal_sort c.chosen_unit.result) (λ after zs items. rw c.in-Unit.is refl)
 
 pub read_variant-returns-in-Unit-clause-says : goal.read_variant-returns-in-Unit-clause-says
 read_variant-returns-in-Unit-clause-says g t c =
@@ -586,7 +586,7 @@ read_tuple-returns-in_err-values-clause-says g t c =
 
 pub read_enum-returns-in_default-clause-answers : goal.read_enum-returns-in_default-clause-answers
 read_enum-returns-in_default-clause-answers g t c =
-    (refused_type (read_enum c.args.name.now (variants_of c.args.variants.now) (read_variant c.args.name.now (variants_of c.args.variants.now))) c.args.bytes.now c.args.pos c.args.end c.args.kept.now (sort_of c.no_type.result) (omega arith) c.no_type.ensures.sort)
+    (refused_type (read_enum c.args.name.now (variants_of c.args.variants.now) (read_variant c.args.name.now (variants_of c.args.variants.now))) c.args.bytes.now c.args.pos c.args.end c.args.kept.now (refusal_sort c.no_type.result) (omega arith) c.no_type.ensures.sort)
 
 pub read_enum-returns-in_default-clause-says : goal.read_enum-returns-in_default-clause-says
 read_enum-returns-in_default-clause-says g t c =
@@ -596,7 +596,7 @@ pub read_enum-returns-in_err-i-clause-answers : goal.read_enum-returns-in_err-i-
 read_enum-returns-in_err-i-clause-answers g t c =
     let p = err_from_is_err_and c.from_residual.result c.from_residual.ensures.1 in
     let refused = c.in_err-i.ensures.answers in
-    rw (p.1, p.2) (enum_refused c.args.name.now (variants_of c.args.variants.now) (read_variant c.args.name.now (variants_of c.args.variants.now)) c.args.bytes.now c.args.pos c.args.end c.args.kept.now c.in-Some.typ refused.0 (sort_of c.in_err-i.field-0.0) (omega arith) c.in-Some.ensures.some.0 c.in-Some.ensures.some.1 refused.1)
+    rw (p.1, p.2) (enum_refused c.args.name.now (variants_of c.args.variants.now) (read_variant c.args.name.now (variants_of c.args.variants.now)) c.args.bytes.now c.args.pos c.args.end c.args.kept.now c.in-Some.typ refused.0 (refusal_sort c.in_err-i.field-0.0) (omega arith) c.in-Some.ensures.some.0 c.in-Some.ensures.some.1 refused.1)
 
 pub read_enum-returns-in_err-i-clause-says : goal.read_enum-returns-in_err-i-clause-says
 read_enum-returns-in_err-i-clause-says g t c =

@@ -6,12 +6,12 @@ use Rattle.kmip_ttlv_de.proofs.SayLemmas.{overflow_says}
 use Rattle.kmip_ttlv_de.specs.ReadPlaces.{inner_item}
 use Rattle.kmip_ttlv_de.proofs.Going.{both_true, first_false, like_at, names_end, past_end, second_false}
 use Rattle.kmip_ttlv_de.proofs.Heads.{refused_any, refused_type}
-use Rattle.kmip_ttlv_de.specs.ReadAnswers.{sort_of}
+use Rattle.kmip_ttlv_de.specs.Refusals.{refusal_sort}
 use Rattle.kmip_ttlv_de.specs.Reading.{got}
 use Rattle.kmip_ttlv_de.specs.Reads.{is_like}
 
 pub returns-then-end-next-clause-answers : goal.returns-then-end-next-clause-answers
-returns-then-end-next-clause-answers g c = λ h item. refused_any (got tt) c.args.bytes.now c.args.next c.args.end [] (sort_of c.overflow.result) (λ after zs items. absurd (past_end c.args.bytes.now after c.args.next c.args.end zs c.if-end-next.true c.requires.inside items))
+returns-then-end-next-clause-answers g c = λ h item. refused_any (got tt) c.args.bytes.now c.args.next c.args.end [] (refusal_sort c.overflow.result) (λ after zs items. absurd (past_end c.args.bytes.now after c.args.next c.args.end zs c.if-end-next.true c.requires.inside items))
 
 pub returns-then-next-end-clause-answers : goal.returns-then-next-end-clause-answers
 returns-then-next-end-clause-answers g c = λ h item. (λ e. absurd cc, λ after zs items. ap (is_like h) (names_end [] c.args.bytes.now after c.args.next c.args.end zs c.if-next-end.true c.requires.inside items))
@@ -19,7 +19,7 @@ returns-then-next-end-clause-answers g c = λ h item. (λ e. absurd cc, λ after
 pub returns-in_default-clause-answers : goal.returns-in_default-clause-answers
 returns-in_default-clause-answers g c =
     let lt : c.args.next < c.args.end = omega arith in
-    λ h item. (refused_type (got tt) c.args.bytes.now c.args.next c.args.end [] (sort_of c.no_type.result) lt c.no_type.ensures.sort)
+    λ h item. (refused_type (got tt) c.args.bytes.now c.args.next c.args.end [] (refusal_sort c.no_type.result) lt c.no_type.ensures.sort)
 
 pub returns-then-ne-clause-answers : goal.returns-then-ne-clause-answers
 returns-then-ne-clause-answers g c =

@@ -10,8 +10,8 @@ use Rattle.kmip_ttlv_de.proofs.PartLemmas.{part_reached}
 use Rattle.kmip_ttlv_de.proofs.Going.{struct_not_type}
 use Rattle.kmip_ttlv_de.proofs.SayLemmas.{malformed_says, mismatch_says, not_structure}
 use Rattle.kmip_ttlv_de.proofs.WholeLemmas.{early_header, early_says}
-use Rattle.kmip_ttlv_de.specs.ReadAnswers.{sort_of}
 use Rattle.kmip_ttlv_de.specs.Facts.{for_struct, of_struct}
+use Rattle.kmip_ttlv_de.specs.Refusals.{refusal_sort}
 use Rattle.kmip_ttlv_de.specs.ReadPlaces.{HasType}
 
 pub returns-in_err-typ-clause-says : goal.returns-in_err-typ-clause-says
@@ -51,7 +51,7 @@ returns-then-not-is_structure-clause-says g c =
 
 pub returns-then-not-is_structure-clause-err : goal.returns-then-not-is_structure-clause-err
 returns-then-not-is_structure-clause-err g c =
-    λ fs deny read k e lt. struct_not_type c.args.name.now fs deny read c.args.bytes.now c.args.pos e k c.in_ok-typ.typ (sort_of c.no_structure.result) lt c.in_ok-typ.ensures.ok.0 c.in_ok-typ.ensures.ok.1 (search rules)
+    λ fs deny read k e lt. struct_not_type c.args.name.now fs deny read c.args.bytes.now c.args.pos e k c.in_ok-typ.typ (refusal_sort c.no_structure.result) lt c.in_ok-typ.ensures.ok.0 c.in_ok-typ.ensures.ok.1 (search rules)
 
 pub returns-in-None-clause-says : goal.returns-in-None-clause-says
 returns-in-None-clause-says g c =

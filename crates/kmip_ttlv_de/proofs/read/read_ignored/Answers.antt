@@ -11,8 +11,8 @@ use Rattle.kmip_ttlv_de.proofs.Ignoring.{either_valid, empty_length, fields_none
 use Rattle.kmip_ttlv_de.proofs.ReadLemmas.{is_structure_is}
 use Rattle.kmip_ttlv_de.proofs.SayLemmas.{mismatch_says, not_structure, words_say}
 use Rattle.kmip_ttlv_de.proofs.WholeLemmas.{early_header, early_item, early_says}
-use Rattle.kmip_ttlv_de.specs.ReadAnswers.{sort_of}
 use Rattle.kmip_ttlv_de.specs.Facts.{LeafRead, field_again, ignored, struct_place, unknown_field}
+use Rattle.kmip_ttlv_de.specs.Refusals.{refusal_sort}
 use Rattle.kmip_ttlv_de.specs.ReadPlaces.{HasType, LeafAt, StructRead, for_struct, inner_item}
 use Rattle.kmip_ttlv_de.specs.Reading.{rest_of}
 use Rattle.kmip_ttlv_de.specs.Reads.{names_tag}
@@ -20,27 +20,28 @@ use Rattle.kmip_ttlv_de.specs.Reads.{names_tag}
 pub returns-in_err-typ-clause-answers : goal.returns-in_err-typ-clause-answers
 returns-in_err-typ-clause-answers g c =
     let p = err_from_is_err_and c.from_residual.result c.from_residual.ensures.1 in
-    λ k e lt. rw (p.1, p.2) (refused_type (rest_of (fields_of c.args.fields.now) c.args.deny) c.args.bytes.now c.args.pos e k (sort_of c.in_err-typ.field-0.0) lt c.in_err-typ.ensures.err)
+    λ k e lt. rw (p.1, p.2) (refused_type (rest_of (fields_of c.args.fields.now) c.args.deny) c.args.bytes.now c.args.pos e k (refusal_sort c.in_err-typ.field-0.0) lt c.in_err-typ.ensures.err)
 
 pub returns-then-is_empty-clause-answers : goal.returns-then-is_empty-clause-answers
 returns-then-is_empty-clause-answers g c =
     let none : length c.args.fields.now ≡ 0 = empty_length (length c.args.fields.now) c.if-is_empty.ensures in
-    λ k e lt. refused_empty (fields_of c.args.fields.now) c.args.deny c.args.bytes.now c.args.pos e k (sort_of c.no_fields.result) lt (fields_none c.args.fields.now none)
+    λ k e lt. refused_empty (fields_of c.args.fields.now) c.args.deny c.args.bytes.now c.args.pos e k (refusal_sort c.no_fields.result) lt (fields_none c.args.fields.now none)
 
 pub returns-then-is_field-clause-answers : goal.returns-then-is_field-clause-answers
 returns-then-is_field-clause-answers g c =
-    let named : names_tag (fields_of c.args.fields.now) (tag_at c.args.bytes.now c.args.pos) ≡ true = search rules in
-    λ k e lt. refused_named (fields_of c.args.fields.now) c.args.deny c.args.bytes.now c.args.pos e k (sort_of (c.closed.result)) lt c.in_ok-typ.ensures.ok.0 named
+    let fs = fields_of c.args.fields.now in
+    let named : names_tag fs (tag_at c.args.bytes.now c.args.pos) ≡ true = search (rules, c.if-is_field.ensures fs c.requires.tags) in
+    λ k e lt. refused_named (fields_of c.args.fields.now) c.args.deny c.args.bytes.now c.args.pos e k (refusal_sort (c.closed.result)) lt c.in_ok-typ.ensures.ok.0 named
 
 pub returns-then-deny-clause-answers : goal.returns-then-deny-clause-answers
 returns-then-deny-clause-answers g c =
-    λ k e lt. refused_denied (fields_of c.args.fields.now) c.args.deny c.args.bytes.now c.args.pos e k (sort_of (c.closed-then-deny.result)) lt c.if-deny.true
+    λ k e lt. refused_denied (fields_of c.args.fields.now) c.args.deny c.args.bytes.now c.args.pos e k (refusal_sort (c.closed-then-deny.result)) lt c.if-deny.true
 
 pub returns-in_err-next-clause-answers : goal.returns-in_err-next-clause-answers
 returns-in_err-next-clause-answers g c =
     let p = err_from_is_err_and c.from_residual-in_err-next.result c.from_residual-in_err-next.ensures.1 in
     let leaf : c.in_ok-typ.typ ≢ Structure = not_structure c.in_ok-typ.typ (search rules) in
-    λ k e lt. rw (p.1, p.2) (refused_invalid (fields_of c.args.fields.now) c.args.deny c.args.bytes.now c.args.pos e k (sort_of c.in_err-next.field-0.0) c.in_ok-typ.typ lt c.in_ok-typ.ensures.ok.0 c.in_ok-typ.ensures.ok.1 leaf (c.in_err-next.ensures.err k e lt))
+    λ k e lt. rw (p.1, p.2) (refused_invalid (fields_of c.args.fields.now) c.args.deny c.args.bytes.now c.args.pos e k (refusal_sort c.in_err-next.field-0.0) c.in_ok-typ.typ lt c.in_ok-typ.ensures.ok.0 c.in_ok-typ.ensures.ok.1 leaf (c.in_err-next.ensures.err k e lt))
 
 pub returns-then-not-is_structure-clause-answers : goal.returns-then-not-is_structure-clause-answers
 returns-then-not-is_structure-clause-answers g c =
@@ -51,11 +52,11 @@ returns-then-not-is_structure-clause-answers g c =
 
 pub returns-in_default-clause-answers : goal.returns-in_default-clause-answers
 returns-in_default-clause-answers g c =
-    λ k e lt. refused_short (fields_of c.args.fields.now) c.args.deny c.args.bytes.now c.args.pos e k (sort_of c.early.result) c.early.ensures.sort lt c.in_default.ensures.none
+    λ k e lt. refused_short (fields_of c.args.fields.now) c.args.deny c.args.bytes.now c.args.pos e k (refusal_sort c.early.result) c.early.ensures.sort lt c.in_default.ensures.none
 
 pub returns-in-None-clause-answers : goal.returns-in-None-clause-answers
 returns-in-None-clause-answers g c =
-    λ k e lt. refused_cut (fields_of c.args.fields.now) c.args.deny c.args.bytes.now c.args.pos e k (sort_of c.early-in-None.result) c.in_ok-typ.typ c.in-Some.n c.early-in-None.ensures.sort lt c.in_ok-typ.ensures.ok.1 c.in-Some.ensures.some.1 c.in-None.ensures.none
+    λ k e lt. refused_cut (fields_of c.args.fields.now) c.args.deny c.args.bytes.now c.args.pos e k (refusal_sort c.early-in-None.result) c.in_ok-typ.typ c.in-Some.n c.early-in-None.ensures.sort lt c.in_ok-typ.ensures.ok.1 c.in-Some.ensures.some.1 c.in-None.ensures.none
 
 pub returns-in-Some-end_of-clause-answers : goal.returns-in-Some-end_of-clause-answers
 returns-in-Some-end_of-clause-answers g c =
@@ -86,7 +87,8 @@ pub returns-then-is_field-clause-says : goal.returns-then-is_field-clause-says
 returns-then-is_field-clause-says g c =
     let b = c.args.bytes.now in
     let s = c.args.pos in
-    let named : names_tag (fields_of c.args.fields.now) (tag_at b s) ≡ true = search rules in
+    let fs = fields_of c.args.fields.now in
+    let named : names_tag fs (tag_at b s) ≡ true = search (rules, c.if-is_field.ensures fs c.requires.tags) in
     λ f name start e lt read tag content. words_say f b s e (s + 4) c.args.tag c.closed.result _ (omega arith) c.closed.ensures (field_again read content c.in_ok-typ.ensures.ok.0 named (ap (struct_place (s + 4)) tag))
 
 pub returns-then-deny-clause-says : goal.returns-then-deny-clause-says

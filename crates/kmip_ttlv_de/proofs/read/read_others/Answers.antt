@@ -6,7 +6,7 @@ use Rattle.kmip_ttlv_de.proofs.Going.{goes_nowhere, goes_refused, goes_then, pas
 use Rattle.kmip_ttlv_de.proofs.Heads.{refused_any}
 use Rattle.kmip_ttlv_de.proofs.SayLemmas.{overflow_says, says_goes}
 use Rattle.kmip_ttlv_de.proofs.PartLemmas.{inside_content, inside_then, whole_goes, whole_then}
-use Rattle.kmip_ttlv_de.specs.ReadAnswers.{sort_of}
+use Rattle.kmip_ttlv_de.specs.Refusals.{refusal_sort}
 use Rattle.kmip_ttlv_de.specs.ReadPlaces.{IsLast, WholeItems, for_struct}
 use Rattle.kmip_ttlv_de.specs.Reading.{got, rest_of}
 
@@ -17,7 +17,7 @@ pub returns-in_err-after-clause-answers : goal.returns-in_err-after-clause-answe
 returns-in_err-after-clause-answers g c =
     let p = err_from_is_err_and c.from_residual.result c.from_residual.ensures.1 in
     let r = rest_of (fields_of c.args.fields.now) c.args.deny in
-    λ k. rw (p.1, p.2) (goes_refused r r c.args.bytes.now c.args.pos c.loop-next.next c.args.end k k (sort_of c.in_err-after.field-0.0) (c.loop-next.invariant.0 k) (c.in_err-after.ensures.answers k c.args.end c.loop-next-test.true))
+    λ k. rw (p.1, p.2) (goes_refused r r c.args.bytes.now c.args.pos c.loop-next.next c.args.end k k (refusal_sort c.in_err-after.field-0.0) (c.loop-next.invariant.0 k) (c.in_err-after.ensures.answers k c.args.end c.loop-next-test.true))
 
 pub loop-next-preserved : goal.loop-next-preserved
 loop-next-preserved g c =
@@ -29,7 +29,7 @@ loop-next-preserved g c =
 pub returns-then-end-next-clause-answers : goal.returns-then-end-next-clause-answers
 returns-then-end-next-clause-answers g c =
     let r = rest_of (fields_of c.args.fields.now) c.args.deny in
-    λ k. goes_refused r r c.args.bytes.now c.args.pos c.loop-next.next c.args.end k k (sort_of c.overflow.result) (c.loop-next.invariant.0 k) (refused_any r c.args.bytes.now c.loop-next.next c.args.end k (sort_of c.overflow.result) (λ after zs items. absurd (past_end c.args.bytes.now after c.loop-next.next c.args.end zs c.if-end-next.true (c.loop-next.invariant.0 k).within items)))
+    λ k. goes_refused r r c.args.bytes.now c.args.pos c.loop-next.next c.args.end k k (refusal_sort c.overflow.result) (c.loop-next.invariant.0 k) (refused_any r c.args.bytes.now c.loop-next.next c.args.end k (refusal_sort c.overflow.result) (λ after zs items. absurd (past_end c.args.bytes.now after c.loop-next.next c.args.end zs c.if-end-next.true (c.loop-next.invariant.0 k).within items)))
 
 pub returns-clause-answers : goal.returns-clause-answers
 returns-clause-answers g c =

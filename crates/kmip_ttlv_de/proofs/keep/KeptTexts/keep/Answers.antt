@@ -1,4 +1,4 @@
-use Rattle.std.proofs.Common.{◌≡◌, ℕ, List, Bor, ap, sym, refl, ◌∙◌}
+use Rattle.std.proofs.Common.{◌≡◌, ap, sym, refl, ◌∙◌}
 use Rattle.kmip_ttlv_de.specs.Keeps.{Keep, last}
 use Rattle.kmip_ttlv_de.specs.HeldTexts.{text_of}
 use Rattle.kmip_ttlv_de.specs.declared.keep.HeldText.TheVariants as texts
