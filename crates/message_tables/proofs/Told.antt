@@ -1,5 +1,5 @@
 -- Faults in the order of their lines.
-use Rattle.std.proofs.Common.{◌≡◌, ◌<◌, ◌≤◌, ◌+◌, ◌⊎◌, inl, inr, ℕ, List, [], ◌∷◌, ◌++◌, length, refl, sym, subst, arith}
+use Rattle.std.proofs.Common.{◌≡◌, ◌<◌, ◌≤◌, ◌+◌, inl, inr, ℕ, List, [], ◌∷◌, ◌++◌, length, sym, subst, arith}
 use Rattle.message_tables.specs.declared.fault.Fault.{Fault}
 use Rattle.message_tables.specs.Faults.{AreInOrder, Tells}
 

@@ -1,123 +1,56 @@
 //! The files of `specs/` with the form and the value of each type.
 
-use crate::code::{Side, definitions_of, lives_in, module_uses, snake, value_name, value_of};
+use crate::choice_definitions::put_choice;
+use crate::field_definitions::put_own_fields;
 use crate::fill::{Holes, Imports, filled, joined, put, put_imports, text_if};
+use crate::imports::import_type;
 use crate::kinds::Leaf;
+use crate::names::{Side, definitions_of, snake, value_name, value_of};
 use crate::table::{Count, Link, MessageType, Module, Part, PartKind, Table, TypeKind, Values};
+use crate::uses::{cited_in, is_imported, lives_in, stands_by_fields};
+use crate::wrappers::field_of;
 use std::alloc::{AllocError, Global};
 
-const PRELUDE: &str = "Rattle.std.specs.Prelude";
-
-const VALUES: &str = "Rattle.kmip_ttlv.specs.Values";
-
-const FORMS: &str = "Rattle.kmip_ttlv.specs.Forms";
-
-const PARTS: &str = "Rattle.kmip_ttlv.specs.MessageParts";
-
-// Adds names of one module.
-fn import(
-    imports: &mut Imports,
-    module: &'static str,
-    names: &[&'static str],
-) -> Result<(), AllocError> {
-    for name in names {
-        imports.push((module, *name))?;
-    }
-    Ok(())
+// Whether a type's definitions name its variants.
+fn has_variants(link: &Link<'_>) -> bool {
+    matches!(
+        link.kind,
+        TypeKind::Enumeration | TypeKind::Choice | TypeKind::PlainChoice
+    )
 }
 
-// Adds what a leaf's form and value name.
-fn import_leaf(imports: &mut Imports, leaf: Leaf) -> Result<(), AllocError> {
-    import(imports, FORMS, &["newtype", leaf.form])?;
-    import(imports, VALUES, &["newtype_value"])?;
-    if !leaf.value.is_empty() {
-        import(imports, VALUES, &[leaf.value])?;
+/// The crate of a type.
+pub fn crate_of<'t>(table: &Table<'t>, link: &Link<'t>) -> &'t str {
+    if link.module.is_own() {
+        table.crate_name
+    } else {
+        link.module.crate_name
     }
-    if leaf.held.starts_with('(') {
-        import(imports, PRELUDE, &["string_bytes"])?;
-    }
-    Ok(())
-}
-
-// Adds what a part's form and value name.
-fn import_part(imports: &mut Imports, part: &Part<'_>) -> Result<(), AllocError> {
-    match part.kind {
-        PartKind::Leaf(leaf) => import_leaf(imports, leaf)?,
-        PartKind::Constant(_) | PartKind::Variant(_) => {
-            import(imports, FORMS, &["enum", "no_variants", "unit", "variant"])?;
-            import(imports, VALUES, &["unit_variant_value"])?;
-        }
-        PartKind::Type(_) => {}
-    }
-    match part.count {
-        Count::One => Ok(()),
-        Count::Several => {
-            import(imports, FORMS, &["seq"])?;
-            import(imports, PARTS, &["sequence"])
-        }
-        Count::Optional => {
-            import(imports, FORMS, &["option"])?;
-            import(imports, PRELUDE, &["option_map"])?;
-            import(imports, PARTS, &["optional"])?;
-            import(imports, "Rattle.kmip_ttlv.specs.Visits", &["joined"])
-        }
-    }
-}
-
-// Whether a part's value is a date's.
-fn is_dated(part: &Part<'_>) -> bool {
-    match part.kind {
-        PartKind::Leaf(leaf) => leaf.value.is_empty(),
-        PartKind::Type(link) => link.values == Values::Dated,
-        _ => false,
-    }
-}
-
-// Adds what a type's definitions name.
-fn import_type(imports: &mut Imports, owner: &MessageType<'_>) -> Result<(), AllocError> {
-    import(imports, PRELUDE, &["codes"])?;
-    import(imports, FORMS, &["Form"])?;
-    import(imports, VALUES, &["Value"])?;
-    if owner.kind == TypeKind::Structure || owner.kind == TypeKind::Message {
-        import(imports, PRELUDE, &["false"])?;
-        import(imports, FORMS, &["field", "no_fields", "struct"])?;
-        import(imports, VALUES, &["no_values", "struct_value", "value"])?;
-    }
-    if owner.link.values == Values::Dated {
-        import(imports, PRELUDE, &["ℤ"])?;
-    }
-    if owner.kind == TypeKind::Enumeration {
-        import(imports, PRELUDE, &["List", "ℕ"])?;
-    }
-    for part in &owner.parts {
-        import_part(imports, part)?;
-        if owner.link.values == Values::Two && is_dated(part) {
-            import(imports, PARTS, &["read_date", "written_date"])?;
-        }
-    }
-    Ok(())
 }
 
 // The module of a type's declaration.
-fn put_path(out: &mut String, crate_name: &str, link: &Link<'_>) -> Result<(), AllocError> {
-    put(out, &["use Rattle.", crate_name, ".specs.declared."])?;
+fn put_path<'t>(out: &mut String, table: &Table<'t>, link: &Link<'t>) -> Result<(), AllocError> {
+    put(
+        out,
+        &["use Rattle.", crate_of(table, link), ".specs.declared."],
+    )?;
     put(out, &[link.module.name, ".", link.name])
 }
 
 // The lines that import the types of a module.
-fn put_declared(
+fn put_declared<'t>(
     alloc: Global,
     out: &mut String,
-    table: &Table<'_>,
-    module: &Module<'_>,
+    table: &Table<'t>,
+    module: &Module<'t>,
 ) -> Result<(), AllocError> {
     for owner in &table.types {
         if lives_in(owner, module) {
-            put_path(out, table.crate_name, &owner.link)?;
+            put_path(out, table, &owner.link)?;
             put(out, &[".{", owner.link.name, "}\n"])?;
-            if owner.kind == TypeKind::Enumeration {
+            if has_variants(&owner.link) {
                 let snake = snake(alloc, owner.link.name)?;
-                put_path(out, table.crate_name, &owner.link)?;
+                put_path(out, table, &owner.link)?;
                 put(out, &[".TheVariants as ", snake.as_str(), "\n"])?;
             }
         }
@@ -126,23 +59,27 @@ fn put_declared(
 }
 
 // The lines that import the definitions of other modules.
-fn put_others(
+fn put_others<'t>(
     alloc: Global,
     out: &mut String,
-    table: &Table<'_>,
-    module: &Module<'_>,
+    table: &Table<'t>,
+    module: &Module<'t>,
 ) -> Result<(), AllocError> {
+    let cited = cited_in(alloc, table, module)?;
     for owner in &table.types {
-        if !lives_in(owner, module) && module_uses(table, module, owner.link.name) {
+        if is_imported(owner, module, cited.as_slice()) {
+            if stands_by_fields(table, module, owner.link.name) {
+                put_path(out, table, &owner.link)?;
+                put(out, &[".{", owner.link.name, "}\n"])?;
+            }
             let names = definitions_of(alloc, owner)?;
-            let of = owner.link.module.definitions;
             put(
                 out,
                 &[
                     "use Rattle.",
-                    table.crate_name,
+                    crate_of(table, &owner.link),
                     ".specs.",
-                    of,
+                    owner.link.module.definitions,
                     ".{",
                     names.as_str(),
                     "}\n",
@@ -153,8 +90,8 @@ fn put_others(
     Ok(())
 }
 
-// A name in definitions.
-fn codes(alloc: Global, front: &str, digits: &str) -> Result<String, AllocError> {
+/// A name in definitions.
+pub fn codes(alloc: Global, front: &str, digits: &str) -> Result<String, AllocError> {
     joined(alloc, &["(codes \"", front, "0x", digits, "\")"])
 }
 
@@ -179,7 +116,7 @@ fn form_of(alloc: Global, part: &Part<'_>) -> Result<String, AllocError> {
                 ],
             )?
         }
-        PartKind::Type(link) => {
+        PartKind::Type(link) | PartKind::Fields(link) => {
             let snake = snake(alloc, link.name)?;
             joined(alloc, &[snake.as_str(), "_form"])?
         }
@@ -192,8 +129,8 @@ fn form_of(alloc: Global, part: &Part<'_>) -> Result<String, AllocError> {
     }
 }
 
-// What stands behind a part: the opening of the next, or the end of so many.
-fn put_rest(out: &mut String, place: usize, count: usize, end: &str) -> Result<(), AllocError> {
+/// Appends what stands behind a part: the opening of the next, or the end of so many.
+pub fn put_rest(out: &mut String, place: usize, count: usize, end: &str) -> Result<(), AllocError> {
     if place.saturating_add(1) < count {
         return put(out, &[" (\n"]);
     }
@@ -218,8 +155,8 @@ fn put_form(alloc: Global, out: &mut String, owner: &MessageType<'_>) -> Result<
     put(out, &[" false\n"])
 }
 
-// The value of a leaf that stands at a place in Rust.
-fn leaf_value(
+/// The value of a leaf that stands at a place in Rust.
+pub fn leaf_value(
     alloc: Global,
     leaf: Leaf,
     tag: &str,
@@ -278,7 +215,7 @@ fn each_value(alloc: Global, part: &Part<'_>, side: Side) -> Result<String, Allo
 fn once_value(alloc: Global, part: &Part<'_>, at: &str, side: Side) -> Result<String, AllocError> {
     match part.kind {
         PartKind::Leaf(leaf) => leaf_value(alloc, leaf, part.tag, at, side),
-        PartKind::Type(link) => {
+        PartKind::Type(link) | PartKind::Fields(link) => {
             let function = value_of(alloc, link.name, link.values, side)?;
             joined(alloc, &[function.as_str(), " ", at])
         }
@@ -294,14 +231,24 @@ fn once_value(alloc: Global, part: &Part<'_>, at: &str, side: Side) -> Result<St
     }
 }
 
+// Where a part stands in a type's value.
+fn place_of(alloc: Global, owner: &MessageType<'_>, part: &Part<'_>) -> Result<String, AllocError> {
+    if let PartKind::Fields(_) = part.kind {
+        let snake = snake(alloc, owner.link.name)?;
+        return joined(alloc, &["(", snake.as_str(), "_", part.name, " x)"]);
+    }
+    joined(alloc, &["x.", part.name])
+}
+
 // The value of a part, in front of those behind it.
 fn put_value(
     alloc: Global,
     out: &mut String,
+    owner: &MessageType<'_>,
     part: &Part<'_>,
     side: Side,
 ) -> Result<(), AllocError> {
-    let at = joined(alloc, &["x.", part.name])?;
+    let at = place_of(alloc, owner, part)?;
     let at = at.as_str();
     if part.count == Count::One {
         let value = once_value(alloc, part, at, side)?;
@@ -330,14 +277,14 @@ fn put_values(
     put(out, &["    struct_value ", tag.as_str(), " (\n"])?;
     let count = owner.parts.len();
     for (place, part) in owner.parts.as_slice().iter().enumerate() {
-        put_value(alloc, out, part, side)?;
+        put_value(alloc, out, owner, part, side)?;
         put_rest(out, place, count, "no_values")?;
     }
     put(out, &["\n"])
 }
 
-// The comment of a value.
-fn put_value_comment(
+/// Appends the comment of a value.
+pub fn put_value_comment(
     out: &mut String,
     owner: &MessageType<'_>,
     side: Side,
@@ -361,18 +308,44 @@ fn put_value_head(
     word: &str,
 ) -> Result<(), AllocError> {
     let name = value_name(alloc, owner.link.name, owner.link.values, side)?;
-    let owns = owner.link.owns;
     let is_dated = owner.link.values == Values::Dated;
     put_value_comment(out, owner, side)?;
-    put(out, &[word, " pub ", name.as_str(), " : "])?;
-    put(out, &[text_if(owns, "{A : Type 0} → ")])?;
-    put(out, &[text_if(is_dated, "(ℤ → Value) → "), owner.link.name])?;
-    put(out, &[text_if(owns, " A"), " → Value\n"])?;
+    put(out, &[word, " pub "])?;
+    put_type_of(
+        out,
+        owner,
+        name.as_str(),
+        text_if(is_dated, "(ℤ → Value) → "),
+        "Value",
+    )?;
     put(out, &[name.as_str(), text_if(is_dated, " date"), " x ="])
 }
 
-// What stands before a form.
-fn put_form_head(
+/// Appends the line that says that a definition of this name gives this of a type.
+pub fn put_type_of(
+    out: &mut String,
+    owner: &MessageType<'_>,
+    name: &str,
+    front: &str,
+    given: &str,
+) -> Result<(), AllocError> {
+    let owns = owner.link.owns;
+    put(out, &[name, " : ", text_if(owns, "{A : Type 0} → ")])?;
+    put(
+        out,
+        &[
+            front,
+            owner.link.name,
+            text_if(owns, " A"),
+            " → ",
+            given,
+            "\n",
+        ],
+    )
+}
+
+/// Appends what stands before a form.
+pub fn put_form_head(
     alloc: Global,
     out: &mut String,
     owner: &MessageType<'_>,
@@ -383,26 +356,56 @@ fn put_form_head(
     put(out, &[snake.as_str(), "_form ="])
 }
 
+// The value of a wrapper that is written as a newtype.
+fn put_newtype(alloc: Global, out: &mut String, owner: &MessageType<'_>) -> Result<(), AllocError> {
+    let tag = codes(alloc, "", owner.link.tag)?;
+    put(out, &["    newtype_value ", tag.as_str(), " (\n"])?;
+    let Some(part) = field_of(owner) else {
+        return Ok(());
+    };
+    let at = joined(alloc, &["x.", part.name])?;
+    if part.count == Count::One {
+        let value = once_value(alloc, &part, at.as_str(), Side::Written)?;
+        return put(out, &["    ", value.as_str(), ")\n"]);
+    }
+    let each = each_value(alloc, &part, Side::Written)?;
+    put(
+        out,
+        &["    sequence", each.as_str(), " ", at.as_str(), ".items)\n"],
+    )
+}
+
+// What is written of a structure, or what is read.
+fn put_side(
+    alloc: Global,
+    out: &mut String,
+    owner: &MessageType<'_>,
+    side: Side,
+) -> Result<(), AllocError> {
+    put_value_head(alloc, out, owner, side, "unfoldable")?;
+    put(out, &["\n"])?;
+    match (owner.link.kind, side) {
+        (TypeKind::Newtype, Side::Written) => put_newtype(alloc, out, owner),
+        _ => put_values(alloc, out, owner, side),
+    }
+}
+
 // The definitions of a structure.
 fn put_structure(
     alloc: Global,
     out: &mut String,
+    types: &[MessageType<'_>],
     owner: &MessageType<'_>,
 ) -> Result<(), AllocError> {
     put_form_head(alloc, out, owner)?;
     put(out, &["\n"])?;
     put_form(alloc, out, owner)?;
+    put_own_fields(alloc, out, types, owner)?;
     if owner.link.values == Values::Two {
-        put_value_head(alloc, out, owner, Side::Written, "unfoldable")?;
-        put(out, &["\n"])?;
-        put_values(alloc, out, owner, Side::Written)?;
-        put_value_head(alloc, out, owner, Side::Read, "unfoldable")?;
-        put(out, &["\n"])?;
-        return put_values(alloc, out, owner, Side::Read);
+        put_side(alloc, out, owner, Side::Written)?;
+        return put_side(alloc, out, owner, Side::Read);
     }
-    put_value_head(alloc, out, owner, Side::Given, "unfoldable")?;
-    put(out, &["\n"])?;
-    put_values(alloc, out, owner, Side::Given)
+    put_side(alloc, out, owner, Side::Given)
 }
 
 // The definitions of a leaf.
@@ -477,14 +480,22 @@ fn put_enumeration(
 }
 
 // The definitions of a type.
-fn put_type(alloc: Global, out: &mut String, owner: &MessageType<'_>) -> Result<(), AllocError> {
-    match owner.kind {
-        TypeKind::Structure | TypeKind::Message => put_structure(alloc, out, owner),
+fn put_type(
+    alloc: Global,
+    out: &mut String,
+    types: &[MessageType<'_>],
+    owner: &MessageType<'_>,
+) -> Result<(), AllocError> {
+    match owner.link.kind {
+        TypeKind::Structure | TypeKind::Message | TypeKind::Wrapper | TypeKind::Newtype => {
+            put_structure(alloc, out, types, owner)
+        }
         TypeKind::Enumeration => put_enumeration(alloc, out, owner),
         TypeKind::Leaf => match owner.parts.as_slice().first() {
             Some(part) => put_leaf(alloc, out, owner, part),
             None => Ok(()),
         },
+        TypeKind::Choice | TypeKind::PlainChoice => put_choice(alloc, out, types, owner),
         TypeKind::ByHand => Ok(()),
     }
 }
@@ -537,7 +548,7 @@ fn put_definitions(
 ) -> Result<(), AllocError> {
     for owner in &table.types {
         if lives_in(owner, module) {
-            put_type(alloc, out, owner)?;
+            put_type(alloc, out, table.types.as_slice(), owner)?;
         }
     }
     Ok(())

@@ -6,6 +6,9 @@ ghost use Rattle.message_tables.specs.Faults.{words_of, line_told, lines_told};
 use itoa::Buffer;
 use std::alloc::{AllocError, Global};
 
+const UNKNOWN_ROW: &str =
+    "a row begins with crate, module, elsewhere, structure, message, wrapper, leaf, enumeration, choice, by_hand, or a space for a part";
+
 /// What is wrong with a row.
 #[derive(Clone, Copy, Debug, PartialEq, Eq)]
 pub enum FaultKind {
@@ -29,6 +32,30 @@ pub enum FaultKind {
     NothingBefore,
     /// A type has no part.
     NoPart,
+    /// How a wrapper is written is not told.
+    BadWriting,
+    /// A wrapper has not one part beside its constants.
+    BadWrapper,
+    /// Fields that can't stand in another type.
+    BadFields,
+    /// A field that is to be called otherwise is none of those before.
+    BadRename,
+    /// A choice has no variant.
+    NoVariant,
+    /// What is in a variant can't be.
+    BadVariant,
+    /// Some variants of a choice are leaves, and others types.
+    MixedVariants,
+    /// A wrapper is a part of a structure, or comes several times.
+    StrayWrapper,
+    /// A plain choice has no tag of its own, nor have its variants one for all.
+    NoTag,
+    /// A rule is none.
+    BadRule,
+    /// A rule, or the variant behind which it stands, has been told.
+    RuleTwice,
+    /// A variant has no rule.
+    NoRule,
 }
 
 /// What is wrong with which row.
@@ -55,9 +82,7 @@ impl FaultKind {
         ensures { result.now ≡ words_of self }
     {
         match self {
-            FaultKind::UnknownRow => {
-                "a row begins with crate, module, structure, message, leaf, enumeration, by_hand, or a space for a part"
-            }
+            FaultKind::UnknownRow => UNKNOWN_ROW,
             FaultKind::MissingColumn => "a word is missing",
             FaultKind::BadName =>
                 "a name of small letters, digits and _, no word of Rust's, is wanted",
@@ -71,6 +96,24 @@ impl FaultKind {
                 "this part can't come so often: a row leaf gives it a type of its own, which can",
             FaultKind::NothingBefore => "the row that this one belongs to is missing before it",
             FaultKind::NoPart => "this type has no part",
+            FaultKind::BadWriting => "a wrapper is written as a structure or as a newtype",
+            FaultKind::BadWrapper =>
+                "a wrapper has one part that is always there, and constants where it is a structure",
+            FaultKind::BadFields =>
+                "a type has the fields of one structure, whose parts all come once and own no memory",
+            FaultKind::BadRename => "this is no field of the part before, called as another",
+            FaultKind::NoVariant => "this choice has no variant",
+            FaultKind::BadVariant =>
+                "in a variant is an integer, a constant, or a type of a row before that is no choice and no message",
+            FaultKind::MixedVariants =>
+                "the variants of a choice are all integers and constants, or all types",
+            FaultKind::StrayWrapper =>
+                "a wrapper of this crate is a part of a wrapper, or in a variant, and once",
+            FaultKind::NoTag => "the variants of a plain choice have one tag",
+            FaultKind::BadRule =>
+                "a rule begins with if, and has no quotation mark, no backslash and no letter beyond ASCII",
+            FaultKind::RuleTwice => "this rule, or one for this variant, stands before it",
+            FaultKind::NoRule => "this variant has no rule",
         }
     }
 }

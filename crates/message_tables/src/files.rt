@@ -66,7 +66,12 @@ fn add_laws(alloc: Global, files: &mut Vec<TextFile>, table: &Table<'_>) -> Resu
 /// The files of a table: two for each of its modules, and those of its laws.
 pub fn files_of(alloc: Global, table: &Table<'_>) -> Result<Vec<TextFile>, AllocError> {
     let mut files = Vec::new(alloc);
-    for module in &table.modules {
+    for module in table
+        .modules
+        .as_slice()
+        .iter()
+        .filter(|module| module.is_own())
+    {
         let code = code_text(alloc, table, module)?;
         add(alloc, &mut files, &["src/", module.name, ".rt"], code)?;
         let definitions = definitions_text(alloc, table, module)?;

@@ -151,6 +151,48 @@ pub fn put_call(
     put(out, &[")", tail, "\n"])
 }
 
+/// Appends the head of a function of a type's own: `head(ARGUMENTS) -> ANSWER`.
+pub fn put_signature(
+    out: &mut String,
+    head: &str,
+    arguments: &[&str],
+    answer: &str,
+) -> Result<(), AllocError> {
+    let whole = width_of(arguments)
+        .saturating_add(head.chars().count())
+        .saturating_add(answer.chars().count())
+        .saturating_add(10);
+    put(out, &["    ", head, "("])?;
+    if whole <= LINE {
+        put_in_line(out, arguments)?;
+    } else {
+        out.push('\n')?;
+        for argument in arguments {
+            put(out, &["        ", argument, ",\n"])?;
+        }
+        out.push_str("    ")?;
+    }
+    put(out, &[") -> ", answer, "\n"])
+}
+
+/// Appends a constant that is an array: `head[ITEMS];`.
+pub fn put_array(out: &mut String, head: &str, items: &[&str]) -> Result<(), AllocError> {
+    let inside = width_of(items);
+    let whole = inside
+        .saturating_add(head.chars().count())
+        .saturating_add(3);
+    put(out, &[head, "["])?;
+    if inside <= ARGUMENTS && whole <= LINE {
+        put_in_line(out, items)?;
+    } else {
+        out.push('\n')?;
+        for item in items {
+            put(out, &["    ", item, ",\n"])?;
+        }
+    }
+    out.push_str("];\n")
+}
+
 /// Appends a statement of a function's body that is a call with types, its arguments short: `head::<TYPES>(ARGUMENTS)tail`.
 pub fn put_typed_call(
     out: &mut String,
@@ -216,15 +258,21 @@ fn put_filled(out: &mut String, names: &[&str]) -> Result<(), AllocError> {
     put(out, &["\n"])
 }
 
-/// Appends the item that imports these types of a module of the crate.
-pub fn put_use(out: &mut String, module: &str, names: &[&str]) -> Result<(), AllocError> {
-    put(out, &["use crate::", module, "::"])?;
+/// Appends the item that imports these types of a module of a crate.
+pub fn put_use(
+    out: &mut String,
+    root: &str,
+    module: &str,
+    names: &[&str],
+) -> Result<(), AllocError> {
+    put(out, &["use ", root, "::", module, "::"])?;
     if let [name] = names {
         return put(out, &[name, ";\n"]);
     }
     let whole = width_of(names)
+        .saturating_add(root.chars().count())
         .saturating_add(module.chars().count())
-        .saturating_add(16);
+        .saturating_add(11);
     put(out, &["{"])?;
     if whole <= LINE {
         put_in_line(out, names)?;

@@ -3,9 +3,9 @@
 //!
 //! They hold the structures whose parts all come once, and are leaves, constants or such structures.
 
-use crate::code::{Side, definitions_of, snake, value_name, value_of};
 use crate::fill::{Holes, Imports, fill, filled, hole, joined, put, put_imports, text_if};
 use crate::kinds::Leaf;
+use crate::names::{Side, definitions_of, snake, value_name, value_of};
 use crate::table::{Link, MessageType, Part, PartKind, Table, TypeKind, Values};
 use crate::templates;
 use std::alloc::{AllocError, Global};
@@ -16,7 +16,7 @@ const DATES: &str = "use Rattle.kmip_ttlv.specs.MessageParts.{read_date, written
 
 // Whether a type is a message with a law.
 fn has_law(owner: &MessageType<'_>) -> bool {
-    owner.kind == TypeKind::Message && owner.link.agrees
+    owner.link.kind == TypeKind::Message && owner.link.agrees
 }
 
 /// Whether a table has a message with a law.
@@ -43,7 +43,7 @@ pub fn law_names(alloc: Global, table: &Table<'_>) -> Result<Vec<String>, AllocE
 
 // Whether something is said of each value of a type.
 fn has_range(owner: &MessageType<'_>) -> bool {
-    owner.link.agrees && owner.link.is_ranged && owner.kind != TypeKind::Leaf
+    owner.link.agrees && owner.link.is_ranged && owner.link.kind != TypeKind::Leaf
 }
 
 // What is known of a leaf that stands at a place.
@@ -314,7 +314,7 @@ fn put_dates(out: &mut String, table: &Table<'_>) -> Result<(), AllocError> {
 
 // Whether a type has a lemma that says that it agrees.
 fn has_lemma(owner: &MessageType<'_>) -> bool {
-    owner.link.agrees && owner.kind != TypeKind::Leaf
+    owner.link.agrees && owner.link.kind != TypeKind::Leaf
 }
 
 // Adds the lemmas that a part's line cites.
@@ -357,7 +357,7 @@ fn import_lemma(imports: &mut Imports, owner: &MessageType<'_>) -> Result<(), Al
     for part in &owner.parts {
         import_lemmas(imports, part)?;
     }
-    if owner.kind == TypeKind::Message {
+    if owner.link.kind == TypeKind::Message {
         imports.push(("Rattle.kmip_ttlv.specs.Agreements", "MessageAgrees"))?;
         imports.push((LEMMAS, "message"))?;
     } else {
@@ -451,7 +451,7 @@ fn part_line(alloc: Global, part: &Part<'_>, is: &str) -> Result<String, AllocEr
                 "} refl refl refl refl (λ k. record { no_rule = refl; named = refl })",
             ],
         ),
-        PartKind::Variant(_) => Ok(String::new(alloc)),
+        PartKind::Variant(_) | PartKind::Fields(_) => Ok(String::new(alloc)),
     }
 }
 
@@ -518,7 +518,7 @@ fn put_statement(
     let written = value_of(alloc, owner.link.name, owner.link.values, Side::Written)?;
     let read = value_of(alloc, owner.link.name, owner.link.values, Side::Read)?;
     put_subject(alloc, out, owner)?;
-    if owner.kind == TypeKind::Message {
+    if owner.link.kind == TypeKind::Message {
         put(
             out,
             &[
@@ -551,7 +551,7 @@ fn put_statement(
 // The lemma of a type.
 fn put_lemma(alloc: Global, out: &mut String, owner: &MessageType<'_>) -> Result<(), AllocError> {
     put_statement(alloc, out, owner)?;
-    let is_message = owner.kind == TypeKind::Message;
+    let is_message = owner.link.kind == TypeKind::Message;
     put(
         out,
         &[if is_message {

@@ -1,41 +1,23 @@
 //! Tables, row by row.
 //!
 //! A row is a line. One that is empty or begins with `#` says nothing; one that begins with a space is a part of the
-//! type before it; any other begins with `crate`, `module`, `structure`, `message`, `leaf`, `enumeration` or `by_hand`.
+//! type before it; any other begins with `crate`, `module`, `elsewhere`, `structure`, `message`, `wrapper`, `leaf`,
+//! `enumeration`, `choice` or `by_hand`.
 
 ghost use Rattle.std.specs.Prelude.{IfOk, OnOk};
 ghost use Rattle.message_tables.specs.Faults.{AreInOrder, Tells};
 
 use crate::fault::{Fault, FaultKind, RowError};
-use crate::kinds::{Leaf, leaf_called};
+use crate::kinds::leaf_called;
+use crate::part_rows::{add_part, part_row, type_called};
 use crate::table::{Count, Link, MessageType, Module, Part, PartKind, Table, TypeKind, Values};
-use crate::words::Columns;
+use crate::words::{Columns, TAG};
 use std::alloc::{AllocError, Global};
 
-/// How many digits a tag has.
-const TAG: usize = 6;
-
-/// How many digits the number of an Enumeration has.
-const NUMBER: usize = 8;
-
-// The type of this name, if it stands in a row before.
-fn type_called<'t>(types: &[MessageType<'t>], name: &str) -> Option<Link<'t>> {
-    for found in types {
-        if found.link.name == name {
-            return Some(found.link);
-        }
-    }
-    None
-}
-
-// Whether a module has this name, or its definitions this one.
-fn has_module(modules: &[Module<'_>], name: &str, definitions: &str) -> bool {
-    modules.iter().any(|module| module.name == name || module.definitions == definitions)
-}
-
-// Whether a part has this name.
-fn has_part(parts: &[Part<'_>], name: &str) -> bool {
-    parts.iter().any(|part| part.name == name)
+// Whether a module of the same crate has this one's name, or its definitions theirs.
+fn has_module(modules: &[Module<'_>], module: &Module<'_>) -> bool {
+    modules.iter().any(|other| other.crate_name == module.crate_name
+        && (other.name == module.name || other.definitions == module.definitions))
 }
 
 // `crate NAME`
@@ -48,26 +30,46 @@ fn crate_row<'t>(table: &mut Table<'t>, columns: &mut Columns<'t>) -> Result<(),
     Ok(())
 }
 
-// `module NAME DEFINITIONS What lives there.`
-fn module_row<'t>(table: &mut Table<'t>, columns: &mut Columns<'t>) -> Result<(), RowError> {
-    let name = columns.field_name()?;
-    let definitions = columns.type_name()?;
-    let doc = columns.doc()?;
+// Adds a module.
+fn add_module<'t>(table: &mut Table<'t>, module: Module<'t>) -> Result<(), RowError> {
     if table.crate_name.is_empty() {
         return Err(RowError::Fault(FaultKind::NothingBefore));
     }
-    if has_module(table.modules.as_slice(), name, definitions) {
+    if module.crate_name == table.crate_name || has_module(table.modules.as_slice(), &module) {
         return Err(RowError::Fault(FaultKind::NameTwice));
     }
-    let module = Module {
-        name,
-        definitions,
-        doc,
-    };
     match table.modules.push(module) {
         Ok(()) => Ok(()),
         Err(_) => Err(RowError::OutOfMemory),
     }
+}
+
+// `module NAME DEFINITIONS What lives there.`
+fn module_row<'t>(table: &mut Table<'t>, columns: &mut Columns<'t>) -> Result<(), RowError> {
+    let module = Module {
+        crate_name: "",
+        name: columns.field_name()?,
+        definitions: columns.type_name()?,
+        doc: columns.doc()?,
+    };
+    add_module(table, module)
+}
+
+// `MODULE DEFINITIONS`, of which no file is written: of the crate's own where this name is empty.
+fn module_of<'t>(crate_name: &'t str, columns: &mut Columns<'t>) -> Result<Module<'t>, FaultKind> {
+    Ok(Module {
+        crate_name,
+        name: columns.field_name()?,
+        definitions: columns.type_name()?,
+        doc: "",
+    })
+}
+
+// `elsewhere CRATE MODULE DEFINITIONS`
+fn elsewhere_row<'t>(table: &mut Table<'t>, columns: &mut Columns<'t>) -> Result<(), RowError> {
+    let crate_name = columns.field_name()?;
+    let module = module_of(crate_name, columns)?;
+    add_module(table, module)
 }
 
 // Adds a type without parts.
@@ -75,20 +77,21 @@ fn add_type<'t>(
     alloc: Global,
     table: &mut Table<'t>,
     line: usize,
-    kind: TypeKind,
     link: Link<'t>,
     doc: &'t str,
 ) -> Result<(), RowError> {
     if type_called(table.types.as_slice(), link.name).is_some() {
         return Err(RowError::Fault(FaultKind::NameTwice));
     }
-    let parts = Vec::new(alloc);
     let added = MessageType {
         link,
-        kind,
         doc,
         line,
-        parts,
+        parts: Vec::new(alloc),
+        fields: Vec::new(alloc),
+        steps: Vec::new(alloc),
+        shape_name: "",
+        variants: Vec::new(alloc),
     };
     match table.types.push(added) {
         Ok(()) => Ok(()),
@@ -111,15 +114,26 @@ fn plain_link<'t>(
     tag: &'t str,
     kind: TypeKind,
 ) -> Result<Link<'t>, FaultKind> {
+    let values = match kind {
+        TypeKind::Newtype | TypeKind::Choice | TypeKind::PlainChoice => Values::Two,
+        _ => Values::One,
+    };
+    let module = last_module(table)?;
+    let can_agree = matches!(
+        kind,
+        TypeKind::Structure | TypeKind::Message | TypeKind::Leaf
+    );
     Ok(Link {
         name,
         tag,
-        module: last_module(table)?,
+        kind,
+        module,
         leaf: None,
         owns: false,
-        values: Values::One,
+        values,
         is_ranged: false,
-        agrees: kind == TypeKind::Structure || kind == TypeKind::Message,
+        agrees: module.is_own() && can_agree,
+        is_flat: kind == TypeKind::Structure,
     })
 }
 
@@ -135,7 +149,55 @@ fn type_row<'t>(
     let tag = columns.digits(TAG)?;
     let doc = columns.doc()?;
     let link = plain_link(table, name, tag, kind)?;
-    add_type(alloc, table, line, kind, link, doc)
+    add_type(alloc, table, line, link, doc)
+}
+
+// `wrapper NAME TAG structure|newtype What it is for.`
+fn wrapper_row<'t>(
+    alloc: Global,
+    table: &mut Table<'t>,
+    line: usize,
+    columns: &mut Columns<'t>,
+) -> Result<(), RowError> {
+    let name = columns.type_name()?;
+    let tag = columns.digits(TAG)?;
+    let kind = match columns.word()? {
+        "structure" => TypeKind::Wrapper,
+        "newtype" => TypeKind::Newtype,
+        _ => return Err(RowError::Fault(FaultKind::BadWriting)),
+    };
+    let doc = columns.doc()?;
+    let link = plain_link(table, name, tag, kind)?;
+    add_type(alloc, table, line, link, doc)
+}
+
+// The tag of a choice, and what it is by that: `TAG` or `plain`
+fn choice_tag<'t>(columns: &mut Columns<'t>) -> Result<(&'t str, TypeKind), FaultKind> {
+    let mut behind = *columns;
+    if behind.word()? == "plain" {
+        *columns = behind;
+        return Ok(("", TypeKind::PlainChoice));
+    }
+    Ok((columns.digits(TAG)?, TypeKind::Choice))
+}
+
+// `choice NAME ENUM TAG|plain What it is for.`
+fn choice_row<'t>(
+    alloc: Global,
+    table: &mut Table<'t>,
+    line: usize,
+    columns: &mut Columns<'t>,
+) -> Result<(), RowError> {
+    let name = columns.type_name()?;
+    let shape_name = columns.field_name()?;
+    let (tag, kind) = choice_tag(columns)?;
+    let doc = columns.doc()?;
+    let link = plain_link(table, name, tag, kind)?;
+    add_type(alloc, table, line, link, doc)?;
+    if let Some(owner) = table.types.as_mut_slice().last_mut() {
+        owner.shape_name = shape_name;
+    }
+    Ok(())
 }
 
 // `by_hand NAME TAG MODULE DEFINITIONS one|dated|two copied|owned`
@@ -147,11 +209,7 @@ fn hand_row<'t>(
 ) -> Result<(), RowError> {
     let name = columns.type_name()?;
     let tag = columns.digits(TAG)?;
-    let module = Module {
-        name: columns.field_name()?,
-        definitions: columns.type_name()?,
-        doc: "",
-    };
+    let module = module_of("", columns)?;
     let values = match columns.word()? {
         "one" => Values::One,
         "dated" => Values::Dated,
@@ -166,29 +224,16 @@ fn hand_row<'t>(
     let link = Link {
         name,
         tag,
+        kind: TypeKind::ByHand,
         module,
         leaf: None,
         owns,
         values,
         is_ranged: false,
         agrees: false,
+        is_flat: false,
     };
-    add_type(alloc, table, line, TypeKind::ByHand, link, columns.rest())
-}
-
-// Adds a part to a type, and what follows from it to what others know of the type.
-fn add_part<'t>(owner: &mut MessageType<'t>, part: Part<'t>) -> Result<(), RowError> {
-    if has_part(owner.parts.as_slice(), part.name) {
-        return Err(RowError::Fault(FaultKind::NameTwice));
-    }
-    if owner.parts.push(part).is_err() {
-        return Err(RowError::OutOfMemory);
-    }
-    owner.link.owns = owner.link.owns || part.owns();
-    owner.link.values = part.values_with(owner.link.values);
-    owner.link.is_ranged = owner.link.is_ranged || part.is_ranged();
-    owner.link.agrees = owner.link.agrees && part.agrees();
-    Ok(())
+    add_type(alloc, table, line, link, columns.rest())
 }
 
 // `leaf NAME FIELD KIND TAG What it is for.`
@@ -205,7 +250,7 @@ fn leaf_row<'t>(
     };
     let tag = columns.digits(TAG)?;
     let doc = columns.doc()?;
-    let mut link = plain_link(table, name, tag, TypeKind::Structure)?;
+    let mut link = plain_link(table, name, tag, TypeKind::Leaf)?;
     link.leaf = Some((leaf, field));
     let part = Part {
         name: field,
@@ -214,118 +259,8 @@ fn leaf_row<'t>(
         kind: PartKind::Leaf(leaf),
         doc: "What it holds.",
     };
-    add_type(alloc, table, line, TypeKind::Leaf, link, doc)?;
-    match table.types.as_mut_slice().last_mut() {
-        Some(owner) => add_part(owner, part),
-        None => Ok(()),
-    }
-}
-
-// How often a part comes: `optional`, `several`, or else once. It takes the word where it is one of the two.
-fn count_of(columns: &mut Columns<'_>) -> Count {
-    let mut behind = *columns;
-    let count = match behind.word() {
-        Ok("optional") => Count::Optional,
-        Ok("several") => Count::Several,
-        _ => return Count::One,
-    };
-    *columns = behind;
-    count
-}
-
-// What stands behind a leaf's kind: `TAG What it is for.`
-fn leaf_part<'t>(
-    name: &'t str,
-    count: Count,
-    leaf: Leaf,
-    columns: &mut Columns<'t>,
-) -> Result<Part<'t>, FaultKind> {
-    if count == Count::Several || (count == Count::Optional && !leaf.is_told_absent) {
-        return Err(FaultKind::BadCount);
-    }
-    Ok(Part {
-        name,
-        tag: columns.digits(TAG)?,
-        count,
-        kind: PartKind::Leaf(leaf),
-        doc: columns.doc()?,
-    })
-}
-
-// What stands behind `constant`: `TAG NUMBER`
-fn constant_part<'t>(
-    name: &'t str,
-    count: Count,
-    columns: &mut Columns<'t>,
-) -> Result<Part<'t>, FaultKind> {
-    if count != Count::One {
-        return Err(FaultKind::BadCount);
-    }
-    Ok(Part {
-        name,
-        tag: columns.digits(TAG)?,
-        count,
-        kind: PartKind::Constant(columns.digits(NUMBER)?),
-        doc: columns.rest(),
-    })
-}
-
-// `NAME [optional] KIND TAG What it is for.`, `NAME [optional|several] TYPE What it is for.` or
-// `NAME constant TAG NUMBER`, in a structure.
-fn structure_part<'t>(
-    types: &[MessageType<'t>],
-    columns: &mut Columns<'t>,
-) -> Result<Part<'t>, FaultKind> {
-    let name = columns.field_name()?;
-    let count = count_of(columns);
-    let word = columns.word()?;
-    if let Some(leaf) = leaf_called(word) {
-        return leaf_part(name, count, leaf, columns);
-    }
-    if word == "constant" {
-        return constant_part(name, count, columns);
-    }
-    let Some(link) = type_called(types, word) else {
-        return Err(FaultKind::UnknownKind);
-    };
-    Ok(Part {
-        name,
-        tag: link.tag,
-        count,
-        kind: PartKind::Type(link),
-        doc: columns.doc()?,
-    })
-}
-
-// `NAME NUMBER What it is for.`, in an Enumeration.
-fn variant_part<'t>(columns: &mut Columns<'t>) -> Result<Part<'t>, FaultKind> {
-    Ok(Part {
-        name: columns.type_name()?,
-        tag: "",
-        count: Count::One,
-        kind: PartKind::Variant(columns.digits(NUMBER)?),
-        doc: columns.doc()?,
-    })
-}
-
-// A part of the type before it.
-fn part_row<'t>(table: &mut Table<'t>, columns: &mut Columns<'t>) -> Result<(), RowError> {
-    let Some(last) = table.types.as_slice().last() else {
-        return Err(RowError::Fault(FaultKind::NothingBefore));
-    };
-    let part = match last.kind {
-        TypeKind::Structure | TypeKind::Message => {
-            structure_part(table.types.as_slice(), columns)?
-        }
-        TypeKind::Enumeration => variant_part(columns)?,
-        TypeKind::Leaf | TypeKind::ByHand => {
-            return Err(RowError::Fault(FaultKind::NothingBefore));
-        }
-    };
-    match table.types.as_mut_slice().last_mut() {
-        Some(owner) => add_part(owner, part),
-        None => Ok(()),
-    }
+    add_type(alloc, table, line, link, doc)?;
+    add_part(alloc, table, part)
 }
 
 // Adds what a row says.
@@ -340,43 +275,78 @@ fn add_row<'t>(
         return Ok(());
     }
     if row.starts_with(' ') {
-        return part_row(table, &mut columns);
+        return part_row(alloc, table, line, row.starts_with("    "), &mut columns);
     }
     match columns.word()? {
         "crate" => crate_row(table, &mut columns),
         "module" => module_row(table, &mut columns),
+        "elsewhere" => elsewhere_row(table, &mut columns),
         "structure" => type_row(alloc, table, line, TypeKind::Structure, &mut columns),
         "message" => type_row(alloc, table, line, TypeKind::Message, &mut columns),
         "enumeration" => type_row(alloc, table, line, TypeKind::Enumeration, &mut columns),
+        "wrapper" => wrapper_row(alloc, table, line, &mut columns),
+        "choice" => choice_row(alloc, table, line, &mut columns),
         "leaf" => leaf_row(alloc, table, line, &mut columns),
         "by_hand" => hand_row(alloc, table, line, &mut columns),
         _ => Err(RowError::Fault(FaultKind::UnknownRow)),
     }
 }
 
-// The line of the first type that has no part, and is to have one.
-fn without_part(types: &[MessageType<'_>]) -> Option<usize> {
-    for found in types {
-        if found.kind != TypeKind::ByHand && found.parts.is_empty() {
-            return Some(found.line);
+// What is missing of a type, and the line that tells it.
+fn missing_of(found: &MessageType<'_>) -> Option<Fault> {
+    let line = found.line;
+    let kind = match found.link.kind {
+        TypeKind::ByHand => return None,
+        TypeKind::Wrapper | TypeKind::Newtype if found.fields.is_empty() => FaultKind::BadWrapper,
+        TypeKind::Choice | TypeKind::PlainChoice => return missing_rule(found),
+        _ if found.parts.is_empty() => FaultKind::NoPart,
+        _ => return None,
+    };
+    Some(Fault { line, kind })
+}
+
+// The same of a choice: its variants, or the rule of one of them.
+fn missing_rule(found: &MessageType<'_>) -> Option<Fault> {
+    if found.variants.is_empty() {
+        return Some(Fault {
+            line: found.line,
+            kind: FaultKind::NoVariant,
+        });
+    }
+    for variant in &found.variants {
+        if variant.rule.is_empty() {
+            return Some(Fault {
+                line: variant.line,
+                kind: FaultKind::NoRule,
+            });
         }
     }
     None
 }
 
-// Adds to the faults, where there are none, the first type that has no part.
+// The first fault of a type of which something is missing.
+fn first_missing(types: &[MessageType<'_>]) -> Option<Fault> {
+    for found in types {
+        let missing = missing_of(found);
+        if missing.is_some() {
+            return missing;
+        }
+    }
+    None
+}
+
+// Adds to the faults, where there are none, the first type of which something is missing.
 #[tactic(auto, using(crate::proofs::Told::one_told))]
-fn tell_no_part(types: &[MessageType<'_>], faults: &mut Vec<Fault>) -> Result<(), AllocError>
+fn tell_missing(types: &[MessageType<'_>], faults: &mut Vec<Fault>) -> Result<(), AllocError>
     ensures { OnOk result (AreInOrder faults.old.items → AreInOrder faults.new.items) }
 {
     if !faults.is_empty() {
         return Ok(());
     }
-    let Some(line) = without_part(types) else {
+    let Some(fault) = first_missing(types) else {
         return Ok(());
     };
-    let kind = FaultKind::NoPart;
-    match faults.push(Fault { line, kind }) {
+    match faults.push(fault) {
         Ok(()) => Ok(()),
         Err(_) => Err(AllocError),
     }
@@ -422,6 +392,6 @@ pub fn read_table(alloc: Global, text: &str) -> Result<(Table<'_>, Vec<Fault>), 
         line += 1;
     }
     read_row(alloc, &mut table, &mut faults, line, rest)?;
-    tell_no_part(table.types.as_slice(), &mut faults)?;
+    tell_missing(table.types.as_slice(), &mut faults)?;
     Ok((table, faults))
 }

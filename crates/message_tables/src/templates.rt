@@ -8,9 +8,12 @@ $derive$
 pub struct $name$$default_a$ {
 ";
 
-/// How a type is told, up to its parts.
-pub const SERIALIZE: &str = "}
+/// What ends a type's fields or variants.
+pub const DECLARED: &str = "}
+";
 
+/// How a type is told, up to its parts.
+pub const SERIALIZE: &str = "
 impl$bound_b$ Serialize for $name$$of_b$ {
     ghost stated = { $written$ };
 
@@ -19,8 +22,7 @@ impl$bound_b$ Serialize for $name$$of_b$ {
 ";
 
 /// How a leaf is told, up to its part.
-pub const SERIALIZE_LEAF: &str = "}
-
+pub const SERIALIZE_LEAF: &str = "
 impl$bound_b$ Serialize for $name$$of_b$ {
     ghost stated = { $written$ };
 
@@ -40,9 +42,7 @@ pub const TOLD: &str = "        Ok(())
 ";
 
 /// By which form and as which value a type is read, and what begins its shape.
-pub const READABLE: &str = "    }
-}
-
+pub const READABLE: &str = "
 impl$bound_a$ Readable for $name$$of_a$ {
     ghost read_by = { $snake$_form };
 
@@ -100,20 +100,19 @@ pub const VARIANT: &str = "    /// $doc$
     $name$,
 ";
 
-/// What stands before the table of an Enumeration's numbers.
-pub const NUMBERS: &str = "}
-
+/// What is said of the table of an Enumeration's numbers.
+pub const NUMBERS_DOC: &str = "
 // Each number, and what it stands for.
-const $screaming$: [(&str, $name$); $count$] = [
 ";
+
+/// What stands before that table.
+pub const NUMBERS: &str = "const $screaming$: [(&str, $name$); $count$] = ";
 
 /// A row of it.
-pub const NUMBER: &str = "    (\"0x$number$\", $owner$::$name$),
-";
+pub const NUMBER: &str = "(\"0x$number$\", $owner$::$name$)";
 
 /// What answers the number of a variant, up to the variants.
-pub const NUMBERED: &str = "];
-
+pub const NUMBERED: &str = "
 impl $name$ {
     // Its number.
     fn number(self) -> &'static str
@@ -146,6 +145,208 @@ pub const SHAPE_ENUM: &str = "        shapes::units(alloc, \"0x$tag$\", &$scream
 
 /// What takes an Enumeration.
 pub const TAKE_ENUM: &str = "        Ok(choices::unit::<Self, A>(value, &$screaming$))
+";
+
+/// What begins the functions of a type's own.
+pub const OWN: &str = "
+impl$bound_a$ $name$$of_a$ {
+";
+
+/// How a wrapper is told, of what it holds, up to its parts.
+pub const TELL: &str = "    // Tells one that holds this.
+    #[tactic(auto, unfolding(crate::specs::$definitions$::$opened_written$))]
+$signature$        ensures told { OnOk result (Tells V.knows V.step ($written$ $record$) visitor.old visitor.new) }
+        ensures stopped { OnErr result (V.stopped visitor.new) }
+    {
+";
+
+/// How a leaf is told that a wrapper holds, up to its call.
+pub const TELL_HELD: &str = "    // Tells what one holds.
+$held_signature$        ensures told { OnOk result (Tells V.knows V.step ($held$) visitor.old visitor.new) }
+        ensures stopped { OnErr result (V.stopped visitor.new) }
+    {
+";
+
+/// What begins a newtype that is told, and what ends it.
+pub const BEGIN_NEWTYPE: &str = "        writing::begin_newtype(visitor, \"0x$tag$\")?;
+";
+
+/// The other end.
+pub const END_NEWTYPE: &str = "        writing::end_newtype(visitor, \"0x$tag$\")?;
+";
+
+/// What stands between two functions.
+pub const BETWEEN: &str = "    }
+
+";
+
+/// A choice: what stands before its variants.
+pub const CHOICE: &str = "
+/// $doc$
+$derive$
+pub enum $name$$default_a$ {
+";
+
+/// A variant of a choice.
+pub const CHOSEN: &str = "    /// $doc$
+    $name$$inside$,
+";
+
+/// What is said of a choice's rules.
+pub const RULES_DOC: &str = "
+// The rules that choose, one for each variant.
+";
+
+/// What stands before them.
+pub const RULES: &str = "const $screaming$: [&str; $count$] = ";
+
+/// The leaf that a choice of leaves holds, up to its variants.
+pub const LEAF: &str = "    // What it holds, as a leaf.
+    #[tactic(auto, unfolding(crate::specs::$definitions$::$content$))]
+    fn leaf(self) -> Leaf<'static>
+        ensures { leaf_value result ≡ $content$ self }
+    {
+        match self {
+";
+
+/// An Enumeration in a variant, as a leaf.
+pub const CONSTANT_LEAF: &str = "            $owner$::$name$ => Leaf::UnitVariant {
+                name: \"$tag$\",
+                variant: \"0x$number$\",
+            },
+";
+
+/// A number in a variant, as a leaf.
+pub const INTEGER_LEAF: &str = "            $owner$::$name$(number) => Leaf::I32(number),
+";
+
+/// What ends a match, and the function in which it stands.
+pub const MATCHED: &str = "        }
+    }
+";
+
+/// How what a choice of leaves holds is told.
+pub const TELL_LEAF: &str = "
+    // Tells what it holds.
+    fn tell<V: Visitor>(&self, visitor: &mut V) -> Result<(), AllocError>
+        ensures told { OnOk result (Tells V.knows V.step ($content$ self.now) visitor.old visitor.new) }
+        ensures stopped { OnErr result (V.stopped visitor.new) }
+    {
+        visitor.leaf(self.leaf())?;
+        Ok(())
+    }
+";
+
+/// What takes the number in a variant.
+pub const NUMBER_OF: &str = "
+    // The number that data is.
+    fn number_of<A: Allocator>(value: &Data<A>) -> i32
+        requires { IsI32 (view value.now) }
+        ensures { view value.now ≡ i32_value result }
+    {
+        match value {
+            Data::I32(number) => *number,
+            _ => unreachable!(),
+        }
+    }
+";
+
+/// How what a choice of types holds is told, up to its variants.
+pub const TELL_TYPE: &str = "    // Tells what it holds.
+    #[tactic(auto, unfolding(crate::specs::$definitions$::$content$))]
+    fn tell<V: Visitor>(&self, visitor: &mut V) -> Result<(), AllocError>
+        ensures told { OnOk result (Tells V.knows V.step ($content$ self.now) visitor.old visitor.new) }
+        ensures stopped { OnErr result (V.stopped visitor.new) }
+    {
+        match self {
+";
+
+/// How a variant is told that holds what a wrapper does.
+pub const TOLD_WRAPPER: &str = "            $owner$::$name$($held$) => {
+                $type$::tell(visitor, $held$)?;
+            }
+";
+
+/// How one is told that holds another type.
+pub const TOLD_TYPE: &str = "            $owner$::$name$(held) => {
+                held.visit(visitor)?;
+            }
+";
+
+/// What begins the match of a choice that is read.
+pub const MATCH_READ: &str = "        match which {
+";
+
+/// What begins the match of a choice that is told.
+pub const MATCH: &str = "        match self {
+";
+
+/// What ends it.
+pub const MATCH_END: &str = "        }
+        Ok(())
+";
+
+/// How a choice is told under its tag.
+pub const TELL_TAGGED: &str =
+    "        writing::begin_newtype_variant(visitor, \"Override:0x$tag$\", \"Transparent\")?;
+        self.tell(visitor)?;
+        writing::end_newtype_variant(visitor, \"Override:0x$tag$\", \"Transparent\")?;
+";
+
+/// How a choice of leaves is told as what it holds.
+pub const TELL_PLAIN: &str = "        visitor.leaf(self.leaf())?;
+";
+
+/// What begins the shape of a choice.
+pub const SHAPE_CHOICE: &str = "        let mut variants = Vec::new(alloc);
+";
+
+/// What ends it.
+pub const SHAPE_CHOICE_END: &str = "        Ok(shapes::enumeration(\"$shape_name$\", variants))
+";
+
+/// What takes a variant that holds nothing.
+pub const TAKE_CONSTANT: &str = "            $place$ => Ok($owner$::$name$),
+";
+
+/// What takes a variant that holds a number.
+pub const TAKE_INTEGER: &str = "            $place$ => Ok($owner$::$name$(Self::number_of(&inner))),
+";
+
+/// What takes a variant that holds a type, or what a wrapper does.
+pub const TAKE_TYPE: &str = "            $place$ => {
+                let held = $type$::from_data(alloc, &mut inner)?;
+                Ok($owner$::$name$(held$path$))
+            }
+";
+
+/// What ends a match to which no other value comes.
+pub const MATCH_ALL: &str = "            _ => unreachable!(),
+        }
+";
+
+/// The structure that some fields are, up to its literal.
+pub const FIELDS: &str = "    // Its fields that are a `$type$`.
+    fn $part$(&self) -> $type$
+        ensures { result ≡ $snake$_$part$ self.now }
+    {
+        $type$ {
+";
+
+/// How that is told, and how a value is made of it, up to its literal.
+pub const TELL_FIELDS: &str = "        }
+    }
+
+    // Tells these.
+    fn tell_$part$<V: Visitor>(&self, visitor: &mut V) -> Result<(), AllocError>
+        ensures told { OnOk result (Tells V.knows V.step ($value$ ($snake$_$part$ self.now)) visitor.old visitor.new) }
+        ensures stopped { OnErr result (V.stopped visitor.new) }
+    {
+        self.$part$().visit(visitor)?;
+        Ok(())
+    }
+
+    // The one with these fields, and these parts beside them.
 ";
 
 /// The law of a message, as a function of `src/laws.rt`.

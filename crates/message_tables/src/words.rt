@@ -1,9 +1,15 @@
 //! The words of a row: names, tags, numbers, and the text behind them.
 
 ghost use Rattle.std.specs.Prelude.{◌≡◌, IfOk, true};
-ghost use Rattle.message_tables.specs.Words.{are_digits, is_digit};
+ghost use Rattle.message_tables.specs.Words.{are_digits, are_rule_bytes, is_digit, is_rule_byte};
 
 use crate::fault::FaultKind;
+
+/// How many digits a tag has.
+pub const TAG: usize = 6;
+
+/// How many digits the number of an Enumeration has.
+pub const NUMBER: usize = 8;
 
 /// Words of Rust's that are no names, beside those with a capital.
 const RESERVED: [&str; 52] = [
@@ -57,6 +63,20 @@ pub fn is_type_name(text: &str) -> bool {
     first.is_ascii_uppercase()
         && bytes.iter().all(|byte| byte.is_ascii_alphanumeric())
         && text != "Self"
+}
+
+// Whether a byte can stand in a rule: a printed one of ASCII, but no quotation mark and no backslash.
+fn is_rule_byte(byte: u8) -> bool
+    ensures { result ≡ is_rule_byte byte }
+{
+    32 <= byte && byte <= 126 && byte != 34 && byte != 92
+}
+
+// Whether such bytes are all that is in a text.
+fn are_rule_bytes(text: &str) -> bool
+    ensures { result ≡ are_rule_bytes text.now }
+{
+    text.as_bytes().iter().all(|byte| is_rule_byte(*byte))
 }
 
 impl<'t> Columns<'t> {
@@ -117,6 +137,17 @@ impl<'t> Columns<'t> {
             Ok(word)
         } else {
             Err(FaultKind::BadDigits)
+        }
+    }
+
+    /// All that is left, as a rule that chooses a variant.
+    pub fn rule(&mut self) -> Result<&'t str, FaultKind>
+        ensures { IfOk result (λ rule. are_rule_bytes rule.now ≡ true) }
+    {
+        if self.rest.starts_with("if ") && are_rule_bytes(self.rest) {
+            Ok(self.rest)
+        } else {
+            Err(FaultKind::BadRule)
         }
     }
 

@@ -17,7 +17,7 @@ const ROWS: [(&str, &str); 17] = [
     ("# nothing", ""),
     (
         "struct Version 420069 A version.",
-        "line 5: a row begins with crate, module, structure, message, leaf, enumeration, by_hand, or a space for a part\n",
+        "line 5: a row begins with crate, module, elsewhere, structure, message, wrapper, leaf, enumeration, choice, by_hand, or a space for a part\n",
     ),
     ("structure Header 420077", "line 5: a word is missing\n"),
     ("  minor", "line 5: a word is missing\n"),
@@ -71,8 +71,8 @@ const ROWS: [(&str, &str); 17] = [
     ),
 ];
 
-// Whether a table is told so: without a word it is written, with any it is not.
-fn is_told(alloc: Global, table: &str, lines: &str) -> bool {
+/// Whether a table is told so: without a word it is written, with any it is not.
+pub fn is_told(alloc: Global, table: &str, lines: &str) -> bool {
     let mut input = table.as_bytes();
     let mut output = Vec::new(alloc);
     let mut errors = Vec::new(alloc);

@@ -13,7 +13,23 @@ structure LocateRequestPayload 420079 Which objects are to be found.
 enumeration ObjectType 420057 What an object is.
   Certificate 00000001 A certificate.
   SymmetricKey 00000002 A symmetric key.
+choice AttributeValue value 42000B What an attribute says.
+  Aes constant 420028 00000003 algorithm The algorithm AES.
+    if 0x42000A==Cryptographic Algorithm
+  Integer integer A number: of bits, or the sum of flags.
+    if 0x42000A in [Cryptographic Length, Cryptographic Usage Mask]
+wrapper Name 420053 newtype The name of an object, as it is read.
+  name text_string 420055 It.
+wrapper Moment 420053 structure A date, as it is read.
+  date date_time 420092 It.
+module known Knowns What is known of an object.
+choice Known value 42000B A date.
+  Moment Moment When it was made.
+    if 0x42000A==Initial Date
 ";
+
+// What the definitions of a choice that holds a date name of dates.
+const DATES: &str = "use Rattle.kmip_ttlv.specs.MessageParts.{read_date, written_date}\n";
 
 // The definitions as they are written by hand.
 const DEFINITIONS: &str = r#"
@@ -31,6 +47,54 @@ written_locate_request_payload x =
     joined (told.optional (option_map maximum_items_value x.maximum_items)) (
     joined (told.optional (option_map
     (λ y. newtype_value (codes "Transparent:0x420094") (text_value (string_bytes y))) x.identifier)) no_values))
+"#;
+
+// A choice, as it is written by hand.
+const CHOICE: &str = r#"
+-- the form of a `AttributeValue`
+abbrev pub attribute_value_form : Form
+attribute_value_form =
+    enum (codes "value") (
+    variant (codes "if 0x42000A==Cryptographic Algorithm") (wrapped
+    (enum (codes "algorithm") (variant (codes "0x00000003") unit no_variants))) (
+    variant (codes "if 0x42000A in [Cryptographic Length, Cryptographic Usage Mask]") (wrapped
+    int32) no_variants))
+
+-- what a `AttributeValue` holds, as it is written
+unfoldable pub attribute_value_content : AttributeValue → Value
+attribute_value_content attribute_value.Aes =
+    unit_variant_value (codes "420028") (codes "0x00000003")
+attribute_value_content (attribute_value.Integer x) =
+    i32_value x
+
+-- what is written of a `AttributeValue`
+unfoldable pub written_attribute_value : AttributeValue → Value
+written_attribute_value x =
+    newtype_variant_value (codes "Override:0x42000B") (codes "Transparent") (attribute_value_content x)
+
+-- what is read of a `AttributeValue`
+unfoldable pub read_attribute_value : AttributeValue → Value
+read_attribute_value attribute_value.Aes =
+    newtype_variant_value (codes "value")
+    (codes "if 0x42000A==Cryptographic Algorithm")
+    (unit_variant_value (codes "algorithm") (codes "0x00000003"))
+read_attribute_value (attribute_value.Integer x) =
+    newtype_variant_value (codes "value")
+    (codes "if 0x42000A in [Cryptographic Length, Cryptographic Usage Mask]")
+    (i32_value x)
+"#;
+
+// How what a wrapper has is told, as it is written by hand.
+const WRAPPER: &str = r#"
+    pub(crate) fn tell<V: Visitor>(visitor: &mut V, name: &String<A>) -> Result<(), AllocError>
+        ensures told { OnOk result (Tells V.knows V.step (written_name record { name = name.now }) visitor.old visitor.new) }
+        ensures stopped { OnErr result (V.stopped visitor.new) }
+    {
+        writing::begin_newtype(visitor, "0x420053")?;
+        Self::tell_held(visitor, name)?;
+        writing::end_newtype(visitor, "0x420053")?;
+        Ok(())
+    }
 "#;
 
 // How an Enumeration is told, as it is written by hand.
@@ -83,6 +147,9 @@ fn the_file_is_written_that_is_wanted(rt: HostRuntime) -> Result<(), Fail> {
         )
     );
     assert!(rt; holds(rt.alloc(), "src/locate.rt", ENUMERATION));
+    assert!(rt; holds(rt.alloc(), "specs/Locates.antt", CHOICE));
+    assert!(rt; holds(rt.alloc(), "src/locate.rt", WRAPPER));
+    assert!(rt; holds(rt.alloc(), "specs/Knowns.antt", DATES));
     assert!(rt; !holds(rt.alloc(), "specs/Laws.antt", ""));
     Ok(())
 }

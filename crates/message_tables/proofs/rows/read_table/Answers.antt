@@ -19,4 +19,4 @@ rows-preserved c =
 pub returns : goal.returns
 returns c =
     let told = told_on c.rows.faults.items c.read_row-2.new.faults.items c.rows.line c.in_ok-read_row-2.ensures c.rows.invariant.told in
-    c.in_ok-tell_no_part.ensures told.0
+    c.in_ok-tell_missing.ensures told.0
