@@ -1,38 +1,40 @@
 -- Consistent messages agree with their forms: one line for each field.
-use Rattle.std.proofs.Common.{◌≡◌, ◌<◌, ◌⊎◌, inl, inr, ℕ, ℤ, true, List, length, subst, sym, refl, codes, string_bytes, FitsSigned}
+use Rattle.std.proofs.Common.{◌≡◌, ◌<◌, inl, inr, ℕ, ℤ, true, List, length, subst, sym, refl, codes, string_bytes, FitsSigned}
 use Rattle.std.specs.List.{All, AllByRecursion}
 use Rattle.std.specs.Int.{w32}
 use Rattle.std.specs.Str.{chars, is_utf8, trim_end, trim_start}
 use Rattle.std.proofs.lemmas.List.Elements.{recursion_from_All}
 use lib.Utf8.{encode}
-use Rattle.std.specs.declared.vec.Vec.{Vec}
-use Rattle.std.specs.declared.string.String.{String}
 use Rattle.kmip_ttlv.specs.Names.{number, override_name, tag_of, transparent_name}
 use Rattle.kmip_ttlv.specs.WrittenItems.{held_over, is_wrapper, take_tag}
 use Rattle.kmip_ttlv.specs.Values.{Value, text_value, newtype_value, struct_value, unit_variant_value, no_values, value}
-use Rattle.kmip_ttlv.specs.Agreements.{MessageAgrees, first_variant, later_variant, newtype_wraps, unit_is_numbered, variant_wraps}
+use Rattle.kmip_ttlv.specs.Agreements.{MessageAgrees, first_variant, later_variant, unit_is_numbered, variant_wraps}
 use Rattle.kmip_ttlv.specs.Rules.{at_least, equal, in_brackets, member, rule, sides}
 use Rattle.kmip_ttlv.specs.Returns.{as_int32, as_text}
-use Rattle.kmip_ttlv.specs.MessageParts.{read_date, sequence, written_date}
-use Rattle.kmip_ttlv_laws.proofs.MessageParts.{PartAgrees, PartsAgree, a_structure, constant_then, each_agrees, last_then, leaf_then, message, newtype_structure, nothing_left, part_then, sequence_part, structure, wrapped_leaf, wrapped_unit}
-use Rattle.kmip_ttlv_laws.proofs.MessageRules.{by_rules, in_any_case, kept_then, rule_then, silent_then, text_kept, unit_kept}
+use Rattle.kmip_ttlv_laws.proofs.MessageParts.{PartAgrees, a_structure, constant_then, each_agrees, last_then, leaf_then, message, newtype_structure, nothing_left, part_then, sequence_part, structure, wrapped_leaf, wrapped_unit}
+use Rattle.kmip_ttlv_laws.proofs.MessageRules.{by_rules, in_any_case, kept_then, rule_then, text_kept, unit_kept}
 use Rattle.get_messages.specs.Headers.{request_header_value, response_header_value}
 use Rattle.get_messages.proofs.Agreeing.{request_header_agrees, response_header_agrees}
 use Rattle.create_destroy.specs.Operations.{operation_value}
-use Rattle.create_destroy.specs.Attributes.{attribute_form, kind_value, read_attribute, read_attribute_value, read_template, template_form, written_attribute, written_attribute_value, written_template}
-use Rattle.create_destroy.specs.Requests.{create_form, create_value, destroy_form, destroy_value, read_request, read_request_item, read_request_payload, request_form, request_header_of, request_item_form, written_request, written_request_item, written_request_payload}
-use Rattle.create_destroy.specs.Responses.{created_form, created_value, destroyed_form, destroyed_value, read_response, read_response_item, read_response_payload, response_form, response_header_of, response_item_form, written_response, written_response_item, written_response_payload}
+use Rattle.create_destroy.specs.Attributes.{attribute_form, attribute_value_content, read_attribute, read_attribute_value, read_template, template_form, written_attribute, written_attribute_value, written_template}
+use Rattle.create_destroy.specs.Requests.{create_payload_form, destroy_payload_form, read_create_payload, read_destroy_payload, read_request, read_request_item, read_request_payload, request_form, request_header, request_item_form, written_create_payload, written_destroy_payload, written_request, written_request_item, written_request_payload}
+use Rattle.create_destroy.specs.Responses.{created_form, created_value, destroyed_form, destroyed_value, read_response, read_response_item, read_response_payload, response_form, response_header, response_item_form, written_response, written_response_item, written_response_payload}
 use Rattle.create_destroy.specs.Consistent.{Answers, Asks, Chooses, IsConsistentAnswer, IsConsistentAttribute, IsConsistentItem, IsConsistentRequest, IsConsistentResponse}
 use Rattle.create_destroy.specs.Ranges.{IsAnswered, IsAsked, IsAttributeValue, IsRequest, IsResponse}
 use Rattle.create_destroy.specs.declared.attribute.Attribute.{Attribute}
 use Rattle.create_destroy.specs.declared.attribute.AttributeValue.{AttributeValue}
 use Rattle.create_destroy.specs.declared.attribute.AttributeValue.TheVariants as kinds
+use Rattle.create_destroy.specs.declared.attribute.Template.{Template}
 use Rattle.create_destroy.specs.declared.operation.Operation.{Operation}
 use Rattle.create_destroy.specs.declared.operation.Operation.TheVariants as operations
+use Rattle.create_destroy.specs.declared.request.CreatePayload.{CreatePayload}
+use Rattle.create_destroy.specs.declared.request.DestroyPayload.{DestroyPayload}
 use Rattle.create_destroy.specs.declared.request.RequestPayload.{RequestPayload}
 use Rattle.create_destroy.specs.declared.request.RequestPayload.TheVariants as asked
 use Rattle.create_destroy.specs.declared.request.RequestItem.{RequestItem}
 use Rattle.create_destroy.specs.declared.request.Request.{Request}
+use Rattle.create_destroy.specs.declared.response.Created.{Created}
+use Rattle.create_destroy.specs.declared.response.Destroyed.{Destroyed}
 use Rattle.create_destroy.specs.declared.response.ResponsePayload.{ResponsePayload}
 use Rattle.create_destroy.specs.declared.response.ResponsePayload.TheVariants as answered
 use Rattle.create_destroy.specs.declared.response.ResponseItem.{ResponseItem}
@@ -61,7 +63,7 @@ abbrev NamedAgrees : AttributeValue → List ℕ → Type 0
 NamedAgrees x name = PartAgrees attribute_form (named name (written_attribute_value x)) (a_structure 0x420008) (named name (read_attribute_value x))
 
 aes_agrees : NamedAgrees kinds.Aes (codes "Cryptographic Algorithm")
-unfolding take_tag tag_of number transparent_name override_name held_over is_wrapper rule sides equal at_least member in_brackets trim_end chars trim_start encode kind_value written_attribute_value read_attribute_value
+unfolding take_tag tag_of number transparent_name override_name held_over is_wrapper rule sides equal at_least member in_brackets trim_end chars trim_start encode attribute_value_content written_attribute_value read_attribute_value
 aes_agrees =
     structure refl refl (by_rules (
     kept_then refl refl (text_kept refl refl algorithm_utf8) (
@@ -69,7 +71,7 @@ aes_agrees =
     wrapped_unit (variant_wraps refl refl) (unit_is_numbered refl refl) refl (λ k. record { no_rule = refl; named = refl }))) nothing_left)))
 
 length_agrees : (n : ℤ) → FitsSigned w32 n → NamedAgrees (kinds.Integer n) (codes "Cryptographic Length")
-unfolding take_tag tag_of number transparent_name override_name held_over is_wrapper rule sides equal at_least member in_brackets trim_end chars trim_start encode kind_value written_attribute_value read_attribute_value
+unfolding take_tag tag_of number transparent_name override_name held_over is_wrapper rule sides equal at_least member in_brackets trim_end chars trim_start encode attribute_value_content written_attribute_value read_attribute_value
 length_agrees n fits =
     structure refl refl (by_rules (
     kept_then refl refl (text_kept refl refl length_utf8) (
@@ -77,7 +79,7 @@ length_agrees n fits =
     wrapped_leaf (variant_wraps refl refl) refl (as_int32 fits))) nothing_left)))
 
 usage_agrees : (n : ℤ) → FitsSigned w32 n → NamedAgrees (kinds.Integer n) (codes "Cryptographic Usage Mask")
-unfolding take_tag tag_of number transparent_name override_name held_over is_wrapper rule sides equal at_least member in_brackets trim_end chars trim_start encode kind_value written_attribute_value read_attribute_value
+unfolding take_tag tag_of number transparent_name override_name held_over is_wrapper rule sides equal at_least member in_brackets trim_end chars trim_start encode attribute_value_content written_attribute_value read_attribute_value
 usage_agrees n fits =
     structure refl refl (by_rules (
     kept_then refl refl (text_kept refl refl usage_utf8) (
@@ -102,25 +104,25 @@ attribute x sound = named_agrees x.value (string_bytes x.name) sound.0 sound.1
 sound : {A : Type 0} (xs : List (Attribute A)) → All (λ x. IsAttributeValue x.value) xs → All IsConsistentAttribute xs → AllByRecursion Sound xs
 sound xs is consistent = recursion_from_All Sound xs (λ k d l. (is k d l, consistent k d l))
 
-attributes : {A : Type 0} (xs : List (Attribute A)) → 0 < length xs → AllByRecursion Sound xs → PartAgrees template_form (written_template xs) (a_structure 0x420091) (struct_value (codes "0x420091") (value (sequence read_attribute xs) no_values))
-unfolding take_tag tag_of number transparent_name read_attribute
-attributes xs some all =
+template : {A : Type 0} (x : Template A) → 0 < length x.attributes.items → AllByRecursion Sound x.attributes.items → PartAgrees template_form (written_template x) (a_structure 0x420091) (read_template x)
+unfolding take_tag tag_of number transparent_name read_attribute written_template read_template
+template x some all =
     newtype_structure refl refl refl (
     last_then refl (
-    sequence_part written_attribute read_attribute xs some (each_agrees attribute (λ x. refl) xs all)))
+    sequence_part written_attribute read_attribute x.attributes.items some (each_agrees attribute (λ x. refl) x.attributes.items all)))
 
 -- ---- requests
 
-creating : {A : Type 0} (xs : Vec (Attribute A) A) → 0 < length xs.items → AllByRecursion Sound xs.items → PartAgrees create_form (written_request_payload (asked.Create xs)) (a_structure 0x420079) (create_value record { template = record { attributes = xs } })
-unfolding take_tag tag_of number transparent_name rule written_request_payload create_value read_template
-creating xs some all =
+creating : {A : Type 0} (x : CreatePayload A) → 0 < length x.template.attributes.items → AllByRecursion Sound x.template.attributes.items → PartAgrees create_payload_form (written_create_payload x) (a_structure 0x420079) (read_create_payload x)
+unfolding take_tag tag_of number transparent_name rule written_create_payload read_create_payload written_template read_template
+creating x some all =
     structure refl refl (
     constant_then {n = 2} refl refl refl refl (λ k. record { no_rule = refl; named = refl }) (
-    part_then refl refl (attributes xs.items some all) nothing_left))
+    part_then refl refl (template x.template some all) nothing_left))
 
-destroying : {A : Type 0} (identifier : String A) → is_utf8 (string_bytes identifier) ≡ true → PartAgrees destroy_form (written_request_payload (asked.Destroy identifier)) (a_structure 0x420079) (destroy_value record { unique_identifier = identifier })
-unfolding take_tag tag_of number transparent_name written_request_payload destroy_value
-destroying identifier is =
+destroying : {A : Type 0} (x : DestroyPayload A) → is_utf8 (string_bytes x.unique_identifier) ≡ true → PartAgrees destroy_payload_form (written_destroy_payload x) (a_structure 0x420079) (read_destroy_payload x)
+unfolding take_tag tag_of number transparent_name written_destroy_payload read_destroy_payload
+destroying x is =
     newtype_structure refl refl refl (
     leaf_then refl refl refl refl (as_text is) nothing_left)
 
@@ -129,17 +131,17 @@ abbrev asking : Operation → Value → Value
 asking operation payload = struct_value (codes "0x42000F") (value (operation_value operation) (value payload no_values))
 
 asking_agrees : {A : Type 0} (operation : Operation) (payload : RequestPayload A) → IsAsked payload → Asks operation payload → PartAgrees request_item_form (asking operation (written_request_payload payload)) (a_structure 0x42000F) (asking operation (read_request_payload payload))
-unfolding take_tag tag_of number transparent_name rule sides equal at_least member in_brackets trim_end chars trim_start encode operation_value read_request_payload create_value destroy_value
+unfolding take_tag tag_of number transparent_name rule sides equal at_least member in_brackets trim_end chars trim_start encode operation_value written_request_payload read_request_payload read_create_payload read_destroy_payload
 asking_agrees operations.Create (asked.Create xs) is consistent =
     structure refl refl (by_rules (
     kept_then refl refl (unit_kept {n = 1} refl refl refl (λ k. record { no_rule = refl; named = refl })) (
     rule_then refl refl (λ k found. rw (found 0x42005C _ refl) refl) first_variant (in_any_case (
-    creating xs consistent.0 (sound xs.items is consistent.1))) nothing_left)))
+    creating record { template = record { attributes = xs } } consistent.0 (sound xs.items is consistent.1))) nothing_left)))
 asking_agrees operations.Destroy (asked.Destroy identifier) is consistent =
     structure refl refl (by_rules (
     kept_then refl refl (unit_kept {n = 20} refl refl refl (λ k. record { no_rule = refl; named = refl })) (
     rule_then refl refl (λ k found. rw (found 0x42005C _ refl) refl) (later_variant first_variant) (in_any_case (
-    destroying identifier is)) nothing_left)))
+    destroying record { unique_identifier = identifier } is)) nothing_left)))
 asking_agrees operations.Create (asked.Destroy identifier) is consistent = absurd consistent
 asking_agrees operations.Destroy (asked.Create xs) is consistent = absurd consistent
 
@@ -152,22 +154,22 @@ unfolding take_tag tag_of number transparent_name written_request read_request r
 request_agrees x is consistent =
     let items = recursion_from_All (λ i. IsAsked i.payload × IsConsistentItem i) x.items.items (λ k d l. (is.3 k d l, consistent.1 k d l)) in
     message (structure refl refl (
-    part_then refl refl (request_header_agrees (request_header_of x.major x.minor x.batch_count) ((is.0, is.1), is.2)) (
+    part_then refl refl (request_header_agrees (request_header x) ((is.0, is.1), is.2)) (
     last_then refl (
     sequence_part written_request_item read_request_item x.items.items consistent.0 (each_agrees request_item (λ i. refl) x.items.items items)))))
 
 -- ---- responses
 
-created : {A : Type 0} (identifier : String A) → is_utf8 (string_bytes identifier) ≡ true → PartAgrees created_form (written_response_payload (answered.Create identifier)) (a_structure 0x42007C) (created_value record { unique_identifier = identifier })
-unfolding take_tag tag_of number transparent_name rule written_response_payload created_value
-created identifier is =
+created : {A : Type 0} (x : Created A) → is_utf8 (string_bytes x.unique_identifier) ≡ true → PartAgrees created_form (created_value x) (a_structure 0x42007C) (created_value x)
+unfolding take_tag tag_of number transparent_name rule created_value
+created x is =
     structure refl refl (
     constant_then {n = 2} refl refl refl refl (λ k. record { no_rule = refl; named = refl }) (
     leaf_then refl refl refl refl (as_text is) nothing_left))
 
-destroyed : {A : Type 0} (identifier : String A) → is_utf8 (string_bytes identifier) ≡ true → PartAgrees destroyed_form (written_response_payload (answered.Destroy identifier)) (a_structure 0x42007C) (destroyed_value record { unique_identifier = identifier })
-unfolding take_tag tag_of number transparent_name written_response_payload destroyed_value
-destroyed identifier is =
+destroyed : {A : Type 0} (x : Destroyed A) → is_utf8 (string_bytes x.unique_identifier) ≡ true → PartAgrees destroyed_form (destroyed_value x) (a_structure 0x42007C) (destroyed_value x)
+unfolding take_tag tag_of number transparent_name destroyed_value
+destroyed x is =
     structure refl refl (
     leaf_then refl refl refl refl (as_text is) nothing_left)
 
@@ -180,19 +182,19 @@ answering operation payload =
     value payload no_values)))
 
 answering_agrees : {A : Type 0} (operation : Operation) (payload : ResponsePayload A) → IsAnswered payload → Answers operation payload → PartAgrees response_item_form (answering operation (written_response_payload payload)) (a_structure 0x42000F) (answering operation (read_response_payload payload))
-unfolding take_tag tag_of number transparent_name rule sides equal at_least member in_brackets trim_end chars trim_start encode operation_value read_response_payload created_value destroyed_value
+unfolding take_tag tag_of number transparent_name rule sides equal at_least member in_brackets trim_end chars trim_start encode operation_value written_response_payload read_response_payload created_value destroyed_value
 answering_agrees operations.Create (answered.Create identifier) is consistent =
     structure refl refl (by_rules (
     kept_then refl refl (unit_kept {n = 1} refl refl refl (λ k. record { no_rule = refl; named = refl })) (
     kept_then refl refl (unit_kept {n = 0} refl refl refl (λ k. record { no_rule = refl; named = refl })) (
     rule_then refl refl (λ k found. rw (found 0x42005C _ refl) refl) first_variant (in_any_case (
-    created identifier is)) nothing_left))))
+    created record { unique_identifier = identifier } is)) nothing_left))))
 answering_agrees operations.Destroy (answered.Destroy identifier) is consistent =
     structure refl refl (by_rules (
     kept_then refl refl (unit_kept {n = 20} refl refl refl (λ k. record { no_rule = refl; named = refl })) (
     kept_then refl refl (unit_kept {n = 0} refl refl refl (λ k. record { no_rule = refl; named = refl })) (
     rule_then refl refl (λ k found. rw (found 0x42005C _ refl) refl) (later_variant first_variant) (in_any_case (
-    destroyed identifier is)) nothing_left))))
+    destroyed record { unique_identifier = identifier } is)) nothing_left))))
 answering_agrees operations.Create (answered.Destroy identifier) is consistent = absurd consistent
 answering_agrees operations.Destroy (answered.Create identifier) is consistent = absurd consistent
 
@@ -205,6 +207,6 @@ unfolding take_tag tag_of number transparent_name written_response read_response
 response_agrees x is consistent =
     let items = recursion_from_All (λ i. IsAnswered i.payload × IsConsistentAnswer i) x.items.items (λ k d l. (is.4 k d l, consistent.1 k d l)) in
     message (structure refl refl (
-    part_then refl refl (response_header_agrees (response_header_of x.major x.minor x.timestamp x.batch_count) ((is.0, is.1), is.2, is.3)) (
+    part_then refl refl (response_header_agrees (response_header x) ((is.0, is.1), is.2, is.3)) (
     last_then refl (
     sequence_part written_response_item read_response_item x.items.items consistent.0 (each_agrees response_item (λ i. refl) x.items.items items)))))

@@ -1,108 +1,133 @@
--- Requests to create and destroy keys: forms and values.
-use Rattle.std.specs.Prelude.{◌≡◌, ◌<◌, ℤ, codes, false, List, [], ◌∷◌, ◌⊎◌, length, string_bytes}
-use Rattle.std.specs.List.{AllByRecursion}
-use Rattle.kmip_ttlv.specs.Values.{Value, text_value, struct_value, newtype_value, unit_variant_value, no_values}
-use Rattle.kmip_ttlv.specs.Values.{value}
-use Rattle.kmip_ttlv.specs.Forms.{Form, struct, newtype, seq, enum, text, no_fields, field, variant, unit}
-use Rattle.kmip_ttlv.specs.Forms.{no_variants}
+-- Forms and values of the types in `request`.
+use Rattle.kmip_ttlv.specs.Forms.{Form, enum, field, newtype, no_fields, no_variants, seq, struct, text, unit, variant}
+use Rattle.kmip_ttlv.specs.Forms.{wrapped}
 use Rattle.kmip_ttlv.specs.MessageParts.{sequence}
-use Rattle.get_messages.specs.Headers.{request_header_form, request_header_value}
-use Rattle.get_messages.specs.declared.header.RequestHeader.{RequestHeader}
-use Rattle.create_destroy.specs.Operations.{operation_form, operation_value, by_operation, read_created, read_destroyed}
-use Rattle.create_destroy.specs.Attributes.{template_form, written_template, read_template}
-use Rattle.create_destroy.specs.declared.attribute.Template.{Template}
+use Rattle.kmip_ttlv.specs.Values.{Value, newtype_value, newtype_variant_value, no_values, struct_value, text_value}
+use Rattle.kmip_ttlv.specs.Values.{unit_variant_value, value}
+use Rattle.std.specs.Prelude.{codes, false, string_bytes}
 use Rattle.create_destroy.specs.declared.request.CreatePayload.{CreatePayload}
 use Rattle.create_destroy.specs.declared.request.DestroyPayload.{DestroyPayload}
 use Rattle.create_destroy.specs.declared.request.RequestPayload.{RequestPayload}
-use Rattle.create_destroy.specs.declared.request.RequestPayload.TheVariants as payloads
+use Rattle.create_destroy.specs.declared.request.RequestPayload.TheVariants as request_payload
 use Rattle.create_destroy.specs.declared.request.RequestItem.{RequestItem}
 use Rattle.create_destroy.specs.declared.request.Request.{Request}
+use Rattle.get_messages.specs.declared.header.RequestHeader.{RequestHeader}
+use Rattle.get_messages.specs.Headers.{request_header_form, request_header_value}
+use Rattle.create_destroy.specs.Operations.{operation_form, operation_value}
+use Rattle.create_destroy.specs.Attributes.{template_form, written_template, read_template}
 
--- a symmetric key, with a template
-abbrev pub create_form : Form
-create_form =
+-- the form of a `CreatePayload`
+abbrev pub create_payload_form : Form
+create_payload_form =
     struct (codes "0x420079") (
     field (codes "0x420057") (enum (codes "0x420057") (variant (codes "0x00000002") unit no_variants)) (
     field (codes "0x420091") template_form no_fields)) false
 
--- the identifier of a key
-abbrev pub destroy_form : Form
-destroy_form =
+-- what is written of a `CreatePayload`
+unfoldable pub written_create_payload : {A : Type 0} → CreatePayload A → Value
+written_create_payload x =
+    struct_value (codes "0x420079") (
+    value (unit_variant_value (codes "0x420057") (codes "0x00000002")) (
+    value (written_template x.template) no_values))
+
+-- what is read of a `CreatePayload`
+unfoldable pub read_create_payload : {A : Type 0} → CreatePayload A → Value
+read_create_payload x =
+    struct_value (codes "0x420079") (
+    value (unit_variant_value (codes "0x420057") (codes "0x00000002")) (
+    value (read_template x.template) no_values))
+
+-- the form of a `DestroyPayload`
+abbrev pub destroy_payload_form : Form
+destroy_payload_form =
     struct (codes "0x420079") (
     field (codes "0x420094") (newtype (codes "Transparent:0x420094") text) no_fields) false
 
--- what is asked for, by the operation
-abbrev pub request_payload_form : Form
-request_payload_form = by_operation create_form destroy_form
+-- what is written of a `DestroyPayload`
+unfoldable pub written_destroy_payload : {A : Type 0} → DestroyPayload A → Value
+written_destroy_payload x =
+    newtype_value (codes "0x420079") (
+    newtype_value (codes "Transparent:0x420094") (text_value (string_bytes x.unique_identifier)))
 
--- an operation and what is asked for
+-- what is read of a `DestroyPayload`
+unfoldable pub read_destroy_payload : {A : Type 0} → DestroyPayload A → Value
+read_destroy_payload x =
+    struct_value (codes "0x420079") (
+    value (newtype_value (codes "Transparent:0x420094") (text_value (string_bytes x.unique_identifier))) no_values)
+
+-- the form of a `RequestPayload`
+abbrev pub request_payload_form : Form
+request_payload_form =
+    enum (codes "payload") (
+    variant (codes "if 0x42005C==0x00000001") (wrapped
+    create_payload_form) (
+    variant (codes "if 0x42005C==0x00000014") (wrapped
+    destroy_payload_form) no_variants))
+
+-- what is written of a `RequestPayload`
+unfoldable pub written_request_payload : {A : Type 0} → RequestPayload A → Value
+written_request_payload (request_payload.Create x) =
+    written_create_payload record { template = record { attributes = x } }
+written_request_payload (request_payload.Destroy x) =
+    written_destroy_payload record { unique_identifier = x }
+
+-- what is read of a `RequestPayload`
+unfoldable pub read_request_payload : {A : Type 0} → RequestPayload A → Value
+read_request_payload (request_payload.Create x) =
+    newtype_variant_value (codes "payload")
+    (codes "if 0x42005C==0x00000001")
+    (read_create_payload record { template = record { attributes = x } })
+read_request_payload (request_payload.Destroy x) =
+    newtype_variant_value (codes "payload")
+    (codes "if 0x42005C==0x00000014")
+    (read_destroy_payload record { unique_identifier = x })
+
+-- the form of a `RequestItem`
 abbrev pub request_item_form : Form
 request_item_form =
     struct (codes "0x42000F") (
     field (codes "0x42005C") operation_form (
     field (codes "0x420079") request_payload_form no_fields)) false
 
--- a header, and one item or more
+-- what is written of a `RequestItem`
+unfoldable pub written_request_item : {A : Type 0} → RequestItem A → Value
+written_request_item x =
+    struct_value (codes "0x42000F") (
+    value (operation_value x.operation) (
+    value (written_request_payload x.payload) no_values))
+
+-- what is read of a `RequestItem`
+unfoldable pub read_request_item : {A : Type 0} → RequestItem A → Value
+read_request_item x =
+    struct_value (codes "0x42000F") (
+    value (operation_value x.operation) (
+    value (read_request_payload x.payload) no_values))
+
+-- the form of a `Request`
 abbrev pub request_form : Form
 request_form =
     struct (codes "0x420078") (
     field (codes "0x420077") request_header_form (
     field (codes "0x42000F") (seq request_item_form) no_fields)) false
 
--- the structures that payloads are read from
-unfoldable pub create_value : {A : Type 0} → CreatePayload A → Value
-create_value x =
-    struct_value (codes "0x420079") (
-    value (unit_variant_value (codes "0x420057") (codes "0x00000002")) (
-    value (read_template x.template) no_values))
+-- the fields of a `Request` that are a `RequestHeader`
+abbrev pub request_header : {A : Type 0} → Request A → RequestHeader
+request_header x =
+    record {
+      version = record { major = x.major; minor = x.minor };
+      batch_count = x.batch_count;
+    }
 
-unfoldable pub destroy_value : {A : Type 0} → DestroyPayload A → Value
-destroy_value x =
-    struct_value (codes "0x420079") (
-    value (newtype_value (codes "Transparent:0x420094") (text_value (string_bytes x.unique_identifier))) no_values)
-
--- a payload as it is written
-unfoldable pub written_request_payload : {A : Type 0} → RequestPayload A → Value
-written_request_payload (payloads.Create attributes) =
-    struct_value (codes "0x420079") (
-    value (unit_variant_value (codes "0x420057") (codes "0x00000002")) (
-    value (written_template attributes.items) no_values))
-written_request_payload (payloads.Destroy identifier) =
-    newtype_value (codes "0x420079") (
-    newtype_value (codes "Transparent:0x420094") (text_value (string_bytes identifier)))
-
--- and as it is read
-unfoldable pub read_request_payload : {A : Type 0} → RequestPayload A → Value
-read_request_payload (payloads.Create attributes) =
-    read_created (create_value record { template = record { attributes = attributes } })
-read_request_payload (payloads.Destroy identifier) =
-    read_destroyed (destroy_value record { unique_identifier = identifier })
-
--- an item, its payload as this says
-abbrev pub request_item_with : {A : Type 0} → (RequestPayload A → Value) → RequestItem A → Value
-request_item_with as_value x =
-    struct_value (codes "0x42000F") (value (operation_value x.operation) (value (as_value x.payload) no_values))
-
-unfoldable pub written_request_item : {A : Type 0} → RequestItem A → Value
-written_request_item x = request_item_with written_request_payload x
-
-unfoldable pub read_request_item : {A : Type 0} → RequestItem A → Value
-read_request_item x = request_item_with read_request_payload x
-
--- the header with these numbers
-abbrev pub request_header_of : ℤ → ℤ → ℤ → RequestHeader
-request_header_of major minor batch_count =
-    record { version = record { major = major; minor = minor }; batch_count = batch_count }
-
--- a request, its items as this says
-abbrev pub request_with : {A : Type 0} → (RequestItem A → Value) → Request A → Value
-request_with as_value x =
-    struct_value (codes "0x420078") (
-    value (request_header_value (request_header_of x.major x.minor x.batch_count)) (
-    value (sequence as_value x.items.items) no_values))
-
+-- what is written of a `Request`
 unfoldable pub written_request : {A : Type 0} → Request A → Value
-written_request x = request_with written_request_item x
+written_request x =
+    struct_value (codes "0x420078") (
+    value (request_header_value (request_header x)) (
+    value (sequence written_request_item x.items.items) no_values))
 
+-- what is read of a `Request`
 unfoldable pub read_request : {A : Type 0} → Request A → Value
-read_request x = request_with read_request_item x
+read_request x =
+    struct_value (codes "0x420078") (
+    value (request_header_value (request_header x)) (
+    value (sequence read_request_item x.items.items) no_values))

@@ -1,38 +1,74 @@
--- Responses on keys that were created or destroyed: forms and values.
-use Rattle.std.specs.Prelude.{◌≡◌, ℤ, codes, false, string_bytes}
-use Rattle.kmip_ttlv.specs.Values.{Value, text_value, struct_value, newtype_value, unit_variant_value, no_values}
-use Rattle.kmip_ttlv.specs.Values.{value}
-use Rattle.kmip_ttlv.specs.Forms.{Form, struct, newtype, seq, enum, text, no_fields, field, variant, unit}
-use Rattle.kmip_ttlv.specs.Forms.{no_variants}
+-- Forms and values of the types in `response`.
+use Rattle.kmip_ttlv.specs.Forms.{Form, enum, field, newtype, no_fields, no_variants, seq, struct, text, unit, variant}
+use Rattle.kmip_ttlv.specs.Forms.{wrapped}
 use Rattle.kmip_ttlv.specs.MessageParts.{read_date, sequence, written_date}
-use Rattle.get_messages.specs.Headers.{response_header_form, response_header_value}
-use Rattle.get_messages.specs.declared.header.ResponseHeader.{ResponseHeader}
-use Rattle.create_destroy.specs.Operations.{operation_form, operation_value, by_operation, read_created, read_destroyed}
+use Rattle.kmip_ttlv.specs.Values.{Value, newtype_value, newtype_variant_value, no_values, struct_value, text_value}
+use Rattle.kmip_ttlv.specs.Values.{unit_variant_value, value}
+use Rattle.std.specs.Prelude.{codes, false, string_bytes}
 use Rattle.create_destroy.specs.declared.response.Created.{Created}
 use Rattle.create_destroy.specs.declared.response.Destroyed.{Destroyed}
 use Rattle.create_destroy.specs.declared.response.ResponsePayload.{ResponsePayload}
-use Rattle.create_destroy.specs.declared.response.ResponsePayload.TheVariants as payloads
+use Rattle.create_destroy.specs.declared.response.ResponsePayload.TheVariants as response_payload
 use Rattle.create_destroy.specs.declared.response.ResponseItem.{ResponseItem}
 use Rattle.create_destroy.specs.declared.response.Response.{Response}
+use Rattle.get_messages.specs.declared.header.ResponseHeader.{ResponseHeader}
+use Rattle.get_messages.specs.Headers.{response_header_form, response_header_value}
+use Rattle.create_destroy.specs.Operations.{operation_form, operation_value}
 
--- a symmetric key, and its identifier
+-- the form of a `Created`
 abbrev pub created_form : Form
 created_form =
     struct (codes "0x42007C") (
     field (codes "0x420057") (enum (codes "0x420057") (variant (codes "0x00000002") unit no_variants)) (
     field (codes "0x420094") (newtype (codes "Transparent:0x420094") text) no_fields)) false
 
--- the identifier of a key
+-- the value of a `Created`
+unfoldable pub created_value : {A : Type 0} → Created A → Value
+created_value x =
+    struct_value (codes "0x42007C") (
+    value (unit_variant_value (codes "0x420057") (codes "0x00000002")) (
+    value (newtype_value (codes "Transparent:0x420094") (text_value (string_bytes x.unique_identifier))) no_values))
+
+-- the form of a `Destroyed`
 abbrev pub destroyed_form : Form
 destroyed_form =
     struct (codes "0x42007C") (
     field (codes "0x420094") (newtype (codes "Transparent:0x420094") text) no_fields) false
 
--- what was done, by the operation
-abbrev pub response_payload_form : Form
-response_payload_form = by_operation created_form destroyed_form
+-- the value of a `Destroyed`
+unfoldable pub destroyed_value : {A : Type 0} → Destroyed A → Value
+destroyed_value x =
+    struct_value (codes "0x42007C") (
+    value (newtype_value (codes "Transparent:0x420094") (text_value (string_bytes x.unique_identifier))) no_values)
 
--- an operation, its success, and what was done
+-- the form of a `ResponsePayload`
+abbrev pub response_payload_form : Form
+response_payload_form =
+    enum (codes "payload") (
+    variant (codes "if 0x42005C==0x00000001") (wrapped
+    created_form) (
+    variant (codes "if 0x42005C==0x00000014") (wrapped
+    destroyed_form) no_variants))
+
+-- what is written of a `ResponsePayload`
+unfoldable pub written_response_payload : {A : Type 0} → ResponsePayload A → Value
+written_response_payload (response_payload.Create x) =
+    created_value record { unique_identifier = x }
+written_response_payload (response_payload.Destroy x) =
+    destroyed_value record { unique_identifier = x }
+
+-- what is read of a `ResponsePayload`
+unfoldable pub read_response_payload : {A : Type 0} → ResponsePayload A → Value
+read_response_payload (response_payload.Create x) =
+    newtype_variant_value (codes "payload")
+    (codes "if 0x42005C==0x00000001")
+    (created_value record { unique_identifier = x })
+read_response_payload (response_payload.Destroy x) =
+    newtype_variant_value (codes "payload")
+    (codes "if 0x42005C==0x00000014")
+    (destroyed_value record { unique_identifier = x })
+
+-- the form of a `ResponseItem`
 abbrev pub response_item_form : Form
 response_item_form =
     struct (codes "0x42000F") (
@@ -40,68 +76,48 @@ response_item_form =
     field (codes "0x42007F") (enum (codes "0x42007F") (variant (codes "0x00000000") unit no_variants)) (
     field (codes "0x42007C") response_payload_form no_fields))) false
 
--- a header, and one item or more
+-- what is written of a `ResponseItem`
+unfoldable pub written_response_item : {A : Type 0} → ResponseItem A → Value
+written_response_item x =
+    struct_value (codes "0x42000F") (
+    value (operation_value x.operation) (
+    value (unit_variant_value (codes "0x42007F") (codes "0x00000000")) (
+    value (written_response_payload x.payload) no_values)))
+
+-- what is read of a `ResponseItem`
+unfoldable pub read_response_item : {A : Type 0} → ResponseItem A → Value
+read_response_item x =
+    struct_value (codes "0x42000F") (
+    value (operation_value x.operation) (
+    value (unit_variant_value (codes "0x42007F") (codes "0x00000000")) (
+    value (read_response_payload x.payload) no_values)))
+
+-- the form of a `Response`
 abbrev pub response_form : Form
 response_form =
     struct (codes "0x42007B") (
     field (codes "0x42007A") response_header_form (
     field (codes "0x42000F") (seq response_item_form) no_fields)) false
 
--- the structures that payloads are
-unfoldable pub created_value : {A : Type 0} → Created A → Value
-created_value x =
-    struct_value (codes "0x42007C") (
-    value (unit_variant_value (codes "0x420057") (codes "0x00000002")) (
-    value (newtype_value (codes "Transparent:0x420094") (text_value (string_bytes x.unique_identifier))) no_values))
-
-unfoldable pub destroyed_value : {A : Type 0} → Destroyed A → Value
-destroyed_value x =
-    struct_value (codes "0x42007C") (
-    value (newtype_value (codes "Transparent:0x420094") (text_value (string_bytes x.unique_identifier))) no_values)
-
--- a payload as it is written, and as it is read
-unfoldable pub written_response_payload : {A : Type 0} → ResponsePayload A → Value
-written_response_payload (payloads.Create identifier) = created_value record { unique_identifier = identifier }
-written_response_payload (payloads.Destroy identifier) = destroyed_value record { unique_identifier = identifier }
-
-unfoldable pub read_response_payload : {A : Type 0} → ResponsePayload A → Value
-read_response_payload (payloads.Create identifier) =
-    read_created (created_value record { unique_identifier = identifier })
-read_response_payload (payloads.Destroy identifier) =
-    read_destroyed (destroyed_value record { unique_identifier = identifier })
-
--- an item, its payload as this says
-abbrev pub response_item_with : {A : Type 0} → (ResponsePayload A → Value) → ResponseItem A → Value
-response_item_with as_value x =
-    struct_value (codes "0x42000F") (
-    value (operation_value x.operation) (
-    value (unit_variant_value (codes "0x42007F") (codes "0x00000000")) (
-    value (as_value x.payload) no_values)))
-
-unfoldable pub written_response_item : {A : Type 0} → ResponseItem A → Value
-written_response_item x = response_item_with written_response_payload x
-
-unfoldable pub read_response_item : {A : Type 0} → ResponseItem A → Value
-read_response_item x = response_item_with read_response_payload x
-
--- the header with these numbers
-abbrev pub response_header_of : ℤ → ℤ → ℤ → ℤ → ResponseHeader
-response_header_of major minor timestamp batch_count =
+-- the fields of a `Response` that are a `ResponseHeader`
+abbrev pub response_header : {A : Type 0} → Response A → ResponseHeader
+response_header x =
     record {
-      version = record { major = major; minor = minor };
-      time_stamp = timestamp;
-      batch_count = batch_count;
+      version = record { major = x.major; minor = x.minor };
+      time_stamp = x.timestamp;
+      batch_count = x.batch_count;
     }
 
--- a response, its date and its items as these say
-abbrev pub response_with : {A : Type 0} → (ℤ → Value) → (ResponseItem A → Value) → Response A → Value
-response_with date as_value x =
-    struct_value (codes "0x42007B") (
-    value (response_header_value date (response_header_of x.major x.minor x.timestamp x.batch_count)) (
-    value (sequence as_value x.items.items) no_values))
-
+-- what is written of a `Response`
 unfoldable pub written_response : {A : Type 0} → Response A → Value
-written_response x = response_with written_date written_response_item x
+written_response x =
+    struct_value (codes "0x42007B") (
+    value (response_header_value written_date (response_header x)) (
+    value (sequence written_response_item x.items.items) no_values))
 
+-- what is read of a `Response`
 unfoldable pub read_response : {A : Type 0} → Response A → Value
-read_response x = response_with read_date read_response_item x
+read_response x =
+    struct_value (codes "0x42007B") (
+    value (response_header_value read_date (response_header x)) (
+    value (sequence read_response_item x.items.items) no_values))

@@ -1,10 +1,10 @@
 //! Attributes of a key, and the template that has them (KMIP 1.0, sections 2.1.1 and 2.1.8).
 
 ghost use Rattle.std.specs.Prelude.{◌≡◌, OnErr, OnOk};
-ghost use Rattle.kmip_ttlv.specs.Visits.{Tells};
-ghost use Rattle.kmip_ttlv.specs.Values.{view, i32_value};
 ghost use Rattle.kmip_ttlv.specs.Gives.{IsI32};
-ghost use Rattle.create_destroy.specs.Attributes.{attribute_form, attribute_value_form, kind_value, read_attribute, read_attribute_value, read_template, template_form, written_attribute, written_attribute_value};
+ghost use Rattle.kmip_ttlv.specs.Values.{i32_value, view};
+ghost use Rattle.kmip_ttlv.specs.Visits.{Tells, leaf_value};
+ghost use Rattle.create_destroy.specs.Attributes.{attribute_value_form, written_attribute_value, read_attribute_value, attribute_value_content, attribute_form, written_attribute, read_attribute, template_form, written_template, read_template};
 
 use kmip_ttlv::messages::reading::Readable;
 use kmip_ttlv::messages::{choices, reading, shapes, writing};
@@ -21,32 +21,45 @@ pub enum AttributeValue {
     Integer(i32),
 }
 
-// The rules that choose a value by the name before it.
-const BY_NAME: [&str; 2] = [
+// The rules that choose, one for each variant.
+const ATTRIBUTE_VALUE: [&str; 2] = [
     "if 0x42000A==Cryptographic Algorithm",
     "if 0x42000A in [Cryptographic Length, Cryptographic Usage Mask]",
 ];
 
-// The number that data is.
-fn number_of<A: Allocator>(value: &Data<A>) -> i32
-    requires { IsI32 (view value.now) }
-    ensures { view value.now ≡ i32_value result }
-{
-    match value {
-        Data::I32(number) => *number,
-        _ => unreachable!(),
+impl AttributeValue {
+    // What it holds, as a leaf.
+    #[tactic(auto, unfolding(crate::specs::Attributes::attribute_value_content))]
+    fn leaf(self) -> Leaf<'static>
+        ensures { leaf_value result ≡ attribute_value_content self }
+    {
+        match self {
+            AttributeValue::Aes => Leaf::UnitVariant {
+                name: "420028",
+                variant: "0x00000003",
+            },
+            AttributeValue::Integer(number) => Leaf::I32(number),
+        }
     }
-}
 
-// The algorithm or the number.
-#[tactic(auto, unfolding(crate::specs::Attributes::kind_value))]
-fn kind<V: Visitor>(visitor: &mut V, value: &AttributeValue) -> Result<(), AllocError>
-    ensures told { OnOk result (Tells V.knows V.step (kind_value value.now) visitor.old visitor.new) }
-    ensures stopped { OnErr result (V.stopped visitor.new) }
-{
-    match value {
-        AttributeValue::Aes => writing::unit_variant(visitor, "420028", "0x00000003"),
-        AttributeValue::Integer(number) => visitor.leaf(Leaf::I32(*number)),
+    // Tells what it holds.
+    fn tell<V: Visitor>(&self, visitor: &mut V) -> Result<(), AllocError>
+        ensures told { OnOk result (Tells V.knows V.step (attribute_value_content self.now) visitor.old visitor.new) }
+        ensures stopped { OnErr result (V.stopped visitor.new) }
+    {
+        visitor.leaf(self.leaf())?;
+        Ok(())
+    }
+
+    // The number that data is.
+    fn number_of<A: Allocator>(value: &Data<A>) -> i32
+        requires { IsI32 (view value.now) }
+        ensures { view value.now ≡ i32_value result }
+    {
+        match value {
+            Data::I32(number) => *number,
+            _ => unreachable!(),
+        }
     }
 }
 
@@ -56,7 +69,7 @@ impl Serialize for AttributeValue {
     #[tactic(auto, unfolding(crate::specs::Attributes::written_attribute_value))]
     fn visit<V: Visitor>(&self, visitor: &mut V) -> Result<(), AllocError> {
         writing::begin_newtype_variant(visitor, "Override:0x42000B", "Transparent")?;
-        kind(visitor, self)?;
+        self.tell(visitor)?;
         writing::end_newtype_variant(visitor, "Override:0x42000B", "Transparent")?;
         Ok(())
     }
@@ -74,21 +87,19 @@ impl<A: Allocator + Copy> Deserialize<A> for AttributeValue {
     ghost is_value = { λ v x. v ≡ read_attribute_value x };
 
     fn shape(alloc: A) -> Result<Shape<A>, AllocError> {
-        let mut algorithms = Vec::new(alloc);
-        algorithms.push(shapes::unit("0x00000003"))?;
-        let algorithm = shapes::enumeration("algorithm", algorithms);
         let mut variants = Vec::new(alloc);
-        variants.push(shapes::rule(alloc, BY_NAME[0], algorithm)?)?;
-        variants.push(shapes::rule(alloc, BY_NAME[1], Shape::I32)?)?;
+        let field = shapes::constant(alloc, "algorithm", "0x00000003")?;
+        variants.push(shapes::rule(alloc, ATTRIBUTE_VALUE[0], field.shape)?)?;
+        variants.push(shapes::rule(alloc, ATTRIBUTE_VALUE[1], Shape::I32)?)?;
         Ok(shapes::enumeration("value", variants))
     }
 
     #[tactic(auto, unfolding(crate::specs::Attributes::read_attribute_value))]
-    fn from_data(_alloc: A, value: &mut Data<A>) -> Result<AttributeValue, AllocError> {
-        let (which, inner) = choices::variant::<Self, A>(value, &BY_NAME);
+    fn from_data(_alloc: A, value: &mut Data<A>) -> Result<Self, AllocError> {
+        let (which, inner) = choices::variant::<Self, A>(value, &ATTRIBUTE_VALUE);
         match which {
             0 => Ok(AttributeValue::Aes),
-            1 => Ok(AttributeValue::Integer(number_of(&inner))),
+            1 => Ok(AttributeValue::Integer(Self::number_of(&inner))),
             _ => unreachable!(),
         }
     }
@@ -136,7 +147,7 @@ impl<A: Allocator + Copy> Deserialize<A> for Attribute<A> {
     }
 
     #[tactic(auto, unfolding(crate::specs::Attributes::read_attribute))]
-    fn from_data(alloc: A, value: &mut Data<A>) -> Result<Attribute<A>, AllocError> {
+    fn from_data(alloc: A, value: &mut Data<A>) -> Result<Self, AllocError> {
         let mut parts = reading::parts::<Self, A>(value);
         let name = reading::text_string::<Self, A>(&mut parts, 0, "Transparent:0x42000A");
         let value = reading::nested::<Self, AttributeValue, A>(alloc, &mut parts, 1)?;
@@ -152,6 +163,23 @@ pub struct Template<A: Allocator = Global> {
     pub attributes: Vec<Attribute<A>, A>,
 }
 
+impl<A: Allocator> Template<A> {
+    // Tells one that holds this.
+    #[tactic(auto, unfolding(crate::specs::Attributes::written_template))]
+    pub(crate) fn tell<V: Visitor>(
+        visitor: &mut V,
+        attributes: &Vec<Attribute<A>, A>,
+    ) -> Result<(), AllocError>
+        ensures told { OnOk result (Tells V.knows V.step (written_template record { attributes = attributes.now }) visitor.old visitor.new) }
+        ensures stopped { OnErr result (V.stopped visitor.new) }
+    {
+        writing::begin_newtype(visitor, "0x420091")?;
+        writing::seq(visitor, attributes.as_slice())?;
+        writing::end_newtype(visitor, "0x420091")?;
+        Ok(())
+    }
+}
+
 impl<A: Allocator> Readable for Template<A> {
     ghost read_by = { template_form };
 
@@ -164,14 +192,13 @@ impl<A: Allocator + Copy> Deserialize<A> for Template<A> {
     ghost is_value = { λ v x. v ≡ read_template x };
 
     fn shape(alloc: A) -> Result<Shape<A>, AllocError> {
-        let attribute = Attribute::<A>::shape(alloc)?;
         let mut fields = Vec::new(alloc);
-        fields.push(shapes::sequence(alloc, "0x420008", attribute)?)?;
+        fields.push(shapes::sequence(alloc, "0x420008", Attribute::<A>::shape(alloc)?)?)?;
         Ok(shapes::structure("0x420091", fields))
     }
 
     #[tactic(auto, unfolding(crate::specs::Attributes::read_template))]
-    fn from_data(alloc: A, value: &mut Data<A>) -> Result<Template<A>, AllocError> {
+    fn from_data(alloc: A, value: &mut Data<A>) -> Result<Self, AllocError> {
         let mut parts = reading::parts::<Self, A>(value);
         let attributes = reading::sequence::<Self, Attribute<A>, A>(alloc, &mut parts, 0)?;
         Ok(Template { attributes })

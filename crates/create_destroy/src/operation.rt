@@ -1,7 +1,7 @@
 //! What an item asks for.
 
 ghost use Rattle.std.specs.Prelude.{◌≡◌};
-ghost use Rattle.create_destroy.specs.Operations.{operation_form, operation_value};
+ghost use Rattle.create_destroy.specs.Operations.{operation_form, operation_value, operation_number};
 
 use kmip_ttlv::messages::reading::Readable;
 use kmip_ttlv::messages::{choices, shapes, writing};
@@ -18,24 +18,31 @@ pub enum Operation {
     Destroy,
 }
 
-/// The operations, each by its number.
-pub const OPERATIONS: [(&str, Operation); 2] = [
+// Each number, and what it stands for.
+const OPERATION: [(&str, Operation); 2] = [
     ("0x00000001", Operation::Create),
     ("0x00000014", Operation::Destroy),
 ];
 
-/// The rules that choose a payload by the operation before it.
-pub const BY_OPERATION: [&str; 2] = ["if 0x42005C==0x00000001", "if 0x42005C==0x00000014"];
+impl Operation {
+    // Its number.
+    fn number(self) -> &'static str
+        ensures { result.now ≡ operation_number self }
+    {
+        match self {
+            Operation::Create => "0x00000001",
+            Operation::Destroy => "0x00000014",
+        }
+    }
+}
 
 impl Serialize for Operation {
     ghost stated = { operation_value };
 
     #[tactic(auto, unfolding(crate::specs::Operations::operation_value))]
     fn visit<V: Visitor>(&self, visitor: &mut V) -> Result<(), AllocError> {
-        match self {
-            Operation::Create => writing::unit_variant(visitor, "0x42005C", "0x00000001"),
-            Operation::Destroy => writing::unit_variant(visitor, "0x42005C", "0x00000014"),
-        }
+        writing::unit_variant(visitor, "0x42005C", self.number())?;
+        Ok(())
     }
 }
 
@@ -51,11 +58,11 @@ impl<A: Allocator + Copy> Deserialize<A> for Operation {
     ghost is_value = { λ v x. v ≡ operation_value x };
 
     fn shape(alloc: A) -> Result<Shape<A>, AllocError> {
-        shapes::units(alloc, "0x42005C", &OPERATIONS)
+        shapes::units(alloc, "0x42005C", &OPERATION)
     }
 
     #[tactic(auto, unfolding(crate::specs::Operations::operation_value))]
-    fn from_data(_alloc: A, value: &mut Data<A>) -> Result<Operation, AllocError> {
-        Ok(choices::unit::<Self, A>(value, &OPERATIONS))
+    fn from_data(_alloc: A, value: &mut Data<A>) -> Result<Self, AllocError> {
+        Ok(choices::unit::<Self, A>(value, &OPERATION))
     }
 }

@@ -1,12 +1,13 @@
 //! Requests to create and destroy symmetric keys.
 
-ghost use Rattle.std.specs.Prelude.{◌≡◌, OnErr, OnOk};
+ghost use Rattle.std.specs.Prelude.{◌≡◌, OnErr, OnOk, codes, string_bytes};
+ghost use Rattle.kmip_ttlv.specs.Values.{newtype_value, text_value};
 ghost use Rattle.kmip_ttlv.specs.Visits.{Tells};
-ghost use Rattle.create_destroy.specs.Attributes.{written_template};
-ghost use Rattle.create_destroy.specs.Requests.{create_form, create_value, destroy_form, destroy_value, read_request, read_request_item, read_request_payload, request_form, request_header_of, request_item_form, request_payload_form, written_request, written_request_item, written_request_payload};
+ghost use Rattle.get_messages.specs.Headers.{request_header_value};
+ghost use Rattle.create_destroy.specs.Requests.{create_payload_form, written_create_payload, read_create_payload, destroy_payload_form, written_destroy_payload, read_destroy_payload, request_payload_form, written_request_payload, read_request_payload, request_item_form, written_request_item, read_request_item, request_form, written_request, read_request, request_header};
 
 use crate::attribute::{Attribute, Template};
-use crate::operation::{BY_OPERATION, Operation};
+use crate::operation::Operation;
 use get_messages::header::{ProtocolVersion, RequestHeader};
 use kmip_ttlv::messages::reading::Readable;
 use kmip_ttlv::messages::{choices, reading, shapes, writing};
@@ -22,27 +23,44 @@ pub struct CreatePayload<A: Allocator = Global> {
     pub template: Template<A>,
 }
 
-impl<A: Allocator> Readable for CreatePayload<A> {
-    ghost read_by = { create_form };
+impl<A: Allocator> CreatePayload<A> {
+    // Tells one that holds this.
+    #[tactic(auto, unfolding(crate::specs::Requests::written_create_payload))]
+    pub(crate) fn tell<V: Visitor>(
+        visitor: &mut V,
+        attributes: &Vec<Attribute<A>, A>,
+    ) -> Result<(), AllocError>
+        ensures told { OnOk result (Tells V.knows V.step (written_create_payload record { template = record { attributes = attributes.now } }) visitor.old visitor.new) }
+        ensures stopped { OnErr result (V.stopped visitor.new) }
+    {
+        writing::begin_struct(visitor, "0x420079")?;
+        writing::unit_variant(visitor, "0x420057", "0x00000002")?;
+        Template::tell(visitor, attributes)?;
+        writing::end_struct(visitor, "0x420079")?;
+        Ok(())
+    }
+}
 
-    ghost read_as = { create_value };
+impl<A: Allocator> Readable for CreatePayload<A> {
+    ghost read_by = { create_payload_form };
+
+    ghost read_as = { read_create_payload };
 }
 
 impl<A: Allocator + Copy> Deserialize<A> for CreatePayload<A> {
-    ghost form = { create_form };
+    ghost form = { create_payload_form };
 
-    ghost is_value = { λ v x. v ≡ create_value x };
+    ghost is_value = { λ v x. v ≡ read_create_payload x };
 
     fn shape(alloc: A) -> Result<Shape<A>, AllocError> {
-        let template = Template::<A>::shape(alloc)?;
         let mut fields = Vec::new(alloc);
         fields.push(shapes::constant(alloc, "0x420057", "0x00000002")?)?;
-        fields.push(shapes::field("0x420091", template))?;
+        fields.push(shapes::field("0x420091", Template::<A>::shape(alloc)?))?;
         Ok(shapes::structure("0x420079", fields))
     }
 
-    #[tactic(auto, unfolding(crate::specs::Requests::create_value))]
-    fn from_data(alloc: A, value: &mut Data<A>) -> Result<CreatePayload<A>, AllocError> {
+    #[tactic(auto, unfolding(crate::specs::Requests::read_create_payload))]
+    fn from_data(alloc: A, value: &mut Data<A>) -> Result<Self, AllocError> {
         let mut parts = reading::parts::<Self, A>(value);
         reading::constant::<Self, A>(&mut parts, 0, "0x420057", "0x00000002");
         let template = reading::nested::<Self, Template<A>, A>(alloc, &mut parts, 1)?;
@@ -58,16 +76,45 @@ pub struct DestroyPayload<A: Allocator = Global> {
     pub unique_identifier: String<A>,
 }
 
-impl<A: Allocator> Readable for DestroyPayload<A> {
-    ghost read_by = { destroy_form };
+impl<A: Allocator> DestroyPayload<A> {
+    // Tells what one holds.
+    fn tell_held<V: Visitor>(
+        visitor: &mut V,
+        unique_identifier: &String<A>,
+    ) -> Result<(), AllocError>
+        ensures told { OnOk result (Tells V.knows V.step (newtype_value (codes "Transparent:0x420094") (text_value (string_bytes unique_identifier.now))) visitor.old visitor.new) }
+        ensures stopped { OnErr result (V.stopped visitor.new) }
+    {
+        writing::text_string(visitor, "Transparent:0x420094", unique_identifier.as_str())?;
+        Ok(())
+    }
 
-    ghost read_as = { destroy_value };
+    // Tells one that holds this.
+    #[tactic(auto, unfolding(crate::specs::Requests::written_destroy_payload))]
+    pub(crate) fn tell<V: Visitor>(
+        visitor: &mut V,
+        unique_identifier: &String<A>,
+    ) -> Result<(), AllocError>
+        ensures told { OnOk result (Tells V.knows V.step (written_destroy_payload record { unique_identifier = unique_identifier.now }) visitor.old visitor.new) }
+        ensures stopped { OnErr result (V.stopped visitor.new) }
+    {
+        writing::begin_newtype(visitor, "0x420079")?;
+        Self::tell_held(visitor, unique_identifier)?;
+        writing::end_newtype(visitor, "0x420079")?;
+        Ok(())
+    }
+}
+
+impl<A: Allocator> Readable for DestroyPayload<A> {
+    ghost read_by = { destroy_payload_form };
+
+    ghost read_as = { read_destroy_payload };
 }
 
 impl<A: Allocator + Copy> Deserialize<A> for DestroyPayload<A> {
-    ghost form = { destroy_form };
+    ghost form = { destroy_payload_form };
 
-    ghost is_value = { λ v x. v ≡ destroy_value x };
+    ghost is_value = { λ v x. v ≡ read_destroy_payload x };
 
     fn shape(alloc: A) -> Result<Shape<A>, AllocError> {
         let mut fields = Vec::new(alloc);
@@ -75,8 +122,8 @@ impl<A: Allocator + Copy> Deserialize<A> for DestroyPayload<A> {
         Ok(shapes::structure("0x420079", fields))
     }
 
-    #[tactic(auto, unfolding(crate::specs::Requests::destroy_value))]
-    fn from_data(alloc: A, value: &mut Data<A>) -> Result<DestroyPayload<A>, AllocError> {
+    #[tactic(auto, unfolding(crate::specs::Requests::read_destroy_payload))]
+    fn from_data(_alloc: A, value: &mut Data<A>) -> Result<Self, AllocError> {
         let mut parts = reading::parts::<Self, A>(value);
         let unique_identifier = reading::text_string::<Self, A>(
             &mut parts,
@@ -97,19 +144,8 @@ pub enum RequestPayload<A: Allocator = Global> {
     Destroy(String<A>),
 }
 
-// The template with these attributes.
-fn template<V: Visitor, A: Allocator>(
-    visitor: &mut V,
-    attributes: &[Attribute<A>],
-) -> Result<(), AllocError>
-    ensures told { OnOk result (Tells V.knows V.step (written_template attributes.now) visitor.old visitor.new) }
-    ensures stopped { OnErr result (V.stopped visitor.new) }
-{
-    writing::begin_newtype(visitor, "0x420091")?;
-    writing::seq(visitor, attributes)?;
-    writing::end_newtype(visitor, "0x420091")?;
-    Ok(())
-}
+// The rules that choose, one for each variant.
+const REQUEST_PAYLOAD: [&str; 2] = ["if 0x42005C==0x00000001", "if 0x42005C==0x00000014"];
 
 impl<B: Allocator> Serialize for RequestPayload<B> {
     ghost stated = { written_request_payload };
@@ -118,15 +154,10 @@ impl<B: Allocator> Serialize for RequestPayload<B> {
     fn visit<V: Visitor>(&self, visitor: &mut V) -> Result<(), AllocError> {
         match self {
             RequestPayload::Create(attributes) => {
-                writing::begin_struct(visitor, "0x420079")?;
-                writing::unit_variant(visitor, "0x420057", "0x00000002")?;
-                template(visitor, attributes.as_slice())?;
-                writing::end_struct(visitor, "0x420079")?;
+                CreatePayload::tell(visitor, attributes)?;
             }
-            RequestPayload::Destroy(identifier) => {
-                writing::begin_newtype(visitor, "0x420079")?;
-                writing::text_string(visitor, "Transparent:0x420094", identifier.as_str())?;
-                writing::end_newtype(visitor, "0x420079")?;
+            RequestPayload::Destroy(unique_identifier) => {
+                DestroyPayload::tell(visitor, unique_identifier)?;
             }
         }
         Ok(())
@@ -145,25 +176,25 @@ impl<A: Allocator + Copy> Deserialize<A> for RequestPayload<A> {
     ghost is_value = { λ v x. v ≡ read_request_payload x };
 
     fn shape(alloc: A) -> Result<Shape<A>, AllocError> {
-        let create = CreatePayload::<A>::shape(alloc)?;
-        let destroy = DestroyPayload::<A>::shape(alloc)?;
         let mut variants = Vec::new(alloc);
-        variants.push(shapes::rule(alloc, BY_OPERATION[0], create)?)?;
-        variants.push(shapes::rule(alloc, BY_OPERATION[1], destroy)?)?;
+        let shape = CreatePayload::<A>::shape(alloc)?;
+        variants.push(shapes::rule(alloc, REQUEST_PAYLOAD[0], shape)?)?;
+        let shape = DestroyPayload::<A>::shape(alloc)?;
+        variants.push(shapes::rule(alloc, REQUEST_PAYLOAD[1], shape)?)?;
         Ok(shapes::enumeration("payload", variants))
     }
 
     #[tactic(auto, unfolding(crate::specs::Requests::read_request_payload))]
-    fn from_data(alloc: A, value: &mut Data<A>) -> Result<RequestPayload<A>, AllocError> {
-        let (which, mut inner) = choices::variant::<Self, A>(value, &BY_OPERATION);
+    fn from_data(alloc: A, value: &mut Data<A>) -> Result<Self, AllocError> {
+        let (which, mut inner) = choices::variant::<Self, A>(value, &REQUEST_PAYLOAD);
         match which {
             0 => {
-                let payload = CreatePayload::from_data(alloc, &mut inner)?;
-                Ok(RequestPayload::Create(payload.template.attributes))
+                let held = CreatePayload::from_data(alloc, &mut inner)?;
+                Ok(RequestPayload::Create(held.template.attributes))
             }
             1 => {
-                let payload = DestroyPayload::from_data(alloc, &mut inner)?;
-                Ok(RequestPayload::Destroy(payload.unique_identifier))
+                let held = DestroyPayload::from_data(alloc, &mut inner)?;
+                Ok(RequestPayload::Destroy(held.unique_identifier))
             }
             _ => unreachable!(),
         }
@@ -205,16 +236,14 @@ impl<A: Allocator + Copy> Deserialize<A> for RequestItem<A> {
     ghost is_value = { λ v x. v ≡ read_request_item x };
 
     fn shape(alloc: A) -> Result<Shape<A>, AllocError> {
-        let operation = Operation::shape(alloc)?;
-        let payload = RequestPayload::<A>::shape(alloc)?;
         let mut fields = Vec::new(alloc);
-        fields.push(shapes::field("0x42005C", operation))?;
-        fields.push(shapes::field("0x420079", payload))?;
+        fields.push(shapes::field("0x42005C", Operation::shape(alloc)?))?;
+        fields.push(shapes::field("0x420079", RequestPayload::<A>::shape(alloc)?))?;
         Ok(shapes::structure("0x42000F", fields))
     }
 
     #[tactic(auto, unfolding(crate::specs::Requests::read_request_item))]
-    fn from_data(alloc: A, value: &mut Data<A>) -> Result<RequestItem<A>, AllocError> {
+    fn from_data(alloc: A, value: &mut Data<A>) -> Result<Self, AllocError> {
         let mut parts = reading::parts::<Self, A>(value);
         let operation = reading::nested::<Self, Operation, A>(alloc, &mut parts, 0)?;
         let payload = reading::nested::<Self, RequestPayload<A>, A>(alloc, &mut parts, 1)?;
@@ -228,6 +257,7 @@ impl<A: Allocator + Copy> Deserialize<A> for RequestItem<A> {
 pub struct Request<A: Allocator = Global> {
     /// The version of the protocol: major versions are not compatible, minor ones are.
     pub major: i32,
+    /// Its minor version.
     pub minor: i32,
     /// How many items follow.
     pub batch_count: i32,
@@ -235,29 +265,40 @@ pub struct Request<A: Allocator = Global> {
     pub items: Vec<RequestItem<A>, A>,
 }
 
-// The header with these numbers, of which the prover knows that they fit once they are read.
-fn header(major: &i32, minor: &i32, batch_count: &i32) -> RequestHeader
-    ensures { result ≡ request_header_of major.now minor.now batch_count.now }
-{
-    RequestHeader {
-        version: ProtocolVersion {
-            major: *major,
-            minor: *minor,
-        },
-        batch_count: *batch_count,
+impl<A: Allocator> Request<A> {
+    // Its fields that are a `RequestHeader`.
+    fn header(&self) -> RequestHeader
+        ensures { result ≡ request_header self.now }
+    {
+        RequestHeader {
+            version: ProtocolVersion {
+                major: self.major,
+                minor: self.minor,
+            },
+            batch_count: self.batch_count,
+        }
     }
-}
 
-// The request with this header and these items.
-fn request_of<A: Allocator>(header: RequestHeader, items: Vec<RequestItem<A>, A>) -> Request<A>
-    ensures header { request_header_of result.major result.minor result.batch_count ≡ header }
-    ensures items { result.items ≡ items }
-{
-    Request {
-        major: header.version.major,
-        minor: header.version.minor,
-        batch_count: header.batch_count,
-        items,
+    // Tells these.
+    fn tell_header<V: Visitor>(&self, visitor: &mut V) -> Result<(), AllocError>
+        ensures told { OnOk result (Tells V.knows V.step (request_header_value (request_header self.now)) visitor.old visitor.new) }
+        ensures stopped { OnErr result (V.stopped visitor.new) }
+    {
+        self.header().visit(visitor)?;
+        Ok(())
+    }
+
+    // The one with these fields, and these parts beside them.
+    fn with_header(header: RequestHeader, items: Vec<RequestItem<A>, A>) -> Self
+        ensures header { request_header result ≡ header }
+        ensures items { result.items ≡ items }
+    {
+        Request {
+            major: header.version.major,
+            minor: header.version.minor,
+            batch_count: header.batch_count,
+            items,
+        }
     }
 }
 
@@ -267,7 +308,7 @@ impl<B: Allocator> Serialize for Request<B> {
     #[tactic(auto, unfolding(crate::specs::Requests::written_request))]
     fn visit<V: Visitor>(&self, visitor: &mut V) -> Result<(), AllocError> {
         writing::begin_struct(visitor, "0x420078")?;
-        header(&self.major, &self.minor, &self.batch_count).visit(visitor)?;
+        self.tell_header(visitor)?;
         writing::seq(visitor, self.items.as_slice())?;
         writing::end_struct(visitor, "0x420078")?;
         Ok(())
@@ -286,19 +327,17 @@ impl<A: Allocator + Copy> Deserialize<A> for Request<A> {
     ghost is_value = { λ v x. v ≡ read_request x };
 
     fn shape(alloc: A) -> Result<Shape<A>, AllocError> {
-        let header = RequestHeader::shape(alloc)?;
-        let item = RequestItem::<A>::shape(alloc)?;
         let mut fields = Vec::new(alloc);
-        fields.push(shapes::field("0x420077", header))?;
-        fields.push(shapes::sequence(alloc, "0x42000F", item)?)?;
+        fields.push(shapes::field("0x420077", RequestHeader::shape(alloc)?))?;
+        fields.push(shapes::sequence(alloc, "0x42000F", RequestItem::<A>::shape(alloc)?)?)?;
         Ok(shapes::structure("0x420078", fields))
     }
 
     #[tactic(auto, unfolding(crate::specs::Requests::read_request))]
-    fn from_data(alloc: A, value: &mut Data<A>) -> Result<Request<A>, AllocError> {
+    fn from_data(alloc: A, value: &mut Data<A>) -> Result<Self, AllocError> {
         let mut parts = reading::parts::<Self, A>(value);
         let header = reading::nested::<Self, RequestHeader, A>(alloc, &mut parts, 0)?;
         let items = reading::sequence::<Self, RequestItem<A>, A>(alloc, &mut parts, 1)?;
-        Ok(request_of(header, items))
+        Ok(Request::with_header(header, items))
     }
 }

@@ -1,9 +1,13 @@
 //! Responses on symmetric keys that were created or destroyed.
 
-ghost use Rattle.std.specs.Prelude.{◌≡◌};
-ghost use Rattle.create_destroy.specs.Responses.{created_form, created_value, destroyed_form, destroyed_value, read_response, read_response_item, read_response_payload, response_form, response_header_of, response_item_form, response_payload_form, written_response, written_response_item, written_response_payload};
+ghost use Rattle.std.specs.Prelude.{◌≡◌, OnErr, OnOk, codes, string_bytes};
+ghost use Rattle.kmip_ttlv.specs.MessageParts.{written_date};
+ghost use Rattle.kmip_ttlv.specs.Values.{newtype_value, text_value};
+ghost use Rattle.kmip_ttlv.specs.Visits.{Tells};
+ghost use Rattle.get_messages.specs.Headers.{response_header_value};
+ghost use Rattle.create_destroy.specs.Responses.{created_form, created_value, destroyed_form, destroyed_value, response_payload_form, written_response_payload, read_response_payload, response_item_form, written_response_item, read_response_item, response_form, written_response, read_response, response_header};
 
-use crate::operation::{BY_OPERATION, Operation};
+use crate::operation::Operation;
 use get_messages::header::{ProtocolVersion, ResponseHeader};
 use kmip_ttlv::messages::reading::Readable;
 use kmip_ttlv::messages::{choices, reading, shapes, writing};
@@ -17,6 +21,36 @@ use std::alloc::{AllocError, Allocator, Global};
 pub struct Created<A: Allocator = Global> {
     /// The identifier of the key.
     pub unique_identifier: String<A>,
+}
+
+impl<A: Allocator> Created<A> {
+    // Tells what one holds.
+    fn tell_held<V: Visitor>(
+        visitor: &mut V,
+        unique_identifier: &String<A>,
+    ) -> Result<(), AllocError>
+        ensures told { OnOk result (Tells V.knows V.step (newtype_value (codes "Transparent:0x420094") (text_value (string_bytes unique_identifier.now))) visitor.old visitor.new) }
+        ensures stopped { OnErr result (V.stopped visitor.new) }
+    {
+        writing::text_string(visitor, "Transparent:0x420094", unique_identifier.as_str())?;
+        Ok(())
+    }
+
+    // Tells one that holds this.
+    #[tactic(auto, unfolding(crate::specs::Responses::created_value))]
+    pub(crate) fn tell<V: Visitor>(
+        visitor: &mut V,
+        unique_identifier: &String<A>,
+    ) -> Result<(), AllocError>
+        ensures told { OnOk result (Tells V.knows V.step (created_value record { unique_identifier = unique_identifier.now }) visitor.old visitor.new) }
+        ensures stopped { OnErr result (V.stopped visitor.new) }
+    {
+        writing::begin_struct(visitor, "0x42007C")?;
+        writing::unit_variant(visitor, "0x420057", "0x00000002")?;
+        Self::tell_held(visitor, unique_identifier)?;
+        writing::end_struct(visitor, "0x42007C")?;
+        Ok(())
+    }
 }
 
 impl<A: Allocator> Readable for Created<A> {
@@ -38,7 +72,7 @@ impl<A: Allocator + Copy> Deserialize<A> for Created<A> {
     }
 
     #[tactic(auto, unfolding(crate::specs::Responses::created_value))]
-    fn from_data(alloc: A, value: &mut Data<A>) -> Result<Created<A>, AllocError> {
+    fn from_data(_alloc: A, value: &mut Data<A>) -> Result<Self, AllocError> {
         let mut parts = reading::parts::<Self, A>(value);
         reading::constant::<Self, A>(&mut parts, 0, "0x420057", "0x00000002");
         let unique_identifier = reading::text_string::<Self, A>(
@@ -56,6 +90,35 @@ impl<A: Allocator + Copy> Deserialize<A> for Created<A> {
 pub struct Destroyed<A: Allocator = Global> {
     /// The identifier of the key.
     pub unique_identifier: String<A>,
+}
+
+impl<A: Allocator> Destroyed<A> {
+    // Tells what one holds.
+    fn tell_held<V: Visitor>(
+        visitor: &mut V,
+        unique_identifier: &String<A>,
+    ) -> Result<(), AllocError>
+        ensures told { OnOk result (Tells V.knows V.step (newtype_value (codes "Transparent:0x420094") (text_value (string_bytes unique_identifier.now))) visitor.old visitor.new) }
+        ensures stopped { OnErr result (V.stopped visitor.new) }
+    {
+        writing::text_string(visitor, "Transparent:0x420094", unique_identifier.as_str())?;
+        Ok(())
+    }
+
+    // Tells one that holds this.
+    #[tactic(auto, unfolding(crate::specs::Responses::destroyed_value))]
+    pub(crate) fn tell<V: Visitor>(
+        visitor: &mut V,
+        unique_identifier: &String<A>,
+    ) -> Result<(), AllocError>
+        ensures told { OnOk result (Tells V.knows V.step (destroyed_value record { unique_identifier = unique_identifier.now }) visitor.old visitor.new) }
+        ensures stopped { OnErr result (V.stopped visitor.new) }
+    {
+        writing::begin_struct(visitor, "0x42007C")?;
+        Self::tell_held(visitor, unique_identifier)?;
+        writing::end_struct(visitor, "0x42007C")?;
+        Ok(())
+    }
 }
 
 impl<A: Allocator> Readable for Destroyed<A> {
@@ -76,7 +139,7 @@ impl<A: Allocator + Copy> Deserialize<A> for Destroyed<A> {
     }
 
     #[tactic(auto, unfolding(crate::specs::Responses::destroyed_value))]
-    fn from_data(alloc: A, value: &mut Data<A>) -> Result<Destroyed<A>, AllocError> {
+    fn from_data(_alloc: A, value: &mut Data<A>) -> Result<Self, AllocError> {
         let mut parts = reading::parts::<Self, A>(value);
         let unique_identifier = reading::text_string::<Self, A>(
             &mut parts,
@@ -97,22 +160,20 @@ pub enum ResponsePayload<A: Allocator = Global> {
     Destroy(String<A>),
 }
 
+// The rules that choose, one for each variant.
+const RESPONSE_PAYLOAD: [&str; 2] = ["if 0x42005C==0x00000001", "if 0x42005C==0x00000014"];
+
 impl<B: Allocator> Serialize for ResponsePayload<B> {
     ghost stated = { written_response_payload };
 
-    #[tactic(auto, unfolding(crate::specs::Responses::written_response_payload, crate::specs::Responses::created_value, crate::specs::Responses::destroyed_value))]
+    #[tactic(auto, unfolding(crate::specs::Responses::written_response_payload))]
     fn visit<V: Visitor>(&self, visitor: &mut V) -> Result<(), AllocError> {
         match self {
-            ResponsePayload::Create(identifier) => {
-                writing::begin_struct(visitor, "0x42007C")?;
-                writing::unit_variant(visitor, "0x420057", "0x00000002")?;
-                writing::text_string(visitor, "Transparent:0x420094", identifier.as_str())?;
-                writing::end_struct(visitor, "0x42007C")?;
+            ResponsePayload::Create(unique_identifier) => {
+                Created::tell(visitor, unique_identifier)?;
             }
-            ResponsePayload::Destroy(identifier) => {
-                writing::begin_struct(visitor, "0x42007C")?;
-                writing::text_string(visitor, "Transparent:0x420094", identifier.as_str())?;
-                writing::end_struct(visitor, "0x42007C")?;
+            ResponsePayload::Destroy(unique_identifier) => {
+                Destroyed::tell(visitor, unique_identifier)?;
             }
         }
         Ok(())
@@ -131,25 +192,25 @@ impl<A: Allocator + Copy> Deserialize<A> for ResponsePayload<A> {
     ghost is_value = { λ v x. v ≡ read_response_payload x };
 
     fn shape(alloc: A) -> Result<Shape<A>, AllocError> {
-        let created = Created::<A>::shape(alloc)?;
-        let destroyed = Destroyed::<A>::shape(alloc)?;
         let mut variants = Vec::new(alloc);
-        variants.push(shapes::rule(alloc, BY_OPERATION[0], created)?)?;
-        variants.push(shapes::rule(alloc, BY_OPERATION[1], destroyed)?)?;
+        let shape = Created::<A>::shape(alloc)?;
+        variants.push(shapes::rule(alloc, RESPONSE_PAYLOAD[0], shape)?)?;
+        let shape = Destroyed::<A>::shape(alloc)?;
+        variants.push(shapes::rule(alloc, RESPONSE_PAYLOAD[1], shape)?)?;
         Ok(shapes::enumeration("payload", variants))
     }
 
     #[tactic(auto, unfolding(crate::specs::Responses::read_response_payload))]
-    fn from_data(alloc: A, value: &mut Data<A>) -> Result<ResponsePayload<A>, AllocError> {
-        let (which, mut inner) = choices::variant::<Self, A>(value, &BY_OPERATION);
+    fn from_data(alloc: A, value: &mut Data<A>) -> Result<Self, AllocError> {
+        let (which, mut inner) = choices::variant::<Self, A>(value, &RESPONSE_PAYLOAD);
         match which {
             0 => {
-                let payload = Created::from_data(alloc, &mut inner)?;
-                Ok(ResponsePayload::Create(payload.unique_identifier))
+                let held = Created::from_data(alloc, &mut inner)?;
+                Ok(ResponsePayload::Create(held.unique_identifier))
             }
             1 => {
-                let payload = Destroyed::from_data(alloc, &mut inner)?;
-                Ok(ResponsePayload::Destroy(payload.unique_identifier))
+                let held = Destroyed::from_data(alloc, &mut inner)?;
+                Ok(ResponsePayload::Destroy(held.unique_identifier))
             }
             _ => unreachable!(),
         }
@@ -192,17 +253,15 @@ impl<A: Allocator + Copy> Deserialize<A> for ResponseItem<A> {
     ghost is_value = { λ v x. v ≡ read_response_item x };
 
     fn shape(alloc: A) -> Result<Shape<A>, AllocError> {
-        let operation = Operation::shape(alloc)?;
-        let payload = ResponsePayload::<A>::shape(alloc)?;
         let mut fields = Vec::new(alloc);
-        fields.push(shapes::field("0x42005C", operation))?;
+        fields.push(shapes::field("0x42005C", Operation::shape(alloc)?))?;
         fields.push(shapes::constant(alloc, "0x42007F", "0x00000000")?)?;
-        fields.push(shapes::field("0x42007C", payload))?;
+        fields.push(shapes::field("0x42007C", ResponsePayload::<A>::shape(alloc)?))?;
         Ok(shapes::structure("0x42000F", fields))
     }
 
     #[tactic(auto, unfolding(crate::specs::Responses::read_response_item))]
-    fn from_data(alloc: A, value: &mut Data<A>) -> Result<ResponseItem<A>, AllocError> {
+    fn from_data(alloc: A, value: &mut Data<A>) -> Result<Self, AllocError> {
         let mut parts = reading::parts::<Self, A>(value);
         let operation = reading::nested::<Self, Operation, A>(alloc, &mut parts, 0)?;
         reading::constant::<Self, A>(&mut parts, 1, "0x42007F", "0x00000000");
@@ -217,6 +276,7 @@ impl<A: Allocator + Copy> Deserialize<A> for ResponseItem<A> {
 pub struct Response<A: Allocator = Global> {
     /// The version of the protocol: major versions are not compatible, minor ones are.
     pub major: i32,
+    /// Its minor version.
     pub minor: i32,
     /// When it was made, in seconds since 1970.
     pub timestamp: i64,
@@ -226,31 +286,42 @@ pub struct Response<A: Allocator = Global> {
     pub items: Vec<ResponseItem<A>, A>,
 }
 
-// The header with these numbers, of which the prover knows that they fit once they are read.
-fn header(major: &i32, minor: &i32, timestamp: &i64, batch_count: &i32) -> ResponseHeader
-    ensures { result ≡ response_header_of major.now minor.now timestamp.now batch_count.now }
-{
-    ResponseHeader {
-        version: ProtocolVersion {
-            major: *major,
-            minor: *minor,
-        },
-        time_stamp: *timestamp,
-        batch_count: *batch_count,
+impl<A: Allocator> Response<A> {
+    // Its fields that are a `ResponseHeader`.
+    fn header(&self) -> ResponseHeader
+        ensures { result ≡ response_header self.now }
+    {
+        ResponseHeader {
+            version: ProtocolVersion {
+                major: self.major,
+                minor: self.minor,
+            },
+            time_stamp: self.timestamp,
+            batch_count: self.batch_count,
+        }
     }
-}
 
-// The response with this header and these items.
-fn response_of<A: Allocator>(header: ResponseHeader, items: Vec<ResponseItem<A>, A>) -> Response<A>
-    ensures header { response_header_of result.major result.minor result.timestamp result.batch_count ≡ header }
-    ensures items { result.items ≡ items }
-{
-    Response {
-        major: header.version.major,
-        minor: header.version.minor,
-        timestamp: header.time_stamp,
-        batch_count: header.batch_count,
-        items,
+    // Tells these.
+    fn tell_header<V: Visitor>(&self, visitor: &mut V) -> Result<(), AllocError>
+        ensures told { OnOk result (Tells V.knows V.step (response_header_value written_date (response_header self.now)) visitor.old visitor.new) }
+        ensures stopped { OnErr result (V.stopped visitor.new) }
+    {
+        self.header().visit(visitor)?;
+        Ok(())
+    }
+
+    // The one with these fields, and these parts beside them.
+    fn with_header(header: ResponseHeader, items: Vec<ResponseItem<A>, A>) -> Self
+        ensures header { response_header result ≡ header }
+        ensures items { result.items ≡ items }
+    {
+        Response {
+            major: header.version.major,
+            minor: header.version.minor,
+            timestamp: header.time_stamp,
+            batch_count: header.batch_count,
+            items,
+        }
     }
 }
 
@@ -260,7 +331,7 @@ impl<B: Allocator> Serialize for Response<B> {
     #[tactic(auto, unfolding(crate::specs::Responses::written_response))]
     fn visit<V: Visitor>(&self, visitor: &mut V) -> Result<(), AllocError> {
         writing::begin_struct(visitor, "0x42007B")?;
-        header(&self.major, &self.minor, &self.timestamp, &self.batch_count).visit(visitor)?;
+        self.tell_header(visitor)?;
         writing::seq(visitor, self.items.as_slice())?;
         writing::end_struct(visitor, "0x42007B")?;
         Ok(())
@@ -279,19 +350,17 @@ impl<A: Allocator + Copy> Deserialize<A> for Response<A> {
     ghost is_value = { λ v x. v ≡ read_response x };
 
     fn shape(alloc: A) -> Result<Shape<A>, AllocError> {
-        let header = ResponseHeader::shape(alloc)?;
-        let item = ResponseItem::<A>::shape(alloc)?;
         let mut fields = Vec::new(alloc);
-        fields.push(shapes::field("0x42007A", header))?;
-        fields.push(shapes::sequence(alloc, "0x42000F", item)?)?;
+        fields.push(shapes::field("0x42007A", ResponseHeader::shape(alloc)?))?;
+        fields.push(shapes::sequence(alloc, "0x42000F", ResponseItem::<A>::shape(alloc)?)?)?;
         Ok(shapes::structure("0x42007B", fields))
     }
 
     #[tactic(auto, unfolding(crate::specs::Responses::read_response))]
-    fn from_data(alloc: A, value: &mut Data<A>) -> Result<Response<A>, AllocError> {
+    fn from_data(alloc: A, value: &mut Data<A>) -> Result<Self, AllocError> {
         let mut parts = reading::parts::<Self, A>(value);
         let header = reading::nested::<Self, ResponseHeader, A>(alloc, &mut parts, 0)?;
         let items = reading::sequence::<Self, ResponseItem<A>, A>(alloc, &mut parts, 1)?;
-        Ok(response_of(header, items))
+        Ok(Response::with_header(header, items))
     }
 }
