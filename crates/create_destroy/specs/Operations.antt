@@ -1,3 +1,4 @@
+-- Written by codegen from types.table: change that, and run codegen/codegen.
 -- Forms and values of the types in `operation`.
 use Rattle.kmip_ttlv.specs.Forms.{Form, enum, no_variants, unit, variant}
 use Rattle.kmip_ttlv.specs.Values.{Value, unit_variant_value}

@@ -1,3 +1,4 @@
+-- Written by codegen from types.table: change that, and run codegen/codegen.
 -- Forms and values of the types in `request`.
 use Rattle.kmip_ttlv.specs.Forms.{Form, enum, field, newtype, no_fields, no_variants, seq, struct, text, unit, variant}
 use Rattle.kmip_ttlv.specs.Forms.{wrapped}

@@ -1,3 +1,4 @@
+// Written by codegen from types.table: change that, and run codegen/codegen.
 //! Attributes of a key, and the template that has them (KMIP 1.0, sections 2.1.1 and 2.1.8).
 
 ghost use Rattle.std.specs.Prelude.{◌≡◌, OnErr, OnOk};

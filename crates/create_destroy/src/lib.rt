@@ -1,6 +1,6 @@
 //! The messages that create and destroy a symmetric key (KMIP 1.0, sections 4.1 and 4.20), as a layer that users
 //! can copy: its types, whether a message is consistent, and the four calls. The types are those of `types.table`, as
-//! `message_types` writes them; all else is by hand.
+//! `codegen/codegen` writes them; all else is by hand.
 //!
 //! Left out: results other than success, object types other than a symmetric key, algorithms other than AES,
 //! and each field that is not named here.

@@ -1,3 +1,4 @@
+// Written by codegen from types.table: change that, and run codegen/codegen.
 //! What an item asks for.
 
 ghost use Rattle.std.specs.Prelude.{◌≡◌};

@@ -1,3 +1,4 @@
+// Written by codegen from types.table: change that, and run codegen/codegen.
 //! Requests to create and destroy symmetric keys.
 
 ghost use Rattle.std.specs.Prelude.{◌≡◌, OnErr, OnOk, codes, string_bytes};

@@ -1,3 +1,4 @@
+// Written by codegen from types.table: change that, and run codegen/codegen.
 //! Responses on symmetric keys that were created or destroyed.
 
 ghost use Rattle.std.specs.Prelude.{◌≡◌, OnErr, OnOk, codes, string_bytes};

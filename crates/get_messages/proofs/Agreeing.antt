@@ -1,3 +1,4 @@
+-- Written by codegen from types.table: change that, and run codegen/codegen.
 -- The types agree with their forms: one line for each part.
 use Rattle.kmip_ttlv.specs.Agreements.{MessageAgrees}
 use Rattle.kmip_ttlv.specs.MessageParts.{read_date, written_date}

@@ -1,3 +1,4 @@
+-- Written by codegen from types.table: change that, and run codegen/codegen.
 -- Forms and values of the types in `header`.
 use Rattle.kmip_ttlv.specs.Forms.{Form, field, int32, int64, newtype, no_fields, struct}
 use Rattle.kmip_ttlv.specs.Values.{Value, i32_value, newtype_value, no_values, struct_value, value}

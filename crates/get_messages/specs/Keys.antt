@@ -1,9 +1,10 @@
+-- Written by codegen from types.table: change that, and run codegen/codegen.
 -- Forms and values of the types in `key`.
 use Rattle.kmip_ttlv.specs.Forms.{Form, enum, field, int32, newtype, no_fields, no_variants, octets, struct, unit}
 use Rattle.kmip_ttlv.specs.Forms.{variant}
 use Rattle.kmip_ttlv.specs.Values.{Value, bytes_value, i32_value, newtype_value, no_values, struct_value}
 use Rattle.kmip_ttlv.specs.Values.{unit_variant_value, value}
-use Rattle.std.specs.Prelude.{codes, false}
+use Rattle.std.specs.Prelude.{codes, false, true}
 use Rattle.get_messages.specs.declared.key.KeyValue.{KeyValue}
 use Rattle.get_messages.specs.declared.key.KeyLength.{KeyLength}
 use Rattle.get_messages.specs.declared.key.KeyBlock.{KeyBlock}
@@ -36,7 +37,7 @@ key_block_form =
     field (codes "0x420042") (enum (codes "0x420042") (variant (codes "0x00000001") unit no_variants)) (
     field (codes "0x420045") key_value_form (
     field (codes "0x420028") (enum (codes "0x420028") (variant (codes "0x00000003") unit no_variants)) (
-    field (codes "0x42002A") key_length_form no_fields)))) false
+    field (codes "0x42002A") key_length_form no_fields)))) true
 
 -- the value of a `KeyBlock`
 unfoldable pub key_block_value : {A : Type 0} → KeyBlock A → Value

@@ -1,3 +1,4 @@
+-- Written by codegen from types.table: change that, and run codegen/codegen.
 -- What each value of a type is known to be.
 use Rattle.std.specs.Int.{w32, w64}
 use Rattle.std.specs.Prelude.{FitsSigned, string_bytes, true, ◌≡◌}

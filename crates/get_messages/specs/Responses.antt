@@ -1,3 +1,4 @@
+-- Written by codegen from types.table: change that, and run codegen/codegen.
 -- Forms and values of the types in `response`.
 use Rattle.kmip_ttlv.specs.Forms.{Form, enum, field, newtype, no_fields, no_variants, struct, text, unit, variant}
 use Rattle.kmip_ttlv.specs.Values.{Value, newtype_value, no_values, struct_value, text_value, unit_variant_value, value}

@@ -1,3 +1,4 @@
+// Written by codegen from types.table: change that, and run codegen/codegen.
 //! What requests and responses begin with (KMIP 1.0, sections 6.1, 6.4 and 6.5).
 
 ghost use Rattle.std.specs.Prelude.{◌≡◌};

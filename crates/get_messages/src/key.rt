@@ -1,3 +1,4 @@
+// Written by codegen from types.table: change that, and run codegen/codegen.
 //! A symmetric key as an object (KMIP 1.0, sections 2.1.3, 2.1.4 and 2.2.2).
 
 ghost use Rattle.std.specs.Prelude.{◌≡◌};
@@ -140,7 +141,7 @@ impl<A: Allocator + Copy> Deserialize<A> for KeyBlock<A> {
         fields.push(shapes::field("0x420045", KeyValue::<A>::shape(alloc)?))?;
         fields.push(shapes::constant(alloc, "0x420028", "0x00000003")?)?;
         fields.push(shapes::field("0x42002A", KeyLength::shape(alloc)?))?;
-        Ok(shapes::structure("0x420040", fields))
+        Ok(shapes::strict_structure("0x420040", fields))
     }
 
     #[tactic(auto, unfolding(crate::specs::Keys::key_block_value))]

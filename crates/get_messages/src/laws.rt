@@ -1,3 +1,4 @@
+// Written by codegen from types.table: change that, and run codegen/codegen.
 //! What was written is read back: the law of `kmip_ttlv::laws`, at these messages.
 
 ghost use Rattle.get_messages.specs.Laws.{GetRequestsComeBack, GetResponsesComeBack};

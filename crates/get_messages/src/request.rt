@@ -1,3 +1,4 @@
+// Written by codegen from types.table: change that, and run codegen/codegen.
 //! The request to get an object (KMIP 1.0, section 4.11).
 
 ghost use Rattle.std.specs.Prelude.{◌≡◌};

@@ -1,7 +1,7 @@
 //! Shapes of structures and enumerations. The fields of a structure, and the variants of an enumeration, are
 //! collected in a `Vec`, one after the other.
 
-ghost use Rattle.std.specs.Prelude.{◌≡◌, IfOk, false};
+ghost use Rattle.std.specs.Prelude.{◌≡◌, IfOk, false, true};
 ghost use Rattle.kmip_ttlv_base.specs.Forms.{form_of, forms_of, fields_of, variants_of, struct, newtype, option, seq, enum, int32, int64, boolean, text, octets, interval, big_integer, any_number, variant, unit, wrapped, tuple, no_variants};
 ghost use Rattle.kmip_ttlv_messages.specs.MessageParts.{IsField};
 ghost use Rattle.kmip_ttlv_messages.specs.MessageChoices.{IsVariant, units};
@@ -17,6 +17,17 @@ pub fn structure<A: Allocator>(name: &'static str, fields: Vec<FieldShape<A>, A>
         name,
         fields,
         deny_unknown: false,
+    }
+}
+
+/// A Structure of these fields and of nothing else, under the tag that the name is. What follows them is refused.
+pub fn strict_structure<A: Allocator>(name: &'static str, fields: Vec<FieldShape<A>, A>) -> Shape<A>
+    ensures { form_of result ≡ struct name.now (fields_of fields.items) true }
+{
+    Shape::Struct {
+        name,
+        fields,
+        deny_unknown: true,
     }
 }
 

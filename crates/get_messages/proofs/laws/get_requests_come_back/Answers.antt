@@ -1,3 +1,4 @@
+-- Written by codegen from types.table: change that, and run codegen/codegen.
 use Rattle.std.proofs.Common.{refl}
 use Rattle.get_messages.specs.Requests.{get_request_form, get_request_value}
 use Rattle.get_messages.proofs.Agreeing.{get_request_agrees}

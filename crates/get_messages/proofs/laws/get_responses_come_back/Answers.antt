@@ -1,3 +1,4 @@
+-- Written by codegen from types.table: change that, and run codegen/codegen.
 use Rattle.std.proofs.Common.{refl}
 use Rattle.kmip_ttlv.specs.MessageParts.{read_date, written_date}
 use Rattle.get_messages.specs.Responses.{get_response_form, get_response_value}

@@ -1,8 +1,0 @@
-use Rattle.std.proofs.Common.{rules, tests}
-use Rattle.std.proofs.lemmas.Iterator.{YieldsList-from_slice}
-use Rattle.std.proofs.lemmas.Iterator.Search.{all_from_yields_List}
-use Rattle.message_tables.specs.Words.{is_rule_byte}
-use Rattle.message_tables.proofs.words.are_rule_bytes.Goals as goal
-
-pub returns : goal.returns
-returns c = all_from_yields_List is_rule_byte _ _ c.all.result c.all.ensures.ran (YieldsList-from_slice c.args.text.now cc) (λ x b q k. search (rules, tests))
