@@ -1,14 +1,13 @@
 -- A visitor that makes data makes the value that it is told of.
-use Rattle.std.proofs.Common.{◌≡◌, List, [], ◌∷◌, ◌++◌, refl, sym, ap, ◌∙◌, append_assoc, append-nil, map, reverse}
-use Rattle.std.proofs.lemmas.List.{reverse-append, map-append}
+use Rattle.std.proofs.Common.{◌≡◌, List, [], ◌∷◌, ◌++◌, refl, sym, ap, ◌∙◌, append_assoc, append-nil}
 use Rattle.kmip_ttlv_base.specs.Values.{Value, Values, no_values, value, values_of}
 use Rattle.kmip_ttlv_base.specs.Values.{boolean_value, i8_value, i16_value, i32_value, u32_value, i64_value, u64_value}
 use Rattle.kmip_ttlv_base.specs.Values.{interval_value, text_value, bytes_value, big_integer_value, none_value}
 use Rattle.kmip_ttlv_base.specs.Values.{some_value, seq_value, struct_value, newtype_value, unit_variant_value}
 use Rattle.kmip_ttlv_base.specs.Values.{newtype_variant_value, tuple_variant_value, unsupported_value}
 use Rattle.kmip_ttlv_base.specs.Visits.{a_some, a_seq, a_struct, a_newtype, a_newtype_variant, a_tuple_variant}
-use Rattle.kmip_ttlv_base.specs.Visits.{visited, visited_in}
-use Rattle.kmip_ttlv_base.specs.Builds.{Unfinished, appended, closed, first_of, build_step}
+use Rattle.kmip_ttlv_base.specs.Visits.{ended, visited, visited_in}
+use Rattle.kmip_ttlv_base.specs.Builds.{Unfinished, within, appended, first_of, build_step}
 
 -- the values as a list
 abbrev pub list_of : Values → List Value
@@ -34,33 +33,29 @@ mutual
   builds (bytes_value t) s = refl
   builds (big_integer_value t) s = refl
   builds none_value s = refl
-  builds (some_value v) s = ap (closed a_some) (builds v ([] ∷ s))
-  builds (seq_value vs) s = ap (closed a_seq) (builds_in vs [] s) ∙ ap (λ us. appended (seq_value us) s) (values_are vs)
+  builds (some_value v) s = ap (build_step (ended a_some)) (builds v (within [] (s.values ∷ s.around)))
+  builds (seq_value vs) s =
+      ap (build_step (ended a_seq)) (builds_in vs [] (s.values ∷ s.around))
+      ∙ ap (λ us. appended (seq_value us) s) (values_are vs)
   builds (struct_value name vs) s =
-      ap (closed (a_struct name)) (builds_in vs [] s) ∙ ap (λ us. appended (struct_value name us) s) (values_are vs)
-  builds (newtype_value name v) s = ap (closed (a_newtype name)) (builds v ([] ∷ s))
+      ap (build_step (ended (a_struct name))) (builds_in vs [] (s.values ∷ s.around))
+      ∙ ap (λ us. appended (struct_value name us) s) (values_are vs)
+  builds (newtype_value name v) s =
+      ap (build_step (ended (a_newtype name))) (builds v (within [] (s.values ∷ s.around)))
   builds (unit_variant_value name vname) s = refl
-  builds (newtype_variant_value name vname v) s = ap (closed (a_newtype_variant name vname)) (builds v ([] ∷ s))
+  builds (newtype_variant_value name vname v) s =
+      ap (build_step (ended (a_newtype_variant name vname))) (builds v (within [] (s.values ∷ s.around)))
   builds (tuple_variant_value name vname vs) s =
-      ap (closed (a_tuple_variant name vname)) (builds_in vs [] s)
+      ap (build_step (ended (a_tuple_variant name vname))) (builds_in vs [] (s.values ∷ s.around))
       ∙ ap (λ us. appended (tuple_variant_value name vname us) s) (values_are vs)
   builds (unsupported_value name) s = refl
 
-  builds_in : (vs : Values) (before : List Value) (s : Unfinished) → visited_in build_step vs (before ∷ s) ≡ (before ++ list_of vs) ∷ s
-  builds_in no_values before s = ap (λ us. us ∷ s) (sym (append-nil before))
-  builds_in (value v vs) before s =
-      ap (visited_in build_step vs) (builds v (before ∷ s)) ∙ builds_in vs (before ++ v ∷ []) s
-      ∙ ap (λ us. us ∷ s) (append_assoc before (v ∷ []) (list_of vs))
+  builds_in : (vs : Values) (before : List Value) (around : List (List Value)) → visited_in build_step vs (within before around) ≡ within (before ++ list_of vs) around
+  builds_in no_values before around = ap (λ us. within us around) (sym (append-nil before))
+  builds_in (value v vs) before around =
+      ap (visited_in build_step vs) (builds v (within before around)) ∙ builds_in vs (before ++ v ∷ []) around
+      ∙ ap (λ us. within us around) (append_assoc before (v ∷ []) (list_of vs))
 
--- the innermost group
-front : Unfinished → List Value
-front [] = []
-front (vs ∷ outer) = vs
-
--- where nothing but one value was told, the values of the only group are that value
-pub built : {X : Type 0} (f : X → List Value) (v : Value) (all before : List X) (last : X) → visited build_step v ([] ∷ []) ≡ reverse (map f all) → all ≡ before ++ last ∷ [] → first_of (f last) ≡ v
-unfolding front
-built f v all before last told same =
-    ap (λ us. first_of (front us)) (
-    sym (reverse-append (map f before) (f last ∷ [])) ∙ ap reverse (sym (map-append f before (last ∷ [])))
-    ∙ ap (λ xs. reverse (map f xs)) (sym same) ∙ sym told ∙ builds v ([] ∷ []))
+-- where nothing but one value was told, the first value is that
+pub built : (v : Value) (s : Unfinished) → visited build_step v (within [] []) ≡ s → first_of s.values ≡ v
+built v s told = ap (λ u. first_of u.values) (sym told ∙ builds v (within [] []))

@@ -6,14 +6,18 @@ use Rattle.kmip_ttlv_base.specs.Values.{newtype_variant_value, tuple_variant_val
 use Rattle.kmip_ttlv_base.specs.Visits.{Around, a_some, a_seq, a_struct, a_newtype, a_newtype_variant, a_tuple_variant}
 use Rattle.kmip_ttlv_base.specs.Visits.{Event, alone, begun, ended}
 
--- the values so far of each group that isn't ended, the innermost group first
-abbrev pub Unfinished : Type 0
-Unfinished = List (List Value)
+-- the values so far of the innermost group that isn't ended, and of each group around it, the innermost first
+pub record Unfinished : Type 0 where
+  pub values : List Value
+  pub around : List (List Value)
+
+-- the same by its parts
+abbrev pub within : List Value → List (List Value) → Unfinished
+within vs around = record { values = vs; around = around }
 
 -- a value behind those of the innermost group
 abbrev pub appended : Value → Unfinished → Unfinished
-appended v [] = []
-appended v (vs ∷ outer) = (vs ++ v ∷ []) ∷ outer
+appended v s = within (s.values ++ v ∷ []) s.around
 
 -- the one value of a group
 abbrev pub first_of : List Value → Value
@@ -29,17 +33,17 @@ group_value (a_newtype name) vs = newtype_value name (first_of vs)
 group_value (a_newtype_variant name vname) vs = newtype_variant_value name vname (first_of vs)
 group_value (a_tuple_variant name vname) vs = tuple_variant_value name vname (values_of vs)
 
--- the innermost group is a value of the group around it
-abbrev pub closed : Around → Unfinished → Unfinished
-closed a [] = []
-closed a (vs ∷ outer) = appended (group_value a vs) outer
+-- out of the innermost group: around the outermost one is a group of no values
+abbrev pub outside : List (List Value) → Unfinished
+outside [] = within [] []
+outside (vs ∷ around) = within vs around
 
--- what there is after this event
+-- what there is after this event: a group that ends is a value of the group around it
 abbrev pub build_step : Event → Unfinished → Unfinished
 build_step (alone v) s = appended v s
-build_step (begun a) s = [] ∷ s
-build_step (ended a) s = closed a s
+build_step (begun a) s = within [] (s.values ∷ s.around)
+build_step (ended a) s = appended (group_value a s.values) (outside s.around)
 
 -- what a visitor that makes data has
 abbrev pub unfinished : {A : Type 0} → Builder A → Unfinished
-unfinished b = reverse (map (λ vs. map view vs.items) b.groups.items)
+unfinished b = within (map view b.values.items) (reverse (map (λ vs. map view vs.items) b.around.items))

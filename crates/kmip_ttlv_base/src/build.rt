@@ -1,19 +1,22 @@
 //! The visitor that makes data of what it is told.
 
-ghost use Rattle.std.specs.Prelude.{◌≡◌, OnOk, IfOk, map};
+ghost use Rattle.std.specs.Prelude.{◌≡◌, IfOk, map};
 ghost use Rattle.kmip_ttlv_base.specs.Values.{view};
 ghost use Rattle.kmip_ttlv_base.specs.Visits.{around, leaf_value};
-ghost use Rattle.kmip_ttlv_base.specs.Builds.{Unfinished, unfinished, first_of, group_value, appended, build_step};
+ghost use Rattle.kmip_ttlv_base.specs.Builds.{Unfinished, unfinished, first_of, group_value, outside, build_step};
 
 use crate::shape::{Data, Serialize};
 use crate::visit::{Group, Leaf, Visitor};
 use std::alloc::{AllocError, Allocator};
+use std::mem;
 
-// The values so far of each group that isn't ended, the outermost first.
+// The values so far of the innermost group that isn't ended, and of each group around it, the
+// outermost first.
 #[derive(Drop)]
 pub struct Builder<A: Allocator> {
     alloc: A,
-    groups: Vec<Vec<Data<A>, A>, A>,
+    values: Vec<Data<A>, A>,
+    around: Vec<Vec<Data<A>, A>, A>,
 }
 
 // The data that stands for a value.
@@ -25,14 +28,11 @@ pub fn data_of<A: Allocator + Copy, T: Serialize>(
 {
     let mut builder = Builder {
         alloc,
-        groups: Vec::new(alloc),
+        values: Vec::new(alloc),
+        around: Vec::new(alloc),
     };
-    builder.groups.push(Vec::new(alloc))?;
     value.visit(&mut builder)?;
-    match builder.groups.pop() {
-        Some(values) => Ok(first(values)),
-        None => Err(AllocError),
-    }
+    Ok(first(builder.values))
 }
 
 // The first of these values, none where there is none.
@@ -100,16 +100,16 @@ fn group_data<A: Allocator>(
     }
 }
 
-impl<A: Allocator> Builder<A> {
-    // A value behind those of the innermost group.
-    fn append(&mut self, value: Data<A>) -> Result<(), AllocError>
-        ensures { OnOk result (unfinished self.new ≡ appended (view value) (unfinished self.old)) }
+impl<A: Allocator + Copy> Builder<A> {
+    // The values of the innermost group. The group around it is the innermost then.
+    fn leave(&mut self) -> Vec<Data<A>, A>
+        ensures values { map view result.items ≡ map view self.old.values.items }
+        ensures around { unfinished self.new ≡ outside (unfinished self.old).around }
     {
-        let Some(mut values) = self.groups.pop() else {
-            return Err(AllocError);
-        };
-        values.push(value)?;
-        Ok(self.groups.push(values)?)
+        match self.around.pop() {
+            Some(outer) => mem::replace(&mut self.values, outer),
+            None => mem::replace(&mut self.values, Vec::new(self.alloc)),
+        }
     }
 }
 
@@ -124,18 +124,17 @@ impl<A: Allocator + Copy> Visitor for Builder<A> {
 
     fn leaf(&mut self, leaf: Leaf<'_>) -> Result<(), AllocError> {
         let value = leaf_data(self.alloc, leaf)?;
-        self.append(value)
+        Ok(self.values.push(value)?)
     }
 
     fn begin(&mut self, _group: Group) -> Result<(), AllocError> {
-        Ok(self.groups.push(Vec::new(self.alloc))?)
+        let values = mem::replace(&mut self.values, Vec::new(self.alloc));
+        Ok(self.around.push(values)?)
     }
 
     fn end(&mut self, group: Group) -> Result<(), AllocError> {
-        let Some(values) = self.groups.pop() else {
-            return Err(AllocError);
-        };
+        let values = self.leave();
         let value = group_data(self.alloc, group, values)?;
-        self.append(value)
+        Ok(self.values.push(value)?)
     }
 }

@@ -152,7 +152,7 @@ into_group (a_newtype name) g = into_newtype (transparent_name name) name g
 into_group (a_newtype_variant name vname) g = into_variant (is_wrapper vname) name g
 into_group (a_tuple_variant name vname) g = into (take_tag g.held (without_override name)) (without_override name) g
 
--- out of a structure, whose length is noted
+-- out of a structure, whose length is noted; where none was entered nothing changes
 abbrev pub out_of : List Open → Going → Result Going Halt
 out_of [] g = Ok g
 out_of (o ∷ os) g =

@@ -209,52 +209,47 @@ impl<A: Allocator> Measurer<A> {
 
     /// Out of a structure, whose length is noted.
     #[inline(always)]
-    fn leave(&mut self) -> Result<(), AllocError>
+    fn leave(&mut self)
         requires { self.old.refusal ≡ SpecNone }
-        ensures { OnOk result (known self.new ≡ out_of (reverse self.old.nest.items) (going self.old)) }
+        ensures { known self.new ≡ out_of (reverse self.old.nest.items) (going self.old) }
     {
         let Some(Open { at, start }) = self.nest.pop() else {
-            return Err(AllocError);
+            return;
         };
-        if at >= self.sizes.len() {
-            return Err(AllocError);
-        }
         match u32::try_from(self.place.offset.saturating_sub(start)) {
             Ok(len) => {
-                self.sizes[at] = len;
+                if at < self.sizes.len() {
+                    self.sizes[at] = len;
+                }
                 self.held = Held::Nothing;
             }
             Err(_) => self.refusal = Some(Refusal::LengthOverflow),
         }
-        Ok(())
     }
 
     /// Out of a newtype.
     #[inline(always)]
-    fn leave_newtype(&mut self, name: &'static str) -> Result<(), AllocError>
+    fn leave_newtype(&mut self, name: &'static str)
         requires { self.old.refusal ≡ SpecNone }
-        ensures { OnOk result (known self.new ≡ out_of_newtype (transparent_name name.now) (going self.old)) }
+        ensures { known self.new ≡ out_of_newtype (transparent_name name.now) (going self.old) }
     {
         match transparent_name(name) {
             None => self.leave(),
-            Some(_) => {
-                self.unwrap();
-                Ok(())
-            }
+            Some(_) => self.unwrap(),
         }
     }
 
     /// Out of a newtype variant.
     #[inline(always)]
-    fn leave_variant(&mut self, variant: &'static str) -> Result<(), AllocError>
+    fn leave_variant(&mut self, variant: &'static str)
         requires { self.old.refusal ≡ SpecNone }
-        ensures { OnOk result (known self.new ≡ out_of_variant (is_wrapper variant.now) (going self.old)) }
+        ensures { known self.new ≡ out_of_variant (is_wrapper variant.now) (going self.old) }
     {
-        if !is_wrapper(variant) {
-            return self.leave();
+        if is_wrapper(variant) {
+            self.unwrap();
+        } else {
+            self.leave();
         }
-        self.unwrap();
-        Ok(())
     }
 }
 
@@ -316,13 +311,14 @@ impl<A: Allocator> Visitor for Measurer<A> {
             return Ok(());
         }
         match group {
-            Group::Some => Ok(()),
-            Group::Seq => Ok(()),
+            Group::Some => {}
+            Group::Seq => {}
             Group::Struct { .. } => self.leave(),
             Group::Newtype { name } => self.leave_newtype(name),
             Group::NewtypeVariant { name: _, variant } => self.leave_variant(variant),
             Group::TupleVariant { .. } => self.leave(),
         }
+        Ok(())
     }
 }
 
