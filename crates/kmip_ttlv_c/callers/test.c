@@ -76,18 +76,27 @@ static const char LINES[] = "Tag: Protocol Version (0x420069), Type: Structure (
 enum { TO_DIAG, TO_TEXT, TO_STANDARD_TEXT, FROM_DIAG, GET_VERSION, CALLS };
 static const char *const TEXTS[CALLS] = {DIAGNOSTIC, TEXT, STANDARD_TEXT, LINES, KMIP_TTLV_VERSION};
 
+/* The status of a call whose table of names has no bad line, which is what it has to tell. */
+static kmip_ttlv_status without_bad_line(kmip_ttlv_status status, size_t bad_line) {
+    HOLD(bad_line == 0);
+    return status;
+}
+
 static kmip_ttlv_status call(int which, uint8_t *out, size_t room, size_t *length) {
     size_t other = 99;
+    kmip_ttlv_status status;
     switch (which) {
     case TO_DIAG:
         return kmip_ttlv_to_diag(VERSION, sizeof VERSION, PREFIX, 4, false, out, room, length, &other);
     case TO_TEXT:
-        return kmip_ttlv_to_text(VERSION, sizeof VERSION, NAMES, sizeof NAMES - 1, false, out, room, length, &other);
+        status = kmip_ttlv_to_text(VERSION, sizeof VERSION, NAMES, sizeof NAMES - 1, false, out, room, length, &other);
+        return without_bad_line(status, other);
     case TO_STANDARD_TEXT:
         return kmip_ttlv_to_standard_text(VERSION, sizeof VERSION, false, out, room, length);
     case FROM_DIAG:
-        return kmip_ttlv_from_diag((const uint8_t *)DIAGNOSTIC, sizeof DIAGNOSTIC - 1, PREFIX, 4, NAMES, sizeof NAMES - 1,
-                                   out, room, length, &other);
+        status = kmip_ttlv_from_diag((const uint8_t *)DIAGNOSTIC, sizeof DIAGNOSTIC - 1, PREFIX, 4, NAMES, sizeof NAMES - 1,
+                                     out, room, length, &other);
+        return without_bad_line(status, other);
     default:
         return kmip_ttlv_version(out, room, length);
     }
@@ -147,7 +156,9 @@ static void refusals(void) {
     static const uint8_t names[] = "42006A Major\n\nMinor";
     HOLD(kmip_ttlv_to_text(VERSION, 40, names, sizeof names - 1, false, out, 64, &length, &line) == KMIP_TTLV_BAD_NAMES);
     HOLD(length == 0 && line == 3);
-    HOLD(kmip_ttlv_from_diag(bad, 1, bad, 0, bad, 0, out, 64, &length, &line) == KMIP_TTLV_NOT_UTF8);
+    HOLD(kmip_ttlv_from_diag(bad, 1, bad, 0, bad, 0, out, 64, &length, &line) == KMIP_TTLV_NOT_UTF8 && line == 0);
+    HOLD(kmip_ttlv_from_diag(PREFIX, 4, PREFIX, 4, names, sizeof names - 1, out, 64, &length, &line) == KMIP_TTLV_BAD_NAMES);
+    HOLD(length == 0 && line == 3);
 }
 
 static void walks(void) {

@@ -2,6 +2,7 @@
 
     KMIP_TTLV_LIBRARY=PATH python3 test.py
 """
+import ctypes
 import random
 import unittest
 
@@ -62,6 +63,18 @@ class Walks(unittest.TestCase):
         with self.assertRaises(kmip_ttlv.BadNames) as refused:
             kmip_ttlv.to_text(VERSION, "42006A Major\nMinor\n")
         self.assertEqual(refused.exception.line, 2)
+
+    def test_bad_lines(self):
+        rows = ((NAMES, 1024, kmip_ttlv.OK, 0), (NAMES, 0, kmip_ttlv.NO_ROOM, 0), ("\nMajor", 1024, kmip_ttlv.BAD_NAMES, 2))
+        for names, room, status, line in rows:
+            lent = (names.encode(), len(names))
+            for call in (
+                lambda *out: kmip_ttlv._to_text(VERSION, len(VERSION), *lent, False, *out),
+                lambda *out: kmip_ttlv._from_diag(b"69[]", 4, b"4200", 4, *lent, *out),
+            ):
+                out, length, told = ctypes.create_string_buffer(1024), ctypes.c_size_t(9), ctypes.c_size_t(9)
+                self.assertEqual(call(out, room, ctypes.byref(length), ctypes.byref(told)), status)
+                self.assertEqual(told.value, line)
 
     def test_hostile_bytes(self):
         chance = random.Random(20251123)

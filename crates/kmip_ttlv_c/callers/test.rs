@@ -24,12 +24,18 @@ pub struct Fault {
 const OK: u32 = 0;
 const NO_ROOM: u32 = 3;
 const MALFORMED: u32 = 4;
+const BAD_NAMES: u32 = 5;
 
 extern "C" {
     fn kmip_ttlv_to_diag(bytes: *const c_uchar, bytes_len: usize, prefix: *const c_uchar, prefix_len: usize, closed: bool,
         out: *mut c_uchar, room: usize, length: *mut usize, items: *mut usize) -> u32;
     fn kmip_ttlv_to_standard_text(bytes: *const c_uchar, bytes_len: usize, closed: bool, out: *mut c_uchar, room: usize,
         length: *mut usize) -> u32;
+    fn kmip_ttlv_to_text(bytes: *const c_uchar, bytes_len: usize, names: *const c_uchar, names_len: usize, closed: bool,
+        out: *mut c_uchar, room: usize, length: *mut usize, bad_line: *mut usize) -> u32;
+    fn kmip_ttlv_from_diag(diagnostic: *const c_uchar, diagnostic_len: usize, prefix: *const c_uchar, prefix_len: usize,
+        names: *const c_uchar, names_len: usize, out: *mut c_uchar, room: usize, length: *mut usize,
+        bad_line: *mut usize) -> u32;
     fn kmip_ttlv_items(bytes: *const c_uchar, bytes_len: usize, items: *mut Item, room: usize, count: *mut usize,
         fault: *mut Fault) -> u32;
     fn kmip_ttlv_check(bytes: *const c_uchar, bytes_len: usize, fault: *mut Fault) -> u32;
@@ -65,6 +71,26 @@ pub fn to_text(bytes: &[u8]) -> Result<String, u32> {
     })
 }
 
+/// The same with the names of a table, and the number of its line that can't be read, 0 where each can.
+pub fn to_text_named(bytes: &[u8], names: &str) -> (Result<String, u32>, usize) {
+    let mut line = usize::MAX;
+    let text = text(|out, length| unsafe {
+        kmip_ttlv_to_text(bytes.as_ptr(), bytes.len(), names.as_ptr(), names.len(), false, out.as_mut_ptr(), out.len(),
+            length, &mut line)
+    });
+    (text, line)
+}
+
+/// A diagnostic read back as lines, with the names of a table, and the number of its line as above.
+pub fn from_diag(diagnostic: &str, prefix: &str, names: &str) -> (Result<String, u32>, usize) {
+    let mut line = usize::MAX;
+    let text = text(|out, length| unsafe {
+        kmip_ttlv_from_diag(diagnostic.as_ptr(), diagnostic.len(), prefix.as_ptr(), prefix.len(), names.as_ptr(),
+            names.len(), out.as_mut_ptr(), out.len(), length, &mut line)
+    });
+    (text, line)
+}
+
 /// The items of a message, or its first fault.
 pub fn items(bytes: &[u8]) -> Result<Vec<Item>, Fault> {
     let mut items = vec![Item::default(); bytes.len() / 8 + 1];
@@ -88,6 +114,14 @@ fn main() {
     let message: Vec<u8> = (0..digits.len()).step_by(2).map(|at| u8::from_str_radix(&digits[at..at + 2], 16).unwrap()).collect();
     assert_eq!(to_diag(&message, "4200", false).as_deref(), Ok("69[6Ai6Bi]"));
     assert!(to_text(&message).unwrap().contains("Tag: Protocol Version Major (0x42006A), Type: Integer (0x02), Data: 0x000001 (1)\n"));
+    let (lines, line) = to_text_named(&[0x42, 0, 0x69, 1, 0, 0, 0, 0], "420069 Version");
+    assert_eq!(lines.as_deref(), Ok("Tag: Version (0x420069), Type: Structure (0x01), Data:\n"));
+    assert_eq!(line, 0);
+    let (lines, line) = from_diag("6Ai", "4200", "42006A Major");
+    assert_eq!(lines.as_deref(), Ok("Tag: Major (0x42006A), Type: Integer (0x02), Data: <redacted>"));
+    assert_eq!(line, 0);
+    assert_eq!(to_text_named(&message, "\nMajor"), (Err(BAD_NAMES), 2));
+    assert_eq!(from_diag("6Ai", "4200", "\nMajor"), (Err(BAD_NAMES), 2));
     let found = items(&message).unwrap();
     assert_eq!(found.len(), 3);
     assert_eq!(found[2], Item { offset: 24, depth: 1, tag: 0x42006B, typ: 2, length: 4 });

@@ -106,8 +106,10 @@ kmip_ttlv_status kmip_ttlv_to_diag(const uint8_t *bytes, size_t bytes_len, const
  * `names` is a table of names of tags: a line for each, with the tag's hexadecimal digits, a space and its name. Empty
  * lines and those that begin with '#' say nothing; of two lines for one tag the later counts. An empty table has no names.
  *
- * NOT_UTF8: the table. BAD_NAMES: a line of the table is none of these, `*bad_line` is its number, counted from 1; in every
- * other case `*bad_line` is 0. NO_ROOM: `out`. OUT_OF_MEMORY. */
+ * `*bad_line` is 0 with every status but BAD_NAMES: OK and NO_ROOM too.
+ *
+ * NOT_UTF8: the table. BAD_NAMES: a line of the table is none of these, and `*bad_line` is its number, counted from 1.
+ * NO_ROOM: `out`. OUT_OF_MEMORY. */
 kmip_ttlv_status kmip_ttlv_to_text(const uint8_t *bytes, size_t bytes_len, const uint8_t *names, size_t names_len,
                                    bool closed, uint8_t *out, size_t room, size_t *length, size_t *bad_line);
 

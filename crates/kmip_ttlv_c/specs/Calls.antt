@@ -28,9 +28,10 @@ pub record IsReadable (names : ℕ → Option (List ℕ)) (closed : Bool) (bytes
   pub printed : IsPrinted names closed bytes text
   pub pretty : IsPretty names closed bytes text
 
--- the same with the names of a table
-pub record IsNamedText (table : List ℕ) (closed : Bool) (bytes text : List ℕ) : Type 0 where
+-- the same with the names of a table, of which no line is told as bad
+pub record IsNamedText (table : List ℕ) (closed : Bool) (bytes : List ℕ) (line : ℕ) (text : List ℕ) : Type 0 where
   pub table_is : IsTable table
+  pub no_line : line ≡ 0
   pub readable : IsReadable (names_of table) closed bytes text
 
 -- the text is what a diagnostic under a prefix is read back as
@@ -39,9 +40,10 @@ pub record IsReadBackAs (names : ℕ → Option (List ℕ)) (prefix diagnostic t
   pub longest : ReadsLongest names prefix diagnostic text
   pub redacted : IsReadBack names prefix diagnostic text
 
--- the same with the names of a table
-pub record IsReadLines (table prefix diagnostic text : List ℕ) : Type 0 where
+-- the same with the names of a table, of which no line is told as bad
+pub record IsReadLines (table prefix diagnostic : List ℕ) (line : ℕ) (text : List ℕ) : Type 0 where
   pub table_is : IsTable table
+  pub no_line : line ≡ 0
   pub prefix_is : IsUtf8 prefix
   pub diagnostic_is : IsUtf8 diagnostic
   pub lines : IsReadBackAs (names_of table) prefix diagnostic text

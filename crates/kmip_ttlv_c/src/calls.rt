@@ -90,7 +90,7 @@ pub extern "C" fn kmip_ttlv_to_text(
     length: &mut usize,
     bad_line: &mut usize,
 ) -> u32
-    ensures { AnswersText (IsNamedText names.now closed bytes.now) (NamesRefused names.now bad_line.new) result length.new out.old out.new }
+    ensures { AnswersText (IsNamedText names.now closed bytes.now bad_line.new) (NamesRefused names.now bad_line.new) result length.new out.old out.new }
 {
     *length = 0;
     let names = match names_in(alloc, names, bad_line) {
@@ -135,7 +135,7 @@ pub extern "C" fn kmip_ttlv_from_diag(
     length: &mut usize,
     bad_line: &mut usize,
 ) -> u32
-    ensures { AnswersText (IsReadLines names.now prefix.now diagnostic.now) (ReadingRefused diagnostic.now prefix.now names.now bad_line.new) result length.new out.old out.new }
+    ensures { AnswersText (IsReadLines names.now prefix.now diagnostic.now bad_line.new) (ReadingRefused diagnostic.now prefix.now names.now bad_line.new) result length.new out.old out.new }
 {
     *length = 0;
     *bad_line = 0;

@@ -12,6 +12,7 @@ returns c =
     offers text
     record {
       table_is = c.in-Ok-names_in.ensures.good;
+      no_line = c.in-Ok-names_in.ensures.line;
       prefix_is = c.in-Ok-from_utf8.ensures.cases.1;
       diagnostic_is = c.in-Ok.ensures.cases.1;
       lines = subst (λ (names : ℕ → Option (List ℕ)). IsReadBackAs names c.args.prefix.now c.args.diagnostic.now text) c.in-Ok-names_in.ensures.names
