@@ -3,6 +3,8 @@
 #![tactic(auto)]
 
 #[cfg(test)]
+mod faults_order;
+#[cfg(test)]
 mod names;
 #[cfg(test)]
 mod walks;

@@ -118,8 +118,8 @@ module _ (w : List ℕ) (p e : ℕ) (es : List ℕ) (found all : List FoundItem)
       against PartialHeader wrong typ is fits has valid = omega (arith, wrong, size_least typ (length_at w p))
       against UnknownType wrong typ is fits has valid = let k = wrong.1 in cc
       against WrongLength wrong typ is fits has valid = let t : wrong.0 ≡ typ = let k = wrong.1.typ in cc in let k = wrong.2 in let m = ap (λ (u : TtlvType). has_length (fixed_length u) (length_at w p)) t in cc
-      against Overlong wrong typ is fits has valid = let t : wrong.0 ≡ typ = let k = wrong.1.typ in cc in let m : size wrong.0 (length_at w p) ≡ size typ (length_at w p) = ap (λ (u : TtlvType). size u (length_at w p)) t in omega (arith, wrong.2)
-      against InvalidValue wrong typ is fits has valid = let t : wrong.0 ≡ typ = let k = wrong.1.typ in cc in let v = valid (λ s. wrong.2 (t ∙ s)) in let k = wrong.3 in let m = ap (λ (u : TtlvType). is_valid u (content_at w p)) t in cc
+      against Overlong wrong typ is fits has valid = let t : wrong.0 ≡ typ = let k = wrong.1.typ in cc in let m : size wrong.0 (length_at w p) ≡ size typ (length_at w p) = ap (λ (u : TtlvType). size u (length_at w p)) t in omega (arith, wrong.3)
+      against InvalidValue wrong typ is fits has valid = let t : wrong.0 ≡ typ = let k = wrong.1.typ in cc in let v = valid (λ s. wrong.4 (t ∙ s)) in let k = wrong.5 in let m = ap (λ (u : TtlvType). is_valid u (content_at w p)) t in cc
       against Cut wrong typ is fits has valid = wrong
       against NoStructure wrong typ is fits has valid = wrong
       against Surplus wrong typ is fits has valid = wrong

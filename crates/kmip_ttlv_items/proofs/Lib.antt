@@ -3,3 +3,4 @@ pub mod Leads
 pub mod Lefts
 pub mod Steps
 pub mod Ends
+pub mod Names

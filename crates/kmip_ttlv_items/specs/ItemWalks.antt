@@ -42,15 +42,22 @@ pub record HasType (bytes : List ℕ) (p e : ℕ) (t : TtlvType) : Type 0 where
   pub there : p + 8 ≤ e
   pub typ : type_at bytes p ≡ Some t
 
--- what is wrong with the item that is due at a place within a structure that ends there
+-- a length that a value of this type may have
+abbrev pub IsLengthOf : TtlvType → ℕ → Type 0
+IsLengthOf t n = has_length (fixed_length t) n ≡ true
+
+-- what is wrong with the item that is due at a place within a structure that ends there: each name is for what no
+-- name above it is for
 abbrev pub Misfits : List ℕ → ℕ → ℕ → FaultKind → Type 0
 Misfits bytes p e PartialHeader = e < p + 8
 Misfits bytes p e UnknownType = (p + 8 ≤ e) × (type_at bytes p ≡ None)
 Misfits bytes p e WrongLength =
     (t : TtlvType) × HasType bytes p e t × (has_length (fixed_length t) (length_at bytes p) ≡ false)
-Misfits bytes p e Overlong = (t : TtlvType) × HasType bytes p e t × (e < p + size t (length_at bytes p))
+Misfits bytes p e Overlong =
+    (t : TtlvType) × HasType bytes p e t × IsLengthOf t (length_at bytes p) × (e < p + size t (length_at bytes p))
 Misfits bytes p e InvalidValue =
-    (t : TtlvType) × HasType bytes p e t × (t ≢ Structure) × (is_valid t (content_at bytes p) ≡ false)
+    (t : TtlvType) × HasType bytes p e t × IsLengthOf t (length_at bytes p) × (p + size t (length_at bytes p) ≤ e)
+    × (t ≢ Structure) × (is_valid t (content_at bytes p) ≡ false)
 Misfits bytes p e _ = ⊥
 
 -- what is wrong with the root
@@ -113,3 +120,7 @@ pub record Finds {T : Type 0} (keep : FoundItem → T) (bytes : List ℕ) (old n
 pub record Judges (bytes : List ℕ) (fault : Option Fault) : Type 0 where
   pub found : List FoundItem
   pub ended : Ended bytes found fault
+
+-- what is wrong has one name
+abbrev pub HasOneName : (FaultKind → Type 0) → Type 0
+HasOneName is_wrong = (k m : FaultKind) → is_wrong k → is_wrong m → k ≡ m

@@ -8,6 +8,7 @@
 
 mod found;
 mod head;
+pub mod laws;
 mod walk;
 
 pub use found::{Fault, FaultKind, FoundItem, KeepItem, WalkEnd};
