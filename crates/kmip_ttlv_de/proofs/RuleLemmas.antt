@@ -4,7 +4,7 @@ use Rattle.std.specs.List.{last_or, list_any, slice_split}
 use Rattle.std.specs.Str.{bytes_eq, trim}
 use Rattle.std.specs.Ordering.{is_eq, nat_cmp}
 use Rattle.std.specs.BTreeMap.{BTreeMap, get, is_at}
-use Rattle.kmip_ttlv_de.specs.Keeps.{Keep, HoldsLast, last}
+use Rattle.kmip_ttlv_de.specs.Keeps.{Keep, HoldsLast, last, with_number}
 use Rattle.kmip_ttlv_types.specs.Names.{tag_of}
 use Rattle.kmip_ttlv_de.specs.Rules.{in_brackets, member, says}
 
@@ -27,11 +27,11 @@ pub is_eq-nat_cmp : (a b : ℕ) → is_eq (nat_cmp a b) ≡ (a == b)
 is_eq-nat_cmp a b = search rules
 
 -- where a text takes the place of the one that was held under its tag, the last of each tag is held again
-pub holds_more : {R : Type 0} (now : R → List ℕ) (m n : BTreeMap ℕ R) (ks : List Keep) (x : Keep) (r : R) → now r ≡ x.text → HoldsLast (λ t. option_map now (get nat_cmp m t)) ks → ((q : ℕ) → get nat_cmp n q ≡ cond (is_at (nat_cmp x.tag) q) (Some r) (get nat_cmp m q)) → HoldsLast (λ t. option_map now (get nat_cmp n t)) (ks ++ x ∷ [])
+pub holds_more : {R : Type 0} (now : R → List ℕ × Option ℕ) (m n : BTreeMap ℕ R) (ks : List Keep) (x : Keep) (r : R) → now r ≡ with_number x.text → HoldsLast (λ t. option_map now (get nat_cmp m t)) ks → ((q : ℕ) → get nat_cmp n q ≡ cond (is_at (nat_cmp x.tag) q) (Some r) (get nat_cmp m q)) → HoldsLast (λ t. option_map now (get nat_cmp n t)) (ks ++ x ∷ [])
 holds_more now m n ks x r text held updated t =
     ap (option_map now) (updated t ∙ ap (λ b. cond b (Some r) (get nat_cmp m t)) (is_eq-nat_cmp x.tag t))
-    ∙ elim (x.tag == t) as (λ b. option_map now (cond b (Some r) (get nat_cmp m t)) ≡ cond b (Some x.text) (last ks t)) [ true ↦ ap Some text | false ↦ held t ]
-    ∙ sym (last_more ks x t)
+    ∙ elim (x.tag == t) as (λ b. option_map now (cond b (Some r) (get nat_cmp m t)) ≡ option_map with_number (cond b (Some x.text) (last ks t))) [ true ↦ ap Some text | false ↦ held t ]
+    ∙ ap (option_map with_number) (sym (last_more ks x t))
 
 -- what `in` says, where there are brackets, a tag and a text kept under it
 pub member_said : (ks : List Keep) (l x all : List ℕ) (t : ℕ) (text : List ℕ) → Some all ≡ in_brackets x → Some t ≡ tag_of l → Some text ≡ last ks t → says (list_any (λ m. bytes_eq (trim m) text) (slice_split (λ c. c == 44) all)) ≡ member ks l x

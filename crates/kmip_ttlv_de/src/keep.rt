@@ -1,24 +1,69 @@
 //! The texts that were read, and the numbers that chose a variant: what the rules of later
 //! variants see. Of each tag the last text alone is held, in an ordered map, so that a rule finds
-//! it in a few steps however many texts there were, and whatever tags their sender chose.
+//! it in a few steps however many texts there were, and whatever tags their sender chose. Beside a
+//! text lies the number that it is, so that a long one is parsed once, however many rules ask for
+//! its number.
 
-ghost use Rattle.std.specs.Prelude.{◌≡◌, ◌++◌, ◌∷◌, [], IfOk, string_bytes};
+ghost use Rattle.std.specs.Prelude.{◌≡◌, ◌++◌, ◌∷◌, [], IfOk, option_map, string_bytes};
 ghost use Rattle.std.specs.Option.{option_copied};
-ghost use Rattle.kmip_ttlv_de.specs.Keeps.{Keep, last};
+ghost use Rattle.kmip_ttlv_de.specs.HeldTexts.{text_of, held_of};
+ghost use Rattle.kmip_ttlv_de.specs.Keeps.{Keep, last, with_number};
 
 use crate::history::{History, Kept};
-use kmip_ttlv_base::types::TtlvTag;
+use kmip_ttlv_base::types::{TtlvTag, number};
 use std::alloc::{AllocError, Allocator, Global};
 use std::collections::BTreeMap;
 use std::marker::Model;
 
-/// A text that is held.
+/// Where a text lies.
 #[derive(Drop)]
-pub enum HeldText<'b, A: Allocator = Global> {
+pub enum TextPlace<'b, A: Allocator = Global> {
     /// Lent, from the message or from the name of a variant.
     Lent(&'b str),
     /// The text of a number that no variant has as its name.
     Own(String<A>),
+}
+
+/// A text that is held, and the number that it is, if it is one.
+#[derive(Drop)]
+pub struct HeldText<'b, A: Allocator = Global> {
+    place: TextPlace<'b, A>,
+    number: Option<u32>,
+}
+
+impl<'b, A: Allocator> HeldText<'b, A> {
+    // A text that is lent.
+    #[inline(always)]
+    fn lent(text: &'b str) -> HeldText<'b, A>
+        ensures { held_of result ≡ with_number text.now }
+    {
+        HeldText {
+            place: TextPlace::Lent(text),
+            number: number(text),
+        }
+    }
+
+    // A text of its own.
+    fn own(text: String<A>) -> HeldText<'b, A>
+        ensures { held_of result ≡ with_number (string_bytes text) }
+    {
+        let number = number(text.as_str());
+        HeldText {
+            place: TextPlace::Own(text),
+            number,
+        }
+    }
+
+    // The text.
+    #[inline(always)]
+    fn text(&self) -> &str
+        ensures { result.now ≡ text_of self.now }
+    {
+        match &self.place {
+            TextPlace::Lent(text) => *text,
+            TextPlace::Own(text) => text.as_str(),
+        }
+    }
 }
 
 /// The texts that were kept. Contracts see all of them, as a list; held is the last one of each
@@ -36,7 +81,7 @@ impl<'b, A: Allocator> Model for KeptTexts<'b, A> {
     ghost use Rattle.std.specs.Ordering.{nat_cmp};
     ghost use Rattle.std.specs.BTreeMap.{get};
     ghost use Rattle.kmip_ttlv_de.specs.Keeps.{Keep, HoldsLast, keeps_code};
-    ghost use Rattle.kmip_ttlv_de.specs.HeldTexts.{text_of};
+    ghost use Rattle.kmip_ttlv_de.specs.HeldTexts.{held_of};
 
     ghost Value = { List Keep };
 
@@ -44,7 +89,7 @@ impl<'b, A: Allocator> Model for KeptTexts<'b, A> {
 
     ghost view = { λ k. k.all.listed };
 
-    ghost invariant = { λ k. HoldsLast (λ t. option_map text_of (get nat_cmp k.newest t)) k.all.listed };
+    ghost invariant = { λ k. HoldsLast (λ t. option_map held_of (get nat_cmp k.newest t)) k.all.listed };
 }
 
 impl<'b, A: Allocator + Copy> KeptTexts<'b, A> {
@@ -66,7 +111,7 @@ impl<'b, A: Allocator + Copy> KeptTexts<'b, A> {
         ensures { IfOk result (λ _. self.new ≡ self.old ++ record { tag = tag; text = text.now } ∷ []) }
     {
         let KeptTexts { newest, all, .. } = self;
-        newest.insert(*tag, HeldText::Lent(text))?;
+        newest.insert(*tag, HeldText::lent(text))?;
         *all = all.and(&Kept { tag, text });
         Ok(())
     }
@@ -80,7 +125,7 @@ impl<'b, A: Allocator + Copy> KeptTexts<'b, A> {
             tag,
             text: text.as_str(),
         });
-        newest.insert(*tag, HeldText::Own(text))?;
+        newest.insert(*tag, HeldText::own(text))?;
         *all = listed;
         Ok(())
     }
@@ -91,8 +136,18 @@ impl<'b, A: Allocator + Copy> KeptTexts<'b, A> {
         ensures { option_copied result ≡ last self.now tag }
     {
         match self.newest.get(&*tag) {
-            Some(HeldText::Lent(text)) => Some(*text),
-            Some(HeldText::Own(text)) => Some(text.as_str()),
+            Some(held) => Some(held.text()),
+            None => None,
+        }
+    }
+
+    /// The last text that was kept under a tag, and the number that it is, if it is one. The text is
+    /// not parsed for it.
+    pub fn last_with_number(&self, tag: TtlvTag) -> Option<(&str, Option<u32>)>
+        ensures { option_map (λ x. (x.0.now, x.1)) result ≡ option_map with_number (last self.now tag) }
+    {
+        match self.newest.get(&*tag) {
+            Some(held) => Some((held.text(), held.number)),
             None => None,
         }
     }

@@ -167,10 +167,10 @@ fn at_least<'n, 'b, A: Allocator + Copy>(
     let Some(tag) = TtlvTag::from_name(left) else {
         return Verdict::Refused(RuleError::InvalidTag(left));
     };
-    let Some(text) = kept.last(tag) else {
+    let Some((text, seen)) = kept.last_with_number(tag) else {
         return Verdict::Fails;
     };
-    let Some(seen) = number(text) else {
+    let Some(seen) = seen else {
         return Verdict::Refused(RuleError::InvalidTag(text));
     };
     let Some(wanted) = number(right) else {
