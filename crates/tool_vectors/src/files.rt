@@ -33,6 +33,8 @@ struct Folder;
 impl Opener for Folder {
     type Input = Held;
 
+    ghost opens = { λ _ _ _ _. Unit {0} };
+
     fn open(&mut self, name: &str) -> Option<Held> {
         let (bytes, fails) = match name {
             "whole" => (VERSION.as_bytes(), false),

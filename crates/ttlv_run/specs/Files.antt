@@ -1,7 +1,7 @@
 -- What is done with several inputs, one after the other.
 use Rattle.std.specs.Borrow.{Bor}
 use Rattle.std.specs.Prelude.{◌≡◌, ◌≢◌, ◌⊎◌, ℕ, ◌≤◌, List, [], ◌∷◌, ◌++◌, length, take, nat_lt, if◌then◌else◌}
-use Rattle.std.specs.Prelude.{Option, None}
+use Rattle.std.specs.Prelude.{Option, Some, None}
 use Rattle.std.specs.Io.KnownBytes.{Keeps}
 use Rattle.kmip_ttlv_types.specs.Streams.{AppendsFront}
 use Rattle.ttlv_run.specs.declared.job.Asked.{Asked}
@@ -38,21 +38,36 @@ IsDone names (Print task encoding) name s errors errors_now status =
 IsDone names (ReadBack prefix) name s errors errors_now status =
     BackDone names (record { name = name; prefix = prefix }) s errors errors_now status
 
--- with a file: it was opened, and what was asked is done with its bytes; or this is told
+-- what opens inputs, and what the output and the errors hold, as far as that is known
+pub record At (O : Type 0) : Type 0 where
+  pub opener : O
+  pub output : Option (List ℕ)
+  pub errors : Option (List ℕ)
+
+-- how inputs are opened, and what they have
+pub record Opening (O I : Type 0) : Type 1 where
+  pub opens : O → List ℕ → Option I → O → Type 0
+  pub remaining : I → Option (List ℕ)
+
+-- with a file: the input of its name was opened, and what was asked is done with its bytes; or it could not be opened,
+-- and this is told
 pub data FileDone
-    (names : Names) (asked : Asked) (name : Bor (List ℕ)) (output output_now errors errors_now : Option (List ℕ))
+    {O I : Type 0} (how : Opening O I) (names : Names) (asked : Asked) (name : Bor (List ℕ)) (old new : At O)
     (status : ℕ) : Type 0 where
   opened :
-      (s : Streams)
-      → s.output ≡ output
-      → s.output_now ≡ output_now
-      → IsDone names asked name s errors errors_now status
-      → FileDone names asked name output output_now errors errors_now status
+      (input : I) (s : Streams)
+      → how.opens old.opener name.now (Some input) new.opener
+      → s.input ≡ how.remaining input
+      → s.output ≡ old.output
+      → s.output_now ≡ new.output
+      → IsDone names asked name s old.errors new.errors status
+      → FileDone how names asked name old new status
   unopened :
-      status ≡ 2
-      → Keeps output output_now
-      → AppendsFront errors errors_now (refusal_line name.now UnopenedInput)
-      → FileDone names asked name output output_now errors errors_now status
+      how.opens old.opener name.now None new.opener
+      → status ≡ 2
+      → Keeps old.output new.output
+      → AppendsFront old.errors new.errors (refusal_line name.now UnopenedInput)
+      → FileDone how names asked name old new status
 
 -- the greater of two statuses
 abbrev pub greater : ℕ → ℕ → ℕ
@@ -60,24 +75,23 @@ greater a b = if nat_lt a b then b else a
 
 -- with some files, one after the other, none of which ended with status 3 but the last; and the greatest of their
 -- statuses
-pub data AllDone (names : Names) (asked : Asked) (output errors : Option (List ℕ)) :
-    List (Bor (List ℕ)) → Option (List ℕ) → Option (List ℕ) → ℕ → Type 0 where
-  no_file : AllDone names asked output errors [] output errors 0
+pub data AllDone {O I : Type 0} (how : Opening O I) (names : Names) (asked : Asked) (start : At O) :
+    List (Bor (List ℕ)) → At O → ℕ → Type 0 where
+  no_file : AllDone how names asked start [] start 0
   one_more :
-      (files more : List (Bor (List ℕ))) (name : Bor (List ℕ))
-      (output_then output_now errors_then errors_now : Option (List ℕ)) (before status greatest : ℕ)
-      → AllDone names asked output errors files output_then errors_then before
+      (files more : List (Bor (List ℕ))) (name : Bor (List ℕ)) (then_ now : At O) (before status greatest : ℕ)
+      → AllDone how names asked start files then_ before
       → before ≢ 3
-      → FileDone names asked name output_then output_now errors_then errors_now status
+      → FileDone how names asked name then_ now status
       → more ≡ files ++ (name ∷ [])
       → greatest ≡ greater before status
-      → AllDone names asked output errors more output_now errors_now greatest
+      → AllDone how names asked start more now greatest
 
 -- with all files, or with those up to the first that ended with status 3
 pub record FilesDone
-    (names : Names) (asked : Asked) (files : List (Bor (List ℕ)))
-    (output output_now errors errors_now : Option (List ℕ)) (greatest : ℕ) : Type 0 where
+    {O I : Type 0} (how : Opening O I) (names : Names) (asked : Asked) (files : List (Bor (List ℕ)))
+    (old new : At O) (greatest : ℕ) : Type 0 where
   pub count : ℕ
   pub within : count ≤ length files
-  pub done : AllDone names asked output errors (take count files) output_now errors_now greatest
+  pub done : AllDone how names asked old (take count files) new greatest
   pub ended : greatest ≢ 3 → count ≡ length files

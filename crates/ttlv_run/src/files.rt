@@ -1,6 +1,6 @@
 //! A run over several inputs, one after the other, and which of them is which.
 
-ghost use Rattle.std.specs.Prelude.{◌≡◌, ◌≤◌, length};
+ghost use Rattle.std.specs.Prelude.{◌≡◌, ℕ, List, Option};
 ghost use Rattle.ttlv_run.specs.Files.{IsDone, FileDone, greater, FilesDone};
 ghost use Rattle.ttlv_run.specs.Texts.{names_of};
 
@@ -15,8 +15,12 @@ pub trait Opener {
     /// An input that was opened.
     type Input: Read + Drop;
 
+    // Whether opening the input of a name comes to this: the input or none, and what opens the next.
+    ghost opens: { Self → List ℕ → Option Self.Input → Self → Type 0 };
+
     /// The input of this name; none where it can't be opened.
-    fn open(&mut self, name: &str) -> Option<Self::Input>;
+    fn open(&mut self, name: &str) -> Option<Self::Input>
+        ensures { opens self.old name.now result self.new };
 }
 
 /// Does with an input what is asked, and answers the exit status, of [`run`] or of [`read_back`].
@@ -64,8 +68,10 @@ fn run_file<A: Allocator + Copy, O: Opener, W: Write, E: Write>(
     output: &mut W,
     errors: &mut E,
 ) -> u8
-    ensures { FileDone (names_of names.now) asked.entry name.entry
-        (W.contents output.old) (W.contents output.new) (E.contents errors.old) (E.contents errors.new) result }
+    ensures { FileDone (record { opens = O.opens; remaining = O.Input.remaining })
+        (names_of names.now) asked.entry name.entry
+        (record { opener = opener.old; output = W.contents output.old; errors = E.contents errors.old })
+        (record { opener = opener.new; output = W.contents output.new; errors = E.contents errors.new }) result }
 {
     match opener.open(name) {
         Some(mut input) => run_asked(alloc, asked, name, names, &mut input, output, errors),
@@ -95,8 +101,10 @@ pub fn run_files<A: Allocator + Copy, O: Opener, W: Write, E: Write>(
     output: &mut W,
     errors: &mut E,
 ) -> u8
-    ensures { FilesDone (names_of names.now) asked.entry files.now
-        (W.contents output.old) (W.contents output.new) (E.contents errors.old) (E.contents errors.new) result }
+    ensures { FilesDone (record { opens = O.opens; remaining = O.Input.remaining })
+        (names_of names.now) asked.entry files.now
+        (record { opener = opener.old; output = W.contents output.old; errors = E.contents errors.old })
+        (record { opener = opener.new; output = W.contents output.new; errors = E.contents errors.new }) result }
 {
     let mut status = 0;
     'files: for name in files {
