@@ -165,8 +165,17 @@ fn variants_by_their_number(rt: HostRuntime) -> Result<(), Fail> {
     )
 }
 
-// A text, a number of eight bytes under a type of four, and another number.
-const NO_SEVEN: [(&str, &str); 3] = [
+// A span of time, a number of any length, a text, a number of eight bytes under a type of four, and
+// another number.
+const NO_SEVEN: [(&str, &str); 5] = [
+    (
+        "AAAAAA0100000010CCCCCC0A000000040000000700000000",
+        "SerdeError(UnexpectedType { expected: Enumeration, actual: Interval }); pos: 12 bytes, parent tags: 0xAAAAAA, tag: 0xCCCCCC, type: Interval (0x0A)",
+    ),
+    (
+        "AAAAAA0100000010CCCCCC04000000080000000000000007",
+        "SerdeError(UnexpectedType { expected: Enumeration, actual: BigInteger }); pos: 12 bytes, parent tags: 0xAAAAAA, tag: 0xCCCCCC, type: BigInteger (0x04)",
+    ),
     (
         "AAAAAA0100000010CCCCCC07000000016100000000000000",
         "SerdeError(UnexpectedType { expected: Enumeration, actual: TextString }); pos: 12 bytes, parent tags: 0xAAAAAA, tag: 0xCCCCCC, type: TextString (0x07)",
@@ -201,6 +210,11 @@ fn items_that_name_no_variant(rt: HostRuntime) -> Result<(), Fail> {
         rt.alloc(),
         "AAAAAA0100000010BBBBBB05000000040000000200000000",
         "SerdeError(Other(\"unknown variant\")); pos: 24 bytes, parent tags: 0xAAAAAA, tag: 0xAAAAAA, type: Structure (0x01)",
+    )?;
+    check::<Alone<OneVariant<One, NoContent>>>(
+        rt.alloc(),
+        "AAAAAA0100000010CCCCCC07000000016100000000000000",
+        "SerdeError(UnexpectedType { expected: Enumeration, actual: TextString }); pos: 12 bytes, parent tags: 0xAAAAAA, tag: 0xCCCCCC, type: TextString (0x07)",
     )?;
     check_rows::<Alone<Sevens>>(rt.alloc(), &NO_SEVEN)?;
     check_rows::<Of<Structure<TagB, OneField<TagC, Choice<TagC, Sevens>>>>>(rt.alloc(), &NESTED_TWO)

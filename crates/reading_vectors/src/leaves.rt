@@ -176,8 +176,31 @@ const TRUTHS: [(&str, &str); 2] = [
     ),
 ];
 
-const TEXTS: [(&str, &str); 4] = [
+const TEXTS: [(&str, &str); 9] = [
     (TEXT, "Struct { name: \"0xAAAAAA\", fields: [Text(\"a\")] }"),
+    // Letters of two, three and four bytes.
+    (
+        "AAAAAA0100000018BBBBBB0700000009C3A9E282ACF09F988000000000000000",
+        "Struct { name: \"0xAAAAAA\", fields: [Text(\"\u{e9}\u{20ac}\u{1f600}\")] }",
+    ),
+    // One of three bytes without its last, one of more bytes than it needs, half of a pair, and one
+    // behind the last.
+    (
+        "AAAAAA0100000010BBBBBB0700000002E282000000000000",
+        "MalformedTtlv(InvalidValue { typ: TextString }); pos: 18 bytes, parent tags: 0xAAAAAA, tag: 0xBBBBBB, type: TextString (0x07)",
+    ),
+    (
+        "AAAAAA0100000010BBBBBB0700000002C080000000000000",
+        "MalformedTtlv(InvalidValue { typ: TextString }); pos: 18 bytes, parent tags: 0xAAAAAA, tag: 0xBBBBBB, type: TextString (0x07)",
+    ),
+    (
+        "AAAAAA0100000010BBBBBB0700000003EDA0800000000000",
+        "MalformedTtlv(InvalidValue { typ: TextString }); pos: 19 bytes, parent tags: 0xAAAAAA, tag: 0xBBBBBB, type: TextString (0x07)",
+    ),
+    (
+        "AAAAAA0100000010BBBBBB0700000004F490808000000000",
+        "MalformedTtlv(InvalidValue { typ: TextString }); pos: 20 bytes, parent tags: 0xAAAAAA, tag: 0xBBBBBB, type: TextString (0x07)",
+    ),
     (
         "AAAAAA0100000010BBBBBB0700000001FF00000000000000",
         "MalformedTtlv(InvalidValue { typ: TextString }); pos: 17 bytes, parent tags: 0xAAAAAA, tag: 0xBBBBBB, type: TextString (0x07)",

@@ -10,9 +10,13 @@
 #[cfg(test)]
 mod answer;
 #[cfg(test)]
+mod cuts;
+#[cfg(test)]
 mod enums;
 #[cfg(test)]
 mod growing;
+#[cfg(test)]
+mod kinds;
 #[cfg(test)]
 mod leaves;
 #[cfg(test)]
@@ -25,6 +29,8 @@ pub mod parts;
 mod reading;
 #[cfg(test)]
 mod response;
+#[cfg(test)]
+mod roots;
 pub mod run;
 #[cfg(test)]
 mod streams;

@@ -1,14 +1,14 @@
-//! Messages of many kept texts, or of many ignored items. What is read of them is what the last
-//! kept text says; and they are long enough that a look through all of them for each one would not
-//! end in the time that a test has.
+//! Messages of many kept texts, of a long one that many rules ask for, or of many ignored items. What
+//! is read of them is what the last kept text says. What such messages cost, `ttlv_times` prints.
 
 use crate::answer::Of;
 use crate::names::{
-    IfInteger, IfOtherAtLeastWord, IfStructure, IfText, IfTextB, TagA, TagB, TagC, TagD,
+    IfAtLeastOne, IfAtLeastTwo, IfInteger, IfOtherAtLeastWord, IfStructure, IfText, IfTextB, TagA,
+    TagB, TagC, TagD,
 };
 use crate::parts::{
     Choice, Content, Field, FieldList, Maybe, NoFields, NoParts, Number, OneVariant, Part, Parts,
-    Repeated, Sequence, Structure, Text, Tuple, TwoVariants,
+    Repeated, Sequence, Structure, Text, Tuple, TwoFields, TwoVariants,
 };
 use crate::reading::Reading;
 use crate::run::Run;
@@ -35,11 +35,11 @@ fn check_run<P: Part>(alloc: Global, message: &[u8], count: usize, last: &str) -
     Err(Fail::new(format_args!("{count} elements, the last one {last}")))
 }
 
-// A rule asks, for each text of a mebibyte, for a tag under which none was kept.
+// A rule asks, for each of many texts, for a tag under which none was kept.
 #[test]
 fn many_texts_under_one_tag(rt: HostRuntime) -> Result<(), Fail> {
     type Texts = TwoVariants<IfOtherAtLeastWord, Content<Text>, IfText, Content<Text>>;
-    let count = 131_071u32;
+    let count = 13_107u32;
     let mut message = begun(rt.alloc(), count * 8)?;
     for _ in 0..count {
         message.extend_from_slice(&[0xBB, 0xBB, 0xBB, 7, 0, 0, 0, 0])?;
@@ -47,8 +47,32 @@ fn many_texts_under_one_tag(rt: HostRuntime) -> Result<(), Fail> {
     check_run::<Of<Sequence<Choice<TagB, Texts>>>>(
         rt.alloc(),
         message.as_slice(),
-        131_071,
+        13_107,
         "NewtypeVariant { name: \"0xBBBBBB\", variant: \"if type==TextString\", inner: Text(\"\") }",
+    )
+}
+
+// Two rules ask, for each of many integers, for the number that one long text is: zeros, and 1.
+#[test]
+fn a_long_text_that_many_rules_ask_for(rt: HostRuntime) -> Result<(), Fail> {
+    type Numbers = TwoVariants<IfAtLeastTwo, Content<Number>, IfAtLeastOne, Content<Number>>;
+    type Asking = TwoFields<TagB, Text, TagC, Sequence<Choice<TagC, Numbers>>>;
+    let zeros = 65_535u32;
+    let count = 4_096u32;
+    let mut message = begun(rt.alloc(), 8 + zeros + 1 + count * 16)?;
+    message.extend_from_slice(&[0xBB, 0xBB, 0xBB, 7, 0, 1, 0, 0])?;
+    for _ in 0..zeros {
+        message.push(0x30)?;
+    }
+    message.push(0x31)?;
+    for _ in 0..count {
+        message.extend_from_slice(&[0xCC, 0xCC, 0xCC, 2, 0, 0, 0, 4, 0, 0, 0, 7, 0, 0, 0, 0])?;
+    }
+    check_run::<Structure<TagA, Asking>>(
+        rt.alloc(),
+        message.as_slice(),
+        4_096,
+        "NewtypeVariant { name: \"0xCCCCCC\", variant: \"if 0xBBBBBB>=1\", inner: I32(7) }",
     )
 }
 
@@ -57,7 +81,7 @@ fn many_texts_under_one_tag(rt: HostRuntime) -> Result<(), Fail> {
 fn many_texts_under_many_tags(rt: HostRuntime) -> Result<(), Fail> {
     type Numbers = TwoVariants<IfTextB, Content<Number>, IfInteger, Content<Number>>;
     type Pair = Tuple<Parts<Text, Parts<Choice<TagC, Numbers>, NoParts>>>;
-    let count = 26_000u32;
+    let count = 2_600u32;
     let mut message = begun(rt.alloc(), count * 40)?;
     for i in 0..count {
         let tag = if i == 0 { 0xBB_BBBB } else { i };
@@ -69,7 +93,7 @@ fn many_texts_under_many_tags(rt: HostRuntime) -> Result<(), Fail> {
     check_run::<Of<Sequence<Choice<TagB, OneVariant<IfStructure, Pair>>>>>(
         rt.alloc(),
         message.as_slice(),
-        26_000,
+        2_600,
         "TupleVariant { name: \"0xBBBBBB\", variant: \"if type==Structure\", fields: [Text(\"b\"), NewtypeVariant { name: \"0xCCCCCC\", variant: \"if 0xBBBBBB==b\", inner: I32(7) }] }",
     )
 }
@@ -99,12 +123,12 @@ fn many_items_behind_many_fields(rt: HostRuntime) -> Result<(), Fail> {
     type Behind = Many<Field<TagD, Maybe<Number>, NoFields>>;
     let ignored = [0xEE, 0xEE, 0xEE, 2, 0, 0, 0, 4, 0, 0, 0, 7, 0, 0, 0, 0];
     let read = [0xDD, 0xDD, 0xDD, 2, 0, 0, 0, 4, 0, 0, 0, 7, 0, 0, 0, 0];
-    let place = "pos: 262140 bytes, parent tags: 0xAAAAAA, tag: 0xAAAAAA, type: Structure (0x01)";
-    let found = place_of::<Before>(rt.alloc(), 16_383, ignored)?;
+    let place = "pos: 26220 bytes, parent tags: 0xAAAAAA, tag: 0xAAAAAA, type: Structure (0x01)";
+    let found = place_of::<Before>(rt.alloc(), 1_638, ignored)?;
     assert_eq!(rt; found.as_str(), "nowhere");
-    let found = place_of::<Before>(rt.alloc(), 16_383, read)?;
+    let found = place_of::<Before>(rt.alloc(), 1_638, read)?;
     assert_eq!(rt; found.as_str(), place);
-    let found = place_of::<Behind>(rt.alloc(), 16_383, read)?;
+    let found = place_of::<Behind>(rt.alloc(), 1_638, read)?;
     assert_eq!(rt; found.as_str(), place);
     Ok(())
 }

@@ -6,7 +6,7 @@ ghost use Rattle.reading_vectors.specs.declared.names.TheConstants.{NAMES};
 use crate::parts::Name;
 
 // Each name, at its place.
-const NAMES: [&str; 50] = [
+const NAMES: [&str; 55] = [
     "0xAAAAAA", // 0
     "0xBBBBBB", // 1
     "0xCCCCCC", // 2
@@ -57,6 +57,11 @@ const NAMES: [&str; 50] = [
     "0x420094", // 47
     "0x00000000", // 48
     "0x00000002", // 49
+    "if type==LongInteger", // 50
+    "if type==Enumeration", // 51
+    "if type==Boolean", // 52
+    "if type==ByteString", // 53
+    "if type==DateTime", // 54
 ];
 
 // The text at this place, or none behind the last.
@@ -229,3 +234,18 @@ pub type Zero = Listed<48>;
 
 /// The number of a variant.
 pub type Two = Listed<49>;
+
+/// A rule: the type is LongInteger.
+pub type IfLongInteger = Listed<50>;
+
+/// A rule: the type is Enumeration.
+pub type IfEnumeration = Listed<51>;
+
+/// A rule: the type is Boolean.
+pub type IfBoolean = Listed<52>;
+
+/// A rule: the type is ByteString.
+pub type IfBytes = Listed<53>;
+
+/// A rule: the type is DateTime.
+pub type IfDateTime = Listed<54>;

@@ -1,8 +1,11 @@
 //! Structures in structures, sequences, and shapes that no message has.
 
 use crate::answer::{Of, check, check_place, check_rows};
-use crate::names::{NoTag, TagA, TagB, TagC, TagD};
-use crate::parts::{Maybe, NoFields, Number, OneField, Sequence, Structure, TwoFields, Wrapping};
+use crate::names::{IfStructure, NoTag, TagA, TagB, TagC, TagD, TagE};
+use crate::parts::{
+    Choice, Maybe, NoFields, NoParts, Number, OneField, OneVariant, Parts, Sequence, Structure,
+    Tuple, TwoFields, Wrapping,
+};
 use std::test::Fail;
 
 const SINGLE: &str = "AAAAAA0100000010BBBBBB02000000040000000300000000";
@@ -53,6 +56,31 @@ fn refusals_in_structures(rt: HostRuntime) -> Result<(), Fail> {
         rt.alloc(),
         NESTED,
         "SerdeError(InvalidTag(\"x\")); pos: 12 bytes, parent tags: 0xAAAAAA, tag: 0xBBBBBB, type: Structure (0x01)",
+    )
+}
+
+// The structures around a refusal, the outermost first: two of one tag, those around an element of a
+// sequence, and those around a struct in a tuple, which is none of them.
+#[test]
+fn structures_around_a_refusal(rt: HostRuntime) -> Result<(), Fail> {
+    type Alike = Structure<TagA, OneField<TagA, Structure<TagA, OneField<TagA, Number>>>>;
+    type Inner = Structure<TagD, OneField<TagE, Number>>;
+    type InTuple = Tuple<Parts<Inner, NoParts>>;
+    type Tuples = Structure<TagA, OneField<TagC, Choice<TagC, OneVariant<IfStructure, InTuple>>>>;
+    check::<Alike>(
+        rt.alloc(),
+        "AAAAAA0100000018AAAAAA0100000010AAAAAA03000000080000000000000003",
+        "SerdeError(UnexpectedType { expected: Integer, actual: LongInteger }); pos: 20 bytes, parent tags: 0xAAAAAA > 0xAAAAAA, tag: 0xAAAAAA, type: LongInteger (0x03)",
+    )?;
+    check::<Of<Sequence<Structure<TagB, OneField<TagC, Number>>>>>(
+        rt.alloc(),
+        "AAAAAA0100000030BBBBBB0100000010CCCCCC02000000040000000300000000BBBBBB0100000010CCCCCC03000000080000000000000003",
+        "SerdeError(UnexpectedType { expected: Integer, actual: LongInteger }); pos: 44 bytes, parent tags: 0xAAAAAA > 0xBBBBBB, tag: 0xCCCCCC, type: LongInteger (0x03)",
+    )?;
+    check::<Tuples>(
+        rt.alloc(),
+        "AAAAAA0100000020CCCCCC0100000018DDDDDD0100000010EEEEEE03000000080000000000000003",
+        "SerdeError(UnexpectedType { expected: Integer, actual: LongInteger }); pos: 28 bytes, parent tags: 0xAAAAAA > 0xDDDDDD, tag: 0xEEEEEE, type: LongInteger (0x03)",
     )
 }
 

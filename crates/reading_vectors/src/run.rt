@@ -9,18 +9,20 @@ use std::marker::PhantomData;
 /// What was read of a structure by the shape `P`. Nothing is promised of it: tests compare it.
 #[derive(Drop)]
 pub struct Run<P> {
-    /// How many elements the sequence has that is the first field.
+    /// How many elements the sequence has that is the first one among the fields.
     pub count: usize,
     /// The data of the last one, as text.
     pub last: String,
     shape: PhantomData<P>,
 }
 
-// The elements of the sequence that is the first field.
+// The elements of the sequence that is the first one among the fields.
 fn elements(value: &Data) -> &[Data] {
     if let Data::Struct { fields, .. } = value {
-        if let Some(Data::Seq(all)) = fields.first() {
-            return all.as_slice();
+        for field in fields {
+            if let Data::Seq(all) = field {
+                return all.as_slice();
+            }
         }
     }
     &[]

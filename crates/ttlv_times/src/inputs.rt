@@ -71,3 +71,19 @@ pub fn tuples(alloc: Global, count: u32) -> Result<Vec<u8>, AllocError> {
     }
     structure(alloc, items.as_slice())
 }
+
+/// A structure of a text BBBBBB of so many bytes, zeros and 1, and so many integers CCCCCC.
+pub fn asked(alloc: Global, length: u32, count: u32) -> Result<Vec<u8>, AllocError> {
+    let mut items = Vec::from_slice(alloc, &header(0xBB, 7, length))?;
+    for _ in 1..length {
+        items.push(0x30)?;
+    }
+    items.push(0x31)?;
+    for _ in 0..(8 - length % 8) % 8 {
+        items.push(0)?;
+    }
+    for _ in 0..count {
+        items.extend_from_slice(&OTHER_NUMBER)?;
+    }
+    structure(alloc, items.as_slice())
+}

@@ -10,8 +10,10 @@ mod inputs;
 mod shapes;
 mod times;
 
-use crate::inputs::{CHOICE, EMPTY, NUMBER, OTHER_NUMBER, TEXT, long, nested, repeated, tuples};
-use crate::shapes::{Empties, Fields, Long, Numbers, Texts, Tuples};
+use crate::inputs::{
+    CHOICE, EMPTY, NUMBER, OTHER_NUMBER, TEXT, asked, long, nested, repeated, tuples,
+};
+use crate::shapes::{Asked, Empties, Fields, Long, Numbers, Texts, Tuples};
 use crate::times::{bare_times, checking, printing, reading, reading_back, show, telling};
 use kmip_ttlv::PrettyPrinter;
 use reading_vectors::parts::Part;
@@ -69,6 +71,10 @@ fn read_each<R: Clock + Eprint + AllocGlobal>(rt: &R, size: u32) -> io::Result<(
     read::<Texts, R>(rt, "kept texts of one tag", bytes.as_slice())?;
     let bytes = tuples(rt.alloc(), size / 32)?;
     read::<Tuples, R>(rt, "kept texts of many tags", bytes.as_slice())?;
+    let bytes = asked(rt.alloc(), 1, size / 16)?;
+    read::<Asked, R>(rt, "rules on a short kept text", bytes.as_slice())?;
+    let bytes = asked(rt.alloc(), size / 2, size / 32)?;
+    read::<Asked, R>(rt, "rules on a long kept text", bytes.as_slice())?;
     let bytes = repeated(rt.alloc(), size / 16, &OTHER_NUMBER)?;
     read::<Fields, R>(rt, "ignored behind 100 fields", bytes.as_slice())
 }

@@ -2,11 +2,11 @@
 //! shapes.
 
 use reading_vectors::names::{
-    IfInteger, IfOtherAtLeastWord, IfStructure, IfText, TagA, TagB, TagC,
+    IfAtLeastOne, IfInteger, IfOtherAtLeastWord, IfStructure, IfText, TagA, TagB, TagC,
 };
 use reading_vectors::parts::{
     Choice, Content, Maybe, NoFields, NoParts, Number, Octets, OneField, OneVariant, Parts,
-    Repeated, Sequence, Structure, Text, Tuple, TwoVariants,
+    Repeated, Sequence, Structure, Text, Tuple, TwoFields, TwoVariants,
 };
 
 /// A structure of one field.
@@ -33,6 +33,11 @@ type Pair = Tuple<Parts<Text, Parts<Choice<TagC, NumberByRule>, NoParts>>>;
 
 /// Many tuples, each of a text and of a number by a rule that asks for another tag.
 pub type Tuples = Of<Sequence<Choice<TagB, OneVariant<IfStructure, Pair>>>>;
+
+type ByText = Choice<TagC, OneVariant<IfAtLeastOne, Content<Number>>>;
+
+/// A text, and many integers, each by a rule that asks for the number that the text is.
+pub type Asked = Structure<TagA, TwoFields<TagB, Text, TagC, Sequence<ByText>>>;
 
 /// Many fields that may be left out.
 pub type Fields = Structure<TagA, Repeated<TagB, Maybe<Number>, 100, NoFields>>;

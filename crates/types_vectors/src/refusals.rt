@@ -73,9 +73,14 @@ fn places_of_numbers(rt: HostRuntime) -> Result<(), Fail> {
     Ok(())
 }
 
+// The tag of a structure.
+fn outer() -> TtlvTag {
+    TtlvTag::from([0xAA, 0xAA, 0xAA])
+}
+
 // A place under one structure.
 fn place_of_one_parent(heap: Global) -> Result<ErrorLocation, AllocError> {
-    let parents = Vec::from_slice(heap, &[TtlvTag::from([0xAA, 0xAA, 0xAA])])?;
+    let parents = Vec::from_slice(heap, &[outer()])?;
     Ok(ErrorLocation::at(None, Some(parents), None, None))
 }
 
@@ -84,10 +89,10 @@ fn cloned_place(heap: Global) -> Result<ErrorLocation, AllocError> {
     place_of_one_parent(heap)?.clone()
 }
 
-// Whether the place has so many structures around it.
-fn has_parents(place: &Result<ErrorLocation, AllocError>, count: usize) -> bool {
+// Whether the place has structures of these tags around it.
+fn has_parents(place: &Result<ErrorLocation, AllocError>, tags: &[TtlvTag]) -> bool {
     match place {
-        Ok(place) => place.parent_tags().len() == count,
+        Ok(place) => place.parent_tags() == tags,
         Err(_) => false,
     }
 }
@@ -95,7 +100,7 @@ fn has_parents(place: &Result<ErrorLocation, AllocError>, count: usize) -> bool 
 #[test]
 fn clones_of_places(rt: HostRuntime) -> Result<(), Fail> {
     let copy = cloned_place(rt.alloc());
-    assert!(rt; has_parents(&copy, 1));
+    assert!(rt; has_parents(&copy, &[outer()]));
     assert!(rt; place_prints(rt.alloc(), copy, "parent tags: 0xAAAAAA"));
     Ok(())
 }

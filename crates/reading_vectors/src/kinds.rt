@@ -1,0 +1,107 @@
+//! Each shape at an item of each type that it doesn't read, and each rule that asks for a type.
+
+use crate::answer::{Of, answer, check};
+use crate::names::{
+    IfBigInteger, IfBoolean, IfBytes, IfDateTime, IfEnumeration, IfInteger, IfInterval,
+    IfLongInteger, IfStructure, IfText, One, TagB, TagC,
+};
+use crate::parts::{
+    AnyNumber, BigNumber, Choice, LongNumber, Name, NoContent, Number, Octets, OneField,
+    OneVariant, Part, Span, Structure, Text, Truth,
+};
+use std::alloc::Global;
+use std::test::Fail;
+
+// The codes of the types, and their names.
+const TYPES: [(&str, &str); 10] = [
+    ("01", "Structure"),
+    ("02", "Integer"),
+    ("03", "LongInteger"),
+    ("04", "BigInteger"),
+    ("05", "Enumeration"),
+    ("06", "Boolean"),
+    ("07", "TextString"),
+    ("08", "ByteString"),
+    ("09", "DateTime"),
+    ("0A", "Interval"),
+];
+
+// A structure with an item of this type, of eight zero bytes.
+fn message(alloc: Global, code: &str) -> Result<String, Fail> {
+    Ok(format!(in alloc; "AAAAAA0100000010BBBBBB{code}000000080000000000000000")?)
+}
+
+// The refusal of the item for its type, which is of this kind and in these words.
+fn refusal(alloc: Global, kind: &str, expected: &str, typ: (&str, &str)) -> Result<String, Fail> {
+    let (code, name) = typ;
+    Ok(format!(in alloc;
+        "{kind}(UnexpectedType {{ expected: {expected}, actual: {name} }}); pos: 12 bytes, parent tags: 0xAAAAAA, tag: 0xBBBBBB, type: {name} (0x{code})"
+    )?)
+}
+
+// Fails unless the shape refuses an item of each type but those of these codes.
+fn takes_only<P: Part>(
+    alloc: Global,
+    kind: &str,
+    expected: &str,
+    codes: &[&str],
+) -> Result<(), Fail> {
+    for typ in TYPES {
+        if codes.iter().any(|code| *code == typ.0) {
+            continue;
+        }
+        let bytes = message(alloc, typ.0)?;
+        let wanted = refusal(alloc, kind, expected, typ)?;
+        check::<Of<P>>(alloc, bytes.as_str(), wanted.as_str())?;
+    }
+    Ok(())
+}
+
+#[test]
+fn shapes_take_items_of_their_types(rt: HostRuntime) -> Result<(), Fail> {
+    type Inner = Structure<TagB, OneField<TagC, Number>>;
+    type Numbered = Choice<TagB, OneVariant<One, NoContent>>;
+    let heap = rt.alloc();
+    let other = "SerdeError";
+    takes_only::<Number>(heap, other, "Integer", &["02"])?;
+    takes_only::<LongNumber>(heap, other, "LongInteger", &["03", "09"])?;
+    takes_only::<Truth>(heap, other, "Boolean", &["06"])?;
+    takes_only::<Text>(heap, other, "TextString", &["07"])?;
+    takes_only::<Octets>(heap, other, "ByteString", &["08", "04"])?;
+    takes_only::<Span>(heap, other, "Interval", &["0A"])?;
+    takes_only::<BigNumber>(heap, other, "BigInteger", &["04"])?;
+    takes_only::<AnyNumber>(heap, other, "Enumeration", &["05"])?;
+    takes_only::<Numbered>(heap, other, "Enumeration", &["02", "05"])?;
+    takes_only::<Inner>(heap, "MalformedTtlv", "Structure", &["01"])
+}
+
+// Fails unless the rule chooses its variant, which has no content, at an item of this type alone.
+fn holds_for<N: Name>(alloc: Global, wanted: &str) -> Result<(), Fail> {
+    type Unit<N> = Of<Choice<TagB, OneVariant<N, NoContent>>>;
+    for (code, name) in TYPES {
+        let bytes = message(alloc, code)?;
+        let found = answer::<Unit<N>>(alloc, bytes.as_str())?;
+        let is_chosen = found.as_str().starts_with(
+            "MalformedTtlv(UnexpectedTtlvField { expected: Length, actual: Tag }); pos: 12 bytes",
+        );
+        if is_chosen != (name == wanted) {
+            return Err(Fail::new(format_args!("{wanted} at {name}: {found}")));
+        }
+    }
+    Ok(())
+}
+
+#[test]
+fn rules_hold_for_their_types(rt: HostRuntime) -> Result<(), Fail> {
+    let heap = rt.alloc();
+    holds_for::<IfStructure>(heap, "Structure")?;
+    holds_for::<IfInteger>(heap, "Integer")?;
+    holds_for::<IfLongInteger>(heap, "LongInteger")?;
+    holds_for::<IfBigInteger>(heap, "BigInteger")?;
+    holds_for::<IfEnumeration>(heap, "Enumeration")?;
+    holds_for::<IfBoolean>(heap, "Boolean")?;
+    holds_for::<IfText>(heap, "TextString")?;
+    holds_for::<IfBytes>(heap, "ByteString")?;
+    holds_for::<IfDateTime>(heap, "DateTime")?;
+    holds_for::<IfInterval>(heap, "Interval")
+}
