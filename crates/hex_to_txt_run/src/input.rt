@@ -14,7 +14,7 @@ use std::alloc::{AllocError, Allocator};
 use std::io;
 use std::io::{ErrorKind, Read};
 
-/// The most bytes, 65,536, by which the buffer grows at once.
+/// The most bytes, 65,536, that are made ready for one read.
 const PIECE: usize = 65_536;
 
 // Room after the bytes that are filled.
@@ -28,7 +28,9 @@ fn make_room<A: Allocator>(bytes: &mut Vec<u8, A>, filled: usize) -> Result<(), 
     if filled < bytes.len() {
         return Ok(());
     }
-    bytes.reserve_exact(PIECE)?;
+    if bytes.capacity() - filled < PIECE {
+        bytes.reserve_exact(filled.max(PIECE))?;
+    }
     bytes.resize(filled + PIECE, 0)
 }
 
@@ -51,7 +53,7 @@ fn read_at<A: Allocator, R: Read>(
     input.read(&mut all[at..])
 }
 
-/// All bytes of a reader, in memory that grows by at most 65,536 bytes at once, as they come.
+/// All bytes of a reader, in memory that grows as they come: at most 65,536 bytes beyond twice those that came.
 ///
 /// An interrupted read is tried again. There are at most 2^64 - 1 reads in all.
 pub fn read_all<A: Allocator, R: Read>(alloc: A, input: &mut R) -> Result<Vec<u8, A>, Refusal<A>>

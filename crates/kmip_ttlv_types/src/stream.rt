@@ -7,7 +7,7 @@
 //! `MemorySink` are the memory that cannot fail.
 
 ghost use Rattle.std.specs.Prelude.{◌≡◌, ℕ, List, Bool, true, false, Option, None, Some, ◌<◌, ◌≤◌, ◌-◌, ◌+◌, ◌^◌};
-ghost use Rattle.std.specs.Prelude.{length, take, drop, IfOk, IfErr, OnOk, OnErr, vec_len, vec_items, vec_capacity};
+ghost use Rattle.std.specs.Prelude.{length, take, drop, IfOk, IfErr, OnOk, OnErr, min, max, vec_len, vec_items, vec_capacity};
 ghost use Rattle.std.specs.Io.{ReadsAtMost, WritesAtMost};
 ghost use Rattle.std.specs.Io.Cursor.{cursor_position, cursor_inner, cursor_remaining};
 ghost use Rattle.std.specs.Io.KnownBytes.{Appends, Consumes, IsAtEnd, Keeps};
@@ -267,15 +267,38 @@ pub fn fill_all<S: Source>(source: &mut S, buf: &mut [u8]) -> Result<(), Error>
     }
 }
 
-/// The most bytes, 65,536, by which a buffer grows at once.
+/// The most bytes, 65,536, that are taken at once, and the most for which memory is asked where nothing came yet.
 pub const PIECE: usize = 65_536;
 
-// `more` zeros behind the bytes.
-fn grow<A: Allocator>(bytes: &mut Vec<u8, A>, more: usize) -> Result<(), AllocError>
+// For how many bytes memory is asked behind `len` bytes that came, where `due` are still to come: as many
+// as came, so that few moves are made, but a piece at least, and never more than are due.
+fn room_to_ask(len: usize, due: usize) -> usize
+    ensures { result ≡ min (max len PIECE) due }
+{
+    len.max(PIECE).min(due)
+}
+
+// Memory for a piece of those that are due, behind the bytes; where there is none yet, more is asked for.
+fn reserve_piece<A: Allocator>(bytes: &mut Vec<u8, A>, due: usize) -> Result<(), AllocError>
+    ensures items { bytes.new.items ≡ bytes.old.items }
+    ensures room { OnOk result (vec_len bytes.new + min due PIECE ≤ vec_capacity bytes.new) }
+    ensures grown { OnOk result (vec_capacity bytes.old < vec_len bytes.old + min due PIECE
+        → vec_len bytes.new + min (max (vec_len bytes.new) PIECE) due ≤ vec_capacity bytes.new) }
+{
+    let len = bytes.len();
+    if bytes.capacity() - len < due.min(PIECE) {
+        bytes.reserve_exact(room_to_ask(len, due))?;
+    }
+    Ok(())
+}
+
+// `more` zeros behind the bytes, of `due` that will stand there.
+fn grow<A: Allocator>(bytes: &mut Vec<u8, A>, more: usize, due: usize) -> Result<(), AllocError>
+    requires { more ≤ min due PIECE }
     ensures len { OnOk result (vec_len bytes.new ≡ vec_len bytes.old + more) }
     ensures kept { take (vec_len bytes.old) bytes.new.items ≡ bytes.old.items }
 {
-    bytes.reserve_exact(more)?;
+    reserve_piece(bytes, due)?;
     bytes.resize(bytes.len() + more, 0)
 }
 
@@ -294,23 +317,29 @@ fn fill_rest<S: Source, A: Allocator>(
     fill_all(source, &mut all[at..])
 }
 
-// Takes so many bytes, behind those that are there, in memory that grows once.
+// Takes so many bytes, of `due` that are still to come, behind those that are there, in memory that grows at
+// most once.
 fn append_piece<S: Source, A: Allocator>(
     source: &mut S,
     bytes: &mut Vec<u8, A>,
     count: usize,
+    due: usize,
 ) -> Result<(), Error>
-    requires { 0 < count }
+    requires some { 0 < count }
+    requires within { count ≤ min due PIECE }
     ensures takes { TakesMore S.can_fail (S.left source.old) (S.left source.new)
         bytes.old.items bytes.new.items count result }
     ensures kept { take (vec_len bytes.old) bytes.new.items ≡ bytes.old.items }
 {
     let at = bytes.len();
-    grow(bytes, count)?;
+    grow(bytes, count, due)?;
     fill_rest(source, bytes, at)
 }
 
-/// Takes `count` bytes, behind those that are there, in memory that grows by pieces as they come.
+/// Takes `count` bytes, behind those that are there, in memory that grows as they come.
+///
+/// Memory is asked for at most 65,536 bytes beyond twice those that are there, whatever `count` is, and
+/// never for more than `count` asks.
 ///
 /// IoError of the kind UnexpectedEof where the input ends before that, and of the reader's kind
 /// where reading fails; OutOfMemory where memory is refused. Then any bytes may stand behind those
@@ -327,13 +356,14 @@ pub fn append_bytes<S: Source, A: Allocator>(
     let mut due = count;
     while 0 < due {
         let piece = due.min(PIECE);
-        append_piece(source, bytes, piece)?;
+        append_piece(source, bytes, piece, due)?;
         due -= piece;
     }
     Ok(())
 }
 
-/// Takes `len` bytes, in memory that grows by pieces as they come.
+/// Takes `len` bytes, in memory that grows as they come: at most 65,536 bytes beyond twice those that came,
+/// and never more than `len`.
 ///
 /// IoError of the kind UnexpectedEof where the input ends before that, and of the reader's kind
 /// where reading fails; OutOfMemory where memory is refused.

@@ -9,4 +9,4 @@ returns-clause-takes g c =
     let has = c.fill_rest.new.bytes.items in
     let front : take at has ≡ c.args.bytes.now.items = grind (arith, common_steps) in
     let long : length (drop at has) ≡ c.args.count = grind (arith, common_steps, length-drop) in
-    TakesMore-filled (Unit {0}) _ _ _ _ has at _ c.fill_rest.result front long c.requires c.fill_rest.ensures.rest
+    TakesMore-filled (Unit {0}) _ _ _ _ has at _ c.fill_rest.result front long c.requires.some c.fill_rest.ensures.rest
