@@ -39,7 +39,7 @@ fn check_run<P: Part>(alloc: Global, message: &[u8], count: usize, last: &str) -
 #[test]
 fn many_texts_under_one_tag(rt: HostRuntime) -> Result<(), Fail> {
     type Texts = TwoVariants<IfOtherAtLeastWord, Content<Text>, IfText, Content<Text>>;
-    let count = 13_107u32;
+    let count = 1_310u32;
     let mut message = begun(rt.alloc(), count * 8)?;
     for _ in 0..count {
         message.extend_from_slice(&[0xBB, 0xBB, 0xBB, 7, 0, 0, 0, 0])?;
@@ -47,7 +47,7 @@ fn many_texts_under_one_tag(rt: HostRuntime) -> Result<(), Fail> {
     check_run::<Of<Sequence<Choice<TagB, Texts>>>>(
         rt.alloc(),
         message.as_slice(),
-        13_107,
+        1_310,
         "NewtypeVariant { name: \"0xBBBBBB\", variant: \"if type==TextString\", inner: Text(\"\") }",
     )
 }
@@ -57,10 +57,10 @@ fn many_texts_under_one_tag(rt: HostRuntime) -> Result<(), Fail> {
 fn a_long_text_that_many_rules_ask_for(rt: HostRuntime) -> Result<(), Fail> {
     type Numbers = TwoVariants<IfAtLeastTwo, Content<Number>, IfAtLeastOne, Content<Number>>;
     type Asking = TwoFields<TagB, Text, TagC, Sequence<Choice<TagC, Numbers>>>;
-    let zeros = 65_535u32;
-    let count = 4_096u32;
+    let zeros = 6_559u32;
+    let count = 410u32;
     let mut message = begun(rt.alloc(), 8 + zeros + 1 + count * 16)?;
-    message.extend_from_slice(&[0xBB, 0xBB, 0xBB, 7, 0, 1, 0, 0])?;
+    message.extend_from_slice(&[0xBB, 0xBB, 0xBB, 7, 0, 0, 0x19, 0xA0])?;
     for _ in 0..zeros {
         message.push(0x30)?;
     }
@@ -71,7 +71,7 @@ fn a_long_text_that_many_rules_ask_for(rt: HostRuntime) -> Result<(), Fail> {
     check_run::<Structure<TagA, Asking>>(
         rt.alloc(),
         message.as_slice(),
-        4_096,
+        410,
         "NewtypeVariant { name: \"0xCCCCCC\", variant: \"if 0xBBBBBB>=1\", inner: I32(7) }",
     )
 }
@@ -81,7 +81,7 @@ fn a_long_text_that_many_rules_ask_for(rt: HostRuntime) -> Result<(), Fail> {
 fn many_texts_under_many_tags(rt: HostRuntime) -> Result<(), Fail> {
     type Numbers = TwoVariants<IfTextB, Content<Number>, IfInteger, Content<Number>>;
     type Pair = Tuple<Parts<Text, Parts<Choice<TagC, Numbers>, NoParts>>>;
-    let count = 2_600u32;
+    let count = 260u32;
     let mut message = begun(rt.alloc(), count * 40)?;
     for i in 0..count {
         let tag = if i == 0 { 0xBB_BBBB } else { i };
@@ -93,7 +93,7 @@ fn many_texts_under_many_tags(rt: HostRuntime) -> Result<(), Fail> {
     check_run::<Of<Sequence<Choice<TagB, OneVariant<IfStructure, Pair>>>>>(
         rt.alloc(),
         message.as_slice(),
-        2_600,
+        260,
         "TupleVariant { name: \"0xBBBBBB\", variant: \"if type==Structure\", fields: [Text(\"b\"), NewtypeVariant { name: \"0xCCCCCC\", variant: \"if 0xBBBBBB==b\", inner: I32(7) }] }",
     )
 }
