@@ -12,5 +12,3 @@ pub mod laws;
 pub mod operation;
 pub mod request;
 pub mod response;
-#[cfg(test)]
-mod tests;

@@ -9,5 +9,3 @@ pub mod key;
 pub mod laws;
 pub mod request;
 pub mod response;
-#[cfg(test)]
-mod tests;

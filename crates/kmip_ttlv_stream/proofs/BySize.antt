@@ -11,7 +11,7 @@ use Rattle.kmip_ttlv_base.specs.Values.{Value}
 use Rattle.kmip_ttlv_base.specs.Forms.{Form, struct, option, seq, newtype, enum}
 use Rattle.kmip_ttlv_de.specs.Facts.{KindFacts, place_of}
 use Rattle.kmip_ttlv_de.specs.RootFacts.{Fault, root_fault, named_fault, header_fault, RefusalFacts}
-use Rattle.kmip_ttlv_stream.specs.StreamMessages.{Answered, message_size, LackCause, no_memory, no_bytes, Stops, in_header, over_limit, in_body, Ends, IsBySize}
+use Rattle.kmip_ttlv_stream.specs.StreamMessages.{Answered, message_size, LackCause, no_memory, no_bytes, Stops, in_header, of_no_type, over_limit, in_body, untyped_kind, Ends, IsBySize}
 
 -- no refusal by size
 abbrev NotBySize : Kind → Type 0
@@ -66,6 +66,8 @@ stops_by_size : {A : Type 0} (can_fail : Bool) (limit : Option ℕ) (old new kep
     → Stops can_fail limit old new kept e → IsBySize limit old new e
 stops_by_size can_fail limit old new kept e (in_header lacks) n is =
     absurd (lack_other can_fail old 8 e n lacks.cause is)
+stops_by_size can_fail limit old new kept e (of_no_type head comes k) n is =
+    absurd (not_by_size (untyped_kind head) n tt (sym comes.untyped.kind ∙ is))
 stops_by_size can_fail limit old new kept e (over_limit head comes k) n is =
     let says : view_of_kind (kind_of e) ≡ exceeds_limit (message_size head) =
     ap view_of_kind comes.over.kind in (head, comes, cc)

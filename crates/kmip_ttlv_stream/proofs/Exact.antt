@@ -10,9 +10,10 @@ use Rattle.kmip_ttlv_types.specs.ItemTypes.{type_of}
 use Rattle.kmip_ttlv_types.specs.Places.{code_at}
 use Rattle.kmip_ttlv_types.specs.Streams.{IsShort}
 use Rattle.kmip_ttlv_base.specs.declared.error.Error.{Error}
-use Rattle.kmip_ttlv_base.specs.Errors.{Location, unknown, io_error, exceeds_limit, kind_of, view_of_kind, location_of, view_of_location, IsMemory}
-use Rattle.kmip_ttlv_stream.specs.StreamMessages.{message_size, Forbids, HasSize, behind_header, IsIoFault, LackCause, no_memory, no_bytes, IsKept, ComesOver, Stops, in_header, over_limit, in_body, Gives, Ends, OrMemory, TakesFirst, Exactly}
-use Rattle.kmip_ttlv_stream.proofs.Fronts.{SameHeader, same_header, SameHeader-sym, HasSize-along, HasSize-least, HasSize-one, HasSize-allowed}
+use Rattle.kmip_ttlv_base.specs.declared.error.MalformedTtlvError.TheVariants as malformeds
+use Rattle.kmip_ttlv_base.specs.Errors.{Location, unknown, io_error, exceeds_limit, kind_of, view_of_kind, location_of, view_of_location, malformed, IsMemory}
+use Rattle.kmip_ttlv_stream.specs.StreamMessages.{message_size, Forbids, HasSize, behind_header, behind_tag, ComesUntyped, IsIoFault, LackCause, no_memory, no_bytes, IsKept, ComesOver, Stops, in_header, of_no_type, over_limit, in_body, Gives, Ends, OrMemory, TakesFirst, Exactly}
+use Rattle.kmip_ttlv_stream.proofs.Fronts.{SameHeader, same_header, SameHeader-sym, HasSize-along, HasSize-least, HasSize-one, HasSize-allowed, HasSize-typed}
 
 -- what was taken, and what is left
 record Parts (bytes taken : List ℕ) (new : Option (List ℕ)) : Type 0 where
@@ -61,6 +62,7 @@ gives_exact answers limit bytes new kept r g =
     (parts_header bytes g.message new p least)) g.comes.size in
     record {
       in_header = λ low. absurd (omega arith);
+      untyped = λ there none. absurd (HasSize-typed limit bytes _ none size);
       over_limit = λ there t is over. absurd (HasSize-allowed limit bytes t _ is size over);
       in_body = λ there n due low. let same : length g.message ≡ n =
           HasSize-one limit bytes _ n size due in absurd (omega arith);
@@ -75,6 +77,7 @@ memory_exact : {T A : Type 0} (answers : List ℕ → Result T (Error A) → Typ
     → IsMemory e → Exactly answers limit bytes new kept (Err e)
 memory_exact answers limit bytes new kept e want = record {
   in_header = λ low. inl want;
+  untyped = λ there none. (inl want, inl want);
   over_limit = λ there t is over. (inl want, inl want);
   in_body = λ there n due low. inl want;
   whole = λ there n due enough. inl want;
@@ -102,6 +105,7 @@ header_exact answers limit bytes new kept e cause =
           let short : length bytes < 8 = w.3 in
           record {
             in_header = λ low. ends_early w.0 e w.1 w.2;
+            untyped = λ there none. absurd (omega arith);
             over_limit = λ there t is over. absurd (omega arith);
             in_body = λ there n due low. absurd (omega arith);
             whole = λ there n due enough. absurd (omega arith);
@@ -127,6 +131,7 @@ over_exact answers limit bytes new kept head e comes k =
     let first = takes_first bytes head 8 new kept p eight k in
     record {
       in_header = λ low. absurd (omega arith);
+      untyped = λ there none. absurd (cc);
       over_limit = λ there t is h.
           let one : comes.over.typ ≡ t = cc in (
             inr (
@@ -138,6 +143,34 @@ over_exact answers limit bytes new kept head e comes k =
           );
       in_body = λ there n due low. absurd (HasSize-allowed limit bytes comes.over.typ n typ due over);
       whole = λ there n due enough. absurd (HasSize-allowed limit bytes comes.over.typ n typ due over);
+    }
+
+untyped_place : (bytes head : List ℕ) → SameHeader bytes head → behind_tag head ≡ behind_tag bytes
+untyped_place bytes head same = ap (λ (n : ℕ). let l : Location = record
+    { offset = Some 3; parents = []; tag = Some n; typ = None } in l) (sym same.tag)
+
+untyped_exact : {T A : Type 0} (answers : List ℕ → Result T (Error A) → Type 0) (limit : Option ℕ) (bytes : List ℕ)
+    (new kept : Option (List ℕ)) (head : List ℕ) (e : Error A)
+    → ComesUntyped (Some bytes) new head e → IsKept kept head → Exactly answers limit bytes new kept (Err e)
+untyped_exact answers limit bytes new kept head e comes k =
+    let p = parts_of bytes head new comes.consumes in
+    let eight : length head ≡ 8 = comes.length_is in
+    let long : length bytes ≡ length head + length p.left = parts_length bytes head new p in
+    let same = parts_header bytes head new p (omega arith) in
+    let none : type_of (code_at bytes 0) ≡ None = ap type_of same.code ∙ comes.untyped.typ in
+    let first = takes_first bytes head 8 new kept p eight k in
+    record {
+      in_header = λ low. absurd (omega arith);
+      untyped = λ there is. (
+        inr (
+          comes.untyped.kind ∙ ap (λ (n : ℕ). malformed (malformeds.InvalidType n)) (sym same.code),
+          comes.untyped.place ∙ untyped_place bytes head same,
+        ),
+        inr first.0,
+      );
+      over_limit = λ there t is h. absurd (cc);
+      in_body = λ there n due low. absurd (HasSize-typed limit bytes n none due);
+      whole = λ there n due enough. absurd (HasSize-typed limit bytes n none due);
     }
 
 body_exact : {T A : Type 0} (answers : List ℕ → Result T (Error A) → Type 0) (limit : Option ℕ) (bytes : List ℕ)
@@ -155,6 +188,7 @@ body_exact answers limit bytes new kept head mid n e taken eight size cause =
           let short : length p.left < n = subst (λ (o : Option (List ℕ)). IsShort o n) p.is_left w.3 in
           record {
             in_header = λ low. absurd (omega arith);
+            untyped = λ there none. absurd (HasSize-typed limit bytes _ none all);
             over_limit = λ there t is over. absurd (HasSize-allowed limit bytes t _ is all over);
             in_body = λ there m due low. ends_early w.0 e w.1 w.2;
             whole = λ there m due enough. let one : 8 + n ≡ m =
@@ -167,6 +201,8 @@ stops_exact : {T A : Type 0} (answers : List ℕ → Result T (Error A) → Type
     → Stops false limit (Some bytes) new kept e → Exactly answers limit bytes new kept (Err e)
 stops_exact answers limit bytes new kept e (in_header lacks) =
     header_exact answers limit bytes new kept e lacks.cause
+stops_exact answers limit bytes new kept e (of_no_type head comes k) =
+    untyped_exact answers limit bytes new kept head e comes k
 stops_exact answers limit bytes new kept e (over_limit head comes k) =
     over_exact answers limit bytes new kept head e comes k
 stops_exact answers limit bytes new kept e (in_body head mid n taken long size lacks) =

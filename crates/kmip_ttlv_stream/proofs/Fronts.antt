@@ -46,7 +46,7 @@ pub SameHeader-sym : (xs ys : List ℕ) → SameHeader xs ys → SameHeader ys x
 SameHeader-sym xs ys same = record { tag = sym same.tag; code = sym same.code; size = sym same.size }
 
 taken_least : (o : Option TtlvType) (limit : Option ℕ) (k n : ℕ) → IsTakenUpTo o limit (8 + k) n → 8 ≤ n
-taken_least None limit k n h = omega (arith, h)
+taken_least None limit k n h = absurd h
 taken_least (Some t) limit k n h = omega (arith, h.1)
 
 -- at least the header is taken
@@ -55,7 +55,7 @@ HasSize-least limit xs n h = taken_least (type_of (code_at xs 0)) limit (length_
 
 taken_one : (o : Option TtlvType) (limit : Option ℕ) (size m n : ℕ) → IsTakenUpTo o limit size m
     → IsTakenUpTo o limit size n → m ≡ n
-taken_one None limit size m n h k = h ∙ sym k
+taken_one None limit size m n h k = absurd h
 taken_one (Some t) limit size m n h k = h.1 ∙ sym k.1
 
 -- one length is taken
@@ -68,13 +68,21 @@ allowed_forbidden (Some most) size a f = omega (arith, a, f)
 
 taken_allowed : (o : Option TtlvType) (t : TtlvType) (limit : Option ℕ) (size n : ℕ) → o ≡ Some t
     → IsTakenUpTo o limit size n → Forbids limit size → ⊥
-taken_allowed None t limit size n is h f = cc
+taken_allowed None t limit size n is h f = h
 taken_allowed (Some u) t limit size n is h f = allowed_forbidden limit size h.0 f
 
 -- what is taken of a type's item is within the limit
 pub HasSize-allowed : (limit : Option ℕ) (xs : List ℕ) (t : TtlvType) (n : ℕ) → type_of (code_at xs 0) ≡ Some t
     → HasSize limit xs n → Forbids limit (message_size xs) → ⊥
 HasSize-allowed limit xs t n is h f = taken_allowed (type_of (code_at xs 0)) t limit (message_size xs) n is h f
+
+taken_typed : (o : Option TtlvType) (limit : Option ℕ) (size n : ℕ) → o ≡ None → IsTakenUpTo o limit size n → ⊥
+taken_typed None limit size n is h = h
+taken_typed (Some t) limit size n is h = cc
+
+-- nothing is taken of an item of no type
+pub HasSize-typed : (limit : Option ℕ) (xs : List ℕ) (n : ℕ) → type_of (code_at xs 0) ≡ None → HasSize limit xs n → ⊥
+HasSize-typed limit xs n is h = taken_typed (type_of (code_at xs 0)) limit (message_size xs) n is h
 
 -- a header, and behind it the body that it states
 pub comes_whole : (limit : Option ℕ) (a b c : Option (List ℕ)) (head message : List ℕ) (n : ℕ) → Consumes a b head

@@ -1,13 +1,11 @@
 -- Why there is no message, and what is answered of one.
-use Rattle.std.proofs.Common.{◌≡◌, ℕ, ◌+◌, ◌-◌, ◌≤◌, Bool, true, false, List, [], Option, None, Some, Result, Ok, Err, sym, subst, arith, refl, inl, inr}
-use Rattle.std.specs.Prelude.{if◌then◌else◌}
+use Rattle.std.proofs.Common.{◌≡◌, ℕ, ◌+◌, ◌-◌, ◌≤◌, Bool, List, [], Option, None, Some, Result, Ok, Err, subst, arith, refl, inl, inr}
 use Rattle.kmip_ttlv_types.specs.Streams.{Behind}
 use Rattle.kmip_ttlv_base.specs.declared.error.Error.{Error}
-use Rattle.kmip_ttlv_stream.specs.StreamMessages.{HasSize, IsOver, LacksBytes, Comes, Stops, in_header, over_limit, in_body, Gives, Ends}
+use Rattle.kmip_ttlv_stream.specs.StreamMessages.{HasSize, IsUntyped, IsOver, StopsAtHeader, LacksBytes, Comes, Stops, in_header, of_no_type, over_limit, in_body, Gives, Ends}
 use Rattle.kmip_ttlv_stream.proofs.Fronts.{HasSize-least, header_came, comes_whole}
 
--- the message is larger than the limit
-pub stops_over : {A : Type 0} (can_fail : Bool) (limit : Option ℕ) (old new : Option (List ℕ))
+stops_over : {A : Type 0} (can_fail : Bool) (limit : Option ℕ) (old new : Option (List ℕ))
     (had head seen : List ℕ) (e : Error A) → had ≡ [] → Behind old new had head 8
     → seen ≡ head → IsOver limit seen e → Stops can_fail limit old new (Some head) e
 stops_over can_fail limit old new had head seen e none more same over =
@@ -18,6 +16,27 @@ stops_over can_fail limit old new had head seen e none more same over =
       over = subst
           (λ (l : List ℕ). IsOver limit l e) same over;
     } refl
+
+stops_untyped : {A : Type 0} (can_fail : Bool) (limit : Option ℕ) (old new : Option (List ℕ))
+    (had head seen : List ℕ) (e : Error A) → had ≡ [] → Behind old new had head 8
+    → seen ≡ head → IsUntyped seen e → Stops can_fail limit old new (Some head) e
+stops_untyped can_fail limit old new had head seen e none more same untyped =
+    let came = header_came old new had head 8 none more in
+    of_no_type head record {
+      consumes = came.0;
+      length_is = came.1;
+      untyped = subst
+          (λ (l : List ℕ). IsUntyped l e) same untyped;
+    } refl
+
+-- the header has the code of no type, or the message is larger than the limit
+pub stops_at_header : {A : Type 0} (can_fail : Bool) (limit : Option ℕ) (old new : Option (List ℕ))
+    (had head seen : List ℕ) (e : Error A) → had ≡ [] → Behind old new had head 8
+    → seen ≡ head → StopsAtHeader limit seen e → Stops can_fail limit old new (Some head) e
+stops_at_header can_fail limit old new had head seen e none more same (inl untyped) =
+    stops_untyped can_fail limit old new had head seen e none more same untyped
+stops_at_header can_fail limit old new had head seen e none more same (inr over) =
+    stops_over can_fail limit old new had head seen e none more same over
 
 -- the message came
 pub message_comes : (limit : Option ℕ) (old mid new : Option (List ℕ)) (had head seen message : List ℕ) (n : ℕ)
@@ -62,17 +81,10 @@ ends_with answers can_fail limit old new message seen (Err e) comes same answer 
           same answer;
     }
 
--- the buffer that is kept
-pub ends_kept : {T A : Type 0} (answers : List ℕ → Result T (Error A) → Type 0) (can_fail : Bool) (limit : Option ℕ)
-    (old new : Option (List ℕ)) (bytes : List ℕ) (keeps : Bool) (r : Result T (Error A))
-    → keeps ≡ true → Ends answers can_fail limit old new (Some bytes) r
-    → Ends answers can_fail limit old new (if keeps then Some bytes else None) r
-ends_kept answers can_fail limit old new bytes keeps r is ends =
-    subst (λ (b : Bool). Ends answers can_fail limit old new (if b then Some bytes else None) r) (sym is) ends
-
 not_kept_stops : {A : Type 0} (can_fail : Bool) (limit : Option ℕ) (old new kept : Option (List ℕ)) (e : Error A)
     → Stops can_fail limit old new kept e → Stops can_fail limit old new None e
 not_kept_stops can_fail limit old new kept e (in_header lacks) = in_header lacks
+not_kept_stops can_fail limit old new kept e (of_no_type head comes k) = of_no_type head comes tt
 not_kept_stops can_fail limit old new kept e (over_limit head comes k) = over_limit head comes tt
 not_kept_stops can_fail limit old new kept e (in_body head mid n taken long size lacks) =
     in_body head mid n taken long size lacks
@@ -83,19 +95,12 @@ not_kept_gives : {T A : Type 0} (answers : List ℕ → Result T (Error A) → T
 not_kept_gives answers limit old new kept r g =
     record { message = g.message; comes = g.comes; is_kept = tt; answer = g.answer }
 
-not_kept : {T A : Type 0} (answers : List ℕ → Result T (Error A) → Type 0) (can_fail : Bool) (limit : Option ℕ)
+-- no buffer is kept
+pub ends_not_kept : {T A : Type 0} (answers : List ℕ → Result T (Error A) → Type 0) (can_fail : Bool) (limit : Option ℕ)
     (old new kept : Option (List ℕ)) (r : Result T (Error A))
     → Ends answers can_fail limit old new kept r → Ends answers can_fail limit old new None r
-not_kept answers can_fail limit old new kept (Ok x) g = not_kept_gives answers limit old new kept (Ok x) g
-not_kept answers can_fail limit old new kept (Err e) (inl g) =
+ends_not_kept answers can_fail limit old new kept (Ok x) g = not_kept_gives answers limit old new kept (Ok x) g
+ends_not_kept answers can_fail limit old new kept (Err e) (inl g) =
     inl (not_kept_gives answers limit old new kept (Err e) g)
-not_kept answers can_fail limit old new kept (Err e) (inr s) = inr (not_kept_stops can_fail limit old new kept e s)
-
--- no buffer is kept
-pub ends_not_kept : {T A : Type 0} (answers : List ℕ → Result T (Error A) → Type 0) (can_fail : Bool)
-    (limit : Option ℕ) (old new : Option (List ℕ)) (bytes own : List ℕ) (keeps : Bool) (r : Result T (Error A))
-    → keeps ≡ false → Ends answers can_fail limit old new (Some own) r
-    → Ends answers can_fail limit old new (if keeps then Some bytes else None) r
-ends_not_kept answers can_fail limit old new bytes own keeps r is ends =
-    subst (λ (b : Bool). Ends answers can_fail limit old new (if b then Some bytes else None) r) (sym is)
-    (not_kept answers can_fail limit old new (Some own) r ends)
+ends_not_kept answers can_fail limit old new kept (Err e) (inr s) =
+    inr (not_kept_stops can_fail limit old new kept e s)

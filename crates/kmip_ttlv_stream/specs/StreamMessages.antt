@@ -1,5 +1,5 @@
 -- Messages at the front of a stream: which bytes are taken, and what is answered.
-use Rattle.std.specs.Prelude.{◌≡◌, ℕ, ◌+◌, ◌<◌, ◌≤◌, ◌⊎◌, Bool, List, [], ◌++◌, length, take, drop, Option, Some, None}
+use Rattle.std.specs.Prelude.{◌≡◌, ℕ, ◌+◌, ◌<◌, ◌≤◌, ◌⊎◌, Bool, List, [], length, take, drop, Option, Some, None}
 use Rattle.std.specs.Prelude.{IfSome, IfErr, IfOk, Result, Ok, Err}
 use Rattle.std.specs.Io.KnownBytes.{Consumes}
 use Rattle.std.specs.declared.io.Error.{Error as IoFault}
@@ -10,7 +10,9 @@ use Rattle.kmip_ttlv_types.specs.Places.{tag_at, code_at, length_at}
 use Rattle.kmip_ttlv_types.specs.Streams.{ConsumesUpTo, Lacks}
 use Rattle.kmip_ttlv_base.specs.declared.error.Error.{Error}
 use Rattle.kmip_ttlv_base.specs.declared.error.ErrorKind.TheVariants as kinds
-use Rattle.kmip_ttlv_base.specs.Errors.{Location, unknown, io_error, exceeds_limit, kind_of, view_of_kind, location_of}
+use Rattle.kmip_ttlv_base.specs.declared.error.MalformedTtlvError.TheVariants as malformeds
+use Rattle.kmip_ttlv_base.specs.Errors.{Kind, Location, unknown, io_error, exceeds_limit, malformed, kind_of}
+use Rattle.kmip_ttlv_base.specs.Errors.{view_of_kind, location_of}
 use Rattle.kmip_ttlv_base.specs.Errors.{view_of_location, IsMemory}
 use Rattle.kmip_ttlv_base.specs.Values.{Value}
 use Rattle.kmip_ttlv_base.specs.Forms.{Form}
@@ -40,10 +42,9 @@ abbrev pub Forbids : Option ℕ → ℕ → Type 0
 Forbids None n = ⊥
 Forbids (Some most) n = most < n
 
--- n bytes are taken of a message of this type and size: the header alone where the type is none,
--- or else all of it, which no limit forbids
+-- n bytes are taken of a message of this type and size: all of it, which no limit forbids; it has a type
 abbrev pub IsTakenUpTo : Option TtlvType → Option ℕ → ℕ → ℕ → Type 0
-IsTakenUpTo None limit size n = n ≡ 8
+IsTakenUpTo None limit size n = ⊥
 IsTakenUpTo (Some t) limit size n = Allows limit size × (n ≡ size)
 
 -- n bytes are taken of the message that begins so
@@ -53,6 +54,20 @@ HasSize limit bytes n = IsTakenUpTo (type_of (code_at bytes 0)) limit (message_s
 -- behind the header of the message that begins so, with its tag and type
 abbrev pub behind_header : List ℕ → TtlvType → Location
 behind_header bytes t = record { offset = Some 8; parents = []; tag = Some (tag_at bytes 0); typ = Some t }
+
+-- the code of a type's, of the message that begins so
+abbrev pub behind_tag : List ℕ → Location
+behind_tag bytes = record { offset = Some 3; parents = []; tag = Some (tag_at bytes 0); typ = None }
+
+-- the code of no type
+abbrev pub untyped_kind : List ℕ → Kind
+untyped_kind bytes = malformed (malformeds.InvalidType (code_at bytes 0))
+
+-- the message that begins so has the code of no type, and this error says so, at the code
+pub record IsUntyped {A : Type 0} (bytes : List ℕ) (e : Error A) : Type 0 where
+  pub typ : type_of (code_at bytes 0) ≡ None
+  pub kind : view_of_kind (kind_of e) ≡ untyped_kind bytes
+  pub place : view_of_location (location_of e) ≡ behind_tag bytes
 
 -- the message that begins so is larger than the limit, and this refusal says so
 pub record IsOver {A : Type 0} (limit : Option ℕ) (bytes : List ℕ) (e : Error A) : Type 0 where
@@ -80,7 +95,11 @@ pub record LacksBytes {A : Type 0} (can_fail : Bool) (old new : Option (List ℕ
   pub within : ConsumesUpTo old new n
   pub cause : LackCause can_fail old n e
 
--- the bytes of one message were taken: all of it, or its header
+-- why no more than its header is taken of the message that begins so
+abbrev pub StopsAtHeader : {A : Type 0} → Option ℕ → List ℕ → Error A → Type 0
+StopsAtHeader limit head e = IsUntyped head e ⊎ IsOver limit head e
+
+-- the bytes of one message were taken
 pub record Comes (limit : Option ℕ) (old new : Option (List ℕ)) (message : List ℕ) : Type 0 where
   pub consumes : Consumes old new message
   pub size : HasSize limit message (length message)
@@ -96,10 +115,18 @@ pub record ComesOver {A : Type 0} (limit : Option ℕ) (old new : Option (List �
   pub length_is : length head ≡ 8
   pub over : IsOver limit head e
 
--- why there is no message: its header does not come; it is larger than the limit; its body does not come
+-- a header was taken that has the code of no type
+pub record ComesUntyped {A : Type 0} (old new : Option (List ℕ)) (head : List ℕ) (e : Error A) : Type 0 where
+  pub consumes : Consumes old new head
+  pub length_is : length head ≡ 8
+  pub untyped : IsUntyped head e
+
+-- why there is no message: its header does not come; that has the code of no type; it is larger than the limit; its
+-- body does not come
 pub data Stops {A : Type 0} (can_fail : Bool) (limit : Option ℕ) (old new kept : Option (List ℕ)) (e : Error A)
     : Type 0 where
   in_header : LacksBytes can_fail old new 8 e → Stops can_fail limit old new kept e
+  of_no_type : (head : List ℕ) → ComesUntyped old new head e → IsKept kept head → Stops can_fail limit old new kept e
   over_limit : (head : List ℕ) → ComesOver limit old new head e → IsKept kept head → Stops can_fail limit old new kept e
   in_body : (head : List ℕ) (mid : Option (List ℕ)) (n : ℕ) → Consumes old mid head → length head ≡ 8
       → HasSize limit head (8 + n) → LacksBytes can_fail mid new n e → Stops can_fail limit old new kept e
@@ -142,17 +169,24 @@ end_fault = record { kind = io_error UnexpectedEof; place = unknown }
 abbrev pub size_fault : List ℕ → TtlvType → Fault
 size_fault bytes t = record { kind = exceeds_limit (message_size bytes); place = behind_header bytes t }
 
+-- the code of no type, behind the tag
+abbrev pub type_fault : List ℕ → Fault
+type_fault bytes = record { kind = untyped_kind bytes; place = behind_tag bytes }
+
 -- what reading a message from these bytes comes to, by what they begin with; in place of each answer,
 -- want of memory may come
 pub record Exactly {T A : Type 0} (answers : List ℕ → Result T (Error A) → Type 0) (limit : Option ℕ) (bytes : List ℕ)
     (new kept : Option (List ℕ)) (r : Result T (Error A)) : Type 0 where
   -- a header that is cut
   pub in_header : length bytes < 8 → IsFault end_fault r
+  -- the code of no type, whatever is to be read and whatever the limit
+  pub untyped : 8 ≤ length bytes → type_of (code_at bytes 0) ≡ None
+      → IsFault (type_fault bytes) r × OrMemory r (TakesFirst bytes 8 new kept)
   -- a size above the limit
   pub over_limit : 8 ≤ length bytes → (t : TtlvType) → type_of (code_at bytes 0) ≡ Some t
       → Forbids limit (message_size bytes) → IsFault (size_fault bytes t) r × OrMemory r (TakesFirst bytes 8 new kept)
   -- a body that is cut
   pub in_body : 8 ≤ length bytes → (n : ℕ) → HasSize limit bytes n → length bytes < n → IsFault end_fault r
-  -- a message, or a header whose code is that of no type
+  -- a message
   pub whole : 8 ≤ length bytes → (n : ℕ) → HasSize limit bytes n → n ≤ length bytes
       → OrMemory r (TakesFirst bytes n new kept × answers (take n bytes) r)

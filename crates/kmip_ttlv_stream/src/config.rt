@@ -1,6 +1,6 @@
 //! The settings of reading from a stream: a limit, and a buffer that is kept from message to message.
 
-ghost use Rattle.std.specs.Prelude.{◌≡◌, Some, None, [], option_map, vec_items, is_some, ℕ};
+ghost use Rattle.std.specs.Prelude.{◌≡◌, Some, None, [], option_map, is_some};
 ghost use Rattle.kmip_ttlv_stream.specs.Settings.{settings_of};
 
 use std::alloc::{Allocator, Global};
@@ -10,8 +10,14 @@ use std::fmt;
 #[derive(Drop)]
 pub struct Config<A: Allocator = Global> {
     pub(crate) limit: Option<u32>,
-    pub(crate) keeps: bool,
-    pub(crate) bytes: Vec<u8, A>,
+    pub(crate) buffer: Buffer<A>,
+}
+
+// The bytes of the last message; or no place where any could stay.
+#[derive(Drop)]
+pub(crate) enum Buffer<A: Allocator> {
+    Kept(Vec<u8, A>),
+    Unkept(A),
 }
 
 impl<A: Allocator> Config<A> {
@@ -21,8 +27,7 @@ impl<A: Allocator> Config<A> {
     {
         Config {
             limit: None,
-            keeps: false,
-            bytes: Vec::new(alloc),
+            buffer: Buffer::Unkept(alloc),
         }
     }
 
@@ -37,29 +42,26 @@ impl<A: Allocator> Config<A> {
     pub fn has_buf(&self) -> bool
         ensures { result ≡ is_some (settings_of self.now).kept }
     {
-        self.keeps
+        matches!(self.buffer, Buffer::Kept(_))
     }
 
     /// The buffer, if there is one: the bytes of the last message.
     pub fn read_buf(&self) -> Option<&Vec<u8, A>>
         ensures { option_map (λ b. b.now.items) result ≡ (settings_of self.now).kept }
     {
-        if self.keeps { Some(&self.bytes) } else { None }
+        match &self.buffer {
+            Buffer::Kept(bytes) => Some(bytes),
+            Buffer::Unkept(_) => None,
+        }
     }
 
     /// The same with this limit: larger messages are refused before their body is taken.
     pub fn with_max_bytes(self, max_bytes: u32) -> Config<A>
         ensures { settings_of result ≡ record { limit = Some max_bytes; kept = (settings_of self).kept } }
     {
-        let Config {
-            limit: _,
-            keeps,
-            bytes,
-        } = self;
         Config {
             limit: Some(max_bytes),
-            keeps,
-            bytes,
+            buffer: self.buffer,
         }
     }
 
@@ -67,16 +69,9 @@ impl<A: Allocator> Config<A> {
     pub fn with_read_buf(self) -> Config<A>
         ensures { settings_of result ≡ record { limit = (settings_of self).limit; kept = Some [] } }
     {
-        let Config {
-            limit,
-            keeps: _,
-            mut bytes,
-        } = self;
-        bytes.clear();
         Config {
-            limit,
-            keeps: true,
-            bytes,
+            limit: self.limit,
+            buffer: Buffer::Kept(emptied(self.buffer)),
         }
     }
 }
@@ -89,9 +84,24 @@ impl<A: Allocator + Copy> Config<A> {
     {
         Config {
             limit: self.limit,
-            keeps: self.keeps,
-            bytes: Vec::new(*self.bytes.allocator()),
+            buffer: match &self.buffer {
+                Buffer::Kept(bytes) => Buffer::Kept(Vec::new(*bytes.allocator())),
+                Buffer::Unkept(alloc) => Buffer::Unkept(*alloc),
+            },
         }
+    }
+}
+
+// The buffer without its bytes, or one that is new. Takes no memory.
+fn emptied<A: Allocator>(buffer: Buffer<A>) -> Vec<u8, A>
+    ensures { result.items ≡ [] }
+{
+    match buffer {
+        Buffer::Kept(mut bytes) => {
+            bytes.clear();
+            bytes
+        }
+        Buffer::Unkept(alloc) => Vec::new(alloc),
     }
 }
 
@@ -99,7 +109,7 @@ impl<A: Allocator + Copy> Config<A> {
 impl<A: Allocator> fmt::Debug for Config<A> {
     fn fmt<W: fmt::Write>(&self, f: &mut fmt::Formatter<W>) -> fmt::Result {
         let limit = self.limit;
-        let keeps = self.keeps;
+        let keeps = self.has_buf();
         write!(f, "Config {{ max_bytes: {limit:?}, has_buf: {keeps} }}")
     }
 }

@@ -11,6 +11,7 @@ ghost use Rattle.kmip_ttlv_stream.specs.StreamMessages.{Answered, Ends, IsBySize
 mod config;
 mod take;
 
+use crate::config::Buffer;
 pub use crate::config::Config;
 use crate::take::take_message;
 use kmip_ttlv_base::error::Result;
@@ -21,12 +22,14 @@ use std::alloc::Allocator;
 
 /// The value of one message from a stream: a Structure, by the shape of `T`.
 ///
-/// Eight bytes are taken, the message's header. Where its code is that of no type, they are all that
-/// is taken. Otherwise the limit is asked, and then as many bytes are taken as the header states.
-/// What `from_slice` answers of these bytes is the answer. No byte behind the message is taken.
+/// Eight bytes are taken, the message's header. Its type is judged first, then the limit, and then as
+/// many bytes are taken as the header states. What `from_slice` returns of these bytes is returned. No
+/// byte behind the message is taken.
 ///
-/// Refusals besides those of `from_slice`:
+/// Errors besides those of `from_slice`:
 ///
+/// - `InvalidType`, with the header's code, at offset 3 and with the header's tag: the code is that of no
+///   type. It comes whatever `T` is and whatever the limit, and only the header is taken.
 /// - `ResponseSizeExceedsLimit`, with the message's size: the message is larger than the limit.
 ///   Behind its header, with its tag and type.
 /// - `IoError` of kind UnexpectedEof, of an unknown place: the stream ends within the message.
@@ -52,11 +55,13 @@ pub fn from_reader<T: Deserialize<A>, S: Source, A: Allocator + Copy>(
     // The limit stays, and there is a buffer afterwards exactly where there was one.
     ensures config { KeepsSettings (settings_of config.old) (settings_of config.new) }
 {
-    if config.keeps {
-        return read_message(alloc, reader, config.limit, &mut config.bytes);
+    match &mut config.buffer {
+        Buffer::Kept(bytes) => read_message(alloc, reader, config.limit, bytes),
+        Buffer::Unkept(_) => {
+            let mut bytes = Vec::new(alloc);
+            read_message(alloc, reader, config.limit, &mut bytes)
+        }
     }
-    let mut bytes = Vec::new(alloc);
-    read_message(alloc, reader, config.limit, &mut bytes)
 }
 
 // Takes a message into the buffer, in place of what it held, and reads it.

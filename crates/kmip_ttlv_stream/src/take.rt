@@ -2,12 +2,12 @@
 
 ghost use Rattle.std.specs.Prelude.{◌≡◌, ◌≤◌, length, Some, IfOk, IfErr, OnOk};
 ghost use Rattle.kmip_ttlv_types.specs.Streams.{Behind};
-ghost use Rattle.kmip_ttlv_base.specs.Errors.{kind_of, location_of, view_of_location};
+ghost use Rattle.kmip_ttlv_base.specs.Errors.{kind_of, view_of_kind, location_of, view_of_location};
 ghost use Rattle.kmip_ttlv_base.specs.declared.error.ErrorKind.TheVariants.{ResponseSizeExceedsLimit as TooLargeKind};
-ghost use Rattle.kmip_ttlv_stream.specs.StreamMessages.{HasSize, IsOver, behind_header, IsIoFault, LacksBytes};
-ghost use Rattle.kmip_ttlv_stream.specs.StreamMessages.{Comes, Stops};
+ghost use Rattle.kmip_ttlv_stream.specs.StreamMessages.{HasSize, StopsAtHeader, behind_header, behind_tag};
+ghost use Rattle.kmip_ttlv_stream.specs.StreamMessages.{untyped_kind, IsIoFault, LacksBytes, Comes, Stops};
 
-use kmip_ttlv_base::error::{Error, ErrorKind, ErrorLocation, Result};
+use kmip_ttlv_base::error::{Error, ErrorKind, ErrorLocation, MalformedTtlvError, Result};
 use kmip_ttlv_base::types;
 use kmip_ttlv_base::types::places::{length_at, tag_at, type_at};
 use kmip_ttlv_base::types::stream::{Source, append_bytes};
@@ -15,7 +15,7 @@ use kmip_ttlv_base::types::{ByteOffset, TtlvType};
 use std::alloc::Allocator;
 use std::io;
 
-// The bytes of one message: the header alone where its code is that of no type, or else all of it.
+// The bytes of one message. Where its header has the code of no type, or states more than the limit, the header alone is taken.
 pub fn take_message<S: Source, A: Allocator>(
     reader: &mut S,
     limit: Option<u32>,
@@ -34,16 +34,28 @@ pub fn take_message<S: Source, A: Allocator>(
 fn size_of<A: Allocator>(head: &[u8], limit: Option<u32>) -> Result<usize, A>
     requires { 8 ≤ length head.now }
     ensures ok { IfOk result (HasSize limit head.now) }
-    ensures err { IfErr result (IsOver limit head.now) }
+    ensures err { IfErr result (StopsAtHeader limit head.now) }
 {
     let Some(typ) = type_at(head, 0) else {
-        return Ok(8);
+        return Err(no_type(head));
     };
     let size = 8 + length_at(head, 0) as usize;
     match limit {
         Some(most) if size > most as usize => Err(too_large(head, typ, size)),
         _ => Ok(size),
     }
+}
+
+// The error of a header with the code of no type, at the code.
+fn no_type<A: Allocator>(head: &[u8]) -> Error<A>
+    requires { 8 ≤ length head.now }
+    ensures kind { view_of_kind (kind_of result) ≡ untyped_kind head.now }
+    ensures place { view_of_location (location_of result) ≡ behind_tag head.now }
+{
+    Error::new(
+        ErrorKind::MalformedTtlv(MalformedTtlvError::InvalidType(head[3])),
+        ErrorLocation::at(Some(ByteOffset(3)), None, Some(tag_at(head, 0)), None),
+    )
 }
 
 // The refusal of a message of this size, behind its header.

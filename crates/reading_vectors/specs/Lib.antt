@@ -1,1 +1,2 @@
 pub mod ManyFields
+pub mod StreamSamples

@@ -22,7 +22,12 @@ fn read<P: Part>(alloc: Global, text: &str) -> Result<Result<Reading<P>, Error>,
 /// What the bytes are read as by the shape: the data, or why they are refused, and where. Of an
 /// input that ends too early no place is said.
 pub fn answer<P: Part>(alloc: Global, text: &str) -> Result<String, Fail> {
-    let error = match read::<P>(alloc, text)? {
+    text_of(alloc, read::<P>(alloc, text)?)
+}
+
+/// What was read, as [`answer`] has it.
+pub fn text_of<P: Part>(alloc: Global, found: Result<Reading<P>, Error>) -> Result<String, Fail> {
+    let error = match found {
         Ok(found) => return Ok(found.text),
         Err(error) => error,
     };
@@ -36,8 +41,8 @@ pub fn answer<P: Part>(alloc: Global, text: &str) -> Result<String, Fail> {
     }
 }
 
-// Fails unless what was found of a message is what is wanted.
-fn compare(found: Result<String, Fail>, message: &str, wanted: &str) -> Result<(), Fail> {
+/// Fails unless what was found of a message is what is wanted.
+pub fn compare(found: Result<String, Fail>, message: &str, wanted: &str) -> Result<(), Fail> {
     let found = found?;
     if found.as_str() == wanted {
         return Ok(());

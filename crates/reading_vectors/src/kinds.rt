@@ -75,18 +75,25 @@ fn shapes_take_items_of_their_types(rt: HostRuntime) -> Result<(), Fail> {
     takes_only::<Inner>(heap, "MalformedTtlv", "Structure", &["01"])
 }
 
-// Fails unless the rule chooses its variant, which has no content, at an item of this type alone.
-fn holds_for<N: Name>(alloc: Global, wanted: &str) -> Result<(), Fail> {
+// Fails unless the rule chooses its variant, which has no content, at an item of this type exactly where that is wanted.
+fn holds_at<N: Name>(alloc: Global, typ: (&str, &str), wanted: &str) -> Result<(), Fail> {
     type Unit<N> = Of<Choice<TagB, OneVariant<N, NoContent>>>;
-    for (code, name) in TYPES {
-        let bytes = message(alloc, code)?;
-        let found = answer::<Unit<N>>(alloc, bytes.as_str())?;
-        let is_chosen = found.as_str().starts_with(
-            "MalformedTtlv(UnexpectedTtlvField { expected: Length, actual: Tag }); pos: 12 bytes",
-        );
-        if is_chosen != (name == wanted) {
-            return Err(Fail::new(format_args!("{wanted} at {name}: {found}")));
-        }
+    let (code, name) = typ;
+    let bytes = message(alloc, code)?;
+    let found = answer::<Unit<N>>(alloc, bytes.as_str())?;
+    let is_chosen = found.as_str().starts_with(
+        "MalformedTtlv(UnexpectedTtlvField { expected: Length, actual: Tag }); pos: 12 bytes",
+    );
+    if is_chosen == (name == wanted) {
+        return Ok(());
+    }
+    Err(Fail::new(format_args!("{wanted} at {name}: {found}")))
+}
+
+// Fails unless the rule holds at an item of this type alone.
+fn holds_for<N: Name>(alloc: Global, wanted: &str) -> Result<(), Fail> {
+    for typ in TYPES {
+        holds_at::<N>(alloc, typ, wanted)?;
     }
     Ok(())
 }

@@ -3,7 +3,7 @@
 //!
 //! A shape is put together from the types in `parts`, whose names are those in `names`. `Reading`
 //! reads by such a shape, and keeps the data that was read as text; `Run` keeps of a sequence its
-//! length. In `streams` a message comes from a reader that is slow or fails. The program `ttlv_times`
+//! length. In `streams`, and the modules whose names begin so, a message comes from a reader. The program `ttlv_times`
 //! reads by such shapes too, so these modules are public.
 #![tactic(auto)]
 
@@ -32,5 +32,15 @@ mod response;
 #[cfg(test)]
 mod roots;
 pub mod run;
+#[cfg(test)]
+mod stream_faults;
+#[cfg(test)]
+mod stream_growth;
+#[cfg(test)]
+mod stream_rows;
+#[cfg(test)]
+mod stream_samples;
+#[cfg(test)]
+mod stream_types;
 #[cfg(test)]
 mod streams;

@@ -1,21 +1,22 @@
 use Rattle.kmip_ttlv_stream.proofs.BySize.{by_size}
 use Rattle.kmip_ttlv_stream.proofs.Exact.{exact}
-use Rattle.kmip_ttlv_stream.proofs.Stopping.{ends_kept, ends_not_kept}
+use Rattle.kmip_ttlv_stream.proofs.Stopping.{ends_not_kept}
 use Rattle.kmip_ttlv_stream.proofs.from_reader.Goals as goal
 
-pub returns-then-config-clause-limit : goal.returns-then-config-clause-limit
-returns-then-config-clause-limit g c = by_size _ _ _ _ _ _ _ c.read_message.result c.read_message.ensures
+pub returns-in-Kept-clause-limit : goal.returns-in-Kept-clause-limit
+returns-in-Kept-clause-limit g c = by_size _ _ _ _ _ _ _ c.read_message.result c.read_message.ensures
 
-pub returns-then-config-clause-exact : goal.returns-then-config-clause-exact
-returns-then-config-clause-exact g c =
-    exact _ _ _ _ _ _ _ (ends_kept _ _ _ _ _ _ _ _ c.if-config.true c.read_message.ensures)
+pub returns-in-Kept-clause-exact : goal.returns-in-Kept-clause-exact
+returns-in-Kept-clause-exact g c = exact _ _ _ _ _ _ _ c.read_message.ensures
 
-pub returns-clause-ends : goal.returns-clause-ends
-returns-clause-ends g c = ends_not_kept _ _ _ _ _ _ _ _ _ c.if-config.false c.read_message-2.ensures
+pub returns-in-Unkept-clause-ends : goal.returns-in-Unkept-clause-ends
+returns-in-Unkept-clause-ends g c =
+    rw (c.in-Unkept.is) (ends_not_kept _ _ _ _ _ _ c.read_message-in-Unkept.result c.read_message-in-Unkept.ensures)
 
-pub returns-clause-limit : goal.returns-clause-limit
-returns-clause-limit g c = by_size _ _ _ _ _ _ _ c.read_message-2.result c.read_message-2.ensures
+pub returns-in-Unkept-clause-limit : goal.returns-in-Unkept-clause-limit
+returns-in-Unkept-clause-limit g c = by_size _ _ _ _ _ _ _ c.read_message-in-Unkept.result c.read_message-in-Unkept.ensures
 
-pub returns-clause-exact : goal.returns-clause-exact
-returns-clause-exact g c =
-    exact _ _ _ _ _ _ _ (ends_not_kept _ _ _ _ _ _ _ _ _ c.if-config.false c.read_message-2.ensures)
+pub returns-in-Unkept-clause-exact : goal.returns-in-Unkept-clause-exact
+returns-in-Unkept-clause-exact g c =
+    rw (c.in-Unkept.is) (exact _ _ _ _ _ _ _
+    (ends_not_kept _ _ _ _ _ _ c.read_message-in-Unkept.result c.read_message-in-Unkept.ensures))

@@ -1,7 +1,7 @@
 use Rattle.std.proofs.lemmas.Result.{err_from_is_err_and, on_ok_weaker, IfErr-weaker}
 use Rattle.kmip_ttlv_stream.specs.StreamMessages.{in_header}
 use Rattle.kmip_ttlv_stream.proofs.Fronts.{HasSize-least}
-use Rattle.kmip_ttlv_stream.proofs.Stopping.{stops_over, message_comes, stops_in_body}
+use Rattle.kmip_ttlv_stream.proofs.Stopping.{stops_at_header, message_comes, stops_in_body}
 use Rattle.kmip_ttlv_stream.proofs.take.take_message.Goals as goal
 
 pub returns-in_err-take_more-clause-err : goal.returns-in_err-take_more-clause-err
@@ -12,7 +12,7 @@ returns-in_err-take_more-clause-err g c =
 pub returns-in_err-size-clause-err : goal.returns-in_err-size-clause-err
 returns-in_err-size-clause-err g c =
     let p = err_from_is_err_and c.from_residual-in_err-size.result c.from_residual-in_err-size.ensures.1 in
-    rw (p.1, p.2) (stops_over _ _ _ _ _ _ _ _ c.clear.ensures.items c.in_ok-take_more.ensures.ok
+    rw (p.1, p.2) (stops_at_header _ _ _ _ _ _ _ _ c.clear.ensures.items c.in_ok-take_more.ensures.ok
     c.as_slice.ensures.value c.in_err-size.ensures.err)
 
 pub overflow_sub-size : goal.overflow_sub-size

@@ -1,4 +1,0 @@
-pub mod Choices
-pub mod Leaves
-pub mod Messages
-pub mod Numbers

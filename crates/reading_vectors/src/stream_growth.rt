@@ -1,0 +1,108 @@
+//! Each growth refused in turn: want of memory, or the answer that comes with ample memory. And how
+//! much is asked for.
+
+use crate::stream_samples::{MESSAGE, Single, Wanted, is_kept, is_memory, is_wanted, slow};
+use kmip_ttlv::types::stream::MemorySource;
+use kmip_ttlv::{Config, from_reader};
+use refusing_allocator::{BoundedAllocator, RefusingAllocator};
+use std::alloc::Global;
+use std::io::ErrorKind;
+use std::test::Fail;
+
+// What one refused growth comes to.
+#[derive(Clone, Copy, PartialEq, Eq)]
+enum Outcome {
+    Refused,
+    Ample,
+    Wrong,
+}
+
+// A message, where the growth after the first `before` is refused.
+fn with_refused_growth(alloc: Global, keeps: bool, before: u64) -> Result<Outcome, Fail> {
+    let stream = hex::decode(alloc, MESSAGE)?;
+    let heap = RefusingAllocator::new(alloc, before);
+    let mut config = Config::new(&heap);
+    if keeps {
+        config = config.with_read_buf();
+    }
+    let mut reader = slow(stream.as_slice());
+    let found = from_reader::<Single, _, _>(&heap, &mut reader, &mut config);
+    let is_same = is_wanted(&found, Wanted::Number(3)) && reader.bytes.is_empty();
+    if config.has_buf() != keeps || !(is_same || heap.has_refused() && is_memory(&found)) {
+        return Ok(Outcome::Wrong);
+    }
+    if heap.has_refused() {
+        Ok(Outcome::Refused)
+    } else {
+        Ok(Outcome::Ample)
+    }
+}
+
+#[test]
+fn each_growth_is_refused(rt: HostRuntime) -> Result<(), Fail> {
+    for keeps in [false, true] {
+        let mut last = Outcome::Refused;
+        for before in 0..1000u64 {
+            last = with_refused_growth(rt.alloc(), keeps, before)?;
+            if last != Outcome::Refused {
+                break;
+            }
+        }
+        assert!(rt; last == Outcome::Ample, "with a buffer: {keeps}");
+    }
+    Ok(())
+}
+
+// Two messages, one after the other, into a buffer of which the growth after the first `before` is
+// refused: after the first message took all that was granted, the second takes none.
+fn second_after(alloc: Global, before: u64) -> Result<Outcome, Fail> {
+    let one = hex::decode(alloc, MESSAGE)?;
+    let mut two = hex::decode(alloc, MESSAGE)?;
+    two.extend_from_slice(one.as_slice())?;
+    let heap = RefusingAllocator::new(alloc, before);
+    let ample = RefusingAllocator::new(alloc, 1_000_000);
+    let mut config = Config::new(&heap).with_read_buf();
+    let mut reader = slow(two.as_slice());
+    let first = from_reader::<Single, _, _>(&ample, &mut reader, &mut config);
+    if heap.has_refused() {
+        return Ok(Outcome::Refused);
+    }
+    let is_first = is_wanted(&first, Wanted::Number(3)) && is_kept(&config, one.as_slice());
+    let second = from_reader::<Single, _, _>(&ample, &mut reader, &mut config);
+    let is_second = is_wanted(&second, Wanted::Number(3)) && is_kept(&config, one.as_slice());
+    if is_first && is_second && reader.bytes.is_empty() && !heap.has_refused() {
+        Ok(Outcome::Ample)
+    } else {
+        Ok(Outcome::Wrong)
+    }
+}
+
+#[test]
+fn a_second_message_takes_no_growth(rt: HostRuntime) -> Result<(), Fail> {
+    let mut last = Outcome::Refused;
+    for before in 0..1000u64 {
+        last = second_after(rt.alloc(), before)?;
+        if last != Outcome::Refused {
+            break;
+        }
+    }
+    assert!(rt; last == Outcome::Ample);
+    Ok(())
+}
+
+// Whether a stated length alone takes no memory: of a header that states more than four billion bytes
+// only a first piece is asked for.
+fn is_taken_by_pieces(alloc: Global) -> Result<bool, Fail> {
+    let stream = hex::decode(alloc, "AAAAAA01FFFFFFFF")?;
+    let heap = BoundedAllocator::new(alloc, 8 + 65_536);
+    let mut config = Config::new(&heap).with_read_buf();
+    let mut source = MemorySource(stream.as_slice());
+    let found = from_reader::<Single, _, _>(&heap, &mut source, &mut config);
+    Ok(is_wanted(&found, Wanted::Fault(ErrorKind::UnexpectedEof)))
+}
+
+#[test]
+fn a_stated_length_takes_no_memory(rt: HostRuntime) -> Result<(), Fail> {
+    assert!(rt; is_taken_by_pieces(rt.alloc())?);
+    Ok(())
+}

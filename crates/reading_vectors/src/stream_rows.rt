@@ -1,0 +1,204 @@
+//! Streams, and what is read of them.
+
+use crate::stream_samples::{MESSAGE, Single, Wanted, is_kept, is_wanted, slow};
+use kmip_ttlv::types::stream::MemorySource;
+use kmip_ttlv::{Config, from_reader};
+use std::alloc::Global;
+use std::io::ErrorKind;
+use std::test::Fail;
+
+// A stream and a limit; what is read, which bytes are kept, if that is promised, and which are left.
+#[derive(Clone, Copy)]
+struct Row {
+    stream: &'static str,
+    limit: Option<u32>,
+    wanted: Wanted,
+    kept: Option<&'static str>,
+    left: &'static str,
+}
+
+const OTHER: &str = "AAAAAA0100000010CCCCCC02000000040000000500000000";
+
+const ROWS: [Row; 17] = [
+    Row {
+        stream: MESSAGE,
+        limit: Some(0),
+        wanted: Wanted::TooLarge(24),
+        kept: Some("AAAAAA0100000010"),
+        left: "BBBBBB02000000040000000300000000",
+    },
+    Row {
+        stream: MESSAGE,
+        limit: Some(1),
+        wanted: Wanted::TooLarge(24),
+        kept: Some("AAAAAA0100000010"),
+        left: "BBBBBB02000000040000000300000000",
+    },
+    Row {
+        stream: MESSAGE,
+        limit: Some(2),
+        wanted: Wanted::TooLarge(24),
+        kept: Some("AAAAAA0100000010"),
+        left: "BBBBBB02000000040000000300000000",
+    },
+    Row {
+        stream: MESSAGE,
+        limit: Some(10),
+        wanted: Wanted::TooLarge(24),
+        kept: Some("AAAAAA0100000010"),
+        left: "BBBBBB02000000040000000300000000",
+    },
+    Row {
+        stream: "",
+        limit: None,
+        wanted: Wanted::Fault(ErrorKind::UnexpectedEof),
+        kept: None,
+        left: "",
+    },
+    Row {
+        stream: "AA",
+        limit: None,
+        wanted: Wanted::Fault(ErrorKind::UnexpectedEof),
+        kept: None,
+        left: "",
+    },
+    Row {
+        stream: "AAAA",
+        limit: None,
+        wanted: Wanted::Fault(ErrorKind::UnexpectedEof),
+        kept: None,
+        left: "",
+    },
+    Row {
+        stream: "AAAAAA0100000010BBBB",
+        limit: None,
+        wanted: Wanted::Fault(ErrorKind::UnexpectedEof),
+        kept: None,
+        left: "",
+    },
+    Row {
+        stream: MESSAGE,
+        limit: Some(7),
+        wanted: Wanted::TooLarge(24),
+        kept: Some("AAAAAA0100000010"),
+        left: "BBBBBB02000000040000000300000000",
+    },
+    Row {
+        stream: "AAAAAA0100000010BBBBBB02000000040000000300000000FF",
+        limit: Some(24),
+        wanted: Wanted::Number(3),
+        kept: Some(MESSAGE),
+        left: "FF",
+    },
+    Row {
+        stream: MESSAGE,
+        limit: Some(23),
+        wanted: Wanted::TooLarge(24),
+        kept: Some("AAAAAA0100000010"),
+        left: "BBBBBB02000000040000000300000000",
+    },
+    Row {
+        stream: MESSAGE,
+        limit: None,
+        wanted: Wanted::Number(3),
+        kept: Some(MESSAGE),
+        left: "",
+    },
+    Row {
+        stream: "AAAAAA0C00000010",
+        limit: Some(7),
+        wanted: Wanted::NoType(0x0C),
+        kept: Some("AAAAAA0C00000010"),
+        left: "",
+    },
+    Row {
+        stream: "AAAAAA01FFFFFFFF",
+        limit: Some(4_294_967_295),
+        wanted: Wanted::TooLarge(4_294_967_303),
+        kept: Some("AAAAAA01FFFFFFFF"),
+        left: "",
+    },
+    Row {
+        stream: "AAAAAA0100",
+        limit: None,
+        wanted: Wanted::Fault(ErrorKind::UnexpectedEof),
+        kept: None,
+        left: "",
+    },
+    Row {
+        stream: "AAAAAA0100000010BBBBBB0200",
+        limit: None,
+        wanted: Wanted::Fault(ErrorKind::UnexpectedEof),
+        kept: None,
+        left: "",
+    },
+    Row {
+        stream: "AAAAAA0100000010CCCCCC02000000040000000500000000FF",
+        limit: None,
+        wanted: Wanted::OtherTag,
+        kept: Some(OTHER),
+        left: "FF",
+    },
+];
+
+fn settings(alloc: Global, row: &Row) -> Config {
+    let config = Config::new(alloc).with_read_buf();
+    match row.limit {
+        Some(limit) => config.with_max_bytes(limit),
+        None => config,
+    }
+}
+
+// Whether a clone has the same limit, and an empty buffer.
+fn is_cloned(config: &Config, row: &Row) -> bool {
+    let clone = config.clone();
+    clone.max_bytes() == row.limit && clone.has_buf() && is_kept(&clone, &[])
+}
+
+// Whether the row's answer comes from a reader of one byte a call.
+fn is_read_slowly(alloc: Global, row: &Row) -> Result<bool, Fail> {
+    let stream = hex::decode(alloc, row.stream)?;
+    let left = hex::decode(alloc, row.left)?;
+    let mut config = settings(alloc, row);
+    let mut reader = slow(stream.as_slice());
+    let found = from_reader::<Single, _, _>(alloc, &mut reader, &mut config);
+    let kept = hex::decode(alloc, row.kept.unwrap_or(""))?;
+    Ok(
+        is_wanted(&found, row.wanted)
+            && reader.bytes == left.as_slice()
+            && (row.kept.is_none() || is_kept(&config, kept.as_slice()))
+            && is_cloned(&config, row),
+    )
+}
+
+// Whether the row's answer comes from memory, by settings without a buffer.
+fn is_read_at_once(alloc: Global, row: &Row) -> Result<bool, Fail> {
+    let stream = hex::decode(alloc, row.stream)?;
+    let mut config = Config::new(alloc);
+    if let Some(limit) = row.limit {
+        config = config.with_max_bytes(limit);
+    }
+    let mut source = MemorySource(stream.as_slice());
+    let found = from_reader::<Single, _, _>(alloc, &mut source, &mut config);
+    Ok(is_wanted(&found, row.wanted) && !config.has_buf() && config.max_bytes() == row.limit)
+}
+
+#[test]
+fn rows_are_read(rt: HostRuntime) -> Result<(), Fail> {
+    for (at, row) in ROWS.iter().enumerate() {
+        assert!(rt; is_read_slowly(rt.alloc(), row)?, "slowly, row {at}");
+        assert!(rt; is_read_at_once(rt.alloc(), row)?, "at once, row {at}");
+    }
+    Ok(())
+}
+
+#[test]
+fn settings_are_shown_without_bytes(rt: HostRuntime) -> Result<(), Fail> {
+    let config = Config::new(rt.alloc()).with_max_bytes(24).with_read_buf();
+    let text = format!(in rt.alloc(); "{config:?}")?;
+    assert_eq!(rt;
+        text.as_str(),
+        "Config { max_bytes: Some(24), has_buf: true }"
+    );
+    Ok(())
+}

@@ -1,0 +1,118 @@
+-- Forms and values of the types in `leaves`.
+use Rattle.kmip_ttlv.specs.Forms.{Form, big_integer, boolean, enum, field, int32, int64, interval, newtype, no_fields}
+use Rattle.kmip_ttlv.specs.Forms.{no_variants, octets, option, struct, text, unit, variant}
+use Rattle.kmip_ttlv.specs.MessageParts.{optional}
+use Rattle.kmip_ttlv.specs.Values.{Value, big_integer_value, boolean_value, bytes_value, i32_value, i64_value}
+use Rattle.kmip_ttlv.specs.Values.{interval_value, newtype_value, no_values, struct_value, text_value}
+use Rattle.kmip_ttlv.specs.Values.{unit_variant_value, value}
+use Rattle.kmip_ttlv.specs.Visits.{joined}
+use Rattle.std.specs.Prelude.{List, codes, false, option_map, string_bytes, ℕ, ℤ}
+use Rattle.kmip_ttlv.specs.Visits as told
+use Rattle.ttlv_vectors.specs.declared.leaves.Numbers.{Numbers}
+use Rattle.ttlv_vectors.specs.declared.leaves.Moments.{Moments}
+use Rattle.ttlv_vectors.specs.declared.leaves.Contents.{Contents}
+use Rattle.ttlv_vectors.specs.declared.leaves.OptionalContents.{OptionalContents}
+use Rattle.ttlv_vectors.specs.declared.leaves.Kind.{Kind}
+use Rattle.ttlv_vectors.specs.declared.leaves.Kind.TheVariants as kind
+
+-- the form of a `Numbers`
+abbrev pub numbers_form : Form
+numbers_form =
+    struct (codes "0x540001") (
+    field (codes "0x540002") (newtype (codes "Transparent:0x540002") int32) (
+    field (codes "0x540003") (newtype (codes "Transparent:0x540003") int64) no_fields)) false
+
+-- the value of a `Numbers`
+unfoldable pub numbers_value : Numbers → Value
+numbers_value x =
+    struct_value (codes "0x540001") (
+    value (newtype_value (codes "Transparent:0x540002") (i32_value x.count)) (
+    value (newtype_value (codes "Transparent:0x540003") (i64_value x.long)) no_values))
+
+-- the form of a `Moments`
+abbrev pub moments_form : Form
+moments_form =
+    struct (codes "0x540009") (
+    field (codes "0x540004") (newtype (codes "Transparent:0x540004") int64) (
+    field (codes "0x540005") (newtype (codes "Transparent:0x540005") boolean) (
+    field (codes "0x540006") (newtype (codes "Transparent:0x540006") interval) no_fields))) false
+
+-- the value of a `Moments`; a date is written and read as this says
+unfoldable pub moments_value : (ℤ → Value) → Moments → Value
+moments_value date x =
+    struct_value (codes "0x540009") (
+    value (newtype_value (codes "Transparent:0x540004") (date x.date)) (
+    value (newtype_value (codes "Transparent:0x540005") (boolean_value x.truth)) (
+    value (newtype_value (codes "Transparent:0x540006") (interval_value x.seconds)) no_values)))
+
+-- the form of a `Contents`
+abbrev pub contents_form : Form
+contents_form =
+    struct (codes "0x540020") (
+    field (codes "0x540021") (newtype (codes "Transparent:0x540021") text) (
+    field (codes "0x540022") (newtype (codes "Transparent:0x540022") octets) (
+    field (codes "0x540023") (newtype (codes "Transparent:0x540023") big_integer) no_fields))) false
+
+-- the value of a `Contents`
+unfoldable pub contents_value : {A : Type 0} → Contents A → Value
+contents_value x =
+    struct_value (codes "0x540020") (
+    value (newtype_value (codes "Transparent:0x540021") (text_value (string_bytes x.text))) (
+    value (newtype_value (codes "Transparent:0x540022") (bytes_value x.bytes.items)) (
+    value (newtype_value (codes "Transparent:0x540023") (big_integer_value x.big.items)) no_values)))
+
+-- the form of a `OptionalContents`
+abbrev pub optional_contents_form : Form
+optional_contents_form =
+    struct (codes "0x540030") (
+    field (codes "0x540005") (option (newtype (codes "Transparent:0x540005") boolean)) (
+    field (codes "0x540006") (option (newtype (codes "Transparent:0x540006") interval)) (
+    field (codes "0x540021") (option (newtype (codes "Transparent:0x540021") text)) (
+    field (codes "0x540022") (option (newtype (codes "Transparent:0x540022") octets)) (
+    field (codes "0x540023") (option (newtype (codes "Transparent:0x540023") big_integer)) no_fields))))) false
+
+-- what is written of a `OptionalContents`
+unfoldable pub written_optional_contents : {A : Type 0} → OptionalContents A → Value
+written_optional_contents x =
+    struct_value (codes "0x540030") (
+    joined (told.optional (option_map
+    (λ y. newtype_value (codes "Transparent:0x540005") (boolean_value y)) x.truth)) (
+    joined (told.optional (option_map
+    (λ y. newtype_value (codes "Transparent:0x540006") (interval_value y)) x.seconds)) (
+    joined (told.optional (option_map
+    (λ y. newtype_value (codes "Transparent:0x540021") (text_value (string_bytes y))) x.text)) (
+    joined (told.optional (option_map
+    (λ y. newtype_value (codes "Transparent:0x540022") (bytes_value y.items)) x.bytes)) (
+    joined (told.optional (option_map
+    (λ y. newtype_value (codes "Transparent:0x540023") (big_integer_value y.items)) x.big)) no_values)))))
+
+-- what is read of a `OptionalContents`
+unfoldable pub read_optional_contents : {A : Type 0} → OptionalContents A → Value
+read_optional_contents x =
+    struct_value (codes "0x540030") (
+    value (optional
+    (λ y. newtype_value (codes "Transparent:0x540005") (boolean_value y)) x.truth) (
+    value (optional
+    (λ y. newtype_value (codes "Transparent:0x540006") (interval_value y)) x.seconds) (
+    value (optional
+    (λ y. newtype_value (codes "Transparent:0x540021") (text_value (string_bytes y))) x.text) (
+    value (optional
+    (λ y. newtype_value (codes "Transparent:0x540022") (bytes_value y.items)) x.bytes) (
+    value (optional
+    (λ y. newtype_value (codes "Transparent:0x540023") (big_integer_value y.items)) x.big) no_values)))))
+
+-- the form of a `Kind`
+abbrev pub kind_form : Form
+kind_form =
+    enum (codes "0x540040") (
+    variant (codes "0x00000001") unit (
+    variant (codes "0x00000002") unit no_variants))
+
+-- the number of a `Kind`
+abbrev pub kind_number : Kind → List ℕ
+kind_number kind.First = codes "0x00000001"
+kind_number kind.Second = codes "0x00000002"
+
+-- the value of a `Kind`
+unfoldable pub kind_value : Kind → Value
+kind_value x = unit_variant_value (codes "0x540040") (kind_number x)

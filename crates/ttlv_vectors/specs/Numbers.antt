@@ -1,0 +1,120 @@
+-- Numbers that may be absent, and Enumerations of any number: forms and values.
+use Rattle.kmip_ttlv.specs.Forms.{Form, any_number, boolean, field, int32, int64, interval, newtype, no_fields, option}
+use Rattle.kmip_ttlv.specs.Forms.{struct, text}
+use Rattle.kmip_ttlv.specs.MessageParts.{by_bits, optional, read_date, written_date}
+use Rattle.kmip_ttlv.specs.Values.{Value, i32_value, i64_value, u32_value, newtype_value, no_values, struct_value}
+use Rattle.kmip_ttlv.specs.Values.{boolean_value, interval_value, text_value, value}
+use Rattle.kmip_ttlv.specs.Visits.{joined}
+use Rattle.std.specs.Int.{w32, w64}
+use Rattle.std.specs.Prelude.{codes, false, option_map, string_bytes}
+use Rattle.kmip_ttlv.specs.Visits as told
+use Rattle.ttlv_vectors.specs.declared.numbers.OptionalNumbers.{OptionalNumbers}
+use Rattle.ttlv_vectors.specs.declared.numbers.Many.{Many}
+use Rattle.ttlv_vectors.specs.declared.numbers.Named.{Named}
+use Rattle.ttlv_vectors.specs.declared.numbers.Reasons.{Reasons}
+
+-- numbers, each of which may be absent
+abbrev pub optional_numbers_form : Form
+optional_numbers_form =
+    struct (codes "0x540010") (
+    field (codes "0x540002") (option (newtype (codes "Transparent:0x540002") int32)) (
+    field (codes "0x540003") (option (newtype (codes "Transparent:0x540003") int64)) (
+    field (codes "0x540004") (option (newtype (codes "Transparent:0x540004") int64)) no_fields))) false
+
+-- what is written of them
+unfoldable pub written_optional_numbers : OptionalNumbers → Value
+written_optional_numbers x =
+    struct_value (codes "0x540010") (
+    joined (told.optional (option_map
+    (λ y. newtype_value (codes "Transparent:0x540002") (i32_value (by_bits w32 y))) x.count)) (
+    joined (told.optional (option_map
+    (λ y. newtype_value (codes "Transparent:0x540003") (i64_value (by_bits w64 y))) x.long)) (
+    joined (told.optional (option_map
+    (λ y. newtype_value (codes "Transparent:0x540004") (written_date (by_bits w64 y))) x.date)) no_values)))
+
+-- what is read of them
+unfoldable pub read_optional_numbers : OptionalNumbers → Value
+read_optional_numbers x =
+    struct_value (codes "0x540010") (
+    value (optional (λ y. newtype_value (codes "Transparent:0x540002") (i32_value y)) x.count) (
+    value (optional (λ y. newtype_value (codes "Transparent:0x540003") (i64_value y)) x.long) (
+    value (optional (λ y. newtype_value (codes "Transparent:0x540004") (read_date y)) x.date) no_values)))
+
+-- an Enumeration of any number, and another that may be absent
+abbrev pub reasons_form : Form
+reasons_form =
+    struct (codes "0x540015") (
+    field (codes "0x540007") (newtype (codes "Transparent:0x540007") any_number) (
+    field (codes "0x540008") (option (newtype (codes "Transparent:0x540008") any_number)) no_fields)) false
+
+-- what is written of them
+unfoldable pub written_reasons : Reasons → Value
+written_reasons x =
+    struct_value (codes "0x540015") (
+    value (newtype_value (codes "Transparent:0x540007") (u32_value x.first)) (
+    joined (told.optional (option_map
+    (λ y. newtype_value (codes "Transparent:0x540008") (u32_value y)) x.second)) no_values))
+
+-- what is read of them
+unfoldable pub read_reasons : Reasons → Value
+read_reasons x =
+    struct_value (codes "0x540015") (
+    value (newtype_value (codes "Transparent:0x540007") (u32_value x.first)) (
+    value (optional (λ y. newtype_value (codes "Transparent:0x540008") (u32_value y)) x.second) no_values))
+
+-- a name and numbers with a sign
+abbrev pub named_form : Form
+named_form =
+    struct (codes "0x540070") (
+    field (codes "0x540042") (newtype (codes "Transparent:0x540042") text) (
+    field (codes "0x540002") (newtype (codes "Transparent:0x540002") int32) (
+    field (codes "0x540004") (newtype (codes "Transparent:0x540004") int64) no_fields))) false
+
+-- what is written of them
+unfoldable pub written_named : {A : Type 0} → Named A → Value
+written_named x =
+    struct_value (codes "0x540070") (
+    value (newtype_value (codes "Transparent:0x540042") (text_value (string_bytes x.name))) (
+    value (newtype_value (codes "Transparent:0x540002") (i32_value (by_bits w32 x.count))) (
+    value (newtype_value (codes "Transparent:0x540004") (written_date (by_bits w64 x.date))) no_values)))
+
+-- what is read of them
+unfoldable pub read_named : {A : Type 0} → Named A → Value
+read_named x =
+    struct_value (codes "0x540070") (
+    value (newtype_value (codes "Transparent:0x540042") (text_value (string_bytes x.name))) (
+    value (newtype_value (codes "Transparent:0x540002") (i32_value x.count)) (
+    value (newtype_value (codes "Transparent:0x540004") (read_date x.date)) no_values)))
+
+-- six leaves
+abbrev pub many_form : Form
+many_form =
+    struct (codes "0x540080") (
+    field (codes "0x540002") (newtype (codes "Transparent:0x540002") int32) (
+    field (codes "0x540081") (newtype (codes "Transparent:0x540081") int32) (
+    field (codes "0x540003") (newtype (codes "Transparent:0x540003") int64) (
+    field (codes "0x540004") (newtype (codes "Transparent:0x540004") int64) (
+    field (codes "0x540005") (newtype (codes "Transparent:0x540005") boolean) (
+    field (codes "0x540006") (newtype (codes "Transparent:0x540006") interval) no_fields)))))) false
+
+-- what is written of them
+unfoldable pub written_many : Many → Value
+written_many x =
+    struct_value (codes "0x540080") (
+    value (newtype_value (codes "Transparent:0x540002") (i32_value (by_bits w32 x.count))) (
+    value (newtype_value (codes "Transparent:0x540081") (i32_value (by_bits w32 x.other))) (
+    value (newtype_value (codes "Transparent:0x540003") (i64_value (by_bits w64 x.long))) (
+    value (newtype_value (codes "Transparent:0x540004") (written_date (by_bits w64 x.date))) (
+    value (newtype_value (codes "Transparent:0x540005") (boolean_value x.truth)) (
+    value (newtype_value (codes "Transparent:0x540006") (interval_value x.seconds)) no_values))))))
+
+-- what is read of them
+unfoldable pub read_many : Many → Value
+read_many x =
+    struct_value (codes "0x540080") (
+    value (newtype_value (codes "Transparent:0x540002") (i32_value x.count)) (
+    value (newtype_value (codes "Transparent:0x540081") (i32_value x.other)) (
+    value (newtype_value (codes "Transparent:0x540003") (i64_value x.long)) (
+    value (newtype_value (codes "Transparent:0x540004") (read_date x.date)) (
+    value (newtype_value (codes "Transparent:0x540005") (boolean_value x.truth)) (
+    value (newtype_value (codes "Transparent:0x540006") (interval_value x.seconds)) no_values))))))
