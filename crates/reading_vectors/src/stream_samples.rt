@@ -5,10 +5,10 @@ ghost use Rattle.kmip_ttlv_base.specs.Values.{view, i32_value};
 ghost use Rattle.kmip_ttlv_base.specs.Gives.{IsI32};
 ghost use Rattle.reading_vectors.specs.StreamSamples.{single_form, read_single};
 
+use kmip_ttlv::Config;
 use kmip_ttlv_base::error::{Error, ErrorKind, ErrorLocation, MalformedTtlvError, SerdeError};
 use kmip_ttlv_base::shape::{Data, Deserialize, FieldShape, Shape};
 use kmip_ttlv_base::types::{ByteOffset, TtlvType};
-use kmip_ttlv::Config;
 use std::alloc::{AllocError, Allocator};
 use std::io;
 use std::io::Read;

@@ -22,6 +22,8 @@ pub mod leaves;
 #[cfg(test)]
 mod low_level;
 pub mod message;
+#[cfg(test)]
+mod nesting;
 pub mod numbers;
 #[cfg(test)]
 mod parts_read;

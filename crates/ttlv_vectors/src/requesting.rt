@@ -205,6 +205,7 @@ struct Narrow {
     taken: Vec<u8>,
     room: usize,
     is_ready: bool,
+    kind: io::ErrorKind,
 }
 
 impl Write for Narrow {
@@ -214,7 +215,7 @@ impl Write for Narrow {
             return Err(io::Error::from(io::ErrorKind::Interrupted));
         }
         if self.room == 0 {
-            return Err(io::Error::from(io::ErrorKind::BrokenPipe));
+            return Err(io::Error::from(self.kind));
         }
         self.room -= 1;
         let most = buf.len().min(1);
@@ -226,58 +227,120 @@ impl Write for Narrow {
     }
 }
 
-fn is_broken_pipe<A: Allocator>(error: &Error<A>) -> bool {
+fn is_io_error<A: Allocator>(error: &Error<A>, kind: io::ErrorKind) -> bool {
     match error.kind() {
-        ErrorKind::IoError(cause) => cause.kind() == io::ErrorKind::BrokenPipe,
+        ErrorKind::IoError(cause) => cause.kind() == kind,
         _ => false,
     }
 }
 
-// Whether a writer that fails has taken the bytes before that, and one that is only interrupted takes
-// them all.
-fn is_taken_up_to<T: Serialize>(heap: Global, value: &T, room: usize, expected: &[u8]) -> bool {
+// Whether a writer that fails has taken the bytes before that, and its error is the call's; and one that is
+// only interrupted takes them all.
+fn is_taken_up_to<T: Serialize>(
+    heap: Global,
+    value: &T,
+    room: usize,
+    kind: io::ErrorKind,
+    expected: &[u8],
+) -> bool {
     let mut writer = Narrow {
         taken: Vec::new(heap),
         room,
         is_ready: false,
+        kind,
     };
     let is_right = match &to_writer(heap, value, &mut writer) {
         Ok(()) => room == expected.len(),
-        Err(error) => is_broken_pipe(error) && room < expected.len(),
+        Err(error) => is_io_error(error, kind) && room < expected.len(),
     };
     is_right && writer.taken.len() == room && expected.starts_with(writer.taken.as_slice())
 }
 
+// Whether that is so of a writer that fails with this kind, wherever it does.
+fn is_taken_anywhere<T: Serialize>(
+    heap: Global,
+    value: &T,
+    kind: io::ErrorKind,
+    expected: &[u8],
+) -> bool {
+    for room in 0..=expected.len() {
+        if !is_taken_up_to(heap, value, room, kind, expected) {
+            return false;
+        }
+    }
+    true
+}
+
 #[test]
 fn writers_that_fail(rt: HostRuntime) -> Result<(), Fail> {
-    let expected = whole(rt.alloc())?;
-    for room in 0..=expected.len() {
+    let request = whole(rt.alloc())?;
+    let number = hex::decode(rt.alloc(), NUMBER)?;
+    let single = Single { number: 3 };
+    for kind in [
+        io::ErrorKind::BrokenPipe,
+        io::ErrorKind::PermissionDenied,
+        io::ErrorKind::TimedOut,
+    ] {
         assert!(rt;
-            is_taken_up_to(rt.alloc(), &REQUEST, room, &expected),
-            "{room}"
+            is_taken_anywhere(rt.alloc(), &REQUEST, kind, &request),
+            "{kind:?}"
         );
-    }
-    let expected = hex::decode(rt.alloc(), NUMBER)?;
-    for room in 0..=expected.len() {
-        let single = Single { number: 3 };
         assert!(rt;
-            is_taken_up_to(rt.alloc(), &single, room, &expected),
-            "{room}"
+            is_taken_anywhere(rt.alloc(), &single, kind, &number),
+            "{kind:?}"
         );
     }
     Ok(())
 }
 
-// How many growths a new serializer asks for.
-fn growths_of(alloc: Global, data: &Data) -> u64 {
+// Takes no byte.
+#[derive(Drop)]
+struct Full {}
+
+impl Write for Full {
+    fn write(&mut self, _buf: &[u8]) -> io::Result<usize> {
+        Ok(0)
+    }
+
+    fn flush(&mut self) -> io::Result<()> {
+        Ok(())
+    }
+}
+
+#[test]
+fn a_writer_that_takes_nothing(rt: HostRuntime) -> Result<(), Fail> {
+    let written = to_writer(rt.alloc(), &REQUEST, &mut Full {});
+    let Err(error) = &written else {
+        return Err(Fail::new("it is written"));
+    };
+    assert!(rt; is_io_error(error, io::ErrorKind::WriteZero));
+    Ok(())
+}
+
+// Whether a new serializer with this memory gives the bytes; none where it fails, but not for want of memory.
+fn is_serialized(heap: &RefusingAllocator<Global>, data: &Data) -> Option<bool> {
+    let mut serializer = TtlvSerializer::new(heap);
+    match &serializer.serialize(data) {
+        Ok(()) => {}
+        Err(error) if is_memory(error) && heap.has_refused() => return Some(false),
+        Err(_) => return None,
+    }
+    match &serializer.into_vec() {
+        Ok(_) => Some(true),
+        Err(error) if is_memory(error) && heap.has_refused() => Some(false),
+        Err(_) => None,
+    }
+}
+
+// How many growths a new serializer asks for; none where it fails, but not for want of memory.
+fn growths_of(alloc: Global, data: &Data) -> Option<u64> {
     for before in 0..100u64 {
         let heap = RefusingAllocator::new(alloc, before);
-        let mut serializer = TtlvSerializer::new(&heap);
-        if serializer.serialize(data).is_ok() && serializer.into_vec().is_ok() {
-            return before;
+        if is_serialized(&heap, data)? {
+            return Some(before);
         }
     }
-    100
+    Some(100)
 }
 
 // A structure of so many leaves.
@@ -293,7 +356,7 @@ fn structure_of(alloc: Global, leaves: u32) -> Result<Data, AllocError> {
 // How many growths a new serializer asks for, for a structure of so many leaves.
 fn growths_for(alloc: Global, leaves: u32) -> Option<u64> {
     match &structure_of(alloc, leaves) {
-        Ok(data) => Some(growths_of(alloc, data)),
+        Ok(data) => growths_of(alloc, data),
         Err(_) => None,
     }
 }

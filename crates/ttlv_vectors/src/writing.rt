@@ -27,8 +27,9 @@ fn is_made_again(alloc: Global, data: &Data) -> bool {
     }
 }
 
-// Whether the data, where memory was there for it, is written as these bytes, in hexadecimal.
-fn writes(alloc: Global, data: Result<Data, AllocError>, text: &str) -> bool {
+/// Whether the data, where memory was there for it, is written as these bytes, in hexadecimal: by a serializer,
+/// by itself, and to a writer; and data of what it tells is the same.
+pub fn writes(alloc: Global, data: Result<Data, AllocError>, text: &str) -> bool {
     match &data {
         Ok(data) => is_written(alloc, data, text) && is_made_again(alloc, data),
         Err(_) => false,
