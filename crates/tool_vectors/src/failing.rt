@@ -7,14 +7,21 @@ use std::alloc::{AllocError, Global};
 use std::io;
 use std::io::{ErrorKind, Read, Write};
 use ttlv_run::run::run;
-use ttlv_run::{Encoding, Job, Names, Task};
+use ttlv_run::{Encoding, Job, Names, Task, Values};
 
-const SHOW: Task<'static> = Task::Show { redacted: false };
+const SHOW: Task<'static> = Task::Show {
+    values: Values::Escaped,
+};
 
 // A task and what it prints of the version's message.
 const GROWN: [(Task<'static>, &str); 5] = [
     (SHOW, VERSION_LINES),
-    (Task::Show { redacted: true }, HIDDEN_LINES),
+    (
+        Task::Show {
+            values: Values::Hidden,
+        },
+        HIDDEN_LINES,
+    ),
     (
         Task::Diagnose {
             closed: true,

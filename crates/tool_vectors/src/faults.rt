@@ -3,12 +3,14 @@
 
 use crate::runs::{VERSION_LINES, back_with, run_with};
 use std::alloc::{AllocError, Global};
-use ttlv_run::{Encoding, Task};
+use ttlv_run::{Encoding, Task, Values};
 
 // An encoding, an input, what is shown of it, and the line.
 type Row = (Encoding, &'static str, &'static str, &'static str);
 
-const SHOW: Task<'static> = Task::Show { redacted: false };
+const SHOW: Task<'static> = Task::Show {
+    values: Values::Escaped,
+};
 
 const MALFORMED: [Row; 8] = [
     (
@@ -142,7 +144,12 @@ const CUT: [(Task<'static>, &str); 4] = [
         },
         "ERR\n",
     ),
-    (Task::Show { redacted: true }, ""),
+    (
+        Task::Show {
+            values: Values::Hidden,
+        },
+        "",
+    ),
 ];
 
 fn is_cut(alloc: Global, task: Task<'_>, text: &str) -> bool {

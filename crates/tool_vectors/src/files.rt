@@ -8,7 +8,7 @@ use std::io::{ErrorKind, Read};
 use ttlv_run::files::{Opener, run_files};
 use ttlv_run::progress::Progress;
 use ttlv_run::table::own_table;
-use ttlv_run::{Asked, Encoding, Names, Task};
+use ttlv_run::{Asked, Encoding, Names, Task, Values};
 
 // An input in memory, which may fail in place of its end.
 #[derive(Drop)]
@@ -253,7 +253,9 @@ fn named(alloc: Global) -> Result<Outcome, TableError> {
         return Err(TableError::OutOfMemory);
     };
     let asked = Asked::Print {
-        task: Task::Show { redacted: false },
+        task: Task::Show {
+            values: Values::Escaped,
+        },
         encoding: Encoding::Hexadecimal,
     };
     outcome_of(alloc, asked, all.as_str(), &["whole"])

@@ -2,7 +2,7 @@
 
 use crate::runs::{CREATE_RESPONSE, HIDDEN_LINES, VERSION, VERSION_LINES, back_with, run_with};
 use std::alloc::{AllocError, Global};
-use ttlv_run::{Encoding, Task};
+use ttlv_run::{Encoding, Task, Values};
 
 // The lines of the response.
 const RESPONSE_LINES: &str =
@@ -17,12 +17,24 @@ const DIAGNOSE: Task<'static> = Task::Diagnose {
     prefix: "",
 };
 
+// A text of a stranger, as it may come.
+const HOSTILE: &str =
+    "4200940100000028420094070000001B610A621B5B33316D7FC2855C6E00090DC29FC2A0C3A9E697A5017E0000000000";
+
 // A task, an encoding, an input, and what is printed.
 type Row = (Task<'static>, Encoding, &'static str, &'static str);
 
-const SHOW: Task<'static> = Task::Show { redacted: false };
+const SHOW: Task<'static> = Task::Show {
+    values: Values::Escaped,
+};
 
-const REDACT: Task<'static> = Task::Show { redacted: true };
+const RAW_TEXTS: Task<'static> = Task::Show {
+    values: Values::Raw,
+};
+
+const REDACT: Task<'static> = Task::Show {
+    values: Values::Hidden,
+};
 
 const PREFIXED: Task<'static> = Task::Diagnose {
     closed: false,
@@ -34,7 +46,7 @@ const CLOSED: Task<'static> = Task::Diagnose {
     prefix: "4200",
 };
 
-const PRINTED: [Row; 20] = [
+const PRINTED: [Row; 23] = [
     (SHOW, Encoding::Detected, VERSION, VERSION_LINES),
     (SHOW, Encoding::Hexadecimal, VERSION, VERSION_LINES),
     (SHOW, Encoding::Detected, VERSION_BASE64, VERSION_LINES),
@@ -77,6 +89,26 @@ const PRINTED: [Row; 20] = [
         Encoding::Detected,
         "42000F010000002042005C0500000004000000FF0000000042000F05000000040000000100000000",
         "Tag: Batch Item (0x42000F), Type: Structure (0x01), Data:\n  Tag: Operation (0x42005C), Type: Enumeration (0x05), Data: 0x0000FF (255)\n  Tag: Batch Item (0x42000F), Type: Enumeration (0x05), Data: 0x000001 (1)\n",
+    ),
+    // A text with a line feed, an escape sequence, U+007F, U+0085, a backslash, U+0000, a tab, a carriage return, U+009F,
+    // U+00A0, and characters of two and three bytes.
+    (
+        SHOW,
+        Encoding::Detected,
+        HOSTILE,
+        "Tag: Unique Identifier (0x420094), Type: Structure (0x01), Data:\n  Tag: Unique Identifier (0x420094), Type: TextString (0x07), Data: a\\nb\\u{1b}[31m\\u{7f}\\u{85}\\\\n\\0\\t\\r\\u{9f}\u{a0}é日\\u{1}~\n",
+    ),
+    (
+        RAW_TEXTS,
+        Encoding::Detected,
+        HOSTILE,
+        "Tag: Unique Identifier (0x420094), Type: Structure (0x01), Data:\n  Tag: Unique Identifier (0x420094), Type: TextString (0x07), Data: a\nb\u{1b}[31m\u{7f}\u{85}\\n\0\t\r\u{9f}\u{a0}é日\u{1}~\n",
+    ),
+    (
+        REDACT,
+        Encoding::Detected,
+        HOSTILE,
+        "Tag: Unique Identifier (0x420094), Type: Structure (0x01), Data:\n  Tag: Unique Identifier (0x420094), Type: TextString (0x07), Data: <redacted>\n",
     ),
     // No message at all.
     (SHOW, Encoding::Detected, "", ""),

@@ -1,17 +1,19 @@
 //! What the words of the command line ask for.
 
 use std::alloc::{AllocError, Global};
-use ttlv_run::{Asked, Encoding, Task};
+use ttlv_run::{Asked, Encoding, Task, Values};
 use ttlv_words::request_of;
 
 // Words, what is asked, the file of names, and how many files are read.
 type Row = (&'static str, Asked<'static>, Option<&'static str>, usize);
 
-const ASKED: [Row; 9] = [
+const ASKED: [Row; 11] = [
     (
         "ttlv show",
         Asked::Print {
-            task: Task::Show { redacted: false },
+            task: Task::Show {
+                values: Values::Escaped,
+            },
             encoding: Encoding::Detected,
         },
         None,
@@ -20,11 +22,36 @@ const ASKED: [Row; 9] = [
     (
         "ttlv show --redact --names own.txt a b",
         Asked::Print {
-            task: Task::Show { redacted: true },
+            task: Task::Show {
+                values: Values::Hidden,
+            },
             encoding: Encoding::Detected,
         },
         Some("own.txt"),
         2,
+    ),
+    (
+        "ttlv show --raw a",
+        Asked::Print {
+            task: Task::Show {
+                values: Values::Raw,
+            },
+            encoding: Encoding::Detected,
+        },
+        None,
+        1,
+    ),
+    // A value that is hidden is hidden.
+    (
+        "ttlv show --raw --redact",
+        Asked::Print {
+            task: Task::Show {
+                values: Values::Hidden,
+            },
+            encoding: Encoding::Detected,
+        },
+        None,
+        0,
     ),
     (
         "ttlv diag --prefix 4200 --closed a",
@@ -87,7 +114,7 @@ const ASKED: [Row; 9] = [
 ];
 
 // Words that ask for nothing, and the exit status: help, the version, and mistakes.
-const OTHERS: [(&str, i32); 9] = [
+const OTHERS: [(&str, i32); 10] = [
     ("ttlv --help", 0),
     ("ttlv show --help", 0),
     ("ttlv --version", 0),
@@ -95,6 +122,7 @@ const OTHERS: [(&str, i32); 9] = [
     ("ttlv shout", 2),
     ("ttlv show --closed", 2),
     ("ttlv diag --redact", 2),
+    ("ttlv diag --raw", 2),
     ("ttlv check --input ebcdic", 2),
     ("ttlv diag --prefix", 2),
 ];

@@ -3,11 +3,23 @@
 use kmip_ttlv_util::LentTagMap;
 use std::alloc::{Allocator, Global};
 
+/// What a line says of the value of a leaf that is no enumeration; an enumeration's is always there.
+#[derive(Clone, Copy, Debug, PartialEq, Eq)]
+pub enum Values {
+    /// Nothing: `<redacted>` stands there.
+    Hidden,
+    /// The value; control characters and backslashes of a text as Rust's `char::escape_debug` writes
+    /// them, so that a text stays in its line and tells a terminal nothing.
+    Escaped,
+    /// The value, and a text as it is.
+    Raw,
+}
+
 /// What is printed of each message.
 #[derive(Clone, Copy, Debug, PartialEq, Eq)]
 pub enum Task<'w> {
-    /// A readable line of each item; whether the values of all but enumerations are hidden.
-    Show { redacted: bool },
+    /// A readable line of each item, with values told so.
+    Show { values: Values },
     /// Its diagnostic and a line feed: whether empty structures are closed, and the hexadecimal digits
     /// that are left out where a tag begins with them.
     Diagnose { closed: bool, prefix: &'w str },

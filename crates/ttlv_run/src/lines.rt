@@ -12,7 +12,8 @@ ghost use Rattle.kmip_ttlv_util.specs.TagNames.{name_in};
 ghost use Rattle.ttlv_run.specs.Texts.{names_of, value_in, behind_space, shown, item_line, Adds};
 ghost use Rattle.ttlv_run.specs.Items.{IsGood, AreGood};
 
-use crate::job::Names;
+use crate::escape::push_escaped;
+use crate::job::{Names, Values};
 use kmip_ttlv_items::{Fault, FoundItem, walk_items};
 use kmip_ttlv_names::value_name;
 use kmip_ttlv_types::{TtlvTag, TtlvType};
@@ -66,23 +67,24 @@ fn push_enumeration<A: Allocator>(
     Ok(())
 }
 
-// Adds the value of a leaf, if it isn't hidden.
+// Adds the value of a leaf, if it isn't hidden; a text escaped, if it isn't to be raw.
 #[tactic(auto, unfolding(crate::specs::Texts::shown))]
 fn push_shown<A: Allocator>(
     out: &mut String<A>,
     names: &Names<'_, A>,
-    redacted: bool,
+    values: Values,
     item: &FoundItem,
     content: &[u8],
 ) -> Result<(), AllocError>
     requires { item.now.typ ≢ TheStructure → is_valid item.now.typ content.now ≡ true }
     ensures { OnOk result (string_bytes out.new
-        ≡ string_bytes out.old ++ shown (names_of names.now) redacted item.now.tag item.now.typ content.now) }
+        ≡ string_bytes out.old ++ shown (names_of names.now) values item.now.tag item.now.typ content.now) }
 {
     match item.typ {
         TtlvType::Structure => Ok(()),
         TtlvType::Enumeration => push_enumeration(out, names, item.tag, content),
-        _ if redacted => out.push_str("<redacted>"),
+        _ if values == Values::Hidden => out.push_str("<redacted>"),
+        TtlvType::TextString if values == Values::Escaped => push_escaped(out, content),
         _ => push_value(out, item.typ, content),
     }
 }
@@ -91,18 +93,18 @@ fn push_shown<A: Allocator>(
 fn push_line<A: Allocator>(
     out: &mut String<A>,
     names: &Names<'_, A>,
-    redacted: bool,
+    values: Values,
     bytes: &[u8],
     item: &FoundItem,
 ) -> Result<(), AllocError>
     requires { IsGood bytes.now item.now }
     ensures { OnOk result (string_bytes out.new
-        ≡ string_bytes out.old ++ item_line (names_of names.now) redacted bytes.now item.now) }
+        ≡ string_bytes out.old ++ item_line (names_of names.now) values bytes.now item.now) }
 {
     push_tag_part(out, &names.tags, item.depth, item.tag)?;
     push_data_part(out, item.typ)?;
     let content = &bytes[item.offset + 8..item.offset + 8 + item.length as usize];
-    push_shown(out, names, redacted, item, content)?;
+    push_shown(out, names, values, item, content)?;
     out.push_str("\n")?;
     Ok(())
 }
@@ -129,15 +131,15 @@ pub fn push_lines<A: Allocator + Copy>(
     alloc: A,
     out: &mut String<A>,
     names: &Names<'_, A>,
-    redacted: bool,
+    values: Values,
     message: &[u8],
 ) -> Result<Option<Fault>, AllocError>
-    ensures { IfOk result (λ fault. Adds (names_of names.now) (ToShow redacted) message.now
+    ensures { IfOk result (λ fault. Adds (names_of names.now) (ToShow values) message.now
         (string_bytes out.old) (string_bytes out.new) fault) }
 {
     let (items, fault) = found_items(alloc, message)?;
     for item in items.as_slice() {
-        push_line(out, names, redacted, message, item)?;
+        push_line(out, names, values, message, item)?;
     }
     Ok(fault)
 }

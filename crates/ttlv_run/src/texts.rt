@@ -60,7 +60,7 @@ pub fn push_message<A: Allocator + Copy>(
         (string_bytes out.old) (string_bytes out.new) fault) }
 {
     match task {
-        Task::Show { redacted } => return push_lines(alloc, out, names, redacted, message),
+        Task::Show { values } => return push_lines(alloc, out, names, values, message),
         Task::Diagnose { closed, prefix } => push_diagnostic(alloc, out, closed, prefix, message)?,
         Task::Hexadecimal => push_hexadecimal(alloc, out, message)?,
         Task::Check => {}

@@ -54,9 +54,14 @@ fn show<'w>(alloc: Global) -> Result<Command<'w>, AllocError> {
         .long("redact")
         .action(ArgAction::SetTrue)
         .help("Hides all values but those of enumerations");
+    let raw = Arg::new(alloc, "raw")
+        .long("raw")
+        .action(ArgAction::SetTrue)
+        .help("Prints texts as they are, with their control characters and backslashes");
     Command::new(alloc, "show")
-        .about("Prints a readable line for each item")
+        .about("Prints a readable line for each item; control characters in texts are escaped")
         .arg(redact)?
+        .arg(raw)?
         .arg(names(alloc))?
         .arg(input(alloc))?
         .arg(files(alloc))

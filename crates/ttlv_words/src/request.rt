@@ -3,7 +3,7 @@
 use crate::command::program;
 use clap::{ArgMatches, Error};
 use std::alloc::{AllocError, Global};
-use ttlv_run::{Asked, Encoding, Task};
+use ttlv_run::{Asked, Encoding, Task, Values};
 
 /// What the program is to do.
 #[derive(Drop)]
@@ -32,10 +32,21 @@ fn prefix_of<'w>(matches: &ArgMatches<'w>) -> &'w str {
     }
 }
 
+// Where both are asked for, values are hidden.
+fn values_of(matches: &ArgMatches<'_>) -> Values {
+    if matches.get_flag("redact") {
+        Values::Hidden
+    } else if matches.get_flag("raw") {
+        Values::Raw
+    } else {
+        Values::Escaped
+    }
+}
+
 fn task_of<'w>(command: &str, matches: &ArgMatches<'w>) -> Task<'w> {
     match command {
         "show" => Task::Show {
-            redacted: matches.get_flag("redact"),
+            values: values_of(matches),
         },
         "diag" => Task::Diagnose {
             closed: matches.get_flag("closed"),

@@ -6,4 +6,4 @@ use Rattle.ttlv_run.proofs.lines.push_lines.Given as goal
 abbrev pub invariant-loop-item : goal.invariant-loop-item
 invariant-loop-item g l =
     string_bytes l.out
-    ≡ string_bytes l.initial.out ++ flat_map (item_line (names_of l.names) l.redacted l.message) (take l.item-index l.item-items)
+    ≡ string_bytes l.initial.out ++ flat_map (item_line (names_of l.names) l.values l.message) (take l.item-index l.item-items)
