@@ -3,18 +3,21 @@
 //! and no faster are what is looked for; beside each stands how many times as much it is as a walk
 //! over the headers and a copy of the same bytes, so that it means something on any machine.
 //!
-//! Stands on the public calls, `inputs`, `shapes` and `times`.
+//! Stands on the public calls, `inputs`, `shapes` and `times`; `skimmed` is a type that keeps nothing.
 #![tactic(auto)]
 
 mod inputs;
 mod shapes;
+mod skimmed;
 mod times;
 
 use crate::inputs::{
     CHOICE, EMPTY, NUMBER, OTHER_NUMBER, TEXT, asked, long, nested, repeated, tuples,
 };
 use crate::shapes::{Asked, Empties, Fields, Long, Numbers, Texts, Tuples};
-use crate::times::{bare_times, checking, printing, reading, reading_back, show, telling};
+use crate::times::{
+    bare_times, checking, printing, reading, reading_back, show, taking, taking_by_copies, telling,
+};
 use kmip_ttlv::PrettyPrinter;
 use reading_vectors::parts::Part;
 use std::time::Clock;
@@ -29,6 +32,19 @@ fn read<P: Part, R: Clock + Eprint + AllocGlobal>(
     let bare = bare_times(rt, bytes, false)?;
     let taken = reading::<P, R>(rt, bytes)?;
     show(rt, input, "from_slice", bytes.len(), taken, &bare)
+}
+
+// The times of reading an input from a stream.
+fn take<P: Part, R: Clock + Eprint + AllocGlobal>(
+    rt: &R,
+    input: &str,
+    bytes: &[u8],
+) -> io::Result<()> {
+    let bare = bare_times(rt, bytes, false)?;
+    let taken = taking::<P, R>(rt, bytes)?;
+    show(rt, input, "from_reader", bytes.len(), taken, &bare)?;
+    let taken = taking_by_copies::<P, R>(rt, bytes)?;
+    show(rt, input, "from_reader, copying", bytes.len(), taken, &bare)
 }
 
 // The times of the calls that take any bytes.
@@ -63,10 +79,12 @@ fn read_back<R: Clock + Eprint + AllocGlobal>(rt: &R, input: &str, text: &str) -
 fn read_each<R: Clock + Eprint + AllocGlobal>(rt: &R, size: u32) -> io::Result<()> {
     let bytes = repeated(rt.alloc(), size / 16, &NUMBER)?;
     read::<Numbers, R>(rt, "integers", bytes.as_slice())?;
+    take::<Numbers, R>(rt, "integers", bytes.as_slice())?;
     let bytes = repeated(rt.alloc(), size / 8, &EMPTY)?;
     read::<Empties, R>(rt, "empty structures", bytes.as_slice())?;
     let bytes = long(rt.alloc(), size)?;
     read::<Long, R>(rt, "one long value", bytes.as_slice())?;
+    take::<Long, R>(rt, "one long value", bytes.as_slice())?;
     let bytes = repeated(rt.alloc(), size / 8, &TEXT)?;
     read::<Texts, R>(rt, "kept texts of one tag", bytes.as_slice())?;
     let bytes = tuples(rt.alloc(), size / 32)?;

@@ -1,9 +1,11 @@
 //! What a call takes, the least of several times, and beside it what a walk over the headers and a copy of the same bytes take.
 
+use crate::skimmed::Skimmed;
 use kmip_ttlv::items::find_fault;
-use kmip_ttlv::{PrettyPrinter, from_slice};
+use kmip_ttlv::{Config, PrettyPrinter, from_reader, from_slice};
 use reading_vectors::parts::Part;
 use reading_vectors::run::Run;
+use refusing_allocator::BoundedAllocator;
 use std::alloc::Global;
 use std::io::{self, Eprint};
 use std::time::{Clock, Instant};
@@ -92,7 +94,7 @@ pub fn show<R: Eprint>(
     let (walks, walk) = (walk / 10, walk % 10);
     let (copies, copy) = (copy / 10, copy % 10);
     eprintln!(rt;
-        "{input:<28}{call:<20}{kib:>7} KiB {taken:>9} us {walks:>6}.{walk} walks {copies:>6}.{copy} copies"
+        "{input:<28}{call:<22}{kib:>7} KiB {taken:>9} us {walks:>6}.{walk} walks {copies:>6}.{copy} copies"
     )
 }
 
@@ -102,6 +104,42 @@ pub fn reading<P: Part, R: Clock + Eprint + AllocGlobal>(rt: &R, bytes: &[u8]) -
     for _ in 0..ROUNDS {
         let start = Instant::now(rt)?;
         let read = from_slice::<Run<P>, _>(rt.alloc(), bytes);
+        least = least.min(start.elapsed(rt)?.as_micros());
+        if read.is_err() {
+            eprintln!(rt; "refused")?;
+        }
+    }
+    Ok(least)
+}
+
+/// What `from_reader` takes.
+pub fn taking<P: Part, R: Clock + Eprint + AllocGlobal>(rt: &R, bytes: &[u8]) -> io::Result<u128> {
+    let mut least = u128::MAX;
+    for _ in 0..ROUNDS {
+        let mut reader = bytes;
+        let start = Instant::now(rt)?;
+        let mut config = Config::new(rt.alloc());
+        let read = from_reader::<Skimmed<P>, _, _>(rt.alloc(), &mut reader, &mut config);
+        least = least.min(start.elapsed(rt)?.as_micros());
+        if read.is_err() {
+            eprintln!(rt; "refused")?;
+        }
+    }
+    Ok(least)
+}
+
+/// What `from_reader` takes with memory that is copied wherever it grows.
+pub fn taking_by_copies<P: Part, R: Clock + Eprint + AllocGlobal>(
+    rt: &R,
+    bytes: &[u8],
+) -> io::Result<u128> {
+    let memory = BoundedAllocator::new(rt.alloc(), usize::MAX);
+    let mut least = u128::MAX;
+    for _ in 0..ROUNDS {
+        let mut reader = bytes;
+        let start = Instant::now(rt)?;
+        let mut config = Config::new(&memory);
+        let read = from_reader::<Skimmed<P>, _, _>(&memory, &mut reader, &mut config);
         least = least.min(start.elapsed(rt)?.as_micros());
         if read.is_err() {
             eprintln!(rt; "refused")?;

@@ -1,0 +1,27 @@
+//! Reading by a shape that stands for a type, of which nothing is kept. Stands on the shapes of
+//! `reading_vectors`.
+
+use kmip_ttlv::shape::{Data, Deserialize, Shape};
+use reading_vectors::parts::Part;
+use std::alloc::{AllocError, Allocator};
+use std::marker::PhantomData;
+
+/// That something was read by the shape `P`, with memory of any allocator.
+#[derive(Drop)]
+pub struct Skimmed<P> {
+    shape: PhantomData<P>,
+}
+
+impl<P: Part, A: Allocator + Copy> Deserialize<A> for Skimmed<P> {
+    ghost form = { P.part };
+
+    ghost is_value = { λ v x. Unit {0} };
+
+    fn shape(alloc: A) -> Result<Shape<A>, AllocError> {
+        P::shape(alloc)
+    }
+
+    fn from_data(_alloc: A, _value: &mut Data<A>) -> Result<Skimmed<P>, AllocError> {
+        Ok(Skimmed { shape: PhantomData })
+    }
+}
