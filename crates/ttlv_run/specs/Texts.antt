@@ -1,16 +1,16 @@
 -- What is printed of one message.
-use Rattle.std.specs.Prelude.{◌≡◌, ◌≢◌, ℕ, ◌+◌, ◌/◌, ◌%◌, ◌==◌, Bool, true, false, List, [], ◌∷◌, ◌++◌, length, take, drop, nat_lt}
+use Rattle.std.specs.Prelude.{◌≡◌, ◌≢◌, ℕ, ◌+◌, ◌/◌, ◌%◌, ◌==◌, Bool, true, false, List, [], ◌∷◌, ◌++◌, length, take, drop, nat_le, nat_lt}
 use Rattle.std.specs.Prelude.{Option, Some, None, if◌then◌else◌, codes, encode_utf8}
 use Rattle.std.specs.List.{flat_map}
 use Rattle.std.specs.Char.{is_control}
-use Rattle.std.specs.Fmt.{digit_glyph}
+use Rattle.std.specs.Fmt.{decimal, digit_glyph}
 use Rattle.std.specs.Str.{chars, trim_end}
 use Rattle.std.specs.Int.{w32, from_be_bytes}
 use Rattle.hex.specs.Hex.{encode_upper}
 use Rattle.kmip_ttlv_types.specs.declared.typ.TtlvType.{TtlvType}
 use Rattle.kmip_ttlv_types.specs.declared.typ.TtlvType.TheVariants.{Structure, Enumeration, TextString}
 use Rattle.kmip_ttlv_util.specs.Diagnostics.{hostile}
-use Rattle.kmip_ttlv_util.specs.Lines.{tag_part, data_part, hidden}
+use Rattle.kmip_ttlv_util.specs.Lines.{indent, tag_part, data_part, hidden}
 use Rattle.kmip_ttlv_util.specs.Pretty.{value_shown}
 use Rattle.kmip_ttlv_util.specs.TagNames.{name_in}
 use Rattle.kmip_ttlv_util.specs.Traces.{trace}
@@ -75,10 +75,19 @@ shown names Hidden tag typ content = hidden
 shown names Escaped tag TextString content = escaped content
 shown names values tag typ content = value_shown typ content
 
+-- what stands in front of an item in more than 64 structures: the indentation of 64, and how many it is in
+unfoldable pub depth_mark : ℕ → List ℕ
+depth_mark depth = indent 64 ++ (codes "[" ++ (decimal depth ++ codes "] "))
+
+-- the beginning of a line so deep, up to the tag: it is indented by 64 levels at most
+unfoldable pub line_front : (ℕ → Option (List ℕ)) → ℕ → ℕ → List ℕ
+line_front tags depth tag =
+    if nat_le depth 64 then tag_part tags depth tag else depth_mark depth ++ tag_part tags 0 tag
+
 -- the line of an item: its depth, tag, type and value
 unfoldable pub item_line : Names → Values → List ℕ → FoundItem → List ℕ
 item_line names values bytes i =
-    tag_part names.tags i.depth i.tag
+    line_front names.tags i.depth i.tag
     ++ (data_part i.typ ++ (shown names values i.tag i.typ (content_at bytes i.offset) ++ 10 ∷ []))
 
 -- what a line of diagnostics is read back as, but for white space at its end; an empty one as nothing

@@ -9,16 +9,21 @@ ghost use Rattle.kmip_ttlv_items.specs.ItemWalks.{Ended, content_at};
 ghost use Rattle.ttlv_run.specs.declared.job.Task.TheVariants.{Show as ToShow};
 ghost use Rattle.kmip_ttlv_util.specs.Pretty.{value_shown};
 ghost use Rattle.kmip_ttlv_util.specs.TagNames.{name_in};
-ghost use Rattle.ttlv_run.specs.Texts.{names_of, value_in, behind_space, shown, item_line, Adds};
+ghost use Rattle.ttlv_run.specs.Texts.{names_of, value_in, behind_space, shown, depth_mark, line_front, item_line, Adds};
 ghost use Rattle.ttlv_run.specs.Items.{IsGood, AreGood};
 
 use crate::escape::push_escaped;
 use crate::job::{Names, Values};
+use itoa::Buffer;
 use kmip_ttlv_items::{Fault, FoundItem, walk_items};
 use kmip_ttlv_names::value_name;
 use kmip_ttlv_types::{TtlvTag, TtlvType};
 use kmip_ttlv_util::{push_data_part, push_tag_part, push_value};
 use std::alloc::{AllocError, Allocator};
+
+/// The indentation of 64 levels.
+const LEVELS: &str =
+    "                                                                                                                                ";
 
 // What a list of items holds before they are found.
 fn no_item() -> FoundItem {
@@ -89,6 +94,36 @@ fn push_shown<A: Allocator>(
     }
 }
 
+// Adds what stands in front of an item in more than 64 structures.
+#[tactic(auto, unfolding(crate::specs::Texts::depth_mark))]
+fn push_depth<A: Allocator>(out: &mut String<A>, depth: usize) -> Result<(), AllocError>
+    ensures { OnOk result (string_bytes out.new ≡ string_bytes out.old ++ depth_mark depth) }
+{
+    out.push_str(LEVELS)?;
+    out.push_str("[")?;
+    out.push_str(Buffer::new().format(depth))?;
+    out.push_str("] ")?;
+    Ok(())
+}
+
+// Adds the beginning of a line so deep, up to the tag.
+#[tactic(auto, unfolding(crate::specs::Texts::line_front))]
+fn push_front<A: Allocator>(
+    out: &mut String<A>,
+    names: &Names<'_, A>,
+    depth: usize,
+    tag: TtlvTag,
+) -> Result<(), AllocError>
+    ensures { OnOk result (string_bytes out.new
+        ≡ string_bytes out.old ++ line_front (names_of names.now).tags depth tag) }
+{
+    if depth <= 64 {
+        return push_tag_part(out, &names.tags, depth, tag);
+    }
+    push_depth(out, depth)?;
+    push_tag_part(out, &names.tags, 0, tag)
+}
+
 // Adds the line of an item.
 fn push_line<A: Allocator>(
     out: &mut String<A>,
@@ -101,7 +136,7 @@ fn push_line<A: Allocator>(
     ensures { OnOk result (string_bytes out.new
         ≡ string_bytes out.old ++ item_line (names_of names.now) values bytes.now item.now) }
 {
-    push_tag_part(out, &names.tags, item.depth, item.tag)?;
+    push_front(out, names, item.depth, item.tag)?;
     push_data_part(out, item.typ)?;
     let content = &bytes[item.offset + 8..item.offset + 8 + item.length as usize];
     push_shown(out, names, values, item, content)?;

@@ -1,6 +1,5 @@
-use Rattle.std.proofs.Common.{rules, arith, ◌≡◌, ◌+◌, ◌-◌, ◌<◌, ◌≤◌, ◌++◌, ◌∷◌, length, ℕ, List, Option, Some, None, ap, sym, subst, refl, ◌∙◌, string_bytes, get_or, length-append}
+use Rattle.std.proofs.Common.{rules, arith, ◌≡◌, ◌-◌, ◌<◌, ◌≤◌, ◌++◌, ◌∷◌, length, ℕ, List, Option, Some, None, ap, sym, subst, ◌∙◌, string_bytes, get_or, length-append}
 use Rattle.std.specs.List.{position_or_len, before_first, after_first}
-use Rattle.std.specs.Option.{option_or}
 use Rattle.std.proofs.lemmas.Str.Pattern.{split_once_first}
 use Rattle.std.proofs.lemmas.List.Sums.{split_at_first}
 use Rattle.kmip_ttlv_util.specs.TagNames.{name_in}

@@ -1,4 +1,4 @@
-use Rattle.std.proofs.Common.{◌≡◌, ◌+◌, ◌∙◌, ap, sym, subst, refl, rules, List, ℕ, [], arith}
+use Rattle.std.proofs.Common.{◌+◌, ◌∙◌, ap, sym, subst, refl, rules, List, ℕ, arith}
 use Rattle.ttlv_run.specs.Inputs.{Kept, kept_none, kept_mark, kept_digit, kept_between}
 use Rattle.ttlv_run.proofs.coding.kept_digits.Goals as goal
 use Rattle.ttlv_run.proofs.coding.kept_digits.Goals.{then-is_letter+else-is_err, else-is_letter+else-not-is_between}

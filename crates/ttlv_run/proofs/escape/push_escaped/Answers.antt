@@ -1,4 +1,4 @@
-use Rattle.std.proofs.Common.{◌≡◌, ◌++◌, List, ℕ, flat_map, string_bytes, sym, ap, ◌∙◌, map-id}
+use Rattle.std.proofs.Common.{◌++◌, List, ℕ, flat_map, string_bytes, sym, ap, ◌∙◌, map-id}
 use Rattle.std.specs.Str.{chars, is_utf8}
 use Rattle.std.proofs.lemmas.Str.{IsUtf8-from_is_utf8}
 use Rattle.std.proofs.lemmas.Iterator.{YieldsList-from_chars}

@@ -1,4 +1,4 @@
-use Rattle.std.proofs.Common.{◌≡◌, ◌∙◌, ◌≤◌, ◌/◌, ap, sym, subst, List, ℕ, length, take, arith}
+use Rattle.std.proofs.Common.{◌≡◌, ◌∙◌, sym, subst, List, arith}
 use Rattle.kmip_ttlv_items.specs.declared.found.FoundItem.{FoundItem}
 use Rattle.kmip_ttlv_items.specs.ItemWalks.{Ended}
 use Rattle.ttlv_run.specs.Items.{AreGood}

@@ -1,4 +1,4 @@
-use Rattle.std.proofs.Common.{rules, ◌≡◌, ◌++◌, ◌∷◌, [], ℕ, List, Some, codes, ap, sym, subst}
+use Rattle.std.proofs.Common.{◌++◌, ℕ, List, Some, codes, subst}
 use Rattle.kmip_ttlv_types.specs.Streams.{AppendsFront}
 use Rattle.ttlv_run.specs.Reasons.{place_told}
 use Rattle.ttlv_run.proofs.Appending.{told_front}

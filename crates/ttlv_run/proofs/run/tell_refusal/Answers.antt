@@ -1,4 +1,4 @@
-use Rattle.std.proofs.Common.{rules, ◌≡◌, ◌≢◌, sym, subst}
+use Rattle.std.proofs.Common.{rules, ◌≢◌, subst}
 use Rattle.kmip_ttlv_types.specs.Streams.{AppendsFront}
 use Rattle.ttlv_run.specs.declared.refusal.Refusal.TheVariants.{ClosedPipe}
 use Rattle.ttlv_run.proofs.Told.{line_is}
