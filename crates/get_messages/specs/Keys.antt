@@ -1,14 +1,18 @@
 -- Written by codegen from types.table: change that, and run codegen/codegen.
 -- Forms and values of the types in `key`.
-use Rattle.kmip_ttlv.specs.Forms.{Form, enum, field, int32, newtype, no_fields, no_variants, octets, struct, unit}
-use Rattle.kmip_ttlv.specs.Forms.{variant}
+use Rattle.kmip_ttlv.specs.Forms.{Form, enum, field, int32, newtype, no_fields, no_variants, octets, option, struct}
+use Rattle.kmip_ttlv.specs.Forms.{unit, variant}
+use Rattle.kmip_ttlv.specs.MessageParts.{optional}
 use Rattle.kmip_ttlv.specs.Values.{Value, bytes_value, i32_value, newtype_value, no_values, struct_value}
 use Rattle.kmip_ttlv.specs.Values.{unit_variant_value, value}
-use Rattle.std.specs.Prelude.{codes, false, true}
+use Rattle.kmip_ttlv.specs.Visits.{joined}
+use Rattle.std.specs.Prelude.{codes, false, option_map, true}
+use Rattle.kmip_ttlv.specs.Visits as told
 use Rattle.get_messages.specs.declared.key.KeyValue.{KeyValue}
 use Rattle.get_messages.specs.declared.key.KeyLength.{KeyLength}
 use Rattle.get_messages.specs.declared.key.KeyBlock.{KeyBlock}
 use Rattle.get_messages.specs.declared.key.SymmetricKey.{SymmetricKey}
+use Rattle.get_messages.specs.Wrappings.{key_wrapping_data_form, written_key_wrapping_data, read_key_wrapping_data}
 
 -- the form of a `KeyValue`
 abbrev pub key_value_form : Form
@@ -37,16 +41,28 @@ key_block_form =
     field (codes "0x420042") (enum (codes "0x420042") (variant (codes "0x00000001") unit no_variants)) (
     field (codes "0x420045") key_value_form (
     field (codes "0x420028") (enum (codes "0x420028") (variant (codes "0x00000003") unit no_variants)) (
-    field (codes "0x42002A") key_length_form no_fields)))) true
+    field (codes "0x42002A") key_length_form (
+    field (codes "0x420046") (option key_wrapping_data_form) no_fields))))) true
 
--- the value of a `KeyBlock`
-unfoldable pub key_block_value : {A : Type 0} → KeyBlock A → Value
-key_block_value x =
+-- what is written of a `KeyBlock`
+unfoldable pub written_key_block : {A : Type 0} → KeyBlock A → Value
+written_key_block x =
     struct_value (codes "0x420040") (
     value (unit_variant_value (codes "0x420042") (codes "0x00000001")) (
     value (key_value_value x.key_value) (
     value (unit_variant_value (codes "0x420028") (codes "0x00000003")) (
-    value (key_length_value x.cryptographic_length) no_values))))
+    value (key_length_value x.cryptographic_length) (
+    joined (told.optional (option_map written_key_wrapping_data x.key_wrapping_data)) no_values)))))
+
+-- what is read of a `KeyBlock`
+unfoldable pub read_key_block : {A : Type 0} → KeyBlock A → Value
+read_key_block x =
+    struct_value (codes "0x420040") (
+    value (unit_variant_value (codes "0x420042") (codes "0x00000001")) (
+    value (key_value_value x.key_value) (
+    value (unit_variant_value (codes "0x420028") (codes "0x00000003")) (
+    value (key_length_value x.cryptographic_length) (
+    value (optional read_key_wrapping_data x.key_wrapping_data) no_values)))))
 
 -- the form of a `SymmetricKey`
 abbrev pub symmetric_key_form : Form
@@ -54,8 +70,14 @@ symmetric_key_form =
     struct (codes "0x42008F") (
     field (codes "0x420040") key_block_form no_fields) false
 
--- the value of a `SymmetricKey`
-unfoldable pub symmetric_key_value : {A : Type 0} → SymmetricKey A → Value
-symmetric_key_value x =
+-- what is written of a `SymmetricKey`
+unfoldable pub written_symmetric_key : {A : Type 0} → SymmetricKey A → Value
+written_symmetric_key x =
     struct_value (codes "0x42008F") (
-    value (key_block_value x.key_block) no_values)
+    value (written_key_block x.key_block) no_values)
+
+-- what is read of a `SymmetricKey`
+unfoldable pub read_symmetric_key : {A : Type 0} → SymmetricKey A → Value
+read_symmetric_key x =
+    struct_value (codes "0x42008F") (
+    value (read_key_block x.key_block) no_values)

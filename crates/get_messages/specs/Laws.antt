@@ -4,11 +4,10 @@ use Rattle.std.specs.Prelude.{◌≡◌, ◌↔◌, List, ℕ}
 use Rattle.kmip_ttlv.specs.Values.{Value}
 use Rattle.kmip_ttlv.specs.WriteAnswers.{IsWrittenAs}
 use Rattle.kmip_ttlv.specs.Reads.{Begins}
-use Rattle.kmip_ttlv.specs.MessageParts.{read_date, written_date}
 use Rattle.get_messages.specs.Requests.{get_request_form, get_request_value}
 use Rattle.get_messages.specs.Ranges.{IsGetRequest}
 use Rattle.get_messages.specs.declared.request.GetRequest.{GetRequest}
-use Rattle.get_messages.specs.Responses.{get_response_form, get_response_value}
+use Rattle.get_messages.specs.Responses.{get_response_form, written_get_response, read_get_response}
 use Rattle.get_messages.specs.Ranges.{IsGetResponse}
 use Rattle.get_messages.specs.declared.response.GetResponse.{GetResponse}
 
@@ -25,5 +24,5 @@ abbrev pub GetResponsesComeBack : Type 0 → Type 0
 GetResponsesComeBack A =
     (x : GetResponse A) (n : ℕ) (written : List ℕ) (v : Value)
     → IsGetResponse x
-    → IsWrittenAs (get_response_value written_date x) n written
-    → Begins get_response_form written v ↔ (v ≡ get_response_value read_date x)
+    → IsWrittenAs (written_get_response x) n written
+    → Begins get_response_form written v ↔ (v ≡ read_get_response x)

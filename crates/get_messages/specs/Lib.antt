@@ -1,4 +1,5 @@
 pub mod Headers
+pub mod Wrappings
 pub mod Keys
 pub mod Requests
 pub mod Responses

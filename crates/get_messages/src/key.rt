@@ -2,8 +2,9 @@
 //! A symmetric key as an object (KMIP 1.0, sections 2.1.3, 2.1.4 and 2.2.2).
 
 ghost use Rattle.std.specs.Prelude.{◌≡◌};
-ghost use Rattle.get_messages.specs.Keys.{key_value_form, key_value_value, key_length_form, key_length_value, key_block_form, key_block_value, symmetric_key_form, symmetric_key_value};
+ghost use Rattle.get_messages.specs.Keys.{key_value_form, key_value_value, key_length_form, key_length_value, key_block_form, written_key_block, read_key_block, symmetric_key_form, written_symmetric_key, read_symmetric_key};
 
+use crate::wrapping::KeyWrappingData;
 use kmip_ttlv::messages::reading::Readable;
 use kmip_ttlv::messages::{leaves, reading, shapes, writing};
 use kmip_ttlv::shape::{Data, Deserialize, Serialize, Shape};
@@ -107,18 +108,21 @@ pub struct KeyBlock<A: Allocator = Global> {
     pub key_value: KeyValue<A>,
     /// Its length in bits.
     pub cryptographic_length: KeyLength,
+    /// How the key is wrapped, if it is.
+    pub key_wrapping_data: Option<KeyWrappingData<A>>,
 }
 
 impl<B: Allocator> Serialize for KeyBlock<B> {
-    ghost stated = { key_block_value };
+    ghost stated = { written_key_block };
 
-    #[tactic(auto, unfolding(crate::specs::Keys::key_block_value))]
+    #[tactic(auto, using(kmip_ttlv_base::proofs::Visiting::visited_joined), unfolding(crate::specs::Keys::written_key_block))]
     fn visit<V: Visitor>(&self, visitor: &mut V) -> Result<(), AllocError> {
         writing::begin_struct(visitor, "0x420040")?;
         writing::unit_variant(visitor, "0x420042", "0x00000001")?;
         self.key_value.visit(visitor)?;
         writing::unit_variant(visitor, "0x420028", "0x00000003")?;
         self.cryptographic_length.visit(visitor)?;
+        writing::option(visitor, &self.key_wrapping_data)?;
         writing::end_struct(visitor, "0x420040")?;
         Ok(())
     }
@@ -127,13 +131,13 @@ impl<B: Allocator> Serialize for KeyBlock<B> {
 impl<A: Allocator> Readable for KeyBlock<A> {
     ghost read_by = { key_block_form };
 
-    ghost read_as = { key_block_value };
+    ghost read_as = { read_key_block };
 }
 
 impl<A: Allocator + Copy> Deserialize<A> for KeyBlock<A> {
     ghost form = { key_block_form };
 
-    ghost is_value = { λ v x. v ≡ key_block_value x };
+    ghost is_value = { λ v x. v ≡ read_key_block x };
 
     fn shape(alloc: A) -> Result<Shape<A>, AllocError> {
         let mut fields = Vec::new(alloc);
@@ -141,19 +145,25 @@ impl<A: Allocator + Copy> Deserialize<A> for KeyBlock<A> {
         fields.push(shapes::field("0x420045", KeyValue::<A>::shape(alloc)?))?;
         fields.push(shapes::constant(alloc, "0x420028", "0x00000003")?)?;
         fields.push(shapes::field("0x42002A", KeyLength::shape(alloc)?))?;
+        let field = shapes::field("0x420046", KeyWrappingData::<A>::shape(alloc)?);
+        fields.push(shapes::optional(alloc, field)?)?;
         Ok(shapes::strict_structure("0x420040", fields))
     }
 
-    #[tactic(auto, unfolding(crate::specs::Keys::key_block_value))]
+    #[tactic(auto, unfolding(crate::specs::Keys::read_key_block))]
     fn from_data(alloc: A, value: &mut Data<A>) -> Result<Self, AllocError> {
         let mut parts = reading::parts::<Self, A>(value);
         reading::constant::<Self, A>(&mut parts, 0, "0x420042", "0x00000001");
         let key_value = reading::nested::<Self, KeyValue<A>, A>(alloc, &mut parts, 1)?;
         reading::constant::<Self, A>(&mut parts, 2, "0x420028", "0x00000003");
         let cryptographic_length = reading::nested::<Self, KeyLength, A>(alloc, &mut parts, 3)?;
+        let key_wrapping_data = reading::optional::<Self, KeyWrappingData<A>, A>(
+            alloc, &mut parts, 4,
+        )?;
         Ok(KeyBlock {
             key_value,
             cryptographic_length,
+            key_wrapping_data,
         })
     }
 }
@@ -167,9 +177,9 @@ pub struct SymmetricKey<A: Allocator = Global> {
 }
 
 impl<B: Allocator> Serialize for SymmetricKey<B> {
-    ghost stated = { symmetric_key_value };
+    ghost stated = { written_symmetric_key };
 
-    #[tactic(auto, unfolding(crate::specs::Keys::symmetric_key_value))]
+    #[tactic(auto, unfolding(crate::specs::Keys::written_symmetric_key))]
     fn visit<V: Visitor>(&self, visitor: &mut V) -> Result<(), AllocError> {
         writing::begin_struct(visitor, "0x42008F")?;
         self.key_block.visit(visitor)?;
@@ -181,13 +191,13 @@ impl<B: Allocator> Serialize for SymmetricKey<B> {
 impl<A: Allocator> Readable for SymmetricKey<A> {
     ghost read_by = { symmetric_key_form };
 
-    ghost read_as = { symmetric_key_value };
+    ghost read_as = { read_symmetric_key };
 }
 
 impl<A: Allocator + Copy> Deserialize<A> for SymmetricKey<A> {
     ghost form = { symmetric_key_form };
 
-    ghost is_value = { λ v x. v ≡ symmetric_key_value x };
+    ghost is_value = { λ v x. v ≡ read_symmetric_key x };
 
     fn shape(alloc: A) -> Result<Shape<A>, AllocError> {
         let mut fields = Vec::new(alloc);
@@ -195,7 +205,7 @@ impl<A: Allocator + Copy> Deserialize<A> for SymmetricKey<A> {
         Ok(shapes::structure("0x42008F", fields))
     }
 
-    #[tactic(auto, unfolding(crate::specs::Keys::symmetric_key_value))]
+    #[tactic(auto, unfolding(crate::specs::Keys::read_symmetric_key))]
     fn from_data(alloc: A, value: &mut Data<A>) -> Result<Self, AllocError> {
         let mut parts = reading::parts::<Self, A>(value);
         let key_block = reading::nested::<Self, KeyBlock<A>, A>(alloc, &mut parts, 0)?;

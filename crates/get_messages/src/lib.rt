@@ -9,3 +9,4 @@ pub mod key;
 pub mod laws;
 pub mod request;
 pub mod response;
+pub mod wrapping;

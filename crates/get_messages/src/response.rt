@@ -2,8 +2,7 @@
 //! The response with a symmetric key (KMIP 1.0, section 4.11).
 
 ghost use Rattle.std.specs.Prelude.{◌≡◌};
-ghost use Rattle.kmip_ttlv.specs.MessageParts.{read_date, written_date};
-ghost use Rattle.get_messages.specs.Responses.{get_response_payload_form, get_response_payload_value, get_response_item_form, get_response_item_value, get_response_form, get_response_value};
+ghost use Rattle.get_messages.specs.Responses.{get_response_payload_form, written_get_response_payload, read_get_response_payload, get_response_item_form, written_get_response_item, read_get_response_item, get_response_form, written_get_response, read_get_response};
 
 use crate::header::ResponseHeader;
 use crate::key::SymmetricKey;
@@ -24,9 +23,9 @@ pub struct GetResponsePayload<A: Allocator = Global> {
 }
 
 impl<B: Allocator> Serialize for GetResponsePayload<B> {
-    ghost stated = { get_response_payload_value };
+    ghost stated = { written_get_response_payload };
 
-    #[tactic(auto, unfolding(crate::specs::Responses::get_response_payload_value))]
+    #[tactic(auto, unfolding(crate::specs::Responses::written_get_response_payload))]
     fn visit<V: Visitor>(&self, visitor: &mut V) -> Result<(), AllocError> {
         writing::begin_struct(visitor, "0x42007C")?;
         writing::unit_variant(visitor, "0x420057", "0x00000002")?;
@@ -44,13 +43,13 @@ impl<B: Allocator> Serialize for GetResponsePayload<B> {
 impl<A: Allocator> Readable for GetResponsePayload<A> {
     ghost read_by = { get_response_payload_form };
 
-    ghost read_as = { get_response_payload_value };
+    ghost read_as = { read_get_response_payload };
 }
 
 impl<A: Allocator + Copy> Deserialize<A> for GetResponsePayload<A> {
     ghost form = { get_response_payload_form };
 
-    ghost is_value = { λ v x. v ≡ get_response_payload_value x };
+    ghost is_value = { λ v x. v ≡ read_get_response_payload x };
 
     fn shape(alloc: A) -> Result<Shape<A>, AllocError> {
         let mut fields = Vec::new(alloc);
@@ -60,7 +59,7 @@ impl<A: Allocator + Copy> Deserialize<A> for GetResponsePayload<A> {
         Ok(shapes::structure("0x42007C", fields))
     }
 
-    #[tactic(auto, unfolding(crate::specs::Responses::get_response_payload_value))]
+    #[tactic(auto, unfolding(crate::specs::Responses::read_get_response_payload))]
     fn from_data(alloc: A, value: &mut Data<A>) -> Result<Self, AllocError> {
         let mut parts = reading::parts::<Self, A>(value);
         reading::constant::<Self, A>(&mut parts, 0, "0x420057", "0x00000002");
@@ -86,9 +85,9 @@ pub struct GetResponseItem<A: Allocator = Global> {
 }
 
 impl<B: Allocator> Serialize for GetResponseItem<B> {
-    ghost stated = { get_response_item_value };
+    ghost stated = { written_get_response_item };
 
-    #[tactic(auto, unfolding(crate::specs::Responses::get_response_item_value))]
+    #[tactic(auto, unfolding(crate::specs::Responses::written_get_response_item))]
     fn visit<V: Visitor>(&self, visitor: &mut V) -> Result<(), AllocError> {
         writing::begin_struct(visitor, "0x42000F")?;
         writing::unit_variant(visitor, "0x42005C", "0x0000000A")?;
@@ -102,13 +101,13 @@ impl<B: Allocator> Serialize for GetResponseItem<B> {
 impl<A: Allocator> Readable for GetResponseItem<A> {
     ghost read_by = { get_response_item_form };
 
-    ghost read_as = { get_response_item_value };
+    ghost read_as = { read_get_response_item };
 }
 
 impl<A: Allocator + Copy> Deserialize<A> for GetResponseItem<A> {
     ghost form = { get_response_item_form };
 
-    ghost is_value = { λ v x. v ≡ get_response_item_value x };
+    ghost is_value = { λ v x. v ≡ read_get_response_item x };
 
     fn shape(alloc: A) -> Result<Shape<A>, AllocError> {
         let mut fields = Vec::new(alloc);
@@ -118,7 +117,7 @@ impl<A: Allocator + Copy> Deserialize<A> for GetResponseItem<A> {
         Ok(shapes::structure("0x42000F", fields))
     }
 
-    #[tactic(auto, unfolding(crate::specs::Responses::get_response_item_value))]
+    #[tactic(auto, unfolding(crate::specs::Responses::read_get_response_item))]
     fn from_data(alloc: A, value: &mut Data<A>) -> Result<Self, AllocError> {
         let mut parts = reading::parts::<Self, A>(value);
         reading::constant::<Self, A>(&mut parts, 0, "0x42005C", "0x0000000A");
@@ -139,9 +138,9 @@ pub struct GetResponse<A: Allocator = Global> {
 }
 
 impl<B: Allocator> Serialize for GetResponse<B> {
-    ghost stated = { get_response_value written_date };
+    ghost stated = { written_get_response };
 
-    #[tactic(auto, unfolding(crate::specs::Responses::get_response_value))]
+    #[tactic(auto, unfolding(crate::specs::Responses::written_get_response))]
     fn visit<V: Visitor>(&self, visitor: &mut V) -> Result<(), AllocError> {
         writing::begin_struct(visitor, "0x42007B")?;
         self.header.visit(visitor)?;
@@ -154,13 +153,13 @@ impl<B: Allocator> Serialize for GetResponse<B> {
 impl<A: Allocator> Readable for GetResponse<A> {
     ghost read_by = { get_response_form };
 
-    ghost read_as = { get_response_value read_date };
+    ghost read_as = { read_get_response };
 }
 
 impl<A: Allocator + Copy> Deserialize<A> for GetResponse<A> {
     ghost form = { get_response_form };
 
-    ghost is_value = { λ v x. v ≡ get_response_value read_date x };
+    ghost is_value = { λ v x. v ≡ read_get_response x };
 
     fn shape(alloc: A) -> Result<Shape<A>, AllocError> {
         let mut fields = Vec::new(alloc);
@@ -169,7 +168,7 @@ impl<A: Allocator + Copy> Deserialize<A> for GetResponse<A> {
         Ok(shapes::structure("0x42007B", fields))
     }
 
-    #[tactic(auto, unfolding(crate::specs::Responses::get_response_value))]
+    #[tactic(auto, unfolding(crate::specs::Responses::read_get_response))]
     fn from_data(alloc: A, value: &mut Data<A>) -> Result<Self, AllocError> {
         let mut parts = reading::parts::<Self, A>(value);
         let header = reading::nested::<Self, ResponseHeader, A>(alloc, &mut parts, 0)?;
