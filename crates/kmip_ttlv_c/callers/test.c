@@ -76,7 +76,7 @@ static const char LINES[] = "Tag: Protocol Version (0x420069), Type: Structure (
 enum { TO_DIAG, TO_TEXT, TO_STANDARD_TEXT, FROM_DIAG, GET_VERSION, CALLS };
 static const char *const TEXTS[CALLS] = {DIAGNOSTIC, TEXT, STANDARD_TEXT, LINES, KMIP_TTLV_VERSION};
 
-/* The status of a call whose table of names has no bad line, which is what it has to tell. */
+/* The status of a call whose table of names has no bad line: the line has to be 0. */
 static kmip_ttlv_status without_bad_line(kmip_ttlv_status status, size_t bad_line) {
     HOLD(bad_line == 0);
     return status;

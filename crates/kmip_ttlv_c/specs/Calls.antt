@@ -28,7 +28,7 @@ pub record IsReadable (names : ℕ → Option (List ℕ)) (closed : Bool) (bytes
   pub printed : IsPrinted names closed bytes text
   pub pretty : IsPretty names closed bytes text
 
--- the same with the names of a table, of which no line is told as bad
+-- the same with the names of a table, of which no line is bad
 pub record IsNamedText (table : List ℕ) (closed : Bool) (bytes : List ℕ) (line : ℕ) (text : List ℕ) : Type 0 where
   pub table_is : IsTable table
   pub no_line : line ≡ 0
@@ -40,7 +40,7 @@ pub record IsReadBackAs (names : ℕ → Option (List ℕ)) (prefix diagnostic t
   pub longest : ReadsLongest names prefix diagnostic text
   pub redacted : IsReadBack names prefix diagnostic text
 
--- the same with the names of a table, of which no line is told as bad
+-- the same with the names of a table, of which no line is bad
 pub record IsReadLines (table prefix diagnostic : List ℕ) (line : ℕ) (text : List ℕ) : Type 0 where
   pub table_is : IsTable table
   pub no_line : line ≡ 0

@@ -55,15 +55,15 @@ HasSize limit bytes n = IsTakenUpTo (type_of (code_at bytes 0)) limit (message_s
 abbrev pub behind_header : List ℕ → TtlvType → Location
 behind_header bytes t = record { offset = Some 8; parents = []; tag = Some (tag_at bytes 0); typ = Some t }
 
--- the code of a type's, of the message that begins so
+-- behind the tag of the message that begins so, where the code of its type stands
 abbrev pub behind_tag : List ℕ → Location
 behind_tag bytes = record { offset = Some 3; parents = []; tag = Some (tag_at bytes 0); typ = None }
 
--- the code of no type
+-- the code of the message that begins so is that of no type
 abbrev pub untyped_kind : List ℕ → Kind
 untyped_kind bytes = malformed (malformeds.InvalidType (code_at bytes 0))
 
--- the message that begins so has the code of no type, and this error says so, at the code
+-- the message that begins so has the code of no type, and this error says so, behind the tag
 pub record IsUntyped {A : Type 0} (bytes : List ℕ) (e : Error A) : Type 0 where
   pub typ : type_of (code_at bytes 0) ≡ None
   pub kind : view_of_kind (kind_of e) ≡ untyped_kind bytes

@@ -15,7 +15,8 @@ use kmip_ttlv_base::types::{ByteOffset, TtlvType};
 use std::alloc::Allocator;
 use std::io;
 
-// The bytes of one message. Where its header has the code of no type, or states more than the limit, the header alone is taken.
+// The bytes of one message. Where the header has the code of no type, or states more than the limit
+// allows, it alone is taken.
 pub fn take_message<S: Source, A: Allocator>(
     reader: &mut S,
     limit: Option<u32>,

@@ -64,7 +64,7 @@ fn push_char<A: Allocator>(out: &mut String<A>, c: char) -> Result<(), AllocErro
 
 /// Adds a text with its control characters and backslashes escaped.
 ///
-/// It refuses for want of memory alone.
+/// It fails only when out of memory.
 #[tactic(auto, unfolding(crate::specs::Texts::escaped))]
 pub fn push_escaped<A: Allocator>(out: &mut String<A>, text: &[u8]) -> Result<(), AllocError>
     requires { is_valid TextString text.now ≡ true }

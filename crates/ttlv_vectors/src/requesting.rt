@@ -317,7 +317,7 @@ fn a_writer_that_takes_nothing(rt: HostRuntime) -> Result<(), Fail> {
     Ok(())
 }
 
-// Whether a new serializer with this memory gives the bytes; none where it fails, but not for want of memory.
+// Whether a new serializer with this memory gives bytes or runs out of it; none on any other error.
 fn is_serialized(heap: &RefusingAllocator<Global>, data: &Data) -> Option<bool> {
     let mut serializer = TtlvSerializer::new(heap);
     match &serializer.serialize(data) {
@@ -332,7 +332,7 @@ fn is_serialized(heap: &RefusingAllocator<Global>, data: &Data) -> Option<bool> 
     }
 }
 
-// How many growths a new serializer asks for; none where it fails, but not for want of memory.
+// How many growths a new serializer asks for; none on an error other than out of memory.
 fn growths_of(alloc: Global, data: &Data) -> Option<u64> {
     for before in 0..100u64 {
         let heap = RefusingAllocator::new(alloc, before);
