@@ -7,7 +7,7 @@ use Rattle.kmip_ttlv.specs.declared.types.TtlvType.{TtlvType}
 use Rattle.kmip_ttlv.specs.declared.types.TtlvType.TheVariants.{Structure}
 use Rattle.kmip_ttlv.specs.Trees.{Tree, Trees, leaf, node, no_trees, tree}
 use Rattle.kmip_ttlv.specs.Pretty.{IsPrinted, IsPretty, pretty, pretty_all, pretty_line, data_shown}
-use Rattle.kmip_ttlv.specs.Lines.{typ_part}
+use Rattle.kmip_ttlv.specs.Lines.{tag_part, typ_part}
 use Rattle.kmip_ttlv.specs.Undiag.{undiag}
 use Rattle.kmip_ttlv.specs.TagNames.{no_names}
 use Rattle.hex_to_txt_run.specs.Inputs.{decoded}
@@ -23,7 +23,7 @@ ends_after a b ends = (a ++ ends.0, ap (λ l. a ++ l) ends.1 ∙ sym (append_ass
 
 line_ends : (names : ℕ → Option (List ℕ)) (depth tag : ℕ) (typ : TtlvType) (content : List ℕ) → EndsLine (pretty_line names depth tag typ content)
 unfolding EndsLine pretty_line
-line_ends names depth tag typ content = ends_after (typ_part names depth tag typ) _ (ends_after (codes ", Data:") _ (data_shown typ content, refl))
+line_ends names depth tag typ content = ends_after (typ_part (tag_part names) depth tag typ) _ (ends_after (codes ", Data:") _ (data_shown typ content, refl))
 
 mutual
   pretty_ends : (names : ℕ → Option (List ℕ)) (depth : ℕ) (t : Tree) → EndsLine (pretty names depth t)

@@ -1,5 +1,5 @@
 -- Fronts of texts.
-use Rattle.std.proofs.Common.{◌≡◌, ℕ, zero, suc, ◌+◌, ◌*◌, ◌<◌, ◌≤◌, Bool, true, false, cond, ltb, leb, List, [], ◌∷◌, ◌++◌, length, take, drop, get_or, Some, None, refl, sym, ap, subst, arith}
+use Rattle.std.proofs.Common.{◌≡◌, ℕ, zero, suc, ◌+◌, ◌-◌, ◌*◌, ◌<◌, ◌≤◌, Bool, true, false, cond, ltb, leb, List, [], ◌∷◌, ◌++◌, length, take, drop, get_or, Some, None, refl, sym, ap, subst, ◌∙◌, arith}
 use Rattle.std.proofs.Common.{◌⊎◌, inl, inr}
 use Rattle.std.specs.List.{prefix_len}
 use Rattle.std.specs.Str.{IsUtf8, IsAscii, IsCharBoundary}
@@ -75,6 +75,16 @@ value_some s n v r some lt e f = let a : ltb 0 n ≡ true = lt-ltb 0 n some in l
 pub indent_more : (d : ℕ) → indent (suc d) ≡ indent d ++ (32 ∷ 32 ∷ [])
 indent_more zero = refl
 indent_more (suc d) = ap (λ (s : List ℕ). 32 ∷ 32 ∷ s) (indent_more d)
+
+-- some levels, one more, and the others
+pub indent_parts : (d n : ℕ) → d < n → (indent d ++ (32 ∷ 32 ∷ [])) ++ indent (n - (d + 1)) ≡ indent n
+indent_parts d zero lt = absurd (omega (arith, lt))
+indent_parts zero (suc n) lt =
+    let same : suc n - (0 + 1) ≡ n = omega arith in
+    ap (λ (k : ℕ). 32 ∷ 32 ∷ indent k) same
+indent_parts (suc d) (suc n) lt =
+    let same : suc n - (suc d + 1) ≡ n - (d + 1) = omega arith in
+    ap (λ (k : ℕ). 32 ∷ 32 ∷ ((indent d ++ (32 ∷ 32 ∷ [])) ++ indent k)) same ∙ ap (λ (s : List ℕ). 32 ∷ 32 ∷ s) (indent_parts d n (omega (arith, lt)))
 
 -- fewer levels are in front of more
 front_levels : (d n : ℕ) → d ≤ n → take (2 * d) (indent n) ≡ indent d

@@ -16,6 +16,8 @@ pub mod PrettyTexts
 pub mod ReadBack
 pub mod Reading
 pub mod Rest
+pub mod Saying
+pub mod Sending
 pub mod Stack
 pub mod Texts
 pub mod Trimmed

@@ -1,5 +1,5 @@
 -- The parts of a readable line.
-use Rattle.std.proofs.Common.{◌≡◌, ◌≢◌, ◌++◌, ◌∷◌, [], ◌∙◌, sym, refl, List, ℕ, Bool, length, Option, None, append_assoc, arith}
+use Rattle.std.proofs.Common.{◌≡◌, ◌≢◌, ◌≤◌, ◌<◌, ◌++◌, ◌∷◌, [], sym, refl, List, ℕ, Bool, length, Option, None, append_assoc, arith}
 use Rattle.std.specs.Prelude.{codes}
 use Rattle.std.specs.Option.{option_map}
 use Rattle.std.specs.Map.{lookup}
@@ -9,7 +9,8 @@ use Rattle.kmip_ttlv_types.specs.declared.typ.TtlvType.{TtlvType}
 use Rattle.kmip_ttlv_types.specs.declared.typ.TtlvType.TheVariants.{Structure, Integer, LongInteger, BigInteger, Enumeration, Boolean, TextString, ByteString, DateTime, Interval}
 use Rattle.kmip_ttlv_types.specs.TypeTexts.{type_text}
 use Rattle.kmip_ttlv_util.specs.TagNames.{NameMap, name_in}
-use Rattle.kmip_ttlv_util.specs.Lines.{tag_part, data_part}
+use Rattle.std.proofs.lemmas.Bool.{le-leb, lt-leb}
+use Rattle.kmip_ttlv_util.specs.Lines.{tag_part, data_part, depth_mark, bounded_part}
 use Rattle.kmip_ttlv_util.specs.Pretty.{value_shown, data_shown, pretty_line}
 
 -- where there are no entries none is found
@@ -52,3 +53,20 @@ line_leaf names depth tag TextString content ne = joined (tag_part names depth t
 line_leaf names depth tag ByteString content ne = joined (tag_part names depth tag) (codes ", Type: " ++ type_text ByteString) (value_shown ByteString content)
 line_leaf names depth tag DateTime content ne = joined (tag_part names depth tag) (codes ", Type: " ++ type_text DateTime) (value_shown DateTime content)
 line_leaf names depth tag Interval content ne = joined (tag_part names depth tag) (codes ", Type: " ++ type_text Interval) (value_shown Interval content)
+
+-- a line begins with its tag
+pub line_front : (names : ℕ → Option (List ℕ)) (depth tag : ℕ) (typ : TtlvType) (content : List ℕ) → (rest : List ℕ) × (tag_part names depth tag ++ rest ≡ pretty_line names depth tag typ content)
+unfolding pretty_line
+line_front names depth tag typ content =
+    let shut = codes ", Data:" ++ (data_shown typ content ++ (10 ∷ [])) in
+    ((codes ", Type: " ++ type_text typ) ++ shut, sym (append_assoc (tag_part names depth tag) (codes ", Type: " ++ type_text typ) shut))
+
+-- a line in few structures is indented as any
+pub bounded_low : (names : ℕ → Option (List ℕ)) (depth tag : ℕ) → depth ≤ 64 → tag_part names depth tag ≡ bounded_part names depth tag
+unfolding bounded_part
+bounded_low names depth tag low = rw (le-leb depth 64 low) refl
+
+-- one in more has their number
+pub bounded_deep : (names : ℕ → Option (List ℕ)) (depth tag : ℕ) → 64 < depth → depth_mark depth ++ tag_part names 0 tag ≡ bounded_part names depth tag
+unfolding bounded_part
+bounded_deep names depth tag deep = rw (lt-leb depth 64 deep) refl

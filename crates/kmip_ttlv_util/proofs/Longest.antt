@@ -53,11 +53,11 @@ span : (ds s : List ℕ) → NoColon ds → prefix_len other (ds ++ (58 ∷ s)) 
 span [] s all = refl
 span (d ∷ ds) s all = let k = span ds s all.1 in rw (ne_eqb d 58 all.0) (omega (arith, k))
 
-module _ (names : ℕ → Option (List ℕ)) (prefix : List ℕ) where
+module _ (beginning : ℕ → ℕ → List ℕ) (prefix : List ℕ) where
   -- what a step tells of the part in front
   abbrev pub Tells : ℕ → List ℕ → Step → Type 0
-  Tells depth s (reads_on w d r) = (p : Part) × Stands prefix depth s p r × (d ≡ depth_behind depth p) × (w ≡ part_line names depth p)
-  Tells depth s (stops_with w) = ((p : Part) (more : List ℕ) → Stands prefix depth s p more → ⊥) × (w ≡ unfinished names prefix depth s)
+  Tells depth s (reads_on w d r) = (p : Part) × Stands prefix depth s p r × (d ≡ depth_behind depth p) × (w ≡ part_line beginning depth p)
+  Tells depth s (stops_with w) = ((p : Part) (more : List ℕ) → Stands prefix depth s p more → ⊥) × (w ≡ unfinished beginning prefix depth s)
 
   -- in front of a text that begins with no `]`
   module _ (depth : ℕ) (s : List ℕ) (open_ : (r : List ℕ) → s ≡ 93 ∷ r → ⊥) where
@@ -71,16 +71,16 @@ module _ (names : ℕ → Option (List ℕ)) (prefix : List ℕ) where
         by close_part more h = open_ more h.1
         by (item_part tag typ shown) more h = let k = h.1 in absurd cc
 
-    no_letter : (tag : ℕ) → tag_in_front prefix s ≡ Some tag → typ_in_front (drop digits_end s) ≡ None → Tells depth s (stops_with (tag_part names depth tag))
+    no_letter : (tag : ℕ) → tag_in_front prefix s ≡ Some tag → typ_in_front (drop digits_end s) ≡ None → Tells depth s (stops_with (beginning depth tag))
     no_letter tag some none = (by, rw (some, none) refl)
       where
         by : (p : Part) (more : List ℕ) → Stands prefix depth s p more → ⊥
         by close_part more h = open_ more h.1
         by (item_part t typ shown) more h =
-            let k : typ_in_front (drop digits_end s) ≡ Some typ = ap typ_in_front h.2 ∙ letter_back names typ in
+            let k : typ_in_front (drop digits_end s) ≡ Some typ = ap typ_in_front h.2 ∙ letter_back beginning typ in
             absurd cc
 
-    no_data : (tag : ℕ) (typ : TtlvType) (c : ℕ) (r : List ℕ) → tag_in_front prefix s ≡ Some tag → drop digits_end s ≡ c ∷ r → type_of_letter c ≡ Some typ → ((shown more : List ℕ) → StandsBehind typ r shown more → ⊥) → Tells depth s (stops_with (typ_part names depth tag typ))
+    no_data : (tag : ℕ) (typ : TtlvType) (c : ℕ) (r : List ℕ) → tag_in_front prefix s ≡ Some tag → drop digits_end s ≡ c ∷ r → type_of_letter c ≡ Some typ → ((shown more : List ℕ) → StandsBehind typ r shown more → ⊥) → Tells depth s (stops_with (typ_part beginning depth tag typ))
     no_data tag typ c r some at is never = (by, rw (some, at, is) refl)
       where
         by : (p : Part) (more : List ℕ) → Stands prefix depth s p more → ⊥
@@ -89,11 +89,11 @@ module _ (names : ℕ → Option (List ℕ)) (prefix : List ℕ) where
             let both : c ∷ r ≡ letter u ∷ h.0 = sym at ∙ h.2 in
             let first : c ≡ letter u = cc in
             let left : h.0 ≡ r = cc in
-            let known : type_of_letter c ≡ Some u = ap type_of_letter first ∙ letter_back names u in
+            let known : type_of_letter c ≡ Some u = ap type_of_letter first ∙ letter_back beginning u in
             let same : u ≡ typ = cc in
             never shown more (subst (λ (v : TtlvType). StandsBehind v r shown more) same (subst (λ (a : List ℕ). StandsBehind u a shown more) left h.3))
 
-    whole : (tag : ℕ) (typ : TtlvType) (c : ℕ) (r shown more : List ℕ) (d : ℕ) → tag_in_front prefix s ≡ Some tag → drop digits_end s ≡ c ∷ r → type_of_letter c ≡ Some typ → StandsBehind typ r shown more → d ≡ depth_behind depth (item_part tag typ shown) → Tells depth s (reads_on (line names depth tag typ shown) d more)
+    whole : (tag : ℕ) (typ : TtlvType) (c : ℕ) (r shown more : List ℕ) (d : ℕ) → tag_in_front prefix s ≡ Some tag → drop digits_end s ≡ c ∷ r → type_of_letter c ≡ Some typ → StandsBehind typ r shown more → d ≡ depth_behind depth (item_part tag typ shown) → Tells depth s (reads_on (line beginning depth tag typ shown) d more)
     whole tag typ c r shown more d some at is behind deep = (item_part tag typ shown, (r, some, at ∙ ap (λ (x : ℕ). x ∷ r) (letter_type c typ is), behind), deep, refl)
 
     -- nothing stands behind a letter at the end of the text
@@ -123,19 +123,19 @@ module _ (names : ℕ → Option (List ℕ)) (prefix : List ℕ) where
         let split : r ≡ take (prefix_len other r) r ++ (58 ∷ drop (prefix_len other r + 1) r) = sym (take-append-drop (prefix_len other r) r) ∙ ap (λ (t : List ℕ). take (prefix_len other r) r ++ t) (at_colon r lt) in
         (omega (arith, length-take-le (prefix_len other r) r (omega arith)), no_colon r, split)
 
-    value_tells : (tag c : ℕ) (r : List ℕ) → tag_in_front prefix s ≡ Some tag → drop digits_end s ≡ c ∷ r → type_of_letter c ≡ Some Enumeration → Tells depth s (value_step names depth tag r (prefix_len other r))
+    value_tells : (tag c : ℕ) (r : List ℕ) → tag_in_front prefix s ≡ Some tag → drop digits_end s ≡ c ∷ r → type_of_letter c ≡ Some Enumeration → Tells depth s (value_step beginning depth tag r (prefix_len other r))
     value_tells tag c r some at is = by (ltb 0 (prefix_len other r)) (ltb (prefix_len other r) (length r)) refl refl
       where
-        stop : (ltb 0 (prefix_len other r) && ltb (prefix_len other r) (length r)) ≡ false → Tells depth s (stops_with (typ_part names depth tag Enumeration))
+        stop : (ltb 0 (prefix_len other r) && ltb (prefix_len other r) (length r)) ≡ false → Tells depth s (stops_with (typ_part beginning depth tag Enumeration))
         stop off = no_data tag Enumeration c r some at is (no_value r off)
 
-        by : (a b : Bool) → ltb 0 (prefix_len other r) ≡ a → ltb (prefix_len other r) (length r) ≡ b → Tells depth s (cond (a && b) (reads_on (line names depth tag Enumeration (take (prefix_len other r) r)) depth (drop (prefix_len other r + 1) r)) (stops_with (typ_part names depth tag Enumeration)))
+        by : (a b : Bool) → ltb 0 (prefix_len other r) ≡ a → ltb (prefix_len other r) (length r) ≡ b → Tells depth s (cond (a && b) (reads_on (line beginning depth tag Enumeration (take (prefix_len other r) r)) depth (drop (prefix_len other r + 1) r)) (stops_with (typ_part beginning depth tag Enumeration)))
         by true true e f = whole tag Enumeration c r (take (prefix_len other r) r) (drop (prefix_len other r + 1) r) depth some at is (some_value r (ltb-true _ _ e) (ltb-true _ _ f)) refl
         by true false e f = stop (rw (e, f) refl)
         by false true e f = stop (rw e refl)
         by false false e f = stop (rw e refl)
 
-    data_tells : (tag : ℕ) (typ : TtlvType) (c : ℕ) (r : List ℕ) → tag_in_front prefix s ≡ Some tag → drop digits_end s ≡ c ∷ r → type_of_letter c ≡ Some typ → Tells depth s (data_step names depth tag typ r)
+    data_tells : (tag : ℕ) (typ : TtlvType) (c : ℕ) (r : List ℕ) → tag_in_front prefix s ≡ Some tag → drop digits_end s ≡ c ∷ r → type_of_letter c ≡ Some typ → Tells depth s (data_step beginning depth tag typ r)
     data_tells tag Structure c [] some at is = no_data tag Structure c [] some at is (none_behind Structure)
     data_tells tag Integer c [] some at is = no_data tag Integer c [] some at is (none_behind Integer)
     data_tells tag LongInteger c [] some at is = no_data tag LongInteger c [] some at is (none_behind LongInteger)
@@ -157,15 +157,15 @@ module _ (names : ℕ → Option (List ℕ)) (prefix : List ℕ) where
     data_tells tag DateTime c (e ∷ r) some at is = whole tag DateTime c (e ∷ r) hidden (e ∷ r) depth some at is (refl, refl, omega arith) refl
     data_tells tag Interval c (e ∷ r) some at is = whole tag Interval c (e ∷ r) hidden (e ∷ r) depth some at is (refl, refl, omega arith) refl
 
-    letter_tells : (tag : ℕ) (rest : List ℕ) → tag_in_front prefix s ≡ Some tag → drop digits_end s ≡ rest → Tells depth s (letter_step names depth tag rest)
+    letter_tells : (tag : ℕ) (rest : List ℕ) → tag_in_front prefix s ≡ Some tag → drop digits_end s ≡ rest → Tells depth s (letter_step beginning depth tag rest)
     letter_tells tag [] some at = no_letter tag some (ap typ_in_front at)
     letter_tells tag (c ∷ r) some at = by (type_of_letter c) refl
       where
-        by : (o : Option TtlvType) → type_of_letter c ≡ o → Tells depth s (type_step names depth tag r o)
+        by : (o : Option TtlvType) → type_of_letter c ≡ o → Tells depth s (type_step beginning depth tag r o)
         by None e = no_letter tag some (ap typ_in_front at ∙ e)
         by (Some typ) e = data_tells tag typ c r some at e
 
-    tag_tells : (o : Option ℕ) (rest : List ℕ) → tag_in_front prefix s ≡ o → drop digits_end s ≡ rest → Tells depth s (tag_step names depth rest o)
+    tag_tells : (o : Option ℕ) (rest : List ℕ) → tag_in_front prefix s ≡ o → drop digits_end s ≡ rest → Tells depth s (tag_step beginning depth rest o)
     tag_tells None rest is at = no_tag is
     tag_tells (Some tag) rest is at = letter_tells tag rest is at
 
@@ -189,12 +189,12 @@ module _ (names : ℕ → Option (List ℕ)) (prefix : List ℕ) where
   close_tells (suc d) c s e = (close_part, (omega arith, ap (λ (x : ℕ). x ∷ s) (eqb-true c 93 e)), omega arith, refl)
 
   -- what any step tells
-  pub tells : (depth : ℕ) (s : List ℕ) → Tells depth s (step names prefix depth s)
+  pub tells : (depth : ℕ) (s : List ℕ) → Tells depth s (step beginning prefix depth s)
   unfolding step
   tells depth [] = (no_end depth, refl)
   tells depth (c ∷ s) = by (eqb c 93) refl
     where
-      by : (b : Bool) → eqb c 93 ≡ b → Tells depth (c ∷ s) (cond b (close_step depth s) (digits_step names prefix depth (c ∷ s) (prefix_len is_hex (c ∷ s))))
+      by : (b : Bool) → eqb c 93 ≡ b → Tells depth (c ∷ s) (cond b (close_step depth s) (digits_step beginning prefix depth (c ∷ s) (prefix_len is_hex (c ∷ s))))
       by true e = close_tells depth c s e
       by false e =
           let ne : c ≢ 93 = eqb-false c 93 e in
@@ -203,33 +203,33 @@ module _ (names : ℕ → Option (List ℕ)) (prefix : List ℕ) where
   -- ---- the whole text
 
   -- one part more in front
-  more_parts : (depth : ℕ) (s w : List ℕ) (d : ℕ) (r text : List ℕ) → Tells depth s (reads_on w d r) → Longest names prefix d r text → Longest names prefix depth s (w ++ text)
+  more_parts : (depth : ℕ) (s w : List ℕ) (d : ℕ) (r text : List ℕ) → Tells depth s (reads_on w d r) → Longest beginning prefix d r text → Longest beginning prefix depth s (w ++ text)
   more_parts depth s w d r text t k =
-      let l = subst (λ (n : ℕ). Longest names prefix n r text) t.2 k in
+      let l = subst (λ (n : ℕ). Longest beginning prefix n r text) t.2 k in
       record {
         parts = t.0 ∷ l.parts;
         deep = l.deep;
         rest = l.rest;
         stand = (r, t.1, l.stand);
         no_more = l.no_more;
-        written = ap (λ (x : List ℕ). x ++ text) t.3 ∙ ap (λ (x : List ℕ). part_line names depth t.0 ++ x) l.written ∙ sym (append_assoc (part_line names depth t.0) (part_lines names (depth_behind depth t.0) l.parts) (unfinished names prefix l.deep l.rest));
+        written = ap (λ (x : List ℕ). x ++ text) t.3 ∙ ap (λ (x : List ℕ). part_line beginning depth t.0 ++ x) l.written ∙ sym (append_assoc (part_line beginning depth t.0) (part_lines beginning (depth_behind depth t.0) l.parts) (unfinished beginning prefix l.deep l.rest));
       }
 
   -- what is written is that of the longest list of parts
-  longest : (most depth : ℕ) (s : List ℕ) → length s < most → Longest names prefix depth s (undiag_from names most prefix depth s)
+  longest : (most depth : ℕ) (s : List ℕ) → length s < most → Longest beginning prefix depth s (undiag_from beginning most prefix depth s)
   longest zero depth s lt = absurd (omega arith)
-  longest (suc most) depth s lt = by (step names prefix depth s) refl (tells depth s) (step_shorter names prefix depth s) (λ d r le. longest most d r le)
+  longest (suc most) depth s lt = by (step beginning prefix depth s) refl (tells depth s) (step_shorter beginning prefix depth s) (λ d r le. longest most d r le)
     where
-      by : (t : Step) → step names prefix depth s ≡ t → Tells depth s t → Shorter names depth s t → ((d : ℕ) (r : List ℕ) → length r < most → Longest names prefix d r (undiag_from names most prefix d r)) → Longest names prefix depth s (undiag_from names (suc most) prefix depth s)
-      by (reads_on w d r) e t sh more = subst (λ (x : List ℕ). Longest names prefix depth s x) (sym (lines_of names most prefix depth s (reads_on w d r) e)) (more_parts depth s w d r (undiag_from names most prefix d r) t (more d r (omega (arith, sh.0))))
-      by (stops_with w) e t sh more = subst (λ (x : List ℕ). Longest names prefix depth s x) (sym (lines_of names most prefix depth s (stops_with w) e)) record { parts = []; deep = depth; rest = s; stand = (refl, refl); no_more = t.0; written = t.1 }
+      by : (t : Step) → step beginning prefix depth s ≡ t → Tells depth s t → Shorter beginning depth s t → ((d : ℕ) (r : List ℕ) → length r < most → Longest beginning prefix d r (undiag_from beginning most prefix d r)) → Longest beginning prefix depth s (undiag_from beginning (suc most) prefix depth s)
+      by (reads_on w d r) e t sh more = subst (λ (x : List ℕ). Longest beginning prefix depth s x) (sym (lines_of beginning most prefix depth s (reads_on w d r) e)) (more_parts depth s w d r (undiag_from beginning most prefix d r) t (more d r (omega (arith, sh.0))))
+      by (stops_with w) e t sh more = subst (λ (x : List ℕ). Longest beginning prefix depth s x) (sym (lines_of beginning most prefix depth s (stops_with w) e)) record { parts = []; deep = depth; rest = s; stand = (refl, refl); no_more = t.0; written = t.1 }
 
-  -- and so is the answer, trimmed
-  reads_longest : (s answer : List ℕ) → answer ≡ undiag names prefix s → ReadsLongest names prefix s answer
-  unfolding undiag undiag_lines
-  reads_longest s answer is = (undiag_from names (suc (length s)) prefix 0 s, longest (suc (length s)) 0 s (omega arith), is)
+-- so is an answer, trimmed
+reads_longest : (names : ℕ → Option (List ℕ)) (prefix s answer : List ℕ) → answer ≡ undiag names prefix s → ReadsLongest names prefix s answer
+unfolding undiag undiag_lines
+reads_longest names prefix s answer is = (undiag_from (tag_part names) (suc (length s)) prefix 0 s, longest (tag_part names) prefix (suc (length s)) 0 s (omega arith), is)
 
--- so where a call answers that
+-- and where a call answers that
 pub longest_ok : {A E : Type 0} (names : ℕ → Option (List ℕ)) (prefix given s : List ℕ) (r : Result (String A) E) → given ≡ prefix → IfOk r (λ x. string_bytes x ≡ undiag names given s) → IfOk r (λ x. ReadsLongest names prefix s (string_bytes x))
 longest_ok names prefix given s (Ok x) same is = reads_longest names prefix s (string_bytes x) (is ∙ ap (λ (p : List ℕ). undiag names p s) same)
 longest_ok names prefix given s (Err e) same is = tt

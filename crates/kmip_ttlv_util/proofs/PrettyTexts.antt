@@ -1,5 +1,5 @@
 -- The readable text of bytes and of a well-formed message.
-use Rattle.std.proofs.Common.{◌≡◌, ◌≢◌, ℕ, suc, ◌+◌, ◌<◌, Bool, true, List, [], ◌∷◌, ◌++◌, length, take, drop, get_or, Option, refl, sym, ap, ◌∙◌, append-nil}
+use Rattle.std.proofs.Common.{◌≡◌, ◌≢◌, ℕ, suc, ◌+◌, ◌<◌, Bool, true, List, [], ◌∷◌, ◌++◌, length, take, drop, get_or, Option, refl, sym, ap, ◌∙◌, append-nil, take-append-drop}
 use Rattle.std.specs.Prelude.{Result, Ok, Err, IfOk, string_bytes}
 use Rattle.std.proofs.Common.{String}
 use Rattle.std.proofs.lemmas.List.{take_more}
@@ -21,9 +21,15 @@ unfolding hex_bytes
 hex_more xs i lt = rw (take_more xs i 0 lt) (flat_map-append two_digits (take i xs) (get_or xs i 0 ∷ []))
 
 -- no bytes, no digits
-pub hex_none : (old : List ℕ) → old ≡ old ++ hex_bytes []
+pub hex_none : [] ≡ hex_bytes []
 unfolding hex_bytes
-hex_none old = sym (append-nil old)
+hex_none = refl
+
+-- those before a byte, the byte's, and those behind it
+pub hex_parts : (xs : List ℕ) (i : ℕ) → i < length xs → (hex_bytes (take i xs) ++ two_digits (get_or xs i 0)) ++ hex_bytes (drop (i + 1) xs) ≡ hex_bytes xs
+unfolding hex_bytes
+hex_parts xs i lt =
+    ap (λ (s : List ℕ). s ++ hex_bytes (drop (i + 1) xs)) (sym (hex_more xs i lt)) ∙ sym (flat_map-append two_digits (take (i + 1) xs) (drop (i + 1) xs)) ∙ ap hex_bytes (take-append-drop (i + 1) xs)
 
 module _ (names : ℕ → Option (List ℕ)) where
   -- a line of a structure shows no content

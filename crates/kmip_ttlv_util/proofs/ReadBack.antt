@@ -27,7 +27,7 @@ use Rattle.kmip_ttlv_util.proofs.Unique.{AllDigits, hex_digits, glyph_digit, ste
 pub hex_some : (n : ℕ) → n < 2 ^ 32 → 0 < length (hex_upper n)
 hex_some n small = (digits_is_IsNumeral 16 true (omega arith) (omega arith) n (omega arith)).0.0
 
-module _ (names : ℕ → Option (List ℕ)) where
+module _ (beginning : ℕ → ℕ → List ℕ) where
   -- how far a test holds
   span : (q : ℕ → Bool) (ds s : List ℕ) (c : ℕ) → AllByRecursion (λ d. q d ≡ true) ds → q c ≡ false → prefix_len q (ds ++ (c ∷ s)) ≡ length ds
   span q [] s c all e = rw e refl
@@ -125,13 +125,13 @@ module _ (names : ℕ → Option (List ℕ)) where
   hex_ne d h e = let k : is_hex 93 ≡ true = ap is_hex (sym e) ∙ h in cc
 
   -- a step over digits and a letter
-  step_digits : (prefix : List ℕ) (depth : ℕ) (ds s : List ℕ) (c : ℕ) → AllHex ds → is_hex c ≡ false → c ≢ 93 → step names prefix depth (ds ++ (c ∷ s)) ≡ tag_step names depth (c ∷ s) (tag_of (48 ∷ 120 ∷ (prefix ++ ds)))
+  step_digits : (prefix : List ℕ) (depth : ℕ) (ds s : List ℕ) (c : ℕ) → AllHex ds → is_hex c ≡ false → c ≢ 93 → step beginning prefix depth (ds ++ (c ∷ s)) ≡ tag_step beginning depth (c ∷ s) (tag_of (48 ∷ 120 ∷ (prefix ++ ds)))
   unfolding step
   step_digits prefix depth [] s c all none ne = rw (ne_eqb c 93 ne, none) refl
   step_digits prefix depth (d ∷ ds) s c all none ne =
-      rw (ne_eqb d 93 (hex_ne d all.0)) (ap (digits_step names prefix depth (d ∷ (ds ++ (c ∷ s)))) (span is_hex (d ∷ ds) s c all none)
-      ∙ ap (λ (r : List ℕ). tag_step names depth r (tag_of (48 ∷ 120 ∷ (prefix ++ take (length (d ∷ ds)) ((d ∷ ds) ++ (c ∷ s)))))) (drop_at (d ∷ ds) (c ∷ s) (length (d ∷ ds)) refl)
-      ∙ ap (λ (r : List ℕ). tag_step names depth (c ∷ s) (tag_of (48 ∷ 120 ∷ (prefix ++ r)))) (take_at (d ∷ ds) (c ∷ s) (length (d ∷ ds)) refl))
+      rw (ne_eqb d 93 (hex_ne d all.0)) (ap (digits_step beginning prefix depth (d ∷ (ds ++ (c ∷ s)))) (span is_hex (d ∷ ds) s c all none)
+      ∙ ap (λ (r : List ℕ). tag_step beginning depth r (tag_of (48 ∷ 120 ∷ (prefix ++ take (length (d ∷ ds)) ((d ∷ ds) ++ (c ∷ s)))))) (drop_at (d ∷ ds) (c ∷ s) (length (d ∷ ds)) refl)
+      ∙ ap (λ (r : List ℕ). tag_step beginning depth (c ∷ s) (tag_of (48 ∷ 120 ∷ (prefix ++ r)))) (take_at (d ∷ ds) (c ∷ s) (length (d ∷ ds)) refl))
 
   -- a letter's type
   pub letter_back : (t : TtlvType) → type_of_letter (letter t) ≡ Some t
@@ -178,15 +178,15 @@ module _ (names : ℕ → Option (List ℕ)) where
   all_right (x ∷ xs) ys all = all_right xs ys all.1
 
   -- a step over a mark
-  mark_step : (prefix : List ℕ) (depth tag : ℕ) (typ : TtlvType) (v : Option ℕ) (s : List ℕ) → tag < 2 ^ 24 → Starts prefix tag → step names prefix depth (mark prefix tag typ v ++ s) ≡ data_step names depth tag typ (value_text v ++ s)
+  mark_step : (prefix : List ℕ) (depth tag : ℕ) (typ : TtlvType) (v : Option ℕ) (s : List ℕ) → tag < 2 ^ 24 → Starts prefix tag → step beginning prefix depth (mark prefix tag typ v ++ s) ≡ data_step beginning depth tag typ (value_text v ++ s)
   unfolding mark
   mark_step prefix depth tag typ v s small st =
       let all : AllHex st.rest = all_right prefix st.rest (subst AllHex st.is (six_hex tag)) in
       let out = letter_no typ in
       let regroup : (stripped prefix (six_digits tag) ++ (letter typ ∷ value_text v)) ++ s ≡ st.rest ++ (letter typ ∷ (value_text v ++ s)) = append_assoc (stripped prefix (six_digits tag)) (letter typ ∷ value_text v) s ∙ ap (λ (ds : List ℕ). ds ++ (letter typ ∷ (value_text v ++ s))) st.cut in
-      ap (step names prefix depth) regroup ∙ step_digits prefix depth st.rest (value_text v ++ s) (letter typ) all out.0 out.1
-      ∙ ap (λ (ds : List ℕ). tag_step names depth (letter typ ∷ (value_text v ++ s)) (tag_of (48 ∷ 120 ∷ ds))) (sym st.is)
-      ∙ ap (tag_step names depth (letter typ ∷ (value_text v ++ s))) (six_tag tag small)
+      ap (step beginning prefix depth) regroup ∙ step_digits prefix depth st.rest (value_text v ++ s) (letter typ) all out.0 out.1
+      ∙ ap (λ (ds : List ℕ). tag_step beginning depth (letter typ ∷ (value_text v ++ s)) (tag_of (48 ∷ 120 ∷ ds))) (sym st.is)
+      ∙ ap (tag_step beginning depth (letter typ ∷ (value_text v ++ s))) (six_tag tag small)
       ∙ rw (letter_back typ) refl
 
   -- an enumeration's value
@@ -195,11 +195,11 @@ module _ (names : ℕ → Option (List ℕ)) where
   not_colon (d ∷ ds) all = (rw (ne_eqb d 58 all.0.1) refl, not_colon ds all.1)
 
   -- a value that was found
-  chosen : (depth tag : ℕ) (xs : List ℕ) (n : ℕ) (ds s : List ℕ) → ltb 0 n ≡ true → ltb n (length xs) ≡ true → take n xs ≡ ds → drop (n + 1) xs ≡ s → value_step names depth tag xs n ≡ reads_on (line names depth tag Enumeration ds) depth s
+  chosen : (depth tag : ℕ) (xs : List ℕ) (n : ℕ) (ds s : List ℕ) → ltb 0 n ≡ true → ltb n (length xs) ≡ true → take n xs ≡ ds → drop (n + 1) xs ≡ s → value_step beginning depth tag xs n ≡ reads_on (line beginning depth tag Enumeration ds) depth s
   chosen depth tag xs n ds s a b front back = rw (a, b, front, back) refl
 
   -- a step over an enumeration's value
-  value_back : (depth tag : ℕ) (ds s : List ℕ) → 0 < length ds → AllDigits ds → data_step names depth tag Enumeration ((ds ++ (58 ∷ [])) ++ s) ≡ reads_on (line names depth tag Enumeration ds) depth s
+  value_back : (depth tag : ℕ) (ds s : List ℕ) → 0 < length ds → AllDigits ds → data_step beginning depth tag Enumeration ((ds ++ (58 ∷ [])) ++ s) ≡ reads_on (line beginning depth tag Enumeration ds) depth s
   value_back depth tag [] s some all = absurd (omega arith)
   value_back depth tag (d ∷ ds) s some all =
       let xs = (d ∷ ds) ++ (58 ∷ s) in
@@ -208,8 +208,8 @@ module _ (names : ℕ → Option (List ℕ)) where
       let back : drop (length (d ∷ ds) + 1) xs ≡ s = ap (drop (length (d ∷ ds) + 1)) (sym (append_assoc (d ∷ ds) (58 ∷ []) s)) ∙ drop_at ((d ∷ ds) ++ (58 ∷ [])) s (length (d ∷ ds) + 1) (length-append (d ∷ ds) (58 ∷ [])) in
       let a : ltb 0 (length (d ∷ ds)) ≡ true = lt-ltb 0 (length (d ∷ ds)) some in
       let b : ltb (length (d ∷ ds)) (length xs) ≡ true = lt-ltb (length (d ∷ ds)) (length xs) (omega (arith, length-append (d ∷ ds) (58 ∷ s))) in
-      ap (data_step names depth tag Enumeration) (append_assoc (d ∷ ds) (58 ∷ []) s)
-      ∙ ap (value_step names depth tag xs) at
+      ap (data_step beginning depth tag Enumeration) (append_assoc (d ∷ ds) (58 ∷ []) s)
+      ∙ ap (value_step beginning depth tag xs) at
       ∙ chosen depth tag xs (length (d ∷ ds)) (d ∷ ds) s a b front back
 
   -- ---- outlines
@@ -224,7 +224,7 @@ module _ (names : ℕ → Option (List ℕ)) where
     parts_all (outline o os) f = parts o (parts_all os f)
 
   -- a step over a leaf
-  leaf_data : (depth tag : ℕ) (typ : TtlvType) (v : Option ℕ) (c : ℕ) (s : List ℕ) → IsKept typ v → data_step names depth tag typ (value_text v ++ (c ∷ s)) ≡ reads_on (line names depth tag typ (shown typ v)) depth (c ∷ s)
+  leaf_data : (depth tag : ℕ) (typ : TtlvType) (v : Option ℕ) (c : ℕ) (s : List ℕ) → IsKept typ v → data_step beginning depth tag typ (value_text v ++ (c ∷ s)) ≡ reads_on (line beginning depth tag typ (shown typ v)) depth (c ∷ s)
   leaf_data depth tag Structure v c s k = absurd k
   leaf_data depth tag Enumeration None c s k = absurd k
   leaf_data depth tag Enumeration (Some n) c s k = value_back depth tag (hex_upper n) (c ∷ s) (hex_some n k) (hex_digits n)
@@ -246,68 +246,68 @@ module _ (names : ℕ → Option (List ℕ)) where
   leaf_data depth tag Interval (Some n) c s k = absurd k
 
   -- a part and what is left
-  undiag_goes : (f : ℕ) (prefix : List ℕ) (depth : ℕ) (s w : List ℕ) (d : ℕ) (r : List ℕ) → step names prefix depth s ≡ reads_on w d r → undiag_from names (suc f) prefix depth s ≡ w ++ undiag_from names f prefix d r
+  undiag_goes : (f : ℕ) (prefix : List ℕ) (depth : ℕ) (s w : List ℕ) (d : ℕ) (r : List ℕ) → step beginning prefix depth s ≡ reads_on w d r → undiag_from beginning (suc f) prefix depth s ≡ w ++ undiag_from beginning f prefix d r
   unfolding undiag_from
   undiag_goes f prefix depth s w d r e = rw e refl
 
   -- a `]` goes up a level
-  close_goes : (prefix : List ℕ) (depth : ℕ) (s : List ℕ) → step names prefix (suc depth) (93 ∷ s) ≡ reads_on [] depth s
+  close_goes : (prefix : List ℕ) (depth : ℕ) (s : List ℕ) → step beginning prefix (suc depth) (93 ∷ s) ≡ reads_on [] depth s
   unfolding step
   close_goes prefix depth s = refl
 
   -- an opening goes down a level
-  open_goes : (prefix : List ℕ) (depth tag : ℕ) (s : List ℕ) → 0 < length s → tag < 2 ^ 24 → Starts prefix tag → step names prefix depth (mark prefix tag Structure None ++ s) ≡ reads_on (line names depth tag Structure []) (suc depth) s
+  open_goes : (prefix : List ℕ) (depth tag : ℕ) (s : List ℕ) → 0 < length s → tag < 2 ^ 24 → Starts prefix tag → step beginning prefix depth (mark prefix tag Structure None ++ s) ≡ reads_on (line beginning depth tag Structure []) (suc depth) s
   open_goes prefix depth tag [] some small st = absurd (omega arith)
   open_goes prefix depth tag (c ∷ s) some small st = mark_step prefix depth tag Structure None (c ∷ s) small st
 
   -- a leaf stays on its level
-  leaf_goes : (prefix : List ℕ) (depth tag : ℕ) (typ : TtlvType) (v : Option ℕ) (s : List ℕ) → 0 < length s → tag < 2 ^ 24 → Starts prefix tag → IsKept typ v → step names prefix depth (mark prefix tag typ v ++ s) ≡ reads_on (line names depth tag typ (shown typ v)) depth s
+  leaf_goes : (prefix : List ℕ) (depth tag : ℕ) (typ : TtlvType) (v : Option ℕ) (s : List ℕ) → 0 < length s → tag < 2 ^ 24 → Starts prefix tag → IsKept typ v → step beginning prefix depth (mark prefix tag typ v ++ s) ≡ reads_on (line beginning depth tag typ (shown typ v)) depth s
   leaf_goes prefix depth tag typ v [] some small st k = absurd (omega arith)
   leaf_goes prefix depth tag typ v (c ∷ s) some small st k = mark_step prefix depth tag typ v (c ∷ s) small st ∙ leaf_data depth tag typ v c s k
 
   -- a structure, from what its content gives
   node_back : (tag : ℕ) (below : Outlines) (prefix : List ℕ) (depth f : ℕ) (s : List ℕ) → tag < 2 ^ 24 → Starts prefix tag
-      → undiag_from names (parts_all below (suc f)) prefix (suc depth) (diag_all prefix below ++ (93 ∷ s)) ≡ lines_all names (suc depth) below ++ undiag_from names (suc f) prefix (suc depth) (93 ∷ s)
-      → undiag_from names (parts (node_outline tag below) f) prefix depth (diag prefix (node_outline tag below) ++ s) ≡ lines names depth (node_outline tag below) ++ undiag_from names f prefix depth s
+      → undiag_from beginning (parts_all below (suc f)) prefix (suc depth) (diag_all prefix below ++ (93 ∷ s)) ≡ lines_all beginning (suc depth) below ++ undiag_from beginning (suc f) prefix (suc depth) (93 ∷ s)
+      → undiag_from beginning (parts (node_outline tag below) f) prefix depth (diag prefix (node_outline tag below) ++ s) ≡ lines beginning depth (node_outline tag below) ++ undiag_from beginning f prefix depth s
   node_back tag below prefix depth f s small st second =
       let rest = diag_all prefix below ++ (93 ∷ s) in
       let regroup : diag prefix (node_outline tag below) ++ s ≡ mark prefix tag Structure None ++ rest = simp append_assoc in
-      let first = undiag_goes (parts_all below (suc f)) prefix depth (mark prefix tag Structure None ++ rest) (line names depth tag Structure []) (suc depth) rest (open_goes prefix depth tag rest (omega (arith, length-append (diag_all prefix below) (93 ∷ s))) small st) in
+      let first = undiag_goes (parts_all below (suc f)) prefix depth (mark prefix tag Structure None ++ rest) (line beginning depth tag Structure []) (suc depth) rest (open_goes prefix depth tag rest (omega (arith, length-append (diag_all prefix below) (93 ∷ s))) small st) in
       let third = undiag_goes f prefix (suc depth) (93 ∷ s) [] depth s (close_goes prefix depth s) in
-      ap (undiag_from names (parts (node_outline tag below) f) prefix depth) regroup ∙ first
-      ∙ ap (λ (r : List ℕ). line names depth tag Structure [] ++ r) (second ∙ ap (λ (r : List ℕ). lines_all names (suc depth) below ++ r) third)
-      ∙ sym (append_assoc (line names depth tag Structure []) (lines_all names (suc depth) below) (undiag_from names f prefix depth s))
+      ap (undiag_from beginning (parts (node_outline tag below) f) prefix depth) regroup ∙ first
+      ∙ ap (λ (r : List ℕ). line beginning depth tag Structure [] ++ r) (second ∙ ap (λ (r : List ℕ). lines_all beginning (suc depth) below ++ r) third)
+      ∙ sym (append_assoc (line beginning depth tag Structure []) (lines_all beginning (suc depth) below) (undiag_from beginning f prefix depth s))
 
   mutual
     read_back : (o : Outline) (prefix : List ℕ) (depth f : ℕ) (s : List ℕ) → 0 < length s → IsOutline o → AllBegin prefix o
-        → undiag_from names (parts o f) prefix depth (diag prefix o ++ s) ≡ lines names depth o ++ undiag_from names f prefix depth s
+        → undiag_from beginning (parts o f) prefix depth (diag prefix o ++ s) ≡ lines beginning depth o ++ undiag_from beginning f prefix depth s
     read_back (leaf_outline tag typ v) prefix depth f s some io st =
-        undiag_goes f prefix depth (mark prefix tag typ v ++ s) (line names depth tag typ (shown typ v)) depth s (leaf_goes prefix depth tag typ v s some io.0 (starts prefix tag st) io.1)
+        undiag_goes f prefix depth (mark prefix tag typ v ++ s) (line beginning depth tag typ (shown typ v)) depth s (leaf_goes prefix depth tag typ v s some io.0 (starts prefix tag st) io.1)
     read_back (node_outline tag below) prefix depth f s some io st =
         node_back tag below prefix depth f s io.0 (starts prefix tag st.0) (backs below prefix (suc depth) (suc f) (93 ∷ s) (omega arith) io.1 st.1)
 
     backs : (os : Outlines) (prefix : List ℕ) (depth f : ℕ) (s : List ℕ) → 0 < length s → AreOutlines os → AllsBegin prefix os
-        → undiag_from names (parts_all os f) prefix depth (diag_all prefix os ++ s) ≡ lines_all names depth os ++ undiag_from names f prefix depth s
+        → undiag_from beginning (parts_all os f) prefix depth (diag_all prefix os ++ s) ≡ lines_all beginning depth os ++ undiag_from beginning f prefix depth s
     backs no_outlines prefix depth f s some io st = refl
     backs (outline o os) prefix depth f s some io st =
         let rest = diag_all prefix os ++ s in
-        ap (undiag_from names (parts o (parts_all os f)) prefix depth) (append_assoc (diag prefix o) (diag_all prefix os) s)
+        ap (undiag_from beginning (parts o (parts_all os f)) prefix depth) (append_assoc (diag prefix o) (diag_all prefix os) s)
         ∙ read_back o prefix depth (parts_all os f) rest (omega (arith, length-append (diag_all prefix os) s)) io.0 st.0
-        ∙ ap (λ (r : List ℕ). lines names depth o ++ r) (backs os prefix depth f s some io.1 st.1)
-        ∙ sym (append_assoc (lines names depth o) (lines_all names depth os) (undiag_from names f prefix depth s))
+        ∙ ap (λ (r : List ℕ). lines beginning depth o ++ r) (backs os prefix depth f s some io.1 st.1)
+        ∙ sym (append_assoc (lines beginning depth o) (lines_all beginning depth os) (undiag_from beginning f prefix depth s))
 
   -- nothing is left
-  undiag_end : (f : ℕ) (prefix : List ℕ) → undiag_from names f prefix 0 [] ≡ []
+  undiag_end : (f : ℕ) (prefix : List ℕ) → undiag_from beginning f prefix 0 [] ≡ []
   unfolding undiag_from step
   undiag_end zero prefix = refl
   undiag_end (suc f) prefix = refl
 
   -- a whole message's text, before it is trimmed
-  pub read_message : (tag : ℕ) (below : Outlines) (prefix : List ℕ) (f : ℕ) → IsOutline (node_outline tag below) → AllBegin prefix (node_outline tag below) → undiag_from names (parts (node_outline tag below) f) prefix 0 (diag prefix (node_outline tag below)) ≡ lines names 0 (node_outline tag below)
+  pub read_message : (tag : ℕ) (below : Outlines) (prefix : List ℕ) (f : ℕ) → IsOutline (node_outline tag below) → AllBegin prefix (node_outline tag below) → undiag_from beginning (parts (node_outline tag below) f) prefix 0 (diag prefix (node_outline tag below)) ≡ lines beginning 0 (node_outline tag below)
   read_message tag below prefix f io st =
-      ap (undiag_from names (parts (node_outline tag below) f) prefix 0) (sym (append-nil (diag prefix (node_outline tag below))))
+      ap (undiag_from beginning (parts (node_outline tag below) f) prefix 0) (sym (append-nil (diag prefix (node_outline tag below))))
       ∙ node_back tag below prefix 0 f [] io.0 (starts prefix tag st.0) (backs below prefix 1 (suc f) (93 ∷ []) (omega arith) io.1 st.1)
-      ∙ ap (λ (r : List ℕ). lines names 0 (node_outline tag below) ++ r) (undiag_end f prefix) ∙ append-nil (lines names 0 (node_outline tag below))
+      ∙ ap (λ (r : List ℕ). lines beginning 0 (node_outline tag below) ++ r) (undiag_end f prefix) ∙ append-nil (lines beginning 0 (node_outline tag below))
 
   -- ---- the text is enough turns
 
@@ -349,8 +349,8 @@ module _ (names : ℕ → Option (List ℕ)) where
         record { left = b.left; is = a.is ∙ ap (parts o) b.is; enough = omega (arith, a.enough, b.enough, size) }
 
   -- a message's diagnostic is read back as its outline's lines
-  pub undiag_message : (tag : ℕ) (below : Outlines) (prefix : List ℕ) → IsOutline (node_outline tag below) → AllBegin prefix (node_outline tag below) → undiag_lines names prefix (diag prefix (node_outline tag below)) ≡ lines names 0 (node_outline tag below)
+  pub undiag_message : (tag : ℕ) (below : Outlines) (prefix : List ℕ) → IsOutline (node_outline tag below) → AllBegin prefix (node_outline tag below) → undiag_lines beginning prefix (diag prefix (node_outline tag below)) ≡ lines beginning 0 (node_outline tag below)
   unfolding undiag_lines
   undiag_message tag below prefix io st =
       let k = turns prefix (node_outline tag below) (suc (length (diag prefix (node_outline tag below)))) (omega arith) in
-      ap (λ (n : ℕ). undiag_from names n prefix 0 (diag prefix (node_outline tag below))) k.is ∙ read_message tag below prefix k.left io st
+      ap (λ (n : ℕ). undiag_from beginning n prefix 0 (diag prefix (node_outline tag below))) k.is ∙ read_message tag below prefix k.left io st

@@ -11,10 +11,10 @@ use Rattle.std.proofs.lemmas.Bool.{ne_eqb, lt-ltb, le-ltb}
 use Rattle.std.proofs.lemmas.List.{take_at, get_or-append_right}
 use Rattle.kmip_ttlv_types.specs.declared.typ.TtlvType.{TtlvType}
 use Rattle.kmip_ttlv_types.specs.declared.typ.TtlvType.TheVariants.{Structure, Integer, LongInteger, BigInteger, Enumeration, Boolean, TextString, ByteString, DateTime, Interval}
-use Rattle.kmip_ttlv_util.specs.Outlines.{Outline, Outlines, leaf_outline, node_outline, no_outlines, outline, IsKept, IsOutline, AreOutlines, hex_upper}
-use Rattle.kmip_ttlv_util.specs.Lines.{typ_part}
+use Rattle.kmip_ttlv_util.specs.Outlines.{Outline, Outlines, leaf_outline, node_outline, no_outlines, outline, IsKept, IsOutline, AreOutlines, diag, hex_upper}
+use Rattle.kmip_ttlv_util.specs.Lines.{tag_part, typ_part}
 use Rattle.kmip_ttlv_util.specs.Lines.{line, hidden}
-use Rattle.kmip_ttlv_util.specs.ReadBack.{shown, lines, NoneEmpty, AllNoneEmpty, IsReadBack}
+use Rattle.kmip_ttlv_util.specs.ReadBack.{shown, lines, AllBegin, IsNode, NoneEmpty, AllNoneEmpty, IsReadBack}
 use Rattle.kmip_ttlv_util.specs.Undiag.{undiag, undiag_lines}
 use Rattle.kmip_ttlv_util.specs.ReadBack.{lines_all}
 use Rattle.kmip_ttlv_util.proofs.ReadBack.{undiag_message, hex_some}
@@ -166,20 +166,20 @@ line_behind xs text e = record { front = xs ++ e.front; last = e.last; is = ap (
 fed : (text : List ℕ) → Ends text → EndsLine (text ++ (10 ∷ []))
 fed text e = record { front = e.front; last = e.last; is = ap (λ (s : List ℕ). s ++ (10 ∷ [])) e.is ∙ append_assoc e.front (e.last ∷ []) (10 ∷ []); visible = e.visible }
 
-module _ (names : ℕ → Option (List ℕ)) where
-  line_ends : (depth tag : ℕ) (typ : TtlvType) (text : List ℕ) → Ends text → EndsLine (line names depth tag typ text)
+module _ (beginning : ℕ → ℕ → List ℕ) where
+  line_ends : (depth tag : ℕ) (typ : TtlvType) (text : List ℕ) → Ends text → EndsLine (line beginning depth tag typ text)
   unfolding line
-  line_ends depth tag typ text e = line_behind (typ_part names depth tag typ) _ (line_behind (codes ", Data: ") _ (fed text e))
+  line_ends depth tag typ text e = line_behind (typ_part beginning depth tag typ) _ (line_behind (codes ", Data: ") _ (fed text e))
 
   mutual
-    lines_end : (depth : ℕ) (o : Outline) → IsOutline o → NoneEmpty o → EndsLine (lines names depth o)
+    lines_end : (depth : ℕ) (o : Outline) → IsOutline o → NoneEmpty o → EndsLine (lines beginning depth o)
     lines_end depth (leaf_outline tag typ v) io none = line_ends depth tag typ (shown typ v) (shown_ends typ v io.1)
     lines_end depth (node_outline tag no_outlines) io none = absurd none
-    lines_end depth (node_outline tag (outline o os)) io none = line_behind (line names depth tag Structure []) _ (all_end (suc depth) (lines names (suc depth) o) os (lines_end (suc depth) o io.1.0 none.0) io.1.1 none.1)
+    lines_end depth (node_outline tag (outline o os)) io none = line_behind (line beginning depth tag Structure []) _ (all_end (suc depth) (lines beginning (suc depth) o) os (lines_end (suc depth) o io.1.0 none.0) io.1.1 none.1)
 
-    all_end : (depth : ℕ) (text : List ℕ) (os : Outlines) → EndsLine text → AreOutlines os → AllNoneEmpty os → EndsLine (text ++ lines_all names depth os)
+    all_end : (depth : ℕ) (text : List ℕ) (os : Outlines) → EndsLine text → AreOutlines os → AllNoneEmpty os → EndsLine (text ++ lines_all beginning depth os)
     all_end depth text no_outlines e ios nones = subst EndsLine (sym (append-nil text)) e
-    all_end depth text (outline p os) e ios nones = line_behind text _ (all_end depth (lines names depth p) os (lines_end depth p ios.0 nones.0) ios.1 nones.1)
+    all_end depth text (outline p os) e ios nones = line_behind text _ (all_end depth (lines beginning depth p) os (lines_end depth p ios.0 nones.0) ios.1 nones.1)
 
   -- a trim and a line feed give the lines back
   trimmed_line : (text : List ℕ) → IsUtf8 text → EndsLine text → trim_end text ++ (10 ∷ []) ≡ text
@@ -188,15 +188,20 @@ module _ (names : ℕ → Option (List ℕ)) where
       ∙ append_assoc e.front (e.last ∷ []) (10 ∷ []) ∙ sym e.is
 
   -- what is read back of an outline's diagnostic
-  pub redacted : (prefix text answer : List ℕ) → answer ≡ undiag names prefix text → IsUtf8 (undiag_lines names prefix text) → IsReadBack names prefix text answer
+  redacted_lines : (prefix text answer : List ℕ) → answer ≡ trim_end (undiag_lines beginning prefix text) → IsUtf8 (undiag_lines beginning prefix text) → (o : Outline) → IsOutline o → IsNode o → AllBegin prefix o → text ≡ diag prefix o → (answer ≡ trim_end (lines beginning 0 o)) × (NoneEmpty o → answer ++ (10 ∷ []) ≡ lines beginning 0 o)
+  redacted_lines prefix text answer is utf8 (leaf_outline tag typ v) io root begins e = absurd root
+  redacted_lines prefix text answer is utf8 (node_outline tag below) io root begins e =
+      let whole : undiag_lines beginning prefix text ≡ lines beginning 0 (node_outline tag below) = ap (undiag_lines beginning prefix) e ∙ undiag_message beginning tag below prefix io begins in
+      let trims : answer ≡ trim_end (lines beginning 0 (node_outline tag below)) = is ∙ ap trim_end whole in
+      (trims, λ none. ap (λ (s : List ℕ). s ++ (10 ∷ [])) trims ∙ trimmed_line (lines beginning 0 (node_outline tag below)) (subst IsUtf8 whole utf8) (lines_end 0 (node_outline tag below) io none))
+
+module _ (names : ℕ → Option (List ℕ)) where
+  -- under names of tags
+  redacted : (prefix text answer : List ℕ) → answer ≡ undiag names prefix text → IsUtf8 (undiag_lines (tag_part names) prefix text) → IsReadBack names prefix text answer
   unfolding undiag
-  redacted prefix text answer is utf8 (leaf_outline tag typ v) io root begins e = absurd root
-  redacted prefix text answer is utf8 (node_outline tag below) io root begins e =
-      let whole : undiag_lines names prefix text ≡ lines names 0 (node_outline tag below) = ap (undiag_lines names prefix) e ∙ undiag_message names tag below prefix io begins in
-      let trims : answer ≡ trim_end (lines names 0 (node_outline tag below)) = is ∙ ap trim_end whole in
-      (trims, λ none. ap (λ (s : List ℕ). s ++ (10 ∷ [])) trims ∙ trimmed_line (lines names 0 (node_outline tag below)) (subst IsUtf8 whole utf8) (lines_end 0 (node_outline tag below) io none))
+  redacted prefix text answer is utf8 = redacted_lines (tag_part names) prefix text answer is utf8
 
   -- so where a call answers that
-  pub redacted_ok : {A E : Type 0} (prefix given text : List ℕ) (r : Result (String A) E) → given ≡ prefix → IfOk r (λ x. string_bytes x ≡ undiag names given text) → IfOk r (λ _. IsUtf8 (undiag_lines names given text)) → IfOk r (λ x. IsReadBack names prefix text (string_bytes x))
-  redacted_ok prefix given text (Ok x) same is utf8 = redacted prefix text (string_bytes x) (is ∙ ap (λ (p : List ℕ). undiag names p text) same) (subst (λ (p : List ℕ). IsUtf8 (undiag_lines names p text)) same utf8)
+  pub redacted_ok : {A E : Type 0} (prefix given text : List ℕ) (r : Result (String A) E) → given ≡ prefix → IfOk r (λ x. string_bytes x ≡ undiag names given text) → IfOk r (λ _. IsUtf8 (undiag_lines (tag_part names) given text)) → IfOk r (λ x. IsReadBack names prefix text (string_bytes x))
+  redacted_ok prefix given text (Ok x) same is utf8 = redacted prefix text (string_bytes x) (is ∙ ap (λ (p : List ℕ). undiag names p text) same) (subst (λ (p : List ℕ). IsUtf8 (undiag_lines (tag_part names) p text)) same utf8)
   redacted_ok prefix given text (Err e) same is utf8 = tt

@@ -15,3 +15,6 @@ pub mod Pretty
 pub mod Printers
 pub mod ReadBack
 pub mod Undiag
+pub mod Pieces
+pub mod Waiting
+pub mod Sinks

@@ -10,7 +10,7 @@ use Rattle.kmip_ttlv_types.specs.declared.typ.TtlvType.TheVariants.{Enumeration,
 use Rattle.kmip_ttlv_types.specs.declared.typ.TtlvType.TheVariants.{DateTime, Interval}
 use Rattle.kmip_ttlv_types.specs.Places.{tag_at, length_at}
 use Rattle.kmip_ttlv_types.specs.Trees.{Tree, Trees, leaf, node, no_trees, tree, IsTreeText, IsStructure, HasNoEmpty}
-use Rattle.kmip_ttlv_util.specs.Lines.{hex_padded, typ_part}
+use Rattle.kmip_ttlv_util.specs.Lines.{hex_padded, tag_part, typ_part}
 use Rattle.kmip_ttlv_util.specs.Traces.{Style, trace, told}
 use Rattle.kmip_ttlv_util.specs.WalkPlaces.{has_end}
 use Rattle.kmip_ttlv_util.specs.Diagnostics.{exceeded}
@@ -53,7 +53,7 @@ data_shown typ content = 32 ∷ value_shown typ content
 -- a line
 unfoldable pub pretty_line : (ℕ → Option (List ℕ)) → ℕ → ℕ → TtlvType → List ℕ → List ℕ
 pretty_line names depth tag typ content =
-    typ_part names depth tag typ ++ (codes ", Data:" ++ (data_shown typ content ++ (10 ∷ [])))
+    typ_part (tag_part names) depth tag typ ++ (codes ", Data:" ++ (data_shown typ content ++ (10 ∷ [])))
 
 -- the lines of a tree so deep
 abbrev mutual

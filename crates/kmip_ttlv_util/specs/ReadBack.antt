@@ -61,48 +61,49 @@ StandAll prefix depth s (p ∷ ps) deep rest =
     (more : List ℕ) × Stands prefix depth s p more × StandAll prefix (depth_behind depth p) more ps deep rest
 
 -- the line of a part
-abbrev pub part_line : (ℕ → Option (List ℕ)) → ℕ → Part → List ℕ
-part_line names depth close_part = []
-part_line names depth (item_part tag typ shown) = line names depth tag typ shown
+abbrev pub part_line : (ℕ → ℕ → List ℕ) → ℕ → Part → List ℕ
+part_line beginning depth close_part = []
+part_line beginning depth (item_part tag typ shown) = line beginning depth tag typ shown
 
 -- the lines of parts
-abbrev pub part_lines : (ℕ → Option (List ℕ)) → ℕ → List Part → List ℕ
-part_lines names depth [] = []
-part_lines names depth (p ∷ ps) = part_line names depth p ++ part_lines names (depth_behind depth p) ps
+abbrev pub part_lines : (ℕ → ℕ → List ℕ) → ℕ → List Part → List ℕ
+part_lines beginning depth [] = []
+part_lines beginning depth (p ∷ ps) = part_line beginning depth p ++ part_lines beginning (depth_behind depth p) ps
 
 -- what is written of the tag and the type that stand there
-abbrev pub unfinished_by : (ℕ → Option (List ℕ)) → ℕ → Option ℕ → Option TtlvType → List ℕ
-unfinished_by names depth None o = []
-unfinished_by names depth (Some tag) None = tag_part names depth tag
-unfinished_by names depth (Some tag) (Some typ) = typ_part names depth tag typ
+abbrev pub unfinished_by : (ℕ → ℕ → List ℕ) → ℕ → Option ℕ → Option TtlvType → List ℕ
+unfinished_by beginning depth None o = []
+unfinished_by beginning depth (Some tag) None = beginning depth tag
+unfinished_by beginning depth (Some tag) (Some typ) = typ_part beginning depth tag typ
 
 -- what is written of an unfinished part: its tag and its type, as far as these stand there
-abbrev pub unfinished : (ℕ → Option (List ℕ)) → List ℕ → ℕ → List ℕ → List ℕ
-unfinished names prefix depth s =
-    unfinished_by names depth (tag_in_front prefix s) (typ_in_front (drop (prefix_len is_hex s) s))
+abbrev pub unfinished : (ℕ → ℕ → List ℕ) → List ℕ → ℕ → List ℕ → List ℕ
+unfinished beginning prefix depth s =
+    unfinished_by beginning depth (tag_in_front prefix s) (typ_in_front (drop (prefix_len is_hex s) s))
 
 -- the longest list of parts with which a text begins
-pub record Longest (names : ℕ → Option (List ℕ)) (prefix : List ℕ) (depth : ℕ) (s text : List ℕ) : Type 0 where
+pub record Longest (beginning : ℕ → ℕ → List ℕ) (prefix : List ℕ) (depth : ℕ) (s text : List ℕ) : Type 0 where
   pub parts : List Part
   pub deep : ℕ
   pub rest : List ℕ
   pub stand : StandAll prefix depth s parts deep rest
   pub no_more : (p : Part) (more : List ℕ) → Stands prefix deep rest p more → ⊥
-  pub written : text ≡ part_lines names depth parts ++ unfinished names prefix deep rest
+  pub written : text ≡ part_lines beginning depth parts ++ unfinished beginning prefix deep rest
 
 -- an answer has the lines of the longest list of parts, then what is written of an unfinished part, trimmed at the end
 abbrev pub ReadsLongest : (ℕ → Option (List ℕ)) → List ℕ → List ℕ → List ℕ → Type 0
-ReadsLongest names prefix s answer = (text : List ℕ) × Longest names prefix 0 s text × (answer ≡ trim_end text)
+ReadsLongest names prefix s answer =
+    (text : List ℕ) × Longest (tag_part names) prefix 0 s text × (answer ≡ trim_end text)
 
--- reading ended at a place, so deep: the longest list of parts stands in front of it, and the answer has their lines,
--- then what is written of an unfinished part, trimmed at the end
-pub record ReadsUpTo
-    (names : ℕ → Option (List ℕ)) (prefix s answer : List ℕ) (place deep : ℕ) : Type 0 where
+-- reading ends at a place, so deep: the longest list of parts stands in front of it, and the text has their lines, then
+-- what is written of an unfinished part
+pub record EndsAt
+    (beginning : ℕ → ℕ → List ℕ) (prefix s text : List ℕ) (place deep : ℕ) : Type 0 where
   pub parts : List Part
   pub within : place ≤ length s
   pub stand : StandAll prefix 0 s parts deep (drop place s)
   pub no_more : (p : Part) (more : List ℕ) → Stands prefix deep (drop place s) p more → ⊥
-  pub written : answer ≡ trim_end (part_lines names 0 parts ++ unfinished names prefix deep (drop place s))
+  pub written : text ≡ part_lines beginning 0 parts ++ unfinished beginning prefix deep (drop place s)
 
 -- what an outline's line shows
 abbrev pub shown : TtlvType → Option ℕ → List ℕ
@@ -112,13 +113,13 @@ shown typ v = hidden
 
 -- the lines of an outline so deep
 abbrev mutual
-  pub lines : (ℕ → Option (List ℕ)) → ℕ → Outline → List ℕ
-  lines names depth (leaf_outline tag typ value) = line names depth tag typ (shown typ value)
-  lines names depth (node_outline tag below) = line names depth tag Structure [] ++ lines_all names (suc depth) below
+  pub lines : (ℕ → ℕ → List ℕ) → ℕ → Outline → List ℕ
+  lines beginning depth (leaf_outline tag typ value) = line beginning depth tag typ (shown typ value)
+  lines beginning depth (node_outline tag below) = line beginning depth tag Structure [] ++ lines_all beginning (suc depth) below
 
-  pub lines_all : (ℕ → Option (List ℕ)) → ℕ → Outlines → List ℕ
-  lines_all names depth no_outlines = []
-  lines_all names depth (outline o os) = lines names depth o ++ lines_all names depth os
+  pub lines_all : (ℕ → ℕ → List ℕ) → ℕ → Outlines → List ℕ
+  lines_all beginning depth no_outlines = []
+  lines_all beginning depth (outline o os) = lines beginning depth o ++ lines_all beginning depth os
 
 -- a text begins with the prefix
 abbrev pub Begins : List ℕ → List ℕ → Type 0
@@ -155,4 +156,4 @@ IsNode (node_outline tag below) = Unit {0}
 abbrev pub IsReadBack : (ℕ → Option (List ℕ)) → List ℕ → List ℕ → List ℕ → Type 0
 IsReadBack names prefix text answer =
     (o : Outline) → IsOutline o → IsNode o → AllBegin prefix o → text ≡ diag prefix o
-    → (answer ≡ trim_end (lines names 0 o)) × (NoneEmpty o → answer ++ (10 ∷ []) ≡ lines names 0 o)
+    → (answer ≡ trim_end (lines (tag_part names) 0 o)) × (NoneEmpty o → answer ++ (10 ∷ []) ≡ lines (tag_part names) 0 o)

@@ -41,44 +41,44 @@ close_step zero s = stops_with []
 close_step (suc d) s = reads_on [] d s
 
 -- an enumeration's value
-abbrev pub value_step : (ℕ → Option (List ℕ)) → ℕ → ℕ → List ℕ → ℕ → Step
-value_step names depth tag s n =
+abbrev pub value_step : (ℕ → ℕ → List ℕ) → ℕ → ℕ → List ℕ → ℕ → Step
+value_step beginning depth tag s n =
     if nat_lt 0 n && nat_lt n (length s)
-    then reads_on (line names depth tag Enumeration (take n s)) depth (drop (n + 1) s)
-    else stops_with (typ_part names depth tag Enumeration)
+    then reads_on (line beginning depth tag Enumeration (take n s)) depth (drop (n + 1) s)
+    else stops_with (typ_part beginning depth tag Enumeration)
 
 -- what follows a tag and a type
-abbrev pub data_step : (ℕ → Option (List ℕ)) → ℕ → ℕ → TtlvType → List ℕ → Step
-data_step names depth tag typ [] = stops_with (typ_part names depth tag typ)
-data_step names depth tag Structure (c ∷ s) = reads_on (line names depth tag Structure []) (suc depth) (c ∷ s)
-data_step names depth tag Enumeration (c ∷ s) =
-    value_step names depth tag (c ∷ s) (position_or_len (λ b. b == 58) (c ∷ s))
-data_step names depth tag typ (c ∷ s) = reads_on (line names depth tag typ hidden) depth (c ∷ s)
+abbrev pub data_step : (ℕ → ℕ → List ℕ) → ℕ → ℕ → TtlvType → List ℕ → Step
+data_step beginning depth tag typ [] = stops_with (typ_part beginning depth tag typ)
+data_step beginning depth tag Structure (c ∷ s) = reads_on (line beginning depth tag Structure []) (suc depth) (c ∷ s)
+data_step beginning depth tag Enumeration (c ∷ s) =
+    value_step beginning depth tag (c ∷ s) (position_or_len (λ b. b == 58) (c ∷ s))
+data_step beginning depth tag typ (c ∷ s) = reads_on (line beginning depth tag typ hidden) depth (c ∷ s)
 
 -- what follows a tag, by the type that stands there
-abbrev pub type_step : (ℕ → Option (List ℕ)) → ℕ → ℕ → List ℕ → Option TtlvType → Step
-type_step names depth tag s None = stops_with (tag_part names depth tag)
-type_step names depth tag s (Some typ) = data_step names depth tag typ s
+abbrev pub type_step : (ℕ → ℕ → List ℕ) → ℕ → ℕ → List ℕ → Option TtlvType → Step
+type_step beginning depth tag s None = stops_with (beginning depth tag)
+type_step beginning depth tag s (Some typ) = data_step beginning depth tag typ s
 
 -- what follows a tag
-abbrev pub letter_step : (ℕ → Option (List ℕ)) → ℕ → ℕ → List ℕ → Step
-letter_step names depth tag [] = stops_with (tag_part names depth tag)
-letter_step names depth tag (c ∷ s) = type_step names depth tag s (type_of_letter c)
+abbrev pub letter_step : (ℕ → ℕ → List ℕ) → ℕ → ℕ → List ℕ → Step
+letter_step beginning depth tag [] = stops_with (beginning depth tag)
+letter_step beginning depth tag (c ∷ s) = type_step beginning depth tag s (type_of_letter c)
 
 -- what follows the digits, by the tag that they are
-abbrev pub tag_step : (ℕ → Option (List ℕ)) → ℕ → List ℕ → Option ℕ → Step
-tag_step names depth s None = stops_with []
-tag_step names depth s (Some tag) = letter_step names depth tag s
+abbrev pub tag_step : (ℕ → ℕ → List ℕ) → ℕ → List ℕ → Option ℕ → Step
+tag_step beginning depth s None = stops_with []
+tag_step beginning depth s (Some tag) = letter_step beginning depth tag s
 
 -- the digits in front, after `0x` and the prefix, are a tag
-abbrev pub digits_step : (ℕ → Option (List ℕ)) → List ℕ → ℕ → List ℕ → ℕ → Step
-digits_step names prefix depth s n = tag_step names depth (drop n s) (tag_of (codes "0x" ++ (prefix ++ take n s)))
+abbrev pub digits_step : (ℕ → ℕ → List ℕ) → List ℕ → ℕ → List ℕ → ℕ → Step
+digits_step beginning prefix depth s n = tag_step beginning depth (drop n s) (tag_of (codes "0x" ++ (prefix ++ take n s)))
 
 -- the next part of a text so deep
-unfoldable pub step : (ℕ → Option (List ℕ)) → List ℕ → ℕ → List ℕ → Step
-step names prefix depth [] = stops_with []
-step names prefix depth (c ∷ s) =
-    if c == 93 then close_step depth s else digits_step names prefix depth (c ∷ s) (prefix_len is_hex (c ∷ s))
+unfoldable pub step : (ℕ → ℕ → List ℕ) → List ℕ → ℕ → List ℕ → Step
+step beginning prefix depth [] = stops_with []
+step beginning prefix depth (c ∷ s) =
+    if c == 93 then close_step depth s else digits_step beginning prefix depth (c ∷ s) (prefix_len is_hex (c ∷ s))
 
 -- what is written of a part and of what is left
 abbrev pub written_by : Step → (ℕ → List ℕ → List ℕ) → List ℕ
@@ -86,19 +86,19 @@ written_by (reads_on w d s) more = w ++ more d s
 written_by (stops_with w) more = w
 
 -- the lines of a text from a depth on, at most so many
-unfoldable pub undiag_from : (ℕ → Option (List ℕ)) → ℕ → List ℕ → ℕ → List ℕ → List ℕ
-undiag_from names zero prefix depth s = []
-undiag_from names (suc most) prefix depth s =
-    written_by (step names prefix depth s) (λ d r. undiag_from names most prefix d r)
+unfoldable pub undiag_from : (ℕ → ℕ → List ℕ) → ℕ → List ℕ → ℕ → List ℕ → List ℕ
+undiag_from beginning zero prefix depth s = []
+undiag_from beginning (suc most) prefix depth s =
+    written_by (step beginning prefix depth s) (λ d r. undiag_from beginning most prefix d r)
 
 -- the lines of the longest list of parts with which a text begins, then what is written of one
 -- unfinished part
-unfoldable pub undiag_lines : (ℕ → Option (List ℕ)) → List ℕ → List ℕ → List ℕ
-undiag_lines names prefix s = undiag_from names (suc (length s)) prefix 0 s
+unfoldable pub undiag_lines : (ℕ → ℕ → List ℕ) → List ℕ → List ℕ → List ℕ
+undiag_lines beginning prefix s = undiag_from beginning (suc (length s)) prefix 0 s
 
--- the same, trimmed at the end
+-- the same under names of tags, each line indented by two spaces for each structure around, trimmed at the end
 unfoldable pub undiag : (ℕ → Option (List ℕ)) → List ℕ → List ℕ → List ℕ
-undiag names prefix s = trim_end (undiag_lines names prefix s)
+undiag names prefix s = trim_end (undiag_lines (tag_part names) prefix s)
 
 -- what a call that reads a part answers: what it wrote, the depth and the text that is left
 abbrev pub Reads : Step → List ℕ → List ℕ → Option (ℕ × Bor (List ℕ)) → Type 0

@@ -1,20 +1,24 @@
 //! The diagnostic of any bytes: its parts, and the loop that writes them.
 
-ghost use Rattle.std.specs.Prelude.{◌≡◌, ℕ, ◌+◌, ◌/◌, ◌<◌, ◌≤◌, ◌^◌, ◌++◌, ◌∷◌, List, [], length, IfOk, OnOk, drop};
+ghost use Rattle.std.specs.Prelude.{◌≡◌, ℕ, ◌+◌, ◌/◌, ◌<◌, ◌≤◌, ◌^◌, ◌++◌, ◌∷◌, List, [], length, IfOk, OnOk, OnErr, Some, drop};
 ghost use Rattle.std.specs.Prelude.{string_bytes};
 ghost use Rattle.kmip_ttlv_types.specs.Digits.{six_digits};
 ghost use Rattle.kmip_ttlv_util.specs.Outlines.{stripped, value_text, mark};
 ghost use Rattle.kmip_ttlv_util.specs.Letters.{letter};
 ghost use Rattle.kmip_ttlv_util.specs.Traces.{trace};
 ghost use Rattle.kmip_ttlv_util.specs.Diagnostics.{hostile};
+ghost use Rattle.kmip_ttlv_util.specs.Pieces.{WritesText};
 ghost use Rattle.kmip_ttlv_util.specs.Prefixes.{IsNumber};
 
 use crate::digits::{digits_in_front, eight, push_digits};
 use crate::item::item_at;
+use crate::pieces::Pieces;
+use crate::sink::TextSink;
 use crate::walk::{Next, Walk};
 use kmip_ttlv_types::{TtlvTag, TtlvType};
 use std::alloc::{AllocError, Allocator};
-use std::str;
+use std::io::Write;
+use std::{io, str};
 
 /// What stands where a structure's content exceeds its length.
 pub const EXCEEDED: &str = "\nERROR: TTLV structure content exceeds the structure length.";
@@ -81,14 +85,10 @@ fn left_out(prefix: &Prefix<'_>, tag: TtlvTag) -> usize
 
 /// The digits of a tag that the prefix doesn't leave out.
 #[inline(always)]
-fn push_tag<A: Allocator>(
-    out: &mut String<A>,
-    prefix: &Prefix<'_>,
-    tag: TtlvTag,
-) -> Result<(), AllocError>
+fn push_tag<S: TextSink>(out: &mut S, prefix: &Prefix<'_>, tag: TtlvTag) -> Result<(), S::Error>
     requires { IsNumber prefix.now }
-    ensures { OnOk result (string_bytes out.new
-        ≡ string_bytes out.old ++ stripped prefix.now.text.now (six_digits tag)) }
+    ensures ok { OnOk result (S.adds out.old (stripped prefix.now.text.now (six_digits tag)) out.new) }
+    ensures err { OnErr result (S.breaks out.old (stripped prefix.now.text.now (six_digits tag)) out.new) }
 {
     let digits = eight(*tag);
     if 6 < prefix.count {
@@ -118,28 +118,39 @@ fn letter(typ: TtlvType) -> u8
     }
 }
 
+/// The value of an enumeration, and `:`.
 #[inline(always)]
-fn push_value<A: Allocator>(out: &mut String<A>, value: Option<u32>) -> Result<(), AllocError>
-    ensures { OnOk result (string_bytes out.new ≡ string_bytes out.old ++ value_text value) }
+fn push_number<S: TextSink>(out: &mut S, n: u32) -> Result<(), S::Error>
+    ensures ok { OnOk result (S.adds out.old (value_text (Some n)) out.new) }
+    ensures err { OnErr result (S.breaks out.old (value_text (Some n)) out.new) }
 {
-    if let Some(n) = value {
-        push_digits(out, 1, n)?;
-        out.push_str(":")?;
+    push_digits(out, 1, n)?;
+    out.push_str(":")
+}
+
+#[inline(always)]
+fn push_value<S: TextSink>(out: &mut S, value: Option<u32>) -> Result<(), S::Error>
+    ensures ok { OnOk result (S.adds out.old (value_text value) out.new) }
+    ensures err { OnErr result (S.breaks out.old (value_text value) out.new) }
+{
+    match value {
+        Some(n) => push_number(out, n),
+        None => Ok(()),
     }
-    Ok(())
 }
 
 /// A leaf, or the opening of a structure.
 #[inline(always)]
-fn push_mark<A: Allocator>(
-    out: &mut String<A>,
+fn push_mark<S: TextSink>(
+    out: &mut S,
     prefix: &Prefix<'_>,
     tag: TtlvTag,
     typ: TtlvType,
     value: Option<u32>,
-) -> Result<(), AllocError>
+) -> Result<(), S::Error>
     requires { IsNumber prefix.now }
-    ensures { OnOk result (string_bytes out.new ≡ string_bytes out.old ++ mark prefix.now.text.now tag typ value) }
+    ensures ok { OnOk result (S.adds out.old (mark prefix.now.text.now tag typ value) out.new) }
+    ensures err { OnErr result (S.breaks out.old (mark prefix.now.text.now tag typ value) out.new) }
 {
     if prefix.count == 4 && left_out(prefix, tag) == 4 {
         // The standard's tags begin with four digits that are often left out: what stays is copied at once.
@@ -149,21 +160,67 @@ fn push_mark<A: Allocator>(
         return push_value(out, value);
     }
     push_tag(out, prefix, tag)?;
-    out.push(letter(typ) as char)?;
+    let letter = [letter(typ)];
+    out.push_str(unsafe { str::from_utf8_unchecked(&letter) })?;
     push_value(out, value)
 }
 
 /// The close of a structure.
-fn push_close<A: Allocator>(out: &mut String<A>) -> Result<(), AllocError>
-    ensures { OnOk result (string_bytes out.new ≡ string_bytes out.old ++ (93 ∷ [])) }
+fn push_close<S: TextSink>(out: &mut S) -> Result<(), S::Error>
+    ensures ok { OnOk result (S.adds out.old (93 ∷ []) out.new) }
+    ensures err { OnErr result (S.breaks out.old (93 ∷ []) out.new) }
 {
-    out.push(']')
+    out.push_str("]")
 }
 
 /// An estimate of a diagnostic's length: a quarter of the bytes, and at most a page.
 fn room_for(bytes: &[u8]) -> usize {
     let quarter = bytes.len() / 4;
     16 + if quarter < 4096 { quarter } else { 4096 }
+}
+
+/// Adds the diagnostic of any bytes, and gives how many items were tried.
+pub fn diagnose_to<S: TextSink, A: Allocator + Copy>(
+    out: &mut S,
+    alloc: A,
+    prefix: &str,
+    closed: bool,
+    bytes: &[u8],
+) -> Result<usize, S::Error>
+    ensures ok { OnOk result (S.adds out.old (hostile prefix.now closed (length bytes.now) (trace closed bytes.now))
+        out.new) }
+    ensures err { OnErr result (S.breaks out.old (hostile prefix.now closed (length bytes.now) (trace closed bytes.now))
+        out.new) }
+    ensures count { IfOk result (λ n. n ≡ length (trace closed bytes.now)) }
+    ensures bounded { IfOk result (λ n. n ≤ length bytes.now / 8 + 1) }
+{
+    let numbered = prefix_of(prefix);
+    let mut count = 0;
+    let mut walk = Walk::new(alloc);
+    'walk: loop {
+        match walk.next() {
+            Next::Closes => {
+                push_close(out)?;
+            }
+            Next::Over => {
+                push_close(out)?;
+                return Ok(count);
+            }
+            Next::Past => {
+                out.push_str(EXCEEDED)?;
+                return Ok(count);
+            }
+            Next::Reads => {
+                count += 1;
+                let Some(item) = item_at(bytes, walk.pos) else {
+                    out.push_str("ERR")?;
+                    return Ok(count);
+                };
+                push_mark(out, &numbered, item.tag, item.typ, item.value)?;
+                walk.step(closed, item.typ, item.length, item.next)?;
+            }
+        }
+    }
 }
 
 /// The diagnostic of any bytes, and how many items were tried.
@@ -178,32 +235,23 @@ pub fn diagnose<A: Allocator + Copy>(
     ensures count { IfOk result (λ r. r.1 ≡ length (trace closed bytes.now)) }
     ensures bounded { IfOk result (λ r. r.1 ≤ length bytes.now / 8 + 1) }
 {
-    let numbered = prefix_of(prefix);
     let mut out = String::with_capacity(alloc, room_for(bytes))?;
-    let mut count = 0;
-    let mut walk = Walk::new(alloc);
-    'walk: loop {
-        match walk.next() {
-            Next::Closes => {
-                push_close(&mut out)?;
-            }
-            Next::Over => {
-                push_close(&mut out)?;
-                return Ok((out, count));
-            }
-            Next::Past => {
-                out.push_str(EXCEEDED)?;
-                return Ok((out, count));
-            }
-            Next::Reads => {
-                count += 1;
-                let Some(item) = item_at(bytes, walk.pos) else {
-                    out.push_str("ERR")?;
-                    return Ok((out, count));
-                };
-                push_mark(&mut out, &numbered, item.tag, item.typ, item.value)?;
-                walk.step(closed, item.typ, item.length, item.next)?;
-            }
-        }
-    }
+    let count = diagnose_to(&mut out, alloc, prefix, closed, bytes)?;
+    Ok((out, count))
+}
+
+/// Writes the diagnostic of any bytes, in pieces.
+pub fn write_diagnostic<A: Allocator + Copy, W: Write>(
+    writer: &mut W,
+    alloc: A,
+    prefix: &str,
+    closed: bool,
+    bytes: &[u8],
+) -> io::Result<()>
+    ensures { WritesText (λ t. t ≡ hostile prefix.now closed (length bytes.now) (trace closed bytes.now))
+        (W.contents writer.old) (W.contents writer.new) result }
+{
+    let mut pieces = Pieces::new(writer);
+    diagnose_to(&mut pieces, alloc, prefix, closed, bytes)?;
+    pieces.finish()
 }

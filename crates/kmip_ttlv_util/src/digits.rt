@@ -1,6 +1,6 @@
 //! Hexadecimal digits of numbers: written from a table of the two digits of each byte, and read.
 
-ghost use Rattle.std.specs.Prelude.{◌≡◌, ℕ, ◌<◌, ◌≤◌, ◌^◌, ◌++◌, true, length, take, OnOk, string_bytes};
+ghost use Rattle.std.specs.Prelude.{◌≡◌, ℕ, ◌<◌, ◌≤◌, ◌^◌, ◌++◌, true, length, take, OnOk, OnErr};
 ghost use Rattle.std.specs.Fmt.{digit_glyph};
 ghost use Rattle.std.specs.List.{prefix_len};
 ghost use Rattle.kmip_ttlv_util.specs.Letters.{is_hex};
@@ -9,7 +9,7 @@ ghost use Rattle.kmip_ttlv_util.specs.Outlines.{hex_upper};
 ghost use Rattle.kmip_ttlv_util.specs.Pretty.{two_digits};
 ghost use Rattle.kmip_ttlv_util.specs.LastDigits.{last_digits};
 
-use std::alloc::{AllocError, Allocator};
+use crate::sink::TextSink;
 use std::str;
 
 /// The two digits of each byte, from those of zero on.
@@ -47,8 +47,9 @@ fn two(byte: u8) -> [u8; 2]
 
 /// A byte in hexadecimal.
 #[inline(always)]
-pub fn push_two<A: Allocator>(out: &mut String<A>, byte: u8) -> Result<(), AllocError>
-    ensures { OnOk result (string_bytes out.new ≡ string_bytes out.old ++ two_digits byte) }
+pub fn push_two<S: TextSink>(out: &mut S, byte: u8) -> Result<(), S::Error>
+    ensures ok { OnOk result (S.adds out.old (two_digits byte) out.new) }
+    ensures err { OnErr result (S.breaks out.old (two_digits byte) out.new) }
 {
     let digits = two(byte);
     out.push_str(unsafe { str::from_utf8_unchecked(&digits) })
@@ -83,9 +84,10 @@ fn count_of(n: u32) -> usize
 
 /// The last so many of the eight digits of a number.
 #[inline(always)]
-fn push_last<A: Allocator>(out: &mut String<A>, count: usize, n: u32) -> Result<(), AllocError>
+fn push_last<S: TextSink>(out: &mut S, count: usize, n: u32) -> Result<(), S::Error>
     requires { count ≤ 8 }
-    ensures { OnOk result (string_bytes out.new ≡ string_bytes out.old ++ last_digits count n) }
+    ensures ok { OnOk result (S.adds out.old (last_digits count n) out.new) }
+    ensures err { OnErr result (S.breaks out.old (last_digits count n) out.new) }
 {
     let digits = eight(n);
     if count == 6 {
@@ -107,22 +109,20 @@ pub fn shown(least: usize, n: u32) -> usize
 
 /// The digits of a number, with zeros in front up to so many, at most eight.
 #[inline(always)]
-pub fn push_digits<A: Allocator>(
-    out: &mut String<A>,
-    least: usize,
-    n: u32,
-) -> Result<(), AllocError>
+pub fn push_digits<S: TextSink>(out: &mut S, least: usize, n: u32) -> Result<(), S::Error>
     requires { least ≤ 8 }
-    ensures { OnOk result (string_bytes out.new ≡ string_bytes out.old ++ at_least least (hex_upper n)) }
+    ensures ok { OnOk result (S.adds out.old (at_least least (hex_upper n)) out.new) }
+    ensures err { OnErr result (S.breaks out.old (at_least least (hex_upper n)) out.new) }
 {
     push_last(out, shown(least, n), n)
 }
 
 /// `0x` and the digits of a number that are not six, with zeros in front up to so many, at most eight.
 #[cold]
-fn push_other<A: Allocator>(out: &mut String<A>, least: usize, n: u32) -> Result<(), AllocError>
+fn push_other<S: TextSink>(out: &mut S, least: usize, n: u32) -> Result<(), S::Error>
     requires { least ≤ 8 }
-    ensures { OnOk result (string_bytes out.new ≡ string_bytes out.old ++ hex_padded least n) }
+    ensures ok { OnOk result (S.adds out.old (hex_padded least n) out.new) }
+    ensures err { OnErr result (S.breaks out.old (hex_padded least n) out.new) }
 {
     out.push_str("0x")?;
     push_digits(out, least, n)
@@ -131,13 +131,10 @@ fn push_other<A: Allocator>(out: &mut String<A>, least: usize, n: u32) -> Result
 /// `0x` and the digits of a number, with zeros in front up to so many, at most eight. Six are written
 /// with what is in front of them.
 #[inline(always)]
-pub fn push_prefixed<A: Allocator>(
-    out: &mut String<A>,
-    least: usize,
-    n: u32,
-) -> Result<(), AllocError>
+pub fn push_prefixed<S: TextSink>(out: &mut S, least: usize, n: u32) -> Result<(), S::Error>
     requires { least ≤ 8 }
-    ensures { OnOk result (string_bytes out.new ≡ string_bytes out.old ++ hex_padded least n) }
+    ensures ok { OnOk result (S.adds out.old (hex_padded least n) out.new) }
+    ensures err { OnErr result (S.breaks out.old (hex_padded least n) out.new) }
 {
     if shown(least, n) != 6 {
         return push_other(out, least, n);
@@ -149,8 +146,9 @@ pub fn push_prefixed<A: Allocator>(
 
 /// The digits of a number of eight bytes, with zeros in front up to six.
 #[inline(always)]
-pub fn push_wide<A: Allocator>(out: &mut String<A>, n: u64) -> Result<(), AllocError>
-    ensures { OnOk result (string_bytes out.new ≡ string_bytes out.old ++ at_least 6 (hex_upper n)) }
+pub fn push_wide<S: TextSink>(out: &mut S, n: u64) -> Result<(), S::Error>
+    ensures ok { OnOk result (S.adds out.old (at_least 6 (hex_upper n)) out.new) }
+    ensures err { OnErr result (S.breaks out.old (at_least 6 (hex_upper n)) out.new) }
 {
     if n < 0x1_0000_0000 {
         return push_digits(out, 6, n as u32);

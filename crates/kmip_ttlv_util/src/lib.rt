@@ -6,19 +6,26 @@
 //! specs/: outlines and their diagnostics, the trace of any bytes, and what is read back.
 #![tactic(auto)]
 
+mod buffer;
 mod diagnostic;
 mod digits;
+mod indentation;
 mod item;
 pub mod laws;
 mod lines;
 mod named;
+mod pieces;
 mod pretty;
 mod printer;
+mod sink;
 mod undiag;
 mod walk;
 
+pub use indentation::{Indentation, push_beginning};
 pub use lines::{LentTagMap, TagMap, push_data_part, push_tag, push_tag_part};
 pub use named::{read_back_counted, read_back_named, text_named};
+pub use pieces::Pieces;
 pub use pretty::push_value;
 pub use printer::PrettyPrinter;
+pub use sink::TextSink;
 pub use undiag::DiagnosticLines;

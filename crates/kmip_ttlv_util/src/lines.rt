@@ -1,13 +1,14 @@
 //! Parts of readable lines: the indent, the tag with its name, and the type.
 
-ghost use Rattle.std.specs.Prelude.{◌≡◌, ℕ, ◌++◌, OnOk, codes, string_bytes};
+ghost use Rattle.std.specs.Prelude.{◌≡◌, ℕ, ◌++◌, OnOk, OnErr, Some, codes};
 ghost use Rattle.kmip_ttlv_types.specs.TypeTexts.{type_text};
 ghost use Rattle.kmip_ttlv_util.specs.Lines.{indent, hex_padded, tag_named, tag_part, typ_part, data_part};
 ghost use Rattle.kmip_ttlv_util.specs.TagNames.{name_in};
 
 use crate::digits::{eight, push_prefixed, push_wide, shown};
+use crate::sink::TextSink;
 use kmip_ttlv_types::{TtlvTag, TtlvType};
-use std::alloc::{AllocError, Allocator, Global};
+use std::alloc::{Allocator, Global};
 use std::collections::HashMap;
 use std::hash::{BuildHasherDefault, FoldHasher};
 use std::str;
@@ -23,8 +24,9 @@ static SPACES: [u8; 32] = *b"                                ";
 
 /// Two spaces a level.
 #[inline(always)]
-fn push_indent<A: Allocator>(out: &mut String<A>, depth: usize) -> Result<(), AllocError>
-    ensures { OnOk result (string_bytes out.new ≡ string_bytes out.old ++ indent depth) }
+fn push_indent<S: TextSink>(out: &mut S, depth: usize) -> Result<(), S::Error>
+    ensures ok { OnOk result (S.adds out.old (indent depth) out.new) }
+    ensures err { OnErr result (S.breaks out.old (indent depth) out.new) }
 {
     if depth <= 16 {
         return out.push_str(unsafe { str::from_utf8_unchecked(&SPACES[..2 * depth]) });
@@ -36,8 +38,9 @@ fn push_indent<A: Allocator>(out: &mut String<A>, depth: usize) -> Result<(), Al
 }
 
 /// `0x` and the digits of a number that has more than six.
-fn push_long<A: Allocator>(out: &mut String<A>, n: u64) -> Result<(), AllocError>
-    ensures { OnOk result (string_bytes out.new ≡ string_bytes out.old ++ hex_padded 6 n) }
+fn push_long<S: TextSink>(out: &mut S, n: u64) -> Result<(), S::Error>
+    ensures ok { OnOk result (S.adds out.old (hex_padded 6 n) out.new) }
+    ensures err { OnErr result (S.breaks out.old (hex_padded 6 n) out.new) }
 {
     out.push_str("0x")?;
     push_wide(out, n)
@@ -45,8 +48,9 @@ fn push_long<A: Allocator>(out: &mut String<A>, n: u64) -> Result<(), AllocError
 
 /// `0x` and at least six digits.
 #[inline(always)]
-pub fn push_six<A: Allocator>(out: &mut String<A>, n: u64) -> Result<(), AllocError>
-    ensures { OnOk result (string_bytes out.new ≡ string_bytes out.old ++ hex_padded 6 n) }
+pub fn push_six<S: TextSink>(out: &mut S, n: u64) -> Result<(), S::Error>
+    ensures ok { OnOk result (S.adds out.old (hex_padded 6 n) out.new) }
+    ensures err { OnErr result (S.breaks out.old (hex_padded 6 n) out.new) }
 {
     if n < 0x100_0000 {
         return push_prefixed(out, 6, n as u32);
@@ -56,39 +60,49 @@ pub fn push_six<A: Allocator>(out: &mut String<A>, n: u64) -> Result<(), AllocEr
 
 /// `0x` and at least four digits.
 #[inline(always)]
-fn push_four<A: Allocator>(out: &mut String<A>, n: u32) -> Result<(), AllocError>
-    ensures { OnOk result (string_bytes out.new ≡ string_bytes out.old ++ hex_padded 4 n) }
+fn push_four<S: TextSink>(out: &mut S, n: u32) -> Result<(), S::Error>
+    ensures ok { OnOk result (S.adds out.old (hex_padded 4 n) out.new) }
+    ensures err { OnErr result (S.breaks out.old (hex_padded 4 n) out.new) }
 {
     push_prefixed(out, 4, n)
 }
 
+/// A name, and behind it a tag in brackets.
+#[inline(always)]
+fn push_named<S: TextSink>(out: &mut S, name: &str, n: u32) -> Result<(), S::Error>
+    ensures ok { OnOk result (S.adds out.old (tag_named (Some name.now) n) out.new) }
+    ensures err { OnErr result (S.breaks out.old (tag_named (Some name.now) n) out.new) }
+{
+    out.push_str(name)?;
+    out.push_str(" (")?;
+    push_four(out, n)?;
+    out.push_str(")")
+}
+
 /// A tag, behind its name where it has one.
 #[inline(always)]
-pub fn push_tag<A: Allocator>(
-    out: &mut String<A>,
+pub fn push_tag<S: TextSink, A: Allocator>(
+    out: &mut S,
     names: &LentTagMap<'_, A>,
     tag: TtlvTag,
-) -> Result<(), AllocError>
-    ensures { OnOk result (string_bytes out.new ≡ string_bytes out.old ++ tag_named (name_in names.now tag) tag) }
+) -> Result<(), S::Error>
+    ensures ok { OnOk result (S.adds out.old (tag_named (name_in names.now tag) tag) out.new) }
+    ensures err { OnErr result (S.breaks out.old (tag_named (name_in names.now tag) tag) out.new) }
 {
     if names.is_empty() {
         return push_four(out, *tag);
     }
     match names.get(&tag).copied() {
-        Some(name) => {
-            out.push_str(name)?;
-            out.push_str(" (")?;
-            push_four(out, *tag)?;
-            out.push_str(")")
-        }
+        Some(name) => push_named(out, name, *tag),
         None => push_four(out, *tag),
     }
 }
 
 /// `Tag: ` and a tag of fewer digits than six.
 #[cold]
-fn push_rare<A: Allocator>(out: &mut String<A>, n: u32) -> Result<(), AllocError>
-    ensures { OnOk result (string_bytes out.new ≡ string_bytes out.old ++ (codes "Tag: " ++ hex_padded 4 n)) }
+fn push_rare<S: TextSink>(out: &mut S, n: u32) -> Result<(), S::Error>
+    ensures ok { OnOk result (S.adds out.old (codes "Tag: " ++ hex_padded 4 n) out.new) }
+    ensures err { OnErr result (S.breaks out.old (codes "Tag: " ++ hex_padded 4 n) out.new) }
 {
     out.push_str("Tag: ")?;
     push_four(out, n)
@@ -96,8 +110,9 @@ fn push_rare<A: Allocator>(out: &mut String<A>, n: u32) -> Result<(), AllocError
 
 /// `Tag: ` and a tag without a name. Six digits are written with what is in front of them.
 #[inline(always)]
-fn push_bare<A: Allocator>(out: &mut String<A>, n: u32) -> Result<(), AllocError>
-    ensures { OnOk result (string_bytes out.new ≡ string_bytes out.old ++ (codes "Tag: " ++ hex_padded 4 n)) }
+fn push_bare<S: TextSink>(out: &mut S, n: u32) -> Result<(), S::Error>
+    ensures ok { OnOk result (S.adds out.old (codes "Tag: " ++ hex_padded 4 n) out.new) }
+    ensures err { OnErr result (S.breaks out.old (codes "Tag: " ++ hex_padded 4 n) out.new) }
 {
     if shown(4, n) != 6 {
         return push_rare(out, n);
@@ -111,13 +126,14 @@ fn push_bare<A: Allocator>(out: &mut String<A>, n: u32) -> Result<(), AllocError
 
 /// The beginning of a line, up to the tag.
 #[inline(always)]
-pub fn push_tag_part<A: Allocator>(
-    out: &mut String<A>,
+pub fn push_tag_part<S: TextSink, A: Allocator>(
+    out: &mut S,
     names: &LentTagMap<'_, A>,
     depth: usize,
     tag: TtlvTag,
-) -> Result<(), AllocError>
-    ensures { OnOk result (string_bytes out.new ≡ string_bytes out.old ++ tag_part (name_in names.now) depth tag) }
+) -> Result<(), S::Error>
+    ensures ok { OnOk result (S.adds out.old (tag_part (name_in names.now) depth tag) out.new) }
+    ensures err { OnErr result (S.breaks out.old (tag_part (name_in names.now) depth tag) out.new) }
 {
     push_indent(out, depth)?;
     if names.is_empty() {
@@ -129,8 +145,9 @@ pub fn push_tag_part<A: Allocator>(
 
 /// What follows the tag, up to the type.
 #[inline(always)]
-pub fn push_type_part<A: Allocator>(out: &mut String<A>, typ: TtlvType) -> Result<(), AllocError>
-    ensures { OnOk result (string_bytes out.new ≡ string_bytes out.old ++ (codes ", Type: " ++ type_text typ)) }
+pub fn push_type_part<S: TextSink>(out: &mut S, typ: TtlvType) -> Result<(), S::Error>
+    ensures ok { OnOk result (S.adds out.old (codes ", Type: " ++ type_text typ) out.new) }
+    ensures err { OnErr result (S.breaks out.old (codes ", Type: " ++ type_text typ) out.new) }
 {
     match typ {
         TtlvType::Structure => out.push_str(", Type: Structure (0x01)"),
@@ -148,8 +165,9 @@ pub fn push_type_part<A: Allocator>(out: &mut String<A>, typ: TtlvType) -> Resul
 
 /// What follows the tag, up to the value: behind a leaf's `Data:` a space.
 #[inline(always)]
-pub fn push_data_part<A: Allocator>(out: &mut String<A>, typ: TtlvType) -> Result<(), AllocError>
-    ensures { OnOk result (string_bytes out.new ≡ string_bytes out.old ++ data_part typ) }
+pub fn push_data_part<S: TextSink>(out: &mut S, typ: TtlvType) -> Result<(), S::Error>
+    ensures ok { OnOk result (S.adds out.old (data_part typ) out.new) }
+    ensures err { OnErr result (S.breaks out.old (data_part typ) out.new) }
 {
     match typ {
         TtlvType::Structure => out.push_str(", Type: Structure (0x01), Data:"),

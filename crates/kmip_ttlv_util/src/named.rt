@@ -3,9 +3,12 @@
 ghost use Rattle.std.specs.Prelude.{IfOk, ◌≡◌, string_bytes};
 ghost use Rattle.kmip_ttlv_util.specs.Pretty.{IsPrinted, IsPretty};
 ghost use Rattle.kmip_ttlv_util.specs.TagNames.{name_in};
-ghost use Rattle.kmip_ttlv_util.specs.Undiag.{undiag};
-ghost use Rattle.kmip_ttlv_util.specs.ReadBack.{ReadsLongest, IsReadBack, ReadsUpTo};
+ghost use Rattle.std.specs.Str.{trim_end};
+ghost use Rattle.kmip_ttlv_util.specs.Lines.{indented};
+ghost use Rattle.kmip_ttlv_util.specs.Undiag.{undiag, undiag_lines};
+ghost use Rattle.kmip_ttlv_util.specs.ReadBack.{ReadsLongest, IsReadBack, EndsAt};
 
+use crate::indentation::Indentation;
 use crate::lines::LentTagMap;
 use crate::pretty::print;
 use crate::undiag::{DiagnosticLines, read_back, read_counted};
@@ -43,19 +46,21 @@ pub fn read_back_named<A: Allocator + Copy>(
     read_back(alloc, prefix, names, text)
 }
 
-/// The same, and where reading ended: how many bytes of the diagnostic were used, and how many structures
-/// were open then. A diagnostic is whole exactly where all of it was used and none was open.
+/// The same, each line indented so, and where reading ended: how many bytes of the diagnostic were used, and how many
+/// structures were open then. A diagnostic is whole exactly where all of it was used and none was open.
 ///
-/// It refuses for want of memory alone.
+/// It fails only where memory runs out.
 pub fn read_back_counted<A: Allocator + Copy>(
     alloc: A,
     prefix: &str,
     names: &LentTagMap<'_, A>,
+    indentation: Indentation,
     text: &str,
 ) -> Result<DiagnosticLines<A>, AllocError>
-    ensures undiag { IfOk result (λ r. string_bytes r.text ≡ undiag (name_in names.now) prefix.now text.now) }
-    ensures ends { IfOk result (λ r. ReadsUpTo (name_in names.now) prefix.now text.now
-        (string_bytes r.text) r.used r.depth) }
+    ensures text { IfOk result (λ r. string_bytes r.text
+        ≡ trim_end (undiag_lines (indented indentation (name_in names.now)) prefix.now text.now)) }
+    ensures ends { IfOk result (λ r. EndsAt (indented indentation (name_in names.now)) prefix.now text.now
+        (undiag_lines (indented indentation (name_in names.now)) prefix.now text.now) r.used r.depth) }
 {
-    read_counted(alloc, prefix, names, text)
+    read_counted(alloc, prefix, names, indentation, text)
 }

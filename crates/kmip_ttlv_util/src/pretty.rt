@@ -1,7 +1,7 @@
 //! Readable text of any bytes: its values and lines, and the loop that writes them. Values are
 //! written from the bytes themselves, so that no text and no vector of a value is built.
 
-ghost use Rattle.std.specs.Prelude.{◌≡◌, ◌≢◌, ℕ, ◌<◌, ◌++◌, List, length, true, IfOk, OnOk, codes, string_bytes};
+ghost use Rattle.std.specs.Prelude.{◌≡◌, ◌≢◌, ℕ, ◌<◌, ◌++◌, List, length, true, IfOk, OnOk, OnErr, codes, string_bytes};
 ghost use Rattle.std.specs.Int.{w32, w64, from_be_bytes, cast_signed};
 ghost use Rattle.std.specs.Fmt.{decimal, signed_decimal};
 ghost use Rattle.std.specs.Str.{IsUtf8};
@@ -9,17 +9,21 @@ ghost use Rattle.kmip_ttlv_types.specs.declared.typ.TtlvType.TheVariants.{Struct
 ghost use Rattle.kmip_ttlv_types.specs.Leaves.{is_valid};
 ghost use Rattle.kmip_ttlv_util.specs.Lines.{hex_padded};
 ghost use Rattle.kmip_ttlv_util.specs.TagNames.{name_in};
+ghost use Rattle.kmip_ttlv_util.specs.Pieces.{SomeText, WritesText, unreadable};
 ghost use Rattle.kmip_ttlv_util.specs.Pretty.{bracketed, hex_bytes, value_shown, pretty_line, warning, IsPrinted};
 
 use crate::diagnostic::EXCEEDED;
 use crate::digits::push_two;
 use crate::item::{Item, item_at};
 use crate::lines::{LentTagMap, push_data_part, push_six, push_tag_part};
+use crate::pieces::Pieces;
+use crate::sink::TextSink;
 use crate::walk::{Next, Walk};
 use itoa::Buffer;
 use kmip_ttlv_types::TtlvType;
 use std::alloc::{AllocError, Allocator};
-use std::str;
+use std::io::Write;
+use std::{io, str};
 
 /// The number that four bytes are.
 #[inline(always)]
@@ -44,8 +48,9 @@ fn eight_bytes(content: &[u8]) -> u64
 
 /// A text behind a space, in brackets.
 #[inline(always)]
-fn push_bracketed<A: Allocator>(out: &mut String<A>, text: &str) -> Result<(), AllocError>
-    ensures { OnOk result (string_bytes out.new ≡ string_bytes out.old ++ bracketed text.now) }
+fn push_bracketed<S: TextSink>(out: &mut S, text: &str) -> Result<(), S::Error>
+    ensures ok { OnOk result (S.adds out.old (bracketed text.now) out.new) }
+    ensures err { OnErr result (S.breaks out.old (bracketed text.now) out.new) }
 {
     out.push_str(" (")?;
     out.push_str(text)?;
@@ -53,36 +58,36 @@ fn push_bracketed<A: Allocator>(out: &mut String<A>, text: &str) -> Result<(), A
 }
 
 /// A signed number of four bytes.
-fn push_integer<A: Allocator>(out: &mut String<A>, n: u32) -> Result<(), AllocError>
-    ensures { OnOk result (string_bytes out.new
-        ≡ string_bytes out.old
-        ++ (hex_padded 6 n ++ bracketed (signed_decimal (cast_signed w32 n)))) }
+fn push_integer<S: TextSink>(out: &mut S, n: u32) -> Result<(), S::Error>
+    ensures ok { OnOk result (S.adds out.old (hex_padded 6 n ++ bracketed (signed_decimal (cast_signed w32 n))) out.new) }
+    ensures err { OnErr result (S.breaks out.old (hex_padded 6 n ++ bracketed (signed_decimal (cast_signed w32 n))) out.new) }
 {
     push_six(out, n as u64)?;
     push_bracketed(out, Buffer::new().format(n.cast_signed()))
 }
 
 /// A signed number of eight bytes.
-fn push_long_integer<A: Allocator>(out: &mut String<A>, n: u64) -> Result<(), AllocError>
-    ensures { OnOk result (string_bytes out.new
-        ≡ string_bytes out.old
-        ++ (hex_padded 6 n ++ bracketed (signed_decimal (cast_signed w64 n)))) }
+fn push_long_integer<S: TextSink>(out: &mut S, n: u64) -> Result<(), S::Error>
+    ensures ok { OnOk result (S.adds out.old (hex_padded 6 n ++ bracketed (signed_decimal (cast_signed w64 n))) out.new) }
+    ensures err { OnErr result (S.breaks out.old (hex_padded 6 n ++ bracketed (signed_decimal (cast_signed w64 n))) out.new) }
 {
     push_six(out, n)?;
     push_bracketed(out, Buffer::new().format(n.cast_signed()))
 }
 
 /// An unsigned number of four bytes.
-fn push_unsigned<A: Allocator>(out: &mut String<A>, n: u32) -> Result<(), AllocError>
-    ensures { OnOk result (string_bytes out.new ≡ string_bytes out.old ++ (hex_padded 6 n ++ bracketed (decimal n))) }
+fn push_unsigned<S: TextSink>(out: &mut S, n: u32) -> Result<(), S::Error>
+    ensures ok { OnOk result (S.adds out.old (hex_padded 6 n ++ bracketed (decimal n)) out.new) }
+    ensures err { OnErr result (S.breaks out.old (hex_padded 6 n ++ bracketed (decimal n)) out.new) }
 {
     push_six(out, n as u64)?;
     push_bracketed(out, Buffer::new().format(n))
 }
 
 /// Bytes in hexadecimal, two digits each.
-fn push_bytes<A: Allocator>(out: &mut String<A>, content: &[u8]) -> Result<(), AllocError>
-    ensures { OnOk result (string_bytes out.new ≡ string_bytes out.old ++ hex_bytes content.now) }
+fn push_bytes<S: TextSink>(out: &mut S, content: &[u8]) -> Result<(), S::Error>
+    ensures ok { OnOk result (S.adds out.old (hex_bytes content.now) out.new) }
+    ensures err { OnErr result (S.breaks out.old (hex_bytes content.now) out.new) }
 {
     for byte in content {
         push_two(out, *byte)?;
@@ -93,13 +98,10 @@ fn push_bytes<A: Allocator>(out: &mut String<A>, content: &[u8]) -> Result<(), A
 /// The value of a leaf.
 #[tactic(auto, unfolding(crate::specs::Pretty::value_shown))]
 #[inline(always)]
-pub fn push_value<A: Allocator>(
-    out: &mut String<A>,
-    typ: TtlvType,
-    content: &[u8],
-) -> Result<(), AllocError>
+pub fn push_value<S: TextSink>(out: &mut S, typ: TtlvType, content: &[u8]) -> Result<(), S::Error>
     requires { is_valid typ content.now ≡ true }
-    ensures { OnOk result (string_bytes out.new ≡ string_bytes out.old ++ value_shown typ content.now) }
+    ensures ok { OnOk result (S.adds out.old (value_shown typ content.now) out.new) }
+    ensures err { OnErr result (S.breaks out.old (value_shown typ content.now) out.new) }
 {
     match typ {
         TtlvType::Structure => Ok(()),
@@ -119,16 +121,15 @@ pub fn push_value<A: Allocator>(
 
 /// The line of an item so deep.
 #[inline(always)]
-fn push_line<A: Allocator>(
-    out: &mut String<A>,
+fn push_line<S: TextSink, A: Allocator>(
+    out: &mut S,
     names: &LentTagMap<'_, A>,
     depth: usize,
     item: &Item<'_>,
-) -> Result<(), AllocError>
+) -> Result<(), S::Error>
     requires { item.now.typ ≢ TheStructure → is_valid item.now.typ item.now.content.now ≡ true }
-    ensures { OnOk result (string_bytes out.new
-        ≡ string_bytes out.old
-        ++ pretty_line (name_in names.now) depth item.now.tag item.now.typ item.now.content.now) }
+    ensures ok { OnOk result (S.adds out.old (pretty_line (name_in names.now) depth item.now.tag item.now.typ item.now.content.now) out.new) }
+    ensures err { OnErr result (S.breaks out.old (pretty_line (name_in names.now) depth item.now.tag item.now.typ item.now.content.now) out.new) }
 {
     push_tag_part(out, names, depth, item.tag)?;
     if item.typ == TtlvType::Structure {
@@ -142,24 +143,84 @@ fn push_line<A: Allocator>(
 /// The line that follows an empty structure that stays open.
 #[tactic(auto, unfolding(crate::specs::Pretty::warning))]
 #[inline(always)]
-fn push_warning<A: Allocator>(
-    out: &mut String<A>,
+fn push_warning<S: TextSink>(
+    out: &mut S,
     closed: bool,
     typ: TtlvType,
     len: u32,
-) -> Result<(), AllocError>
-    ensures { OnOk result (string_bytes out.new ≡ string_bytes out.old ++ warning closed typ len) }
+) -> Result<(), S::Error>
+    ensures ok { OnOk result (S.adds out.old (warning closed typ len) out.new) }
+    ensures err { OnErr result (S.breaks out.old (warning closed typ len) out.new) }
 {
     if typ == TtlvType::Structure && len == 0 && !closed {
-        out.push_str("WARNING: TTLV structure length is zero\n")?;
+        return out.push_str("WARNING: TTLV structure length is zero\n");
     }
     Ok(())
+}
+
+/// The line of an item so deep, and what follows it.
+#[inline(always)]
+fn push_item<S: TextSink, A: Allocator>(
+    out: &mut S,
+    names: &LentTagMap<'_, A>,
+    closed: bool,
+    depth: usize,
+    item: &Item<'_>,
+) -> Result<(), S::Error>
+    requires { item.now.typ ≢ TheStructure → is_valid item.now.typ item.now.content.now ≡ true }
+    ensures ok { OnOk result (S.adds out.old (pretty_line (name_in names.now) depth item.now.tag item.now.typ
+        item.now.content.now ++ warning closed item.now.typ item.now.length) out.new) }
+    ensures err { OnErr result (S.breaks out.old (pretty_line (name_in names.now) depth item.now.tag item.now.typ
+        item.now.content.now ++ warning closed item.now.typ item.now.length) out.new) }
+{
+    push_line(out, names, depth, item)?;
+    push_warning(out, closed, item.typ, item.length)
+}
+
+/// What stands where an item can't be read.
+#[cold]
+fn push_unreadable<S: TextSink>(out: &mut S, place: usize) -> Result<(), S::Error>
+    ensures ok { OnOk result (S.adds out.old (codes "ERROR: " ++ unreadable place) out.new) }
+    ensures err { OnErr result (S.breaks out.old (codes "ERROR: " ++ unreadable place) out.new) }
+{
+    out.push_str("ERROR: cannot read the item at byte ")?;
+    out.push_str(Buffer::new().format(place))
 }
 
 /// An estimate of how long a readable text is: six bytes a byte, and at most some 24 KiB.
 fn room_for(bytes: &[u8]) -> usize {
     let count = bytes.len();
     64 + 6 * if count < 4096 { count } else { 4096 }
+}
+
+/// Adds the readable text of any bytes.
+pub fn print_to<S: TextSink, A: Allocator + Copy>(
+    out: &mut S,
+    alloc: A,
+    names: &LentTagMap<'_, A>,
+    closed: bool,
+    bytes: &[u8],
+) -> Result<(), S::Error>
+    ensures ok { OnOk result (SomeText (IsPrinted (name_in names.now) closed bytes.now) (λ t. S.adds out.old t out.new)) }
+    ensures err { OnErr result (SomeText (IsPrinted (name_in names.now) closed bytes.now)
+        (λ t. S.breaks out.old t out.new)) }
+{
+    let mut walk = Walk::new(alloc);
+    'walk: loop {
+        match walk.next() {
+            Next::Closes => {}
+            Next::Over => return Ok(()),
+            Next::Past => return out.push_str(EXCEEDED),
+            Next::Reads => {
+                let place = walk.pos;
+                let Some(item) = item_at(bytes, place) else {
+                    return push_unreadable(out, place);
+                };
+                push_item(out, names, closed, walk.depth(), &item)?;
+                walk.step(closed, item.typ, item.length, item.next)?;
+            }
+        }
+    }
 }
 
 /// The readable text of any bytes.
@@ -172,25 +233,22 @@ pub fn print<A: Allocator + Copy>(
     ensures { IfOk result (λ r. IsPrinted (name_in names.now) closed bytes.now (string_bytes r)) }
 {
     let mut out = String::with_capacity(alloc, room_for(bytes))?;
-    let mut walk = Walk::new(alloc);
-    'walk: loop {
-        match walk.next() {
-            Next::Closes => {}
-            Next::Over => return Ok(out),
-            Next::Past => {
-                out.push_str(EXCEEDED)?;
-                return Ok(out);
-            }
-            Next::Reads => {
-                let place = walk.pos;
-                let Some(item) = item_at(bytes, place) else {
-                    write!(out, "ERROR: cannot read the item at byte {place}")?;
-                    return Ok(out);
-                };
-                push_line(&mut out, names, walk.depth(), &item)?;
-                push_warning(&mut out, closed, item.typ, item.length)?;
-                walk.step(closed, item.typ, item.length, item.next)?;
-            }
-        }
-    }
+    print_to(&mut out, alloc, names, closed, bytes)?;
+    Ok(out)
+}
+
+/// Writes the readable text of any bytes, in pieces.
+pub fn write_printed<A: Allocator + Copy, W: Write>(
+    writer: &mut W,
+    alloc: A,
+    names: &LentTagMap<'_, A>,
+    closed: bool,
+    bytes: &[u8],
+) -> io::Result<()>
+    ensures { WritesText (IsPrinted (name_in names.now) closed bytes.now)
+        (W.contents writer.old) (W.contents writer.new) result }
+{
+    let mut pieces = Pieces::new(writer);
+    print_to(&mut pieces, alloc, names, closed, bytes)?;
+    pieces.finish()
 }

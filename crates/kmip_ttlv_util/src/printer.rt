@@ -5,18 +5,21 @@ ghost use Rattle.std.specs.Borrow.{sem};
 ghost use Rattle.kmip_ttlv_util.specs.Traces.{trace};
 ghost use Rattle.kmip_ttlv_util.specs.Diagnostics.{hostile};
 ghost use Rattle.kmip_ttlv_util.specs.PrintAnswers.{IsExact};
+ghost use Rattle.kmip_ttlv_util.specs.Pieces.{WritesText, IsReadable, IsDiagnostic};
 ghost use Rattle.kmip_ttlv_util.specs.Pretty.{IsPrinted, IsPretty};
 ghost use Rattle.kmip_ttlv_util.specs.Printers.{prefix_of, names_of, closes_empty};
 ghost use Rattle.kmip_ttlv_util.specs.TagNames.{name_in, no_names};
 ghost use Rattle.kmip_ttlv_util.specs.Undiag.{undiag};
 ghost use Rattle.kmip_ttlv_util.specs.ReadBack.{ReadsLongest, IsReadBack};
 
-use crate::diagnostic::diagnose;
+use crate::diagnostic::{diagnose, write_diagnostic};
 use crate::lines::TagMap;
-use crate::pretty::print;
+use crate::pretty::{print, write_printed};
 use crate::undiag::read_back;
 use std::alloc::{AllocError, Allocator, Global};
 use std::collections::HashMap;
+use std::io;
+use std::io::Write;
 
 /// Prints TTLV bytes as readable text and as redacted diagnostics, and reads diagnostics back.
 ///
@@ -116,6 +119,26 @@ impl<A: Allocator + Copy> PrettyPrinter<A> {
         )
     }
 
+    /// Writes the text of [`PrettyPrinter::to_string`] to a writer, in pieces: the text is never held as a
+    /// whole. Besides 8,192 bytes on the stack it keeps eight bytes for each structure that is open.
+    ///
+    /// The writer's error as it is where the writer fails, one of the kind WriteZero where it takes no
+    /// byte, and one of the kind OutOfMemory where memory for the open structures is refused. The writer
+    /// has a beginning of the text then. Interrupted calls are tried again, as often as a 64-bit count
+    /// allows. The writer is not flushed.
+    pub fn write_text<W: Write>(&self, writer: &mut W, bytes: &[u8]) -> io::Result<()>
+        ensures { WritesText (IsReadable (names_of self.now) (closes_empty self.now) bytes.now)
+            (W.contents writer.old) (W.contents writer.new) result }
+    {
+        write_printed(
+            writer,
+            *self.prefix.allocator(),
+            &self.names,
+            self.closed_empty,
+            bytes,
+        )
+    }
+
     /// The diagnostic of any bytes, and how many items were tried.
     ///
     /// The text is that of [`PrettyPrinter::to_diag_string`]. At most an eighth of the number of
@@ -151,6 +174,23 @@ impl<A: Allocator + Copy> PrettyPrinter<A> {
     {
         let (text, _) = self.to_diag_counted(bytes)?;
         Ok(text)
+    }
+
+    /// Writes the text of [`PrettyPrinter::to_diag_string`] to a writer, in pieces: the text is never held
+    /// as a whole. Besides 8,192 bytes on the stack it keeps eight bytes for each structure that is open.
+    ///
+    /// It fails as [`PrettyPrinter::write_text`] does, after a beginning of the text.
+    pub fn write_diag<W: Write>(&self, writer: &mut W, bytes: &[u8]) -> io::Result<()>
+        ensures { WritesText (IsDiagnostic (prefix_of self.now) (closes_empty self.now) bytes.now)
+            (W.contents writer.old) (W.contents writer.new) result }
+    {
+        write_diagnostic(
+            writer,
+            *self.prefix.allocator(),
+            self.prefix.as_str(),
+            self.closed_empty,
+            bytes,
+        )
     }
 
     /// A diagnostic read back as lines: of each item its tag and type, of an enumeration its value,

@@ -4,17 +4,19 @@ ghost use Rattle.std.specs.Prelude.{◌≡◌, ℕ, ◌+◌, ◌++◌, ◌∷◌
 ghost use Rattle.std.specs.Prelude.{IfSome, IfNone, string_bytes};
 ghost use Rattle.std.specs.Str.{IsUtf8};
 ghost use Rattle.kmip_ttlv_types.specs.Names.{tag_of};
-ghost use Rattle.kmip_ttlv_util.specs.Lines.{typ_part};
+ghost use Rattle.std.specs.Str.{trim_end};
+ghost use Rattle.kmip_ttlv_util.specs.Lines.{indented, tag_part, typ_part};
 ghost use Rattle.kmip_ttlv_util.specs.TagNames.{name_in};
 ghost use Rattle.kmip_ttlv_util.specs.LastDigits.{last_digits};
 ghost use Rattle.kmip_ttlv_util.specs.Letters.{type_of_letter};
 ghost use Rattle.kmip_ttlv_util.specs.Prefixes.{IsNumber};
 ghost use Rattle.kmip_ttlv_util.specs.Undiag.{front_type, front_value, data_step, step, Reads, undiag, undiag_lines};
-ghost use Rattle.kmip_ttlv_util.specs.ReadBack.{ReadsUpTo};
+ghost use Rattle.kmip_ttlv_util.specs.ReadBack.{EndsAt};
 
 use crate::diagnostic::{Prefix, prefix_of};
 use crate::digits::digits_in_front;
-use crate::lines::{LentTagMap, push_tag_part, push_type_part};
+use crate::indentation::{Indentation, push_beginning};
+use crate::lines::{LentTagMap, push_type_part};
 use kmip_ttlv_types::{TtlvTag, TtlvType};
 use std::alloc::{AllocError, Allocator};
 
@@ -117,9 +119,9 @@ fn read_data<'t, A: Allocator>(
     s: &'t str,
 ) -> Result<Option<(usize, &'t str)>, AllocError>
     requires room { depth + 1 < 2 ^ 64 }
-    ensures { (names : ℕ → Option (List ℕ)) (before : List ℕ) (tag : ℕ)
-        → string_bytes out.old ≡ before ++ typ_part names depth tag typ
-        → IfOk result (λ r. Reads (data_step names depth tag typ s.now) before (string_bytes out.new) r) }
+    ensures { (beginning : ℕ → ℕ → List ℕ) (before : List ℕ) (tag : ℕ)
+        → string_bytes out.old ≡ before ++ typ_part beginning depth tag typ
+        → IfOk result (λ r. Reads (data_step beginning depth tag typ s.now) before (string_bytes out.new) r) }
 {
     if s.is_empty() {
         return Ok(None);
@@ -151,13 +153,14 @@ fn read_part<'t, A: Allocator + Copy>(
     alloc: A,
     prefix: &Prefix<'_>,
     names: &LentTagMap<'_, A>,
+    indentation: Indentation,
     out: &mut String<A>,
     depth: usize,
     s: &'t str,
 ) -> Result<Option<(usize, &'t str)>, AllocError>
     requires room { depth + 1 < 2 ^ 64 }
     requires prefix { IsNumber prefix.now }
-    ensures { IfOk result (λ r. Reads (step (name_in names.now) prefix.now.text.now depth s.now)
+    ensures { IfOk result (λ r. Reads (step (indented indentation (name_in names.now)) prefix.now.text.now depth s.now)
         (string_bytes out.old) (string_bytes out.new) r) }
 {
     if s.is_empty() {
@@ -174,7 +177,7 @@ fn read_part<'t, A: Allocator + Copy>(
     let Some(tag) = tag_of(alloc, prefix, digits, number)? else {
         return Ok(None);
     };
-    push_tag_part(out, names, depth, tag)?;
+    push_beginning(out, names, indentation, depth, tag)?;
     let Some((typ, rest)) = split_letter(rest) else {
         return Ok(None);
     };
@@ -192,7 +195,7 @@ fn room_for(s: &str) -> usize {
 /// What a diagnostic was read back as, and where reading it ended.
 #[derive(Drop)]
 pub struct DiagnosticLines<A: Allocator> {
-    /// The lines, without a line feed at the end.
+    /// The lines, without white space at the end.
     pub text: String<A>,
     /// How many bytes of the diagnostic are whole parts, one behind the other, from its first on.
     pub used: usize,
@@ -200,28 +203,35 @@ pub struct DiagnosticLines<A: Allocator> {
     pub depth: usize,
 }
 
-/// The lines of a diagnostic, and where reading it ended.
-pub fn read_counted<A: Allocator + Copy>(
+/// The lines of a diagnostic, not trimmed at the end, and where reading it ended.
+fn read_lines<A: Allocator + Copy>(
     alloc: A,
     prefix: &str,
     names: &LentTagMap<'_, A>,
+    indentation: Indentation,
     s: &str,
 ) -> Result<DiagnosticLines<A>, AllocError>
-    ensures undiag { IfOk result (λ r. string_bytes r.text ≡ undiag (name_in names.now) prefix.now s.now) }
-    ensures utf8 { IfOk result (λ _. IsUtf8 (undiag_lines (name_in names.now) prefix.now s.now)) }
-    ensures ends { IfOk result (λ r. ReadsUpTo (name_in names.now) prefix.now s.now
+    ensures lines { IfOk result (λ r. string_bytes r.text
+        ≡ undiag_lines (indented indentation (name_in names.now)) prefix.now s.now) }
+    ensures ends { IfOk result (λ r. EndsAt (indented indentation (name_in names.now)) prefix.now s.now
         (string_bytes r.text) r.used r.depth) }
 {
     let numbered = prefix_of(prefix);
     let mut out = String::with_capacity(alloc, room_for(s))?;
     let mut rest = s;
     let mut depth = 0;
-    while let Some((next, left)) = read_part(alloc, &numbered, names, &mut out, depth, rest)? {
+    while let Some((next, left)) = read_part(
+        alloc,
+        &numbered,
+        names,
+        indentation,
+        &mut out,
+        depth,
+        rest,
+    )? {
         depth = next;
         rest = left;
     }
-    let end = out.trim_end().len();
-    out.truncate(end);
     let used = s.len() - rest.len();
     Ok(DiagnosticLines {
         text: out,
@@ -230,7 +240,27 @@ pub fn read_counted<A: Allocator + Copy>(
     })
 }
 
-/// The lines of a diagnostic.
+/// The lines of a diagnostic, and where reading it ended.
+pub fn read_counted<A: Allocator + Copy>(
+    alloc: A,
+    prefix: &str,
+    names: &LentTagMap<'_, A>,
+    indentation: Indentation,
+    s: &str,
+) -> Result<DiagnosticLines<A>, AllocError>
+    ensures text { IfOk result (λ r. string_bytes r.text
+        ≡ trim_end (undiag_lines (indented indentation (name_in names.now)) prefix.now s.now)) }
+    ensures utf8 { IfOk result (λ _. IsUtf8 (undiag_lines (indented indentation (name_in names.now)) prefix.now s.now)) }
+    ensures ends { IfOk result (λ r. EndsAt (indented indentation (name_in names.now)) prefix.now s.now
+        (undiag_lines (indented indentation (name_in names.now)) prefix.now s.now) r.used r.depth) }
+{
+    let mut lines = read_lines(alloc, prefix, names, indentation, s)?;
+    let end = lines.text.trim_end().len();
+    lines.text.truncate(end);
+    Ok(lines)
+}
+
+/// The lines of a diagnostic, indented by two spaces for each structure around.
 pub fn read_back<A: Allocator + Copy>(
     alloc: A,
     prefix: &str,
@@ -238,8 +268,8 @@ pub fn read_back<A: Allocator + Copy>(
     s: &str,
 ) -> Result<String<A>, AllocError>
     ensures undiag { IfOk result (λ r. string_bytes r ≡ undiag (name_in names.now) prefix.now s.now) }
-    ensures utf8 { IfOk result (λ _. IsUtf8 (undiag_lines (name_in names.now) prefix.now s.now)) }
+    ensures utf8 { IfOk result (λ _. IsUtf8 (undiag_lines (tag_part (name_in names.now)) prefix.now s.now)) }
 {
-    let lines = read_counted(alloc, prefix, names, s)?;
+    let lines = read_counted(alloc, prefix, names, Indentation::Full, s)?;
     Ok(lines.text)
 }

@@ -1,11 +1,9 @@
-use Rattle.std.proofs.Common.{rules, arith, ◌≡◌, ◌-◌, ◌+◌, ◌≤◌, List, ℕ, drop, ap, sym, subst, ◌∙◌}
+use Rattle.std.proofs.Common.{arith, ◌≡◌, ◌-◌, ◌+◌, ℕ, ap, sym, subst, ◌∙◌}
 use Rattle.std.specs.Str.{IsUtf8}
 use Rattle.std.proofs.lemmas.Str.{IsUtf8-from_ascii}
 use Rattle.kmip_ttlv_util.specs.LastDigits.{last_digits}
 use Rattle.kmip_ttlv_util.specs.Outlines.{stripped}
-use Rattle.std.specs.Prelude.{string_bytes}
-use Rattle.kmip_ttlv_types.specs.Digits.{six_digits}
-use Rattle.kmip_ttlv_util.proofs.Appending.{on_ok}
+use Rattle.kmip_ttlv_util.proofs.Saying.{ok_same, err_same}
 use Rattle.kmip_ttlv_util.proofs.HexDigits.{last_ascii, end_of}
 use Rattle.kmip_ttlv_util.proofs.PrefixNumbers.{six_last, behind}
 use Rattle.kmip_ttlv_util.proofs.diagnostic.push_tag.Goals as goal
@@ -18,7 +16,10 @@ pub returns-then-prefix-gt6 : goal.returns-then-prefix-gt6
 returns-then-prefix-gt6 g c =
     let six = c.from_utf8_unchecked-text.ensures ∙ end_of 2 6 c.deref.result.now c.eight-digits.result (omega arith) c.eight-digits.ensures ∙ ap (last_digits 6) c.deref.ensures ∙ sym (six_last c.args.tag) in
     let text = c.strip.ensures ∙ ap (stripped c.args.prefix.now.text.now) six in
-    rw (← text) (search rules)
+    record {
+      ok = ok_same g.S.TextSink.adds g.S.TextSink.breaks c.push_str.result _ _ _ _ c.push_str.ensures.ok text;
+      err = err_same g.S.TextSink.adds g.S.TextSink.breaks c.push_str.result _ _ _ _ c.push_str.ensures.err text;
+    }
 
 pub from_utf8_unchecked-requires : goal.from_utf8_unchecked-requires
 from_utf8_unchecked-requires g c =
@@ -31,4 +32,7 @@ returns g c =
     let few : 8 - (r + 2) ≡ 6 - r = omega (arith, c.left_out-from.ensures.bounded) in
     let text = c.from_utf8_unchecked.ensures ∙ end_of (r + 2) (8 - (r + 2)) c.deref.result.now c.eight-digits.result (omega (arith, c.left_out-from.ensures.bounded)) c.eight-digits.ensures
     ∙ ap (λ (k : ℕ). last_digits k c.deref.result.now) few ∙ behind r c.args.tag c.deref.result.now _ c.left_out-from.ensures.bounded c.deref.ensures c.left_out-from.ensures.stripped in
-    on_ok c.push_str-2.result (string_bytes c.push_str-2.new.self) (string_bytes c.args.out.now) _ _ c.push_str-2.ensures.bytes text
+    record {
+      ok = ok_same g.S.TextSink.adds g.S.TextSink.breaks c.push_str-2.result _ _ _ _ c.push_str-2.ensures.ok text;
+      err = err_same g.S.TextSink.adds g.S.TextSink.breaks c.push_str-2.result _ _ _ _ c.push_str-2.ensures.err text;
+    }

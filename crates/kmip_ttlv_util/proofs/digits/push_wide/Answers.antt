@@ -1,12 +1,17 @@
-use Rattle.std.proofs.Common.{◌≡◌, ◌∙◌, ap, List, ℕ, ◌++◌, arith, append_assoc}
-use Rattle.std.specs.Prelude.{string_bytes, OnOk, Result, Ok, Err}
+use Rattle.std.proofs.Common.{arith}
 use Rattle.kmip_ttlv_util.proofs.HexDigits.{wide_digits}
+use Rattle.kmip_ttlv_util.proofs.Saying.{ok_same, err_same, breaks_same, err_now, ok_then, err_then}
 use Rattle.kmip_ttlv_util.proofs.digits.push_wide.Goals as goal
 
--- a text behind another, where a call succeeds
-both : {E : Type 0} (r : Result (Unit {0}) E) (old mid new a b ab : List ℕ) → mid ≡ old ++ a → a ++ b ≡ ab → OnOk r (new ≡ mid ++ b) → OnOk r (new ≡ old ++ ab)
-both (Ok x) old mid new a b ab e f h = h ∙ ap (λ (s : List ℕ). s ++ b) e ∙ append_assoc old a b ∙ ap (λ (s : List ℕ). old ++ s) f
-both (Err x) old mid new a b ab e f h = tt
+pub returns-in_err-push_digits-clause-err : goal.returns-in_err-push_digits-clause-err
+returns-in_err-push_digits-clause-err g c =
+    let text = wide_digits c.args.n (omega arith) (omega arith) in
+    err_now g.S.TextSink.adds g.S.TextSink.breaks _ _ _ _ (breaks_same g.S.TextSink.adds g.S.TextSink.breaks _ _ _ _ (g.met.S.TextSink.breaks_first _ _ _ _ c.in_err-push_digits.ensures.err) text)
 
 pub returns : goal.returns
-returns g c = both c.push_last.result (string_bytes c.args.out.now) (string_bytes c.push_digits-2.new.out) (string_bytes c.push_last.new.out) _ _ _ c.in_ok-push_digits.ensures (wide_digits c.args.n (omega arith) (omega arith)) c.push_last.ensures
+returns g c =
+    let text = wide_digits c.args.n (omega arith) (omega arith) in
+    record {
+      ok = ok_same g.S.TextSink.adds g.S.TextSink.breaks c.push_last.result _ _ _ _ (ok_then g.S.TextSink.adds g.S.TextSink.breaks g.met.S.TextSink.adds_both c.push_last.result _ _ _ _ _ (c.in_ok-push_digits.ensures.ok) (c.push_last.ensures.ok)) text;
+      err = err_same g.S.TextSink.adds g.S.TextSink.breaks c.push_last.result _ _ _ _ (err_then g.S.TextSink.adds g.S.TextSink.breaks g.met.S.TextSink.breaks_second c.push_last.result _ _ _ _ _ (c.in_ok-push_digits.ensures.ok) (c.push_last.ensures.err)) text;
+    }

@@ -1,20 +1,34 @@
-use Rattle.std.proofs.Common.{◌≡◌, ℕ, suc, List, ◌+◌, ◌++◌, ◌∷◌, [], ◌∙◌, sym, ap, subst, arith, append_assoc}
-use Rattle.std.specs.Prelude.{string_bytes}
+use Rattle.std.proofs.Common.{◌≡◌, suc, ◌+◌, ◌-◌, ◌++◌, ◌∷◌, [], ◌∙◌, sym, ap, subst, arith}
 use Rattle.kmip_ttlv_util.specs.Lines.{indent}
-use Rattle.kmip_ttlv_util.proofs.Fronts.{indent_more, spaces_front, indent_ascii}
+use Rattle.kmip_ttlv_util.proofs.Fronts.{indent_more, indent_parts, spaces_front, indent_ascii}
 use Rattle.std.specs.Str.{IsUtf8}
 use Rattle.std.proofs.lemmas.Str.{IsUtf8-from_ascii}
-use Rattle.kmip_ttlv_util.proofs.Appending.{on_ok}
+use Rattle.kmip_ttlv_util.proofs.Saying.{ok_same, err_same, adds_same, breaks_same, err_now}
 use Rattle.kmip_ttlv_util.proofs.lines.push_indent.Goals as goal
+
+pub loop-init : goal.loop-init
+loop-init g c =
+    g.met.S.TextSink.adds_none c.args.out.now
 
 pub loop-preserved : goal.loop-preserved
 loop-preserved g c =
     let next : c.loop.counter + 1 ≡ suc c.loop.counter = omega arith in
-    c.in_ok-push_str.ensures.bytes ∙ ap (λ (s : List ℕ). s ++ (32 ∷ 32 ∷ [])) c.loop.invariant ∙ append_assoc (string_bytes c.args.out.now) (indent c.loop.counter) (32 ∷ 32 ∷ []) ∙ ap (λ (s : List ℕ). string_bytes c.args.out.now ++ s) (sym (indent_more c.loop.counter) ∙ ap indent (sym next))
+    adds_same g.S.TextSink.adds g.S.TextSink.breaks _ _ _ _ (g.met.S.TextSink.adds_both _ _ _ (indent c.loop.counter) (32 ∷ 32 ∷ []) c.loop.invariant c.in_ok-push_str.ensures.ok) (sym (indent_more c.loop.counter) ∙ ap indent (sym next))
 
 pub from_utf8_unchecked-requires : goal.from_utf8_unchecked-requires
-from_utf8_unchecked-requires g c = subst IsUtf8 (sym (spaces_front c.args.depth (omega arith))) (IsUtf8-from_ascii _ (indent_ascii c.args.depth))
+from_utf8_unchecked-requires g c =
+    subst IsUtf8 (sym (spaces_front c.args.depth (omega arith))) (IsUtf8-from_ascii _ (indent_ascii c.args.depth))
 
 pub returns-then-depth-le16 : goal.returns-then-depth-le16
 returns-then-depth-le16 g c =
-    on_ok c.push_str.result (string_bytes c.push_str.new.self) (string_bytes c.args.out.now) _ _ c.push_str.ensures.bytes (c.from_utf8_unchecked.ensures ∙ spaces_front c.args.depth (omega arith))
+    let text = c.from_utf8_unchecked.ensures ∙ spaces_front c.args.depth (omega arith) in
+    record {
+      ok = ok_same g.S.TextSink.adds g.S.TextSink.breaks c.push_str.result _ _ _ _ c.push_str.ensures.ok text;
+      err = err_same g.S.TextSink.adds g.S.TextSink.breaks c.push_str.result _ _ _ _ c.push_str.ensures.err text;
+    }
+
+pub returns-in_err-push_str-clause-err : goal.returns-in_err-push_str-clause-err
+returns-in_err-push_str-clause-err g c =
+    let rest = indent (c.args.depth - (c.loop.counter + 1)) in
+    let whole : (indent c.loop.counter ++ (32 ∷ 32 ∷ [])) ++ rest ≡ indent c.args.depth = indent_parts c.loop.counter c.args.depth (omega arith) in
+    err_now g.S.TextSink.adds g.S.TextSink.breaks _ _ _ _ (breaks_same g.S.TextSink.adds g.S.TextSink.breaks _ _ _ _ (g.met.S.TextSink.breaks_first _ _ _ rest (g.met.S.TextSink.breaks_second _ _ _ (indent c.loop.counter) (32 ∷ 32 ∷ []) c.loop.invariant c.in_err-push_str.ensures.err)) whole)

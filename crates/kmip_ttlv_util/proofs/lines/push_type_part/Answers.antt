@@ -1,29 +1,76 @@
-use Rattle.std.proofs.Common.{◌≡◌, ◌++◌, ◌∙◌, ap, sym, cond, List, ℕ}
-use Rattle.std.specs.Prelude.{Result, Ok, Err, OnOk, codes}
-use Rattle.std.specs.Result.{is_ok}
+use Rattle.std.proofs.Common.{◌++◌, ap, sym}
+use Rattle.std.specs.Prelude.{codes}
 use Rattle.kmip_ttlv_types.specs.declared.typ.TtlvType.{TtlvType}
 use Rattle.kmip_ttlv_types.specs.TypeTexts.{type_text}
+use Rattle.kmip_ttlv_util.proofs.Saying.{ok_same, err_same}
 use Rattle.kmip_ttlv_util.proofs.lines.push_type_part.Goals as goal
 
--- a call that writes a type's text writes that of an equal type
-typed : {E : Type 0} (r : Result (Unit {0}) E) (new old : List ℕ) (t u : TtlvType) → new ≡ cond (is_ok r) (old ++ (codes ", Type: " ++ type_text u)) old → t ≡ u → OnOk r (new ≡ old ++ (codes ", Type: " ++ type_text t))
-typed (Ok x) new old t u h e = h ∙ ap (λ (v : TtlvType). old ++ (codes ", Type: " ++ type_text v)) (sym e)
-typed (Err x) new old t u h e = tt
-
 pub returns-in-Structure : goal.returns-in-Structure
-returns-in-Structure g c = typed c.push_str.result _ _ c.args.typ _ c.push_str.ensures.bytes c.in-Structure.is
+returns-in-Structure g c =
+    record {
+      ok = ok_same g.S.TextSink.adds g.S.TextSink.breaks c.push_str.result c.args.out.now c.push_str.new.self _ _ c.push_str.ensures.ok (ap (λ (v : TtlvType). codes ", Type: " ++ type_text v) (sym c.in-Structure.is));
+      err = err_same g.S.TextSink.adds g.S.TextSink.breaks c.push_str.result c.args.out.now c.push_str.new.self _ _ c.push_str.ensures.err (ap (λ (v : TtlvType). codes ", Type: " ++ type_text v) (sym c.in-Structure.is));
+    }
 
 pub returns-in-Integer : goal.returns-in-Integer
-returns-in-Integer g c = typed c.push_str-in-Integer.result _ _ c.args.typ _ c.push_str-in-Integer.ensures.bytes c.in-Integer.is
+returns-in-Integer g c =
+    record {
+      ok = ok_same g.S.TextSink.adds g.S.TextSink.breaks c.push_str-in-Integer.result c.args.out.now c.push_str-in-Integer.new.self _ _ c.push_str-in-Integer.ensures.ok (ap (λ (v : TtlvType). codes ", Type: " ++ type_text v) (sym c.in-Integer.is));
+      err = err_same g.S.TextSink.adds g.S.TextSink.breaks c.push_str-in-Integer.result c.args.out.now c.push_str-in-Integer.new.self _ _ c.push_str-in-Integer.ensures.err (ap (λ (v : TtlvType). codes ", Type: " ++ type_text v) (sym c.in-Integer.is));
+    }
 
 pub returns-in-LongInteger : goal.returns-in-LongInteger
-returns-in-LongInteger g c = typed c.push_str-in-LongInteger.result _ _ c.args.typ _ c.push_str-in-LongInteger.ensures.bytes c.in-LongInteger.is
+returns-in-LongInteger g c =
+    record {
+      ok = ok_same g.S.TextSink.adds g.S.TextSink.breaks c.push_str-in-LongInteger.result c.args.out.now c.push_str-in-LongInteger.new.self _ _ c.push_str-in-LongInteger.ensures.ok (ap (λ (v : TtlvType). codes ", Type: " ++ type_text v) (sym c.in-LongInteger.is));
+      err = err_same g.S.TextSink.adds g.S.TextSink.breaks c.push_str-in-LongInteger.result c.args.out.now c.push_str-in-LongInteger.new.self _ _ c.push_str-in-LongInteger.ensures.err (ap (λ (v : TtlvType). codes ", Type: " ++ type_text v) (sym c.in-LongInteger.is));
+    }
+
+pub returns-in-BigInteger : goal.returns-in-BigInteger
+returns-in-BigInteger g c =
+    record {
+      ok = ok_same g.S.TextSink.adds g.S.TextSink.breaks c.push_str-in-BigInteger.result c.args.out.now c.push_str-in-BigInteger.new.self _ _ c.push_str-in-BigInteger.ensures.ok (ap (λ (v : TtlvType). codes ", Type: " ++ type_text v) (sym c.in-BigInteger.is));
+      err = err_same g.S.TextSink.adds g.S.TextSink.breaks c.push_str-in-BigInteger.result c.args.out.now c.push_str-in-BigInteger.new.self _ _ c.push_str-in-BigInteger.ensures.err (ap (λ (v : TtlvType). codes ", Type: " ++ type_text v) (sym c.in-BigInteger.is));
+    }
+
+pub returns-in-Enumeration : goal.returns-in-Enumeration
+returns-in-Enumeration g c =
+    record {
+      ok = ok_same g.S.TextSink.adds g.S.TextSink.breaks c.push_str-in-Enumeration.result c.args.out.now c.push_str-in-Enumeration.new.self _ _ c.push_str-in-Enumeration.ensures.ok (ap (λ (v : TtlvType). codes ", Type: " ++ type_text v) (sym c.in-Enumeration.is));
+      err = err_same g.S.TextSink.adds g.S.TextSink.breaks c.push_str-in-Enumeration.result c.args.out.now c.push_str-in-Enumeration.new.self _ _ c.push_str-in-Enumeration.ensures.err (ap (λ (v : TtlvType). codes ", Type: " ++ type_text v) (sym c.in-Enumeration.is));
+    }
 
 pub returns-in-Boolean : goal.returns-in-Boolean
-returns-in-Boolean g c = typed c.push_str-in-Boolean.result _ _ c.args.typ _ c.push_str-in-Boolean.ensures.bytes c.in-Boolean.is
+returns-in-Boolean g c =
+    record {
+      ok = ok_same g.S.TextSink.adds g.S.TextSink.breaks c.push_str-in-Boolean.result c.args.out.now c.push_str-in-Boolean.new.self _ _ c.push_str-in-Boolean.ensures.ok (ap (λ (v : TtlvType). codes ", Type: " ++ type_text v) (sym c.in-Boolean.is));
+      err = err_same g.S.TextSink.adds g.S.TextSink.breaks c.push_str-in-Boolean.result c.args.out.now c.push_str-in-Boolean.new.self _ _ c.push_str-in-Boolean.ensures.err (ap (λ (v : TtlvType). codes ", Type: " ++ type_text v) (sym c.in-Boolean.is));
+    }
+
+pub returns-in-TextString : goal.returns-in-TextString
+returns-in-TextString g c =
+    record {
+      ok = ok_same g.S.TextSink.adds g.S.TextSink.breaks c.push_str-in-TextString.result c.args.out.now c.push_str-in-TextString.new.self _ _ c.push_str-in-TextString.ensures.ok (ap (λ (v : TtlvType). codes ", Type: " ++ type_text v) (sym c.in-TextString.is));
+      err = err_same g.S.TextSink.adds g.S.TextSink.breaks c.push_str-in-TextString.result c.args.out.now c.push_str-in-TextString.new.self _ _ c.push_str-in-TextString.ensures.err (ap (λ (v : TtlvType). codes ", Type: " ++ type_text v) (sym c.in-TextString.is));
+    }
+
+pub returns-in-ByteString : goal.returns-in-ByteString
+returns-in-ByteString g c =
+    record {
+      ok = ok_same g.S.TextSink.adds g.S.TextSink.breaks c.push_str-in-ByteString.result c.args.out.now c.push_str-in-ByteString.new.self _ _ c.push_str-in-ByteString.ensures.ok (ap (λ (v : TtlvType). codes ", Type: " ++ type_text v) (sym c.in-ByteString.is));
+      err = err_same g.S.TextSink.adds g.S.TextSink.breaks c.push_str-in-ByteString.result c.args.out.now c.push_str-in-ByteString.new.self _ _ c.push_str-in-ByteString.ensures.err (ap (λ (v : TtlvType). codes ", Type: " ++ type_text v) (sym c.in-ByteString.is));
+    }
 
 pub returns-in-DateTime : goal.returns-in-DateTime
-returns-in-DateTime g c = typed c.push_str-in-DateTime.result _ _ c.args.typ _ c.push_str-in-DateTime.ensures.bytes c.in-DateTime.is
+returns-in-DateTime g c =
+    record {
+      ok = ok_same g.S.TextSink.adds g.S.TextSink.breaks c.push_str-in-DateTime.result c.args.out.now c.push_str-in-DateTime.new.self _ _ c.push_str-in-DateTime.ensures.ok (ap (λ (v : TtlvType). codes ", Type: " ++ type_text v) (sym c.in-DateTime.is));
+      err = err_same g.S.TextSink.adds g.S.TextSink.breaks c.push_str-in-DateTime.result c.args.out.now c.push_str-in-DateTime.new.self _ _ c.push_str-in-DateTime.ensures.err (ap (λ (v : TtlvType). codes ", Type: " ++ type_text v) (sym c.in-DateTime.is));
+    }
 
 pub returns-in-Interval : goal.returns-in-Interval
-returns-in-Interval g c = typed c.push_str-in-Interval.result _ _ c.args.typ _ c.push_str-in-Interval.ensures.bytes c.in-Interval.is
+returns-in-Interval g c =
+    record {
+      ok = ok_same g.S.TextSink.adds g.S.TextSink.breaks c.push_str-in-Interval.result c.args.out.now c.push_str-in-Interval.new.self _ _ c.push_str-in-Interval.ensures.ok (ap (λ (v : TtlvType). codes ", Type: " ++ type_text v) (sym c.in-Interval.is));
+      err = err_same g.S.TextSink.adds g.S.TextSink.breaks c.push_str-in-Interval.result c.args.out.now c.push_str-in-Interval.new.self _ _ c.push_str-in-Interval.ensures.err (ap (λ (v : TtlvType). codes ", Type: " ++ type_text v) (sym c.in-Interval.is));
+    }

@@ -1,7 +1,6 @@
-use Rattle.std.proofs.Common.{◌≡◌, ◌+◌, ◌*◌, ◌%◌, ◌^◌, ◌<◌, ◌∷◌, ℕ, List, Option, Some, None, ap, sym, ◌∙◌, arith, IfSome}
+use Rattle.std.proofs.Common.{◌≡◌, ◌+◌, ◌*◌, ◌%◌, ◌^◌, ◌<◌, [], ◌∷◌, ℕ, List, Option, Some, None, ap, sym, ◌∙◌, arith, IfSome}
 use Rattle.kmip_ttlv_types.specs.Digits.{six_digits}
 use Rattle.kmip_ttlv_types.specs.Names.{tag_of}
-use Rattle.kmip_ttlv_util.specs.TagNames.{no_names}
 use Rattle.kmip_ttlv_util.proofs.PrefixNumbers.{joined_fits, joined_digits}
 use Rattle.kmip_ttlv_util.proofs.ReadBack.{six_tag}
 use Rattle.kmip_ttlv_util.proofs.undiag.six_digits_tag.Goals as goal
@@ -26,4 +25,4 @@ returns-clause-tag c =
     let t = p.number * 2 ^ (4 * c.args.count) + c.args.number in
     let fits : t < 2 ^ 24 = joined_fits p.text.now p.count p.number c.args.count c.args.number (omega arith) is.0 is.1 small in
     let whole : p.number * 2 ^ (4 * c.args.count) % 4294967296 + c.args.number ≡ t = omega (arith, fits) in
-    told c.from_number.result _ t (48 ∷ 120 ∷ six_digits t) _ whole (ap (λ (s : List ℕ). 48 ∷ 120 ∷ s) (joined_digits p.text.now p.count p.number c.args.count c.args.number (omega arith) is.0 is.1 small)) (six_tag no_names t fits) c.from_number.ensures.some
+    told c.from_number.result _ t (48 ∷ 120 ∷ six_digits t) _ whole (ap (λ (s : List ℕ). 48 ∷ 120 ∷ s) (joined_digits p.text.now p.count p.number c.args.count c.args.number (omega arith) is.0 is.1 small)) (six_tag (λ _ _. []) t fits) c.from_number.ensures.some
