@@ -64,4 +64,5 @@ pub use Rattle.kmip_ttlv_laws.specs.Agreements
 pub use Rattle.kmip_ttlv_laws.specs.ReadingLaws
 pub use Rattle.kmip_ttlv_items.specs.FoundItems
 pub use Rattle.kmip_ttlv_items.specs.ItemWalks
+pub use Rattle.kmip_ttlv_items.specs.Stepping
 pub use Rattle.kmip_ttlv_names.specs.NameTables

@@ -2,5 +2,6 @@ pub mod Spans
 pub mod Leads
 pub mod Lefts
 pub mod Steps
-pub mod Ends
 pub mod Names
+pub mod Walks
+pub mod Completes

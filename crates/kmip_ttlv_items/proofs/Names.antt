@@ -1,11 +1,10 @@
 -- What is wrong has one name.
-use Rattle.std.proofs.Common.{◌≡◌, ◌⊎◌, inl, inr, ℕ, ◌+◌, ◌<◌, ◌≤◌, true, false, List, length, Some, None, ap, refl, arith}
+use Rattle.std.proofs.Common.{◌≡◌, inl, inr, ℕ, ◌+◌, ◌<◌, ◌≤◌, false, List, length, None, ap, refl, arith}
 use Rattle.kmip_ttlv_types.specs.declared.typ.TtlvType.{TtlvType}
 use Rattle.kmip_ttlv_types.specs.declared.typ.TtlvType.TheVariants.{Structure}
 use Rattle.kmip_ttlv_types.specs.ItemTypes.{fixed_length}
 use Rattle.kmip_ttlv_types.specs.Places.{length_at, size}
-use Rattle.kmip_ttlv_items.specs.declared.found.FaultKind.{FaultKind}
-use Rattle.kmip_ttlv_items.specs.declared.found.FaultKind.TheVariants.{Cut, NoStructure, UnknownType, PartialHeader, WrongLength, Overlong, InvalidValue, Surplus}
+use Rattle.kmip_ttlv_items.specs.declared.found.FaultKind.TheVariants.{Cut, NoStructure, UnknownType, PartialHeader, WrongLength, Overlong, InvalidValue}
 use Rattle.kmip_ttlv_items.specs.ItemWalks.{type_at, has_length, HasType, IsLengthOf, Misfits, RootMisfits, HasOneName}
 
 module _ (w : List ℕ) (p e : ℕ) where

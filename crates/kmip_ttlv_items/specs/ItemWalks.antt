@@ -1,6 +1,6 @@
 -- A walk over whole items, where it stops, and what it answers.
 use Rattle.std.specs.Prelude.{◌≡◌, ◌≢◌, ◌⊎◌, ℕ, ◌+◌, ◌<◌, ◌≤◌, Bool, true, false, ◌==◌, List, [], ◌∷◌, ◌++◌, length}
-use Rattle.std.specs.Prelude.{map, take, drop, Option, Some, None}
+use Rattle.std.specs.Prelude.{map, take, drop, Option, Some, None, EachIndex, slice_index}
 use Rattle.kmip_ttlv_types.specs.declared.typ.TtlvType.{TtlvType}
 use Rattle.kmip_ttlv_types.specs.declared.typ.TtlvType.TheVariants.{Structure}
 use Rattle.kmip_ttlv_types.specs.ItemTypes.{type_of, fixed_length}
@@ -92,6 +92,16 @@ pub data WalksTo (bytes : List ℕ) : ℕ → List ℕ → List FoundItem → Ty
       → q ≡ p + size i.typ i.length → WalksTo bytes q (e ∷ es) (xs ++ (i ∷ []))
   leaves : (p e : ℕ) (es : List ℕ) (xs : List FoundItem) → WalksTo bytes p (e ∷ es) xs → p ≡ e → WalksTo bytes p es xs
 
+-- where a walk can stand, the items that it has met, and the ends of the structures that it is in: before its first
+-- step it is at 0, in none, and has met none
+pub data Meets (bytes : List ℕ) (p : ℕ) (es : List ℕ) (xs : List FoundItem) : Type 0 where
+  at_first : p ≡ 0 → es ≡ [] → xs ≡ [] → Meets bytes p es xs
+  on_the_way : WalksTo bytes p es xs → Meets bytes p es xs
+
+-- a walk can stand at a place, in structures with these ends
+abbrev pub CanStand : List ℕ → ℕ → List ℕ → Type 0
+CanStand bytes p es = ∥ ((xs : List FoundItem) × Meets bytes p es xs) ∥₁
+
 -- the fault at which a walk stops that has met these items: of the root, of an item within a structure, or
 -- what follows the root
 pub data Stops (bytes : List ℕ) (xs : List FoundItem) (f : Fault) : Type 0 where
@@ -124,3 +134,13 @@ pub record Judges (bytes : List ℕ) (fault : Option Fault) : Type 0 where
 -- what is wrong has one name
 abbrev pub HasOneName : (FaultKind → Type 0) → Type 0
 HasOneName is_wrong = (k m : FaultKind) → is_wrong k → is_wrong m → k ≡ m
+
+-- each number is a byte
+abbrev pub AreBytes : List ℕ → Type 0
+AreBytes bytes = EachIndex bytes (λ k. slice_index bytes k < 256)
+
+-- a walk that met these items comes to an end, be it a fault or not
+pub record Ends (bytes : List ℕ) (met : List FoundItem) : Type 0 where
+  pub more : List FoundItem
+  pub fault : Option Fault
+  pub ended : Ended bytes (met ++ more) fault

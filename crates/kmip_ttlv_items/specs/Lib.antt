@@ -1,2 +1,4 @@
 pub mod FoundItems
 pub mod ItemWalks
+pub mod WalkPlaces
+pub mod Stepping

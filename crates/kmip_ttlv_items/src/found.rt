@@ -77,3 +77,12 @@ pub struct WalkEnd {
     /// What stopped it, and none where the bytes are one whole message.
     pub fault: Option<Fault>,
 }
+
+/// What a step of a walk comes to.
+#[derive(Clone, Copy, Debug, PartialEq, Eq)]
+pub enum Step {
+    /// The next item.
+    Item(FoundItem),
+    /// The end: what stopped the walk, and none where the bytes are one whole message.
+    End(Option<Fault>),
+}

@@ -8,8 +8,10 @@
 
 mod found;
 mod head;
+mod item_walk;
 pub mod laws;
 mod walk;
 
-pub use found::{Fault, FaultKind, FoundItem, KeepItem, WalkEnd};
+pub use found::{Fault, FaultKind, FoundItem, KeepItem, Step, WalkEnd};
+pub use item_walk::ItemWalk;
 pub use walk::{find_fault, walk_items};

@@ -1,10 +1,10 @@
 //! Walks: items, faults and their places, and lists that are too short.
 
 use hex::FromHexError;
-use kmip_ttlv::items::{Fault, FaultKind, FoundItem, find_fault, walk_items};
+use kmip_ttlv::items::{Fault, FaultKind, FoundItem, ItemWalk, Step, find_fault, walk_items};
 use kmip_ttlv::types::{TtlvTag, TtlvType};
 use refusing_allocator::RefusingAllocator;
-use std::alloc::Global;
+use std::alloc::{Allocator, Global};
 
 // A message as hexadecimal text, the place of its first fault, and what is wrong there.
 type Row = (&'static str, usize, FaultKind);
@@ -176,6 +176,41 @@ fn items(rt: HostRuntime) {
     for room in 0..7 {
         assert!(rt; is_listed(rt.alloc(), room), "{room}");
     }
+}
+
+// The next step of a walk, tried again where a growth is refused.
+fn stepped<A: Allocator>(walk: &mut ItemWalk<'_, A>) -> Option<Step> {
+    match walk.next() {
+        Ok(step) => Some(step),
+        Err(_) => walk.next().ok(),
+    }
+}
+
+// Whether a walk, of which this growth is refused, comes to each item, and then to the end, and stays there.
+fn is_stepped(alloc: Global, bytes: &[u8], before: u64) -> bool {
+    let heap = RefusingAllocator::new(alloc, before);
+    let mut walk = ItemWalk::new(&heap, bytes);
+    for wanted in ITEMS {
+        match stepped(&mut walk) {
+            Some(Step::Item(item)) if parts(item) == wanted => {}
+            _ => return false,
+        }
+    }
+    let first = stepped(&mut walk) == Some(Step::End(None));
+    let again = stepped(&mut walk) == Some(Step::End(None));
+    first && again
+}
+
+#[test]
+fn steps(rt: HostRuntime) -> Result<(), FromHexError> {
+    let bytes = hex::decode(rt.alloc(), NESTED)?;
+    for before in 0..4 {
+        assert!(rt;
+            is_stepped(rt.alloc(), bytes.as_slice(), before),
+            "{before}"
+        );
+    }
+    Ok(())
 }
 
 // Whether the walk and the check answer want of memory exactly where this growth is refused.

@@ -25,3 +25,5 @@ mod program_faults;
 mod reading_back;
 #[cfg(test)]
 mod texts;
+#[cfg(test)]
+mod writing;

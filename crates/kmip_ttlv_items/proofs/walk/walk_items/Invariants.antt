@@ -1,10 +1,14 @@
-use Rattle.std.proofs.Common.{◌+◌, ◌-◌, ◌*◌, length}
-use Rattle.std.specs.Prelude.{reverse}
-use Rattle.kmip_ttlv_items.proofs.Steps.{Walking}
+use Rattle.std.proofs.Common.{◌≡◌, List, length, map}
+use Rattle.kmip_ttlv_items.specs.declared.found.FoundItem.{FoundItem}
+use Rattle.kmip_ttlv_items.specs.FoundItems.{overlaid}
+use Rattle.kmip_ttlv_items.specs.Stepping.{Met, left}
 use Rattle.kmip_ttlv_items.proofs.walk.walk_items.Given as goal
 
 abbrev pub invariant-walk : goal.invariant-walk
-invariant-walk g l = Walking g.T.KeepItem.kept l.bytes l.fn.out l.out l.offset (reverse l.ends.items) l.count
+invariant-walk g l = record {
+  bytes : l.walk.bytes.now ≡ l.bytes;
+  keeps : (found : List FoundItem) × Met l.walk found × (l.count ≡ length found) × (l.out ≡ overlaid (map g.T.KeepItem.kept found) l.fn.out);
+}
 
 abbrev pub decreases-walk : goal.decreases-walk
-decreases-walk g l = 2 * (length l.bytes - l.offset) + length l.ends.items
+decreases-walk g l = left l.walk

@@ -1,0 +1,153 @@
+-- Each walk has an end.
+use Rattle.std.proofs.Common.{◌≡◌, ◌≢◌, ◌⊎◌, inl, inr, ℕ, suc, zero, ◌+◌, ◌-◌, ◌*◌, ◌<◌, ◌≤◌, Bool, true, false, List, [], ◌∷◌, ◌++◌, length, get_or, Option, Some, None, ap, sym, refl, subst, ◌∙◌, arith, append-nil, append_assoc}
+use Rattle.std.proofs.lemmas.Bool.{cases_lt, cases_eq}
+use Rattle.kmip_ttlv_types.specs.declared.typ.TtlvType.{TtlvType}
+use Rattle.kmip_ttlv_types.specs.declared.typ.TtlvType.TheVariants.{Structure, Integer, LongInteger, BigInteger, Enumeration, Boolean, TextString, ByteString, DateTime, Interval}
+use Rattle.kmip_ttlv_types.specs.ItemTypes.{fixed_length}
+use Rattle.kmip_ttlv_types.specs.Leaves.{is_valid}
+use Rattle.kmip_ttlv_types.specs.Places.{tag_at, length_at, size}
+use Rattle.kmip_ttlv_items.specs.declared.found.FoundItem.{FoundItem}
+use Rattle.kmip_ttlv_items.specs.declared.found.Fault.{Fault}
+use Rattle.kmip_ttlv_items.specs.declared.found.FaultKind.{FaultKind}
+use Rattle.kmip_ttlv_items.specs.declared.found.FaultKind.TheVariants.{Cut, NoStructure, UnknownType, PartialHeader, WrongLength, Overlong, InvalidValue, Surplus}
+use Rattle.kmip_ttlv_items.specs.FoundItems.{item}
+use Rattle.kmip_ttlv_items.specs.ItemWalks.{type_at, content_at, has_length, HasType, IsWhole, Misfits, RootMisfits, WalksTo, enters_root, enters, passes, leaves, Meets, at_first, on_the_way, Ended, Ends}
+use Rattle.kmip_ttlv_items.proofs.Spans.{size_least}
+use Rattle.kmip_ttlv_items.proofs.Steps.{IsNested, nested_within}
+use Rattle.kmip_ttlv_items.proofs.Walks.{walked, ended_whole, ended_at_root, ended_inside, ended_behind}
+
+-- a type is Structure or another
+node_or_leaf : (t : TtlvType) → (t ≡ Structure) ⊎ (t ≢ Structure)
+node_or_leaf Structure = inl refl
+node_or_leaf Integer = inr (λ e. cc)
+node_or_leaf LongInteger = inr (λ e. cc)
+node_or_leaf BigInteger = inr (λ e. cc)
+node_or_leaf Enumeration = inr (λ e. cc)
+node_or_leaf Boolean = inr (λ e. cc)
+node_or_leaf TextString = inr (λ e. cc)
+node_or_leaf ByteString = inr (λ e. cc)
+node_or_leaf DateTime = inr (λ e. cc)
+node_or_leaf Interval = inr (λ e. cc)
+
+-- an item is whole, or it misfits
+Judged : List ℕ → ℕ → ℕ → ℕ → Type 0
+Judged w p e depth = ((i : FoundItem) × IsWhole w p e depth i) ⊎ ((kind : FaultKind) × Misfits w p e kind)
+
+module _ (w : List ℕ) (p e depth : ℕ) where
+  whole_item : (t : TtlvType) → type_at w p ≡ Some t → p + size t (length_at w p) ≤ e → (t ≢ Structure → is_valid t (content_at w p) ≡ true) → Judged w p e depth
+  unfolding Judged
+  whole_item t is fits valid =
+      inl (item p depth (tag_at w p) t (length_at w p), record { offset = refl; deep = refl; tag = refl; typ = is; len = refl; fits = fits; valid = valid })
+
+  judged_content : (t : TtlvType) → HasType w p e t → has_length (fixed_length t) (length_at w p) ≡ true → p + size t (length_at w p) ≤ e → t ≢ Structure → (b : Bool) → is_valid t (content_at w p) ≡ b → Judged w p e depth
+  unfolding Judged
+  judged_content t has long fits leaf true valid = whole_item t has.typ fits (λ _. valid)
+  judged_content t has long fits leaf false valid = inr (InvalidValue, (t, has, long, fits, leaf, valid))
+
+  judged_length : (t : TtlvType) → HasType w p e t → (b : Bool) → has_length (fixed_length t) (length_at w p) ≡ b → Judged w p e depth
+  unfolding Judged
+  judged_length t has false wrong = inr (WrongLength, (t, has, wrong))
+  judged_length t has true long =
+      elim (cases_lt e (p + size t (length_at w p))) [
+        | inl past ↦ inr (Overlong, (t, has, long, past))
+        | inr fits ↦ elim (node_or_leaf t) [
+          | inl node ↦ whole_item t has.typ fits (λ leaf. absurd (leaf node))
+          | inr leaf ↦ judged_content t has long fits leaf (is_valid t (content_at w p)) refl
+        ]
+      ]
+
+  judged_type : p + 8 ≤ e → (t : Option TtlvType) → type_at w p ≡ t → Judged w p e depth
+  unfolding Judged
+  judged_type there None none = inr (UnknownType, (there, none))
+  judged_type there (Some t) is = judged_length t (record { there = there; typ = is }) (has_length (fixed_length t) (length_at w p)) refl
+
+  judged : Judged w p e depth
+  unfolding Judged
+  judged = elim (cases_lt e (p + 8)) [ inl short ↦ inr (PartialHeader, short) | inr there ↦ judged_type there (type_at w p) refl ]
+
+-- a root is whole and a structure, or it misfits
+RootJudged : List ℕ → Type 0
+RootJudged w = ((kind : FaultKind) × RootMisfits w kind) ⊎ ((i : FoundItem) × IsWhole w 0 (length w) 0 i × (i.typ ≡ Structure))
+
+module _ (w : List ℕ) where
+  root_long : HasType w 0 (length w) Structure → 8 + length_at w 0 ≤ length w → RootJudged w
+  unfolding RootJudged
+  root_long has long =
+      inr (item 0 0 (tag_at w 0) Structure (length_at w 0), record { offset = refl; deep = refl; tag = refl; typ = has.typ; len = refl; fits = omega (arith, long); valid = λ leaf. absurd (leaf refl) }, refl)
+
+  root_structure : HasType w 0 (length w) Structure → RootJudged w
+  unfolding RootJudged
+  root_structure has =
+      elim (cases_lt (length w) (8 + length_at w 0)) [ inl short ↦ inl (Cut, inr (has, short)) | inr long ↦ root_long has long ]
+
+  root_type : 8 ≤ length w → (t : Option TtlvType) → type_at w 0 ≡ t → RootJudged w
+  unfolding RootJudged
+  root_type there None none = inl (UnknownType, (there, none))
+  root_type there (Some t) is =
+      elim (node_or_leaf t) [
+        | inl node ↦ root_structure (record { there = there; typ = is ∙ ap (λ (u : TtlvType). Some u) node })
+        | inr leaf ↦ inl (NoStructure, (t, record { there = there; typ = is }, leaf))
+      ]
+
+  root_judged : RootJudged w
+  unfolding RootJudged
+  root_judged = elim (cases_lt (length w) 8) [ inl short ↦ inl (Cut, inl short) | inr there ↦ root_type there (type_at w 0) refl ]
+
+module _ (w : List ℕ) where
+  at_end : (xs : List FoundItem) (fault : Option Fault) → Ended w xs fault → Ends w xs
+  at_end xs fault h = record { more = []; fault = fault; ended = subst (λ (s : List FoundItem). Ended w s fault) (sym (append-nil xs)) h }
+
+  one_on : (xs : List FoundItem) (i : FoundItem) → Ends w (xs ++ (i ∷ [])) → Ends w xs
+  one_on xs i h = record { more = i ∷ h.more; fault = h.fault; ended = subst (λ (s : List FoundItem). Ended w s h.fault) (append_assoc xs (i ∷ []) h.more) h.ended }
+
+  -- what is left: bytes, and structures that are open
+  left : ℕ → List ℕ → ℕ
+  left p es = 2 * (length w - p) + length es
+
+  -- an item is due, and a walk with less left has an end
+  ends_inside : (p e : ℕ) (es : List ℕ) (xs : List FoundItem) → WalksTo w p (e ∷ es) xs → p ≢ e → ((q : ℕ) (fs : List ℕ) (ys : List FoundItem) → left q fs < left p (e ∷ es) → WalksTo w q fs ys → Ends w ys) → Ends w xs
+  unfolding left Judged
+  ends_inside p e es xs walks ne further = by (judged w p e (length (e ∷ es)))
+    where
+      nested : IsNested w p (e ∷ es)
+      nested = (walked w p (e ∷ es) xs walks).nested
+
+      met : (i : FoundItem) → IsWhole w p e (length (e ∷ es)) i → Ends w (xs ++ (i ∷ []))
+      met i whole =
+          elim (node_or_leaf i.typ) [
+            | inl node ↦ further (p + 8) ((p + size i.typ i.length) ∷ e ∷ es) (xs ++ (i ∷ [])) (omega (arith, whole.fits, size_least i.typ i.length, nested_within w e es nested.1)) (enters p (p + 8) e (p + size i.typ i.length) es xs i walks whole node refl refl)
+            | inr leaf ↦ further (p + size i.typ i.length) (e ∷ es) (xs ++ (i ∷ [])) (omega (arith, whole.fits, size_least i.typ i.length, nested_within w e es nested.1)) (passes p (p + size i.typ i.length) e es xs i walks whole leaf refl)
+          ]
+
+      by : Judged w p e (length (e ∷ es)) → Ends w xs
+      by (inr wrong) = at_end xs (Some record { offset = p; kind = wrong.0 }) (ended_inside w p e es xs wrong.0 walks (omega (arith, nested.0)) wrong.1)
+      by (inl whole) = one_on xs whole.0 (met whole.0 whole.1)
+
+  module _ (plain : (k : ℕ) → get_or w k 0 < 256) where
+    -- by what is left
+    ends_by : (n : ℕ) (p : ℕ) (es : List ℕ) (xs : List FoundItem) → left p es ≤ n → WalksTo w p es xs → Ends w xs
+    unfolding left
+    ends_by n p [] xs few walks =
+        elim (cases_lt p (length w)) [ inl lt ↦ at_end xs (Some record { offset = p; kind = Surplus }) (ended_behind w p xs walks lt) | inr le ↦ at_end xs None (ended_whole w plain p xs walks le) ]
+    ends_by zero p (e ∷ es) xs few walks = absurd (omega (arith, few))
+    ends_by (suc n) p (e ∷ es) xs few walks =
+        elim (cases_eq p e) [
+          | inl at ↦ ends_by n p es xs (omega (arith, few)) (leaves p e es xs walks at)
+          | inr ne ↦ ends_inside p e es xs walks ne (λ q fs ys less further. ends_by n q fs ys (omega (arith, few, less)) further)
+        ]
+
+    ends_walking : (p : ℕ) (es : List ℕ) (xs : List FoundItem) → WalksTo w p es xs → Ends w xs
+    ends_walking p es xs walks = ends_by (left p es) p es xs (omega arith) walks
+
+    ends_first : Ends w []
+    unfolding RootJudged
+    ends_first =
+        elim (root_judged w) [
+          | inl wrong ↦ at_end [] (Some record { offset = 0; kind = wrong.0 }) (ended_at_root w wrong.0 wrong.1)
+          | inr root ↦ one_on [] root.0 (ends_walking 8 (size root.0.typ root.0.length ∷ []) (root.0 ∷ []) (enters_root 8 (size root.0.typ root.0.length) root.0 root.1 root.2 refl refl))
+        ]
+
+    -- each walk has an end
+    pub ends : (p : ℕ) (es : List ℕ) (xs : List FoundItem) → Meets w p es xs → Ends w xs
+    ends p es xs (at_first _ _ empty) = subst (Ends w) (sym empty) ends_first
+    ends p es xs (on_the_way walks) = ends_walking p es xs walks

@@ -1,0 +1,208 @@
+//! Texts that go to a writer in pieces: the same as those in one string, also where the writer fails.
+
+use crate::messages::{
+    CREATE_REQUEST, CREATE_RESPONSE, DESTROY_REQUEST, EMPTY_FIRST, SHORT, VERSION,
+};
+use crate::printers::printer;
+use hex::FromHexError;
+use kmip_ttlv::PrettyPrinter;
+use refusing_allocator::{BoundedAllocator, RefusingAllocator};
+use std::alloc::{AllocError, Allocator, Global};
+use std::io;
+use std::io::{ErrorKind, Write};
+
+const MESSAGES: [&str; 8] = [
+    VERSION,
+    EMPTY_FIRST,
+    SHORT,
+    CREATE_REQUEST,
+    CREATE_RESPONSE,
+    DESTROY_REQUEST,
+    "",
+    "4200690100000010",
+];
+
+// Takes what it has room for, and fails then; it counts the writes that it was asked for behind that.
+#[derive(Drop)]
+struct Limited {
+    taken: Vec<u8>,
+    room: usize,
+    kind: ErrorKind,
+    failures: usize,
+}
+
+impl Write for Limited {
+    fn write(&mut self, buf: &[u8]) -> io::Result<usize> {
+        if self.room == 0 {
+            self.failures = self.failures.saturating_add(1);
+            return Err(io::Error::from(self.kind));
+        }
+        let most = buf.len().min(self.room);
+        self.room -= most;
+        self.taken.write(&buf[..most])
+    }
+
+    fn flush(&mut self) -> io::Result<()> {
+        Ok(())
+    }
+}
+
+// Which text of a printer.
+#[derive(Clone, Copy, Debug)]
+enum Kind {
+    Lines,
+    Diagnostic,
+}
+
+const KINDS: [Kind; 2] = [Kind::Lines, Kind::Diagnostic];
+
+// The text in one string.
+fn text_of(
+    printer: &PrettyPrinter<Global>,
+    kind: Kind,
+    bytes: &[u8],
+) -> Result<String, AllocError> {
+    match kind {
+        Kind::Lines => printer.to_string(bytes),
+        Kind::Diagnostic => printer.to_diag_string(bytes),
+    }
+}
+
+// The text to a writer.
+fn write<A: Allocator + Copy, W: Write>(
+    printer: &PrettyPrinter<A>,
+    kind: Kind,
+    writer: &mut W,
+    bytes: &[u8],
+) -> io::Result<()> {
+    match kind {
+        Kind::Lines => printer.write_text(writer, bytes),
+        Kind::Diagnostic => printer.write_diag(writer, bytes),
+    }
+}
+
+// Whether a vector gets the text that is made in one string.
+fn is_same(alloc: Global, kind: Kind, bytes: &[u8]) -> Result<bool, AllocError> {
+    let printer = printer(alloc, "4200", false)?;
+    let text = text_of(&printer, kind, bytes)?;
+    let mut written = Vec::new(alloc);
+    let is_ok = write(&printer, kind, &mut written, bytes).is_ok();
+    Ok(is_ok && written.as_slice() == text.as_bytes())
+}
+
+#[test]
+fn messages_are_written_as_they_are_made(rt: HostRuntime) -> Result<(), FromHexError> {
+    for message in MESSAGES {
+        let bytes = hex::decode(rt.alloc(), message)?;
+        for kind in KINDS {
+            assert!(rt; is_same(rt.alloc(), kind, &bytes)?, "{kind:?} {message}");
+        }
+    }
+    Ok(())
+}
+
+// A structure of one leaf of this type, whose content is so many times this byte.
+fn long_leaf(alloc: Global, code: u8, byte: u8, count: u32) -> Result<Vec<u8>, AllocError> {
+    let mut message = Vec::new(alloc);
+    message.extend_from_slice(&[0x42, 0, 0x69, 1])?;
+    message.extend_from_slice(&count.saturating_add(8).to_be_bytes())?;
+    message.extend_from_slice(&[0x42, 0, 0x6A, code])?;
+    message.extend_from_slice(&count.to_be_bytes())?;
+    for _ in 0..count {
+        message.push(byte)?;
+    }
+    Ok(message)
+}
+
+#[test]
+fn long_values_are_written_as_they_are_made(rt: HostRuntime) -> Result<(), AllocError> {
+    for (code, byte) in [(7, b'a'), (8, 0xC5)] {
+        let bytes = long_leaf(rt.alloc(), code, byte, 100_000)?;
+        for kind in KINDS {
+            assert!(rt; is_same(rt.alloc(), kind, &bytes)?, "{kind:?} {code}");
+        }
+    }
+    Ok(())
+}
+
+// Whether a writer with too little room has as much of the text as it has room for, was asked once more
+// and no further time, and the error is its own.
+fn is_cut(
+    alloc: Global,
+    kind: Kind,
+    bytes: &[u8],
+    room: usize,
+    failure: ErrorKind,
+) -> Result<bool, AllocError> {
+    let printer = printer(alloc, "4200", false)?;
+    let text = text_of(&printer, kind, bytes)?;
+    let mut writer = Limited {
+        taken: Vec::new(alloc),
+        room,
+        kind: failure,
+        failures: 0,
+    };
+    let Err(error) = write(&printer, kind, &mut writer, bytes) else {
+        return Ok(text.len() <= room);
+    };
+    Ok(
+        error.kind() == failure
+            && writer.failures == 1
+            && writer.taken.len() == room
+            && text.as_bytes().starts_with(writer.taken.as_slice()),
+    )
+}
+
+const FAILURES: [ErrorKind; 3] = [
+    ErrorKind::BrokenPipe,
+    ErrorKind::PermissionDenied,
+    ErrorKind::Other,
+];
+
+#[test]
+fn a_writer_that_fails_has_a_beginning(rt: HostRuntime) -> Result<(), AllocError> {
+    for (code, byte) in [(7, b'a'), (8, 0xC5)] {
+        let bytes = long_leaf(rt.alloc(), code, byte, 100_000)?;
+        for room in [0, 1, 10, 8_192] {
+            for failure in FAILURES {
+                for kind in KINDS {
+                    let is_right = is_cut(rt.alloc(), kind, &bytes, room, failure)?;
+                    assert!(rt; is_right, "{kind:?} {code} {room}");
+                }
+            }
+        }
+    }
+    Ok(())
+}
+
+#[test]
+fn a_text_needs_no_memory_of_its_size(rt: HostRuntime) -> Result<(), AllocError> {
+    let bytes = long_leaf(rt.alloc(), 8, 0xC5, 100_000)?;
+    let memory = BoundedAllocator::new(rt.alloc(), 1_000);
+    let printer = printer(&memory, "4200", false)?;
+    assert!(rt; printer.to_string(&bytes).is_err());
+    let mut written = Vec::new(rt.alloc());
+    assert!(rt; printer.write_text(&mut written, &bytes).is_ok());
+    assert!(rt; 200_000 < written.len());
+    Ok(())
+}
+
+// Whether the error is OutOfMemory where each growth is refused, and the writer has no byte.
+fn is_refused(alloc: Global, kind: Kind, bytes: &[u8]) -> Result<bool, AllocError> {
+    let heap = RefusingAllocator::new(alloc, 0);
+    let printer = PrettyPrinter::new(&heap);
+    let mut written = Vec::new(alloc);
+    let Err(error) = write(&printer, kind, &mut written, bytes) else {
+        return Ok(false);
+    };
+    Ok(error.kind() == ErrorKind::OutOfMemory && written.is_empty() && heap.has_refused())
+}
+
+#[test]
+fn memory_for_open_structures_is_refused(rt: HostRuntime) -> Result<(), FromHexError> {
+    let bytes = hex::decode(rt.alloc(), VERSION)?;
+    for kind in KINDS {
+        assert!(rt; is_refused(rt.alloc(), kind, &bytes)?, "{kind:?}");
+    }
+    Ok(())
+}
