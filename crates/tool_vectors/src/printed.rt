@@ -211,3 +211,29 @@ fn deep_lines(alloc: Global) -> bool {
 fn deep_structures(rt: HostRuntime) {
     assert!(rt; deep_lines(rt.alloc()));
 }
+
+// The diagnostic of 67 structures, each in the one before, with an integer in the last.
+const NESTED_DIAGNOSTIC: &str =
+    "69[69[69[69[69[69[69[69[69[69[69[69[69[69[69[69[69[69[69[69[69[69[69[69[69[69[69[69[69[69[69[69[69[69[69[69[69[69[69[69[69[69[69[69[69[69[69[69[69[69[69[69[69[69[69[69[69[69[69[69[69[69[69[69[69[69[69[6Ai]]]]]]]]]]]]]]]]]]]]]]]]]]]]]]]]]]]]]]]]]]]]]]]]]]]]]]]]]]]]]]]]]]]";
+
+// The last four of the lines that it is read back as, indented by 64 levels at most.
+const DEEPEST_READ_BACK: &str =
+    "\n                                                                                                                                Tag: Protocol Version (0x420069), Type: Structure (0x01), Data: \n                                                                                                                                [65] Tag: Protocol Version (0x420069), Type: Structure (0x01), Data: \n                                                                                                                                [66] Tag: Protocol Version (0x420069), Type: Structure (0x01), Data: \n                                                                                                                                [67] Tag: Protocol Version Major (0x42006A), Type: Integer (0x02), Data: <redacted>\n";
+
+fn deep_lines_back(alloc: Global) -> bool {
+    match back_with(alloc, alloc, "4200", NESTED_DIAGNOSTIC.as_bytes()) {
+        Ok(outcome) => {
+            outcome.status == 0
+                && outcome
+                    .output
+                    .as_slice()
+                    .ends_with(DEEPEST_READ_BACK.as_bytes())
+        }
+        Err(AllocError) => false,
+    }
+}
+
+#[test]
+fn deep_diagnostics_read_back(rt: HostRuntime) {
+    assert!(rt; deep_lines_back(rt.alloc()));
+}

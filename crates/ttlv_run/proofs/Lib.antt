@@ -1,6 +1,6 @@
 pub mod Appending
 pub mod Backs
+pub mod Completion
 pub mod Good
-pub mod Kept
 pub mod Sequences
 pub mod Told

@@ -1,5 +1,5 @@
 -- Items whose contents lie among the bytes and are values of their types.
-use Rattle.std.specs.Prelude.{◌≡◌, ◌≢◌, ℕ, ◌+◌, ◌≤◌, true, List, [], ◌∷◌, length}
+use Rattle.std.specs.Prelude.{◌≡◌, ◌≢◌, ℕ, ◌+◌, ◌≤◌, true, List, length}
 use Rattle.kmip_ttlv_types.specs.declared.typ.TtlvType.TheVariants.{Structure}
 use Rattle.kmip_ttlv_types.specs.Leaves.{is_valid}
 use Rattle.kmip_ttlv_types.specs.Places.{length_at}
@@ -11,8 +11,3 @@ pub record IsGood (bytes : List ℕ) (i : FoundItem) : Type 0 where
   pub within : i.offset + 8 + i.length ≤ length bytes
   pub len : i.length ≡ length_at bytes i.offset
   pub valid : i.typ ≢ Structure → is_valid i.typ (content_at bytes i.offset) ≡ true
-
--- all of some items
-abbrev pub AreGood : List ℕ → List FoundItem → Type 0
-AreGood bytes [] = Unit {0}
-AreGood bytes (i ∷ is) = IsGood bytes i × AreGood bytes is

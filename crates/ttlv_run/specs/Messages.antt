@@ -55,6 +55,12 @@ abbrev pub Prints : Names → Task → List ℕ → List ℕ → Option Place �
 Prints names task bytes text None = Whole names task bytes (length bytes) text
 Prints names task bytes text (Some place) = Breaks names task bytes text place
 
+-- a text that goes on behind this one is printed of an input, whatever that holds
+pub record GoesOn (names : Names) (task : Task) (bytes front : List ℕ) : Type 0 where
+  pub more : List ℕ
+  pub place : Option Place
+  pub prints : Prints names task bytes (front ++ more) place
+
 -- a fault in words
 abbrev pub fault_words : FaultKind → List ℕ
 fault_words Cut = codes "the input ends within the message"

@@ -10,11 +10,11 @@ use Rattle.hex.specs.Hex.{encode_upper}
 use Rattle.kmip_ttlv_types.specs.declared.typ.TtlvType.{TtlvType}
 use Rattle.kmip_ttlv_types.specs.declared.typ.TtlvType.TheVariants.{Structure, Enumeration, TextString}
 use Rattle.kmip_ttlv_util.specs.Diagnostics.{hostile}
-use Rattle.kmip_ttlv_util.specs.Lines.{indent, tag_part, data_part, hidden}
+use Rattle.kmip_ttlv_util.specs.Lines.{bounded_part, data_part, hidden}
 use Rattle.kmip_ttlv_util.specs.Pretty.{value_shown}
 use Rattle.kmip_ttlv_util.specs.TagNames.{name_in}
 use Rattle.kmip_ttlv_util.specs.Traces.{trace}
-use Rattle.kmip_ttlv_util.specs.Undiag.{undiag}
+use Rattle.kmip_ttlv_util.specs.Undiag.{undiag_lines}
 use Rattle.kmip_ttlv_names.specs.NameTables.{lines_of}
 use Rattle.kmip_ttlv_names.specs.ValueNames.{name_of_value}
 use Rattle.kmip_ttlv_items.specs.declared.found.FoundItem.{FoundItem}
@@ -75,25 +75,17 @@ shown names Hidden tag typ content = hidden
 shown names Escaped tag TextString content = escaped content
 shown names values tag typ content = value_shown typ content
 
--- what stands in front of an item in more than 64 structures: the indentation of 64, and how many it is in
-unfoldable pub depth_mark : ℕ → List ℕ
-depth_mark depth = indent 64 ++ (codes "[" ++ (decimal depth ++ codes "] "))
-
--- the beginning of a line so deep, up to the tag: it is indented by 64 levels at most
-unfoldable pub line_front : (ℕ → Option (List ℕ)) → ℕ → ℕ → List ℕ
-line_front tags depth tag =
-    if nat_le depth 64 then tag_part tags depth tag else depth_mark depth ++ tag_part tags 0 tag
-
 -- the line of an item: its depth, tag, type and value
 unfoldable pub item_line : Names → Values → List ℕ → FoundItem → List ℕ
 item_line names values bytes i =
-    line_front names.tags i.depth i.tag
+    bounded_part names.tags i.depth i.tag
     ++ (data_part i.typ ++ (shown names values i.tag i.typ (content_at bytes i.offset) ++ 10 ∷ []))
 
--- what a line of diagnostics is read back as, but for white space at its end; an empty one as nothing
+-- what a line of diagnostics is read back as, but for white space at its end, each line indented by 64 levels at most; an
+-- empty one as nothing
 abbrev pub trimmed_back : (ℕ → Option (List ℕ)) → List ℕ → List ℕ → List ℕ
 trimmed_back tags prefix [] = []
-trimmed_back tags prefix (c ∷ s) = undiag tags prefix (c ∷ s) ++ 10 ∷ []
+trimmed_back tags prefix (c ∷ s) = trim_end (undiag_lines (bounded_part tags) prefix (c ∷ s)) ++ 10 ∷ []
 
 unfoldable pub line_back : (ℕ → Option (List ℕ)) → List ℕ → List ℕ → List ℕ
 line_back tags prefix line = trimmed_back tags prefix (trim_end line)

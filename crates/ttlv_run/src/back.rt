@@ -6,7 +6,7 @@ ghost use Rattle.kmip_ttlv_names.specs.NameTables.{lines_of};
 ghost use Rattle.ttlv_run.specs.Backs.{Stopped, Tries, FirstBreak, back_words};
 ghost use Rattle.ttlv_run.specs.Texts.{line_back, text_back};
 
-use kmip_ttlv_util::{LentTagMap, read_back_counted};
+use kmip_ttlv_util::{Indentation, LentTagMap, read_back_counted};
 use std::alloc::{AllocError, Allocator};
 
 /// What is wrong with a line of diagnostics.
@@ -72,7 +72,7 @@ fn push_back<A: Allocator + Copy>(
     if line.is_empty() {
         return Ok(None);
     }
-    let read = read_back_counted(alloc, prefix, names, line)?;
+    let read = read_back_counted(alloc, prefix, names, Indentation::Bounded, line)?;
     out.push_str(read.text.as_str())?;
     out.push_str("\n")?;
     Ok(stopped_at(at + read.used, read.depth, line.len() - read.used))

@@ -14,6 +14,7 @@ mod coding;
 mod escape;
 pub mod files;
 mod job;
+pub mod laws;
 mod lines;
 mod messages;
 pub mod progress;

@@ -1,40 +1,23 @@
 //! The readable lines of one message: a line for each item that a walk over it meets.
 
-ghost use Rattle.std.specs.Prelude.{◌≡◌, ◌≢◌, ◌<◌, ◌≤◌, ◌+◌, ◌++◌, true, length, IfOk, OnOk, option_map, string_bytes};
+ghost use Rattle.std.specs.Prelude.{◌≡◌, ◌≢◌, ◌<◌, ◌≤◌, ◌+◌, ◌++◌, true, IfOk, OnOk, option_map, string_bytes};
 ghost use Rattle.std.specs.Int.{w32, from_be_bytes};
 ghost use Rattle.kmip_ttlv_types.specs.declared.typ.TtlvType.TheVariants.{Structure as TheStructure};
 ghost use Rattle.kmip_ttlv_types.specs.declared.typ.TtlvType.TheVariants.{Enumeration as TheEnumeration};
 ghost use Rattle.kmip_ttlv_types.specs.Leaves.{is_valid};
-ghost use Rattle.kmip_ttlv_items.specs.ItemWalks.{Ended, content_at};
 ghost use Rattle.ttlv_run.specs.declared.job.Task.TheVariants.{Show as ToShow};
 ghost use Rattle.kmip_ttlv_util.specs.Pretty.{value_shown};
 ghost use Rattle.kmip_ttlv_util.specs.TagNames.{name_in};
-ghost use Rattle.ttlv_run.specs.Texts.{names_of, value_in, behind_space, shown, depth_mark, line_front, item_line, Adds};
-ghost use Rattle.ttlv_run.specs.Items.{IsGood, AreGood};
+ghost use Rattle.ttlv_run.specs.Texts.{names_of, value_in, behind_space, shown, item_line, Adds};
+ghost use Rattle.ttlv_run.specs.Items.{IsGood};
 
 use crate::escape::push_escaped;
 use crate::job::{Names, Values};
-use itoa::Buffer;
-use kmip_ttlv_items::{Fault, FoundItem, walk_items};
+use kmip_ttlv_items::{Fault, FoundItem, ItemWalk, Step};
 use kmip_ttlv_names::value_name;
 use kmip_ttlv_types::{TtlvTag, TtlvType};
-use kmip_ttlv_util::{push_data_part, push_tag_part, push_value};
+use kmip_ttlv_util::{Indentation, push_beginning, push_data_part, push_value};
 use std::alloc::{AllocError, Allocator};
-
-/// The indentation of 64 levels.
-const LEVELS: &str =
-    "                                                                                                                                ";
-
-// What a list of items holds before they are found.
-fn no_item() -> FoundItem {
-    FoundItem {
-        offset: 0,
-        depth: 0,
-        tag: TtlvTag::from([0, 0, 0]),
-        typ: TtlvType::Structure,
-        length: 0,
-    }
-}
 
 // The name of an enumeration's value, where there is one.
 fn value_name_of<'n, A: Allocator>(
@@ -94,36 +77,6 @@ fn push_shown<A: Allocator>(
     }
 }
 
-// Adds what stands in front of an item in more than 64 structures.
-#[tactic(auto, unfolding(crate::specs::Texts::depth_mark))]
-fn push_depth<A: Allocator>(out: &mut String<A>, depth: usize) -> Result<(), AllocError>
-    ensures { OnOk result (string_bytes out.new ≡ string_bytes out.old ++ depth_mark depth) }
-{
-    out.push_str(LEVELS)?;
-    out.push_str("[")?;
-    out.push_str(Buffer::new().format(depth))?;
-    out.push_str("] ")?;
-    Ok(())
-}
-
-// Adds the beginning of a line so deep, up to the tag.
-#[tactic(auto, unfolding(crate::specs::Texts::line_front))]
-fn push_front<A: Allocator>(
-    out: &mut String<A>,
-    names: &Names<'_, A>,
-    depth: usize,
-    tag: TtlvTag,
-) -> Result<(), AllocError>
-    ensures { OnOk result (string_bytes out.new
-        ≡ string_bytes out.old ++ line_front (names_of names.now).tags depth tag) }
-{
-    if depth <= 64 {
-        return push_tag_part(out, &names.tags, depth, tag);
-    }
-    push_depth(out, depth)?;
-    push_tag_part(out, &names.tags, 0, tag)
-}
-
 // Adds the line of an item.
 fn push_line<A: Allocator>(
     out: &mut String<A>,
@@ -136,7 +89,7 @@ fn push_line<A: Allocator>(
     ensures { OnOk result (string_bytes out.new
         ≡ string_bytes out.old ++ item_line (names_of names.now) values bytes.now item.now) }
 {
-    push_front(out, names, item.depth, item.tag)?;
+    push_beginning(out, &names.tags, Indentation::Bounded, item.depth, item.tag)?;
     push_data_part(out, item.typ)?;
     let content = &bytes[item.offset + 8..item.offset + 8 + item.length as usize];
     push_shown(out, names, values, item, content)?;
@@ -144,24 +97,10 @@ fn push_line<A: Allocator>(
     Ok(())
 }
 
-// The items of a message, up to its first fault, and that fault.
-fn found_items<A: Allocator + Copy>(
-    alloc: A,
-    message: &[u8],
-) -> Result<(Vec<FoundItem, A>, Option<Fault>), AllocError>
-    ensures ended { IfOk result (λ r. Ended message.now r.0.items r.1) }
-    ensures good { IfOk result (λ r. AreGood message.now r.0.items) }
-{
-    let mut items = Vec::new(alloc);
-    items.resize(message.len() / 8, no_item())?;
-    let end = walk_items(alloc, message, items.as_mut_slice())?;
-    items.truncate(end.count);
-    Ok((items, end.fault))
-}
-
 /// Adds a line for each item of a message, up to its first fault, and answers that fault.
 ///
-/// It refuses for want of memory alone.
+/// It takes memory for the text and for the ends of the structures that are open at a time, and no list of
+/// the items. It fails only when out of memory.
 pub fn push_lines<A: Allocator + Copy>(
     alloc: A,
     out: &mut String<A>,
@@ -172,9 +111,11 @@ pub fn push_lines<A: Allocator + Copy>(
     ensures { IfOk result (λ fault. Adds (names_of names.now) (ToShow values) message.now
         (string_bytes out.old) (string_bytes out.new) fault) }
 {
-    let (items, fault) = found_items(alloc, message)?;
-    for item in items.as_slice() {
-        push_line(out, names, values, message, item)?;
+    let mut walk = ItemWalk::new(alloc, message);
+    'items: loop {
+        match walk.next()? {
+            Step::Item(item) => push_line(out, names, values, message, &item)?,
+            Step::End(fault) => return Ok(fault),
+        }
     }
-    Ok(fault)
 }

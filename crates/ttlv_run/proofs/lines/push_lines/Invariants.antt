@@ -1,9 +1,18 @@
-use Rattle.std.proofs.Common.{◌≡◌, ◌++◌, take, string_bytes}
+use Rattle.std.proofs.Common.{◌≡◌, ◌++◌, List, string_bytes}
 use Rattle.std.specs.List.{flat_map}
+use Rattle.kmip_ttlv_items.specs.declared.found.FoundItem.{FoundItem}
+use Rattle.kmip_ttlv_items.specs.Stepping.{Met, left}
 use Rattle.ttlv_run.specs.Texts.{names_of, item_line}
 use Rattle.ttlv_run.proofs.lines.push_lines.Given as goal
 
-abbrev pub invariant-loop-item : goal.invariant-loop-item
-invariant-loop-item g l =
-    string_bytes l.out
-    ≡ string_bytes l.initial.out ++ flat_map (item_line (names_of l.names) l.values l.message) (take l.item-index l.item-items)
+abbrev pub invariant-items : goal.invariant-items
+invariant-items g l = record {
+  bytes : l.walk.bytes.now ≡ l.message;
+  told :
+      (found : List FoundItem)
+      × Met l.walk found
+      × (string_bytes l.out ≡ string_bytes l.fn.out ++ flat_map (item_line (names_of l.names) l.values l.message) found);
+}
+
+abbrev pub decreases-items : goal.decreases-items
+decreases-items g l = left l.walk
