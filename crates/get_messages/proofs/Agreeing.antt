@@ -27,10 +27,24 @@ use Rattle.get_messages.specs.declared.header.ResponseHeader.{ResponseHeader}
 use Rattle.get_messages.specs.Wrappings.{wrapping_method_form, wrapping_method_value}
 use Rattle.get_messages.specs.declared.wrapping.WrappingMethod.{WrappingMethod}
 use Rattle.get_messages.specs.declared.wrapping.WrappingMethod.TheVariants as wrapping_method
-use Rattle.get_messages.specs.Wrappings.{encryption_key_information_form, encryption_key_information_value}
+use Rattle.get_messages.specs.Wrappings.{block_cipher_mode_form, block_cipher_mode_value}
+use Rattle.get_messages.specs.declared.wrapping.BlockCipherMode.{BlockCipherMode}
+use Rattle.get_messages.specs.declared.wrapping.BlockCipherMode.TheVariants as block_cipher_mode
+use Rattle.get_messages.specs.Wrappings.{padding_method_form, padding_method_value}
+use Rattle.get_messages.specs.declared.wrapping.PaddingMethod.{PaddingMethod}
+use Rattle.get_messages.specs.declared.wrapping.PaddingMethod.TheVariants as padding_method
+use Rattle.get_messages.specs.Wrappings.{hashing_algorithm_form, hashing_algorithm_value}
+use Rattle.get_messages.specs.declared.wrapping.HashingAlgorithm.{HashingAlgorithm}
+use Rattle.get_messages.specs.declared.wrapping.HashingAlgorithm.TheVariants as hashing_algorithm
+use Rattle.get_messages.specs.Wrappings.{role_type_form, role_type_value}
+use Rattle.get_messages.specs.declared.wrapping.RoleType.{RoleType}
+use Rattle.get_messages.specs.declared.wrapping.RoleType.TheVariants as role_type
+use Rattle.get_messages.specs.Wrappings.{cryptographic_parameters_form, written_cryptographic_parameters, read_cryptographic_parameters}
+use Rattle.get_messages.specs.declared.wrapping.CryptographicParameters.{CryptographicParameters}
+use Rattle.get_messages.specs.Wrappings.{encryption_key_information_form, written_encryption_key_information, read_encryption_key_information}
 use Rattle.get_messages.specs.Ranges.{IsEncryptionKeyInformation}
 use Rattle.get_messages.specs.declared.wrapping.EncryptionKeyInformation.{EncryptionKeyInformation}
-use Rattle.get_messages.specs.Wrappings.{mac_signature_key_information_form, mac_signature_key_information_value}
+use Rattle.get_messages.specs.Wrappings.{mac_signature_key_information_form, written_mac_signature_key_information, read_mac_signature_key_information}
 use Rattle.get_messages.specs.Ranges.{IsMacSignatureKeyInformation}
 use Rattle.get_messages.specs.declared.wrapping.MacSignatureKeyInformation.{MacSignatureKeyInformation}
 use Rattle.get_messages.specs.Wrappings.{key_wrapping_data_form, written_key_wrapping_data, read_key_wrapping_data}
@@ -110,35 +124,227 @@ wrapping_method_agrees wrapping_method.MacOrSignThenEncrypt =
 wrapping_method_agrees wrapping_method.Tr31 =
     unit_part {n = 0x00000005} refl refl refl (λ k. record { no_rule = refl; named = refl })
 
+pub block_cipher_mode_agrees : (x : BlockCipherMode)
+    → PartAgrees block_cipher_mode_form
+    (block_cipher_mode_value x) record { tag = 0x420011; typ = types.Enumeration }
+    (block_cipher_mode_value x)
+unfolding take_tag tag_of number transparent_name rule block_cipher_mode_value
+block_cipher_mode_agrees block_cipher_mode.Cbc =
+    unit_part {n = 0x00000001} refl refl refl (λ k. record { no_rule = refl; named = refl })
+block_cipher_mode_agrees block_cipher_mode.Ecb =
+    unit_part {n = 0x00000002} refl refl refl (λ k. record { no_rule = refl; named = refl })
+block_cipher_mode_agrees block_cipher_mode.Pcbc =
+    unit_part {n = 0x00000003} refl refl refl (λ k. record { no_rule = refl; named = refl })
+block_cipher_mode_agrees block_cipher_mode.Cfb =
+    unit_part {n = 0x00000004} refl refl refl (λ k. record { no_rule = refl; named = refl })
+block_cipher_mode_agrees block_cipher_mode.Ofb =
+    unit_part {n = 0x00000005} refl refl refl (λ k. record { no_rule = refl; named = refl })
+block_cipher_mode_agrees block_cipher_mode.Ctr =
+    unit_part {n = 0x00000006} refl refl refl (λ k. record { no_rule = refl; named = refl })
+block_cipher_mode_agrees block_cipher_mode.Cmac =
+    unit_part {n = 0x00000007} refl refl refl (λ k. record { no_rule = refl; named = refl })
+block_cipher_mode_agrees block_cipher_mode.Ccm =
+    unit_part {n = 0x00000008} refl refl refl (λ k. record { no_rule = refl; named = refl })
+block_cipher_mode_agrees block_cipher_mode.Gcm =
+    unit_part {n = 0x00000009} refl refl refl (λ k. record { no_rule = refl; named = refl })
+block_cipher_mode_agrees block_cipher_mode.CbcMac =
+    unit_part {n = 0x0000000A} refl refl refl (λ k. record { no_rule = refl; named = refl })
+block_cipher_mode_agrees block_cipher_mode.Xts =
+    unit_part {n = 0x0000000B} refl refl refl (λ k. record { no_rule = refl; named = refl })
+block_cipher_mode_agrees block_cipher_mode.AesKeyWrapPadding =
+    unit_part {n = 0x0000000C} refl refl refl (λ k. record { no_rule = refl; named = refl })
+block_cipher_mode_agrees block_cipher_mode.NistKeyWrap =
+    unit_part {n = 0x0000000D} refl refl refl (λ k. record { no_rule = refl; named = refl })
+block_cipher_mode_agrees block_cipher_mode.X9102Aeskw =
+    unit_part {n = 0x0000000E} refl refl refl (λ k. record { no_rule = refl; named = refl })
+block_cipher_mode_agrees block_cipher_mode.X9102Tdkw =
+    unit_part {n = 0x0000000F} refl refl refl (λ k. record { no_rule = refl; named = refl })
+block_cipher_mode_agrees block_cipher_mode.X9102Akw1 =
+    unit_part {n = 0x00000010} refl refl refl (λ k. record { no_rule = refl; named = refl })
+block_cipher_mode_agrees block_cipher_mode.X9102Akw2 =
+    unit_part {n = 0x00000011} refl refl refl (λ k. record { no_rule = refl; named = refl })
+
+pub padding_method_agrees : (x : PaddingMethod)
+    → PartAgrees padding_method_form
+    (padding_method_value x) record { tag = 0x42005F; typ = types.Enumeration }
+    (padding_method_value x)
+unfolding take_tag tag_of number transparent_name rule padding_method_value
+padding_method_agrees padding_method.NoPadding =
+    unit_part {n = 0x00000001} refl refl refl (λ k. record { no_rule = refl; named = refl })
+padding_method_agrees padding_method.Oaep =
+    unit_part {n = 0x00000002} refl refl refl (λ k. record { no_rule = refl; named = refl })
+padding_method_agrees padding_method.Pkcs5 =
+    unit_part {n = 0x00000003} refl refl refl (λ k. record { no_rule = refl; named = refl })
+padding_method_agrees padding_method.Ssl3 =
+    unit_part {n = 0x00000004} refl refl refl (λ k. record { no_rule = refl; named = refl })
+padding_method_agrees padding_method.Zeros =
+    unit_part {n = 0x00000005} refl refl refl (λ k. record { no_rule = refl; named = refl })
+padding_method_agrees padding_method.AnsiX923 =
+    unit_part {n = 0x00000006} refl refl refl (λ k. record { no_rule = refl; named = refl })
+padding_method_agrees padding_method.Iso10126 =
+    unit_part {n = 0x00000007} refl refl refl (λ k. record { no_rule = refl; named = refl })
+padding_method_agrees padding_method.Pkcs1V15 =
+    unit_part {n = 0x00000008} refl refl refl (λ k. record { no_rule = refl; named = refl })
+padding_method_agrees padding_method.X931 =
+    unit_part {n = 0x00000009} refl refl refl (λ k. record { no_rule = refl; named = refl })
+padding_method_agrees padding_method.Pss =
+    unit_part {n = 0x0000000A} refl refl refl (λ k. record { no_rule = refl; named = refl })
+
+pub hashing_algorithm_agrees : (x : HashingAlgorithm)
+    → PartAgrees hashing_algorithm_form
+    (hashing_algorithm_value x) record { tag = 0x420038; typ = types.Enumeration }
+    (hashing_algorithm_value x)
+unfolding take_tag tag_of number transparent_name rule hashing_algorithm_value
+hashing_algorithm_agrees hashing_algorithm.Md2 =
+    unit_part {n = 0x00000001} refl refl refl (λ k. record { no_rule = refl; named = refl })
+hashing_algorithm_agrees hashing_algorithm.Md4 =
+    unit_part {n = 0x00000002} refl refl refl (λ k. record { no_rule = refl; named = refl })
+hashing_algorithm_agrees hashing_algorithm.Md5 =
+    unit_part {n = 0x00000003} refl refl refl (λ k. record { no_rule = refl; named = refl })
+hashing_algorithm_agrees hashing_algorithm.Sha1 =
+    unit_part {n = 0x00000004} refl refl refl (λ k. record { no_rule = refl; named = refl })
+hashing_algorithm_agrees hashing_algorithm.Sha224 =
+    unit_part {n = 0x00000005} refl refl refl (λ k. record { no_rule = refl; named = refl })
+hashing_algorithm_agrees hashing_algorithm.Sha256 =
+    unit_part {n = 0x00000006} refl refl refl (λ k. record { no_rule = refl; named = refl })
+hashing_algorithm_agrees hashing_algorithm.Sha384 =
+    unit_part {n = 0x00000007} refl refl refl (λ k. record { no_rule = refl; named = refl })
+hashing_algorithm_agrees hashing_algorithm.Sha512 =
+    unit_part {n = 0x00000008} refl refl refl (λ k. record { no_rule = refl; named = refl })
+
+pub role_type_agrees : (x : RoleType)
+    → PartAgrees role_type_form
+    (role_type_value x) record { tag = 0x420083; typ = types.Enumeration }
+    (role_type_value x)
+unfolding take_tag tag_of number transparent_name rule role_type_value
+role_type_agrees role_type.Bdk =
+    unit_part {n = 0x00000001} refl refl refl (λ k. record { no_rule = refl; named = refl })
+role_type_agrees role_type.Cvk =
+    unit_part {n = 0x00000002} refl refl refl (λ k. record { no_rule = refl; named = refl })
+role_type_agrees role_type.Dek =
+    unit_part {n = 0x00000003} refl refl refl (λ k. record { no_rule = refl; named = refl })
+role_type_agrees role_type.Mkac =
+    unit_part {n = 0x00000004} refl refl refl (λ k. record { no_rule = refl; named = refl })
+role_type_agrees role_type.Mksmc =
+    unit_part {n = 0x00000005} refl refl refl (λ k. record { no_rule = refl; named = refl })
+role_type_agrees role_type.Mksmi =
+    unit_part {n = 0x00000006} refl refl refl (λ k. record { no_rule = refl; named = refl })
+role_type_agrees role_type.Mkdac =
+    unit_part {n = 0x00000007} refl refl refl (λ k. record { no_rule = refl; named = refl })
+role_type_agrees role_type.Mkdn =
+    unit_part {n = 0x00000008} refl refl refl (λ k. record { no_rule = refl; named = refl })
+role_type_agrees role_type.Mkcp =
+    unit_part {n = 0x00000009} refl refl refl (λ k. record { no_rule = refl; named = refl })
+role_type_agrees role_type.Mkoth =
+    unit_part {n = 0x0000000A} refl refl refl (λ k. record { no_rule = refl; named = refl })
+role_type_agrees role_type.Kek =
+    unit_part {n = 0x0000000B} refl refl refl (λ k. record { no_rule = refl; named = refl })
+role_type_agrees role_type.Mac16609 =
+    unit_part {n = 0x0000000C} refl refl refl (λ k. record { no_rule = refl; named = refl })
+role_type_agrees role_type.Mac97971 =
+    unit_part {n = 0x0000000D} refl refl refl (λ k. record { no_rule = refl; named = refl })
+role_type_agrees role_type.Mac97972 =
+    unit_part {n = 0x0000000E} refl refl refl (λ k. record { no_rule = refl; named = refl })
+role_type_agrees role_type.Mac97973 =
+    unit_part {n = 0x0000000F} refl refl refl (λ k. record { no_rule = refl; named = refl })
+role_type_agrees role_type.Mac97974 =
+    unit_part {n = 0x00000010} refl refl refl (λ k. record { no_rule = refl; named = refl })
+role_type_agrees role_type.Mac97975 =
+    unit_part {n = 0x00000011} refl refl refl (λ k. record { no_rule = refl; named = refl })
+role_type_agrees role_type.Zpk =
+    unit_part {n = 0x00000012} refl refl refl (λ k. record { no_rule = refl; named = refl })
+role_type_agrees role_type.Pvkibm =
+    unit_part {n = 0x00000013} refl refl refl (λ k. record { no_rule = refl; named = refl })
+role_type_agrees role_type.Pvkpvv =
+    unit_part {n = 0x00000014} refl refl refl (λ k. record { no_rule = refl; named = refl })
+role_type_agrees role_type.Pvkoth =
+    unit_part {n = 0x00000015} refl refl refl (λ k. record { no_rule = refl; named = refl })
+
+cryptographic_parameters_block_cipher_mode_there : (x : Option BlockCipherMode)
+    → PresentAgrees block_cipher_mode_value block_cipher_mode_value block_cipher_mode_form
+    record { tag = 0x420011; typ = types.Enumeration } x
+unfolding take_tag tag_of number transparent_name block_cipher_mode_value
+cryptographic_parameters_block_cipher_mode_there None = tt
+cryptographic_parameters_block_cipher_mode_there (Some y) = (block_cipher_mode_agrees y, refl)
+
+cryptographic_parameters_padding_method_there : (x : Option PaddingMethod)
+    → PresentAgrees padding_method_value padding_method_value padding_method_form
+    record { tag = 0x42005F; typ = types.Enumeration } x
+unfolding take_tag tag_of number transparent_name padding_method_value
+cryptographic_parameters_padding_method_there None = tt
+cryptographic_parameters_padding_method_there (Some y) = (padding_method_agrees y, refl)
+
+cryptographic_parameters_hashing_algorithm_there : (x : Option HashingAlgorithm)
+    → PresentAgrees hashing_algorithm_value hashing_algorithm_value hashing_algorithm_form
+    record { tag = 0x420038; typ = types.Enumeration } x
+unfolding take_tag tag_of number transparent_name hashing_algorithm_value
+cryptographic_parameters_hashing_algorithm_there None = tt
+cryptographic_parameters_hashing_algorithm_there (Some y) = (hashing_algorithm_agrees y, refl)
+
+cryptographic_parameters_role_type_there : (x : Option RoleType)
+    → PresentAgrees role_type_value role_type_value role_type_form
+    record { tag = 0x420083; typ = types.Enumeration } x
+unfolding take_tag tag_of number transparent_name role_type_value
+cryptographic_parameters_role_type_there None = tt
+cryptographic_parameters_role_type_there (Some y) = (role_type_agrees y, refl)
+
+pub cryptographic_parameters_agrees : (x : CryptographicParameters)
+    → PartAgrees cryptographic_parameters_form
+    (written_cryptographic_parameters x) (a_structure 0x42002B)
+    (read_cryptographic_parameters x)
+unfolding take_tag tag_of number transparent_name rule written_cryptographic_parameters read_cryptographic_parameters
+cryptographic_parameters_agrees x =
+    structure refl refl (
+    optional_then block_cipher_mode_value block_cipher_mode_value record { tag = 0x420011; typ = types.Enumeration } x.block_cipher_mode refl (neither_named (codes "0x420011") x.padding_method record { tag = 0x42005F; typ = types.Enumeration } (head_or x.hashing_algorithm record { tag = 0x420038; typ = types.Enumeration } (head_or x.role_type record { tag = 0x420083; typ = types.Enumeration } None)) refl (neither_named (codes "0x420011") x.hashing_algorithm record { tag = 0x420038; typ = types.Enumeration } (head_or x.role_type record { tag = 0x420083; typ = types.Enumeration } None) refl (neither_named (codes "0x420011") x.role_type record { tag = 0x420083; typ = types.Enumeration } None refl refl))) (cryptographic_parameters_block_cipher_mode_there x.block_cipher_mode) (
+    optional_then padding_method_value padding_method_value record { tag = 0x42005F; typ = types.Enumeration } x.padding_method refl (neither_named (codes "0x42005F") x.hashing_algorithm record { tag = 0x420038; typ = types.Enumeration } (head_or x.role_type record { tag = 0x420083; typ = types.Enumeration } None) refl (neither_named (codes "0x42005F") x.role_type record { tag = 0x420083; typ = types.Enumeration } None refl refl)) (cryptographic_parameters_padding_method_there x.padding_method) (
+    optional_then hashing_algorithm_value hashing_algorithm_value record { tag = 0x420038; typ = types.Enumeration } x.hashing_algorithm refl (neither_named (codes "0x420038") x.role_type record { tag = 0x420083; typ = types.Enumeration } None refl refl) (cryptographic_parameters_hashing_algorithm_there x.hashing_algorithm) (
+    optional_then role_type_value role_type_value record { tag = 0x420083; typ = types.Enumeration } x.role_type refl refl (cryptographic_parameters_role_type_there x.role_type) nothing_left))))
+
+encryption_key_information_cryptographic_parameters_there : (x : Option CryptographicParameters)
+    → PresentAgrees written_cryptographic_parameters read_cryptographic_parameters cryptographic_parameters_form
+    (a_structure 0x42002B) x
+unfolding take_tag tag_of number transparent_name read_cryptographic_parameters
+encryption_key_information_cryptographic_parameters_there None = tt
+encryption_key_information_cryptographic_parameters_there (Some y) = (cryptographic_parameters_agrees y, refl)
+
 pub encryption_key_information_agrees : {A : Type 0} (x : EncryptionKeyInformation A) → IsEncryptionKeyInformation x
     → PartAgrees encryption_key_information_form
-    (encryption_key_information_value x) (a_structure 0x420036)
-    (encryption_key_information_value x)
-unfolding take_tag tag_of number transparent_name rule encryption_key_information_value
+    (written_encryption_key_information x) (a_structure 0x420036)
+    (read_encryption_key_information x)
+unfolding take_tag tag_of number transparent_name rule written_encryption_key_information read_encryption_key_information
 encryption_key_information_agrees x is =
     structure refl refl (
-    leaf_then refl refl refl refl (as_text is) nothing_left)
+    leaf_then refl refl refl refl (as_text is) (
+    optional_then written_cryptographic_parameters read_cryptographic_parameters (a_structure 0x42002B) x.cryptographic_parameters refl refl (encryption_key_information_cryptographic_parameters_there x.cryptographic_parameters) nothing_left))
+
+mac_signature_key_information_cryptographic_parameters_there : (x : Option CryptographicParameters)
+    → PresentAgrees written_cryptographic_parameters read_cryptographic_parameters cryptographic_parameters_form
+    (a_structure 0x42002B) x
+unfolding take_tag tag_of number transparent_name read_cryptographic_parameters
+mac_signature_key_information_cryptographic_parameters_there None = tt
+mac_signature_key_information_cryptographic_parameters_there (Some y) = (cryptographic_parameters_agrees y, refl)
 
 pub mac_signature_key_information_agrees : {A : Type 0} (x : MacSignatureKeyInformation A) → IsMacSignatureKeyInformation x
     → PartAgrees mac_signature_key_information_form
-    (mac_signature_key_information_value x) (a_structure 0x42004E)
-    (mac_signature_key_information_value x)
-unfolding take_tag tag_of number transparent_name rule mac_signature_key_information_value
+    (written_mac_signature_key_information x) (a_structure 0x42004E)
+    (read_mac_signature_key_information x)
+unfolding take_tag tag_of number transparent_name rule written_mac_signature_key_information read_mac_signature_key_information
 mac_signature_key_information_agrees x is =
     structure refl refl (
-    leaf_then refl refl refl refl (as_text is) nothing_left)
+    leaf_then refl refl refl refl (as_text is) (
+    optional_then written_cryptographic_parameters read_cryptographic_parameters (a_structure 0x42002B) x.cryptographic_parameters refl refl (mac_signature_key_information_cryptographic_parameters_there x.cryptographic_parameters) nothing_left))
 
 key_wrapping_data_encryption_key_information_there : {A : Type 0} (x : Option (EncryptionKeyInformation A)) → IfThere IsEncryptionKeyInformation x
-    → PresentAgrees encryption_key_information_value encryption_key_information_value encryption_key_information_form
+    → PresentAgrees written_encryption_key_information read_encryption_key_information encryption_key_information_form
     (a_structure 0x420036) x
-unfolding take_tag tag_of number transparent_name encryption_key_information_value
+unfolding take_tag tag_of number transparent_name read_encryption_key_information
 key_wrapping_data_encryption_key_information_there None is = tt
 key_wrapping_data_encryption_key_information_there (Some y) is = (encryption_key_information_agrees y is, refl)
 
 key_wrapping_data_mac_signature_key_information_there : {A : Type 0} (x : Option (MacSignatureKeyInformation A)) → IfThere IsMacSignatureKeyInformation x
-    → PresentAgrees mac_signature_key_information_value mac_signature_key_information_value mac_signature_key_information_form
+    → PresentAgrees written_mac_signature_key_information read_mac_signature_key_information mac_signature_key_information_form
     (a_structure 0x42004E) x
-unfolding take_tag tag_of number transparent_name mac_signature_key_information_value
+unfolding take_tag tag_of number transparent_name read_mac_signature_key_information
 key_wrapping_data_mac_signature_key_information_there None is = tt
 key_wrapping_data_mac_signature_key_information_there (Some y) is = (mac_signature_key_information_agrees y is, refl)
 
@@ -164,8 +370,8 @@ unfolding take_tag tag_of number transparent_name rule written_key_wrapping_data
 key_wrapping_data_agrees x is =
     structure refl refl (
     part_then refl refl (wrapping_method_agrees x.wrapping_method) (
-    optional_then encryption_key_information_value encryption_key_information_value (a_structure 0x420036) x.encryption_key_information refl (neither_named (codes "0x420036") x.mac_signature_key_information (a_structure 0x42004E) (head_or x.mac_signature record { tag = 0x42004D; typ = types.ByteString } (head_or x.iv_counter_nonce record { tag = 0x42003D; typ = types.ByteString } None)) refl (neither_named (codes "0x420036") x.mac_signature record { tag = 0x42004D; typ = types.ByteString } (head_or x.iv_counter_nonce record { tag = 0x42003D; typ = types.ByteString } None) refl (neither_named (codes "0x420036") x.iv_counter_nonce record { tag = 0x42003D; typ = types.ByteString } None refl refl))) (key_wrapping_data_encryption_key_information_there x.encryption_key_information is.0) (
-    optional_then mac_signature_key_information_value mac_signature_key_information_value (a_structure 0x42004E) x.mac_signature_key_information refl (neither_named (codes "0x42004E") x.mac_signature record { tag = 0x42004D; typ = types.ByteString } (head_or x.iv_counter_nonce record { tag = 0x42003D; typ = types.ByteString } None) refl (neither_named (codes "0x42004E") x.iv_counter_nonce record { tag = 0x42003D; typ = types.ByteString } None refl refl)) (key_wrapping_data_mac_signature_key_information_there x.mac_signature_key_information is.1) (
+    optional_then written_encryption_key_information read_encryption_key_information (a_structure 0x420036) x.encryption_key_information refl (neither_named (codes "0x420036") x.mac_signature_key_information (a_structure 0x42004E) (head_or x.mac_signature record { tag = 0x42004D; typ = types.ByteString } (head_or x.iv_counter_nonce record { tag = 0x42003D; typ = types.ByteString } None)) refl (neither_named (codes "0x420036") x.mac_signature record { tag = 0x42004D; typ = types.ByteString } (head_or x.iv_counter_nonce record { tag = 0x42003D; typ = types.ByteString } None) refl (neither_named (codes "0x420036") x.iv_counter_nonce record { tag = 0x42003D; typ = types.ByteString } None refl refl))) (key_wrapping_data_encryption_key_information_there x.encryption_key_information is.0) (
+    optional_then written_mac_signature_key_information read_mac_signature_key_information (a_structure 0x42004E) x.mac_signature_key_information refl (neither_named (codes "0x42004E") x.mac_signature record { tag = 0x42004D; typ = types.ByteString } (head_or x.iv_counter_nonce record { tag = 0x42003D; typ = types.ByteString } None) refl (neither_named (codes "0x42004E") x.iv_counter_nonce record { tag = 0x42003D; typ = types.ByteString } None refl refl)) (key_wrapping_data_mac_signature_key_information_there x.mac_signature_key_information is.1) (
     optional_then (λ y. newtype_value (codes "Transparent:0x42004D") (bytes_value y.items)) (λ y. newtype_value (codes "Transparent:0x42004D") (bytes_value y.items)) record { tag = 0x42004D; typ = types.ByteString } x.mac_signature refl (neither_named (codes "0x42004D") x.iv_counter_nonce record { tag = 0x42003D; typ = types.ByteString } None refl refl) (key_wrapping_data_mac_signature_there x.mac_signature) (
     optional_then (λ y. newtype_value (codes "Transparent:0x42003D") (bytes_value y.items)) (λ y. newtype_value (codes "Transparent:0x42003D") (bytes_value y.items)) record { tag = 0x42003D; typ = types.ByteString } x.iv_counter_nonce refl refl (key_wrapping_data_iv_counter_nonce_there x.iv_counter_nonce) nothing_left)))))
 

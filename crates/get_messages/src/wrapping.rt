@@ -1,8 +1,8 @@
 // Written by codegen from types.table: change that, and run codegen/codegen.
-//! How a key is wrapped (KMIP 1.0, sections 2.1.5 and 9.1.3.2.8).
+//! How a key is wrapped (KMIP 1.0, sections 2.1.5, 3.6 and 9.1.3.2).
 
 ghost use Rattle.std.specs.Prelude.{◌≡◌};
-ghost use Rattle.get_messages.specs.Wrappings.{wrapping_method_form, wrapping_method_value, wrapping_method_number, encryption_key_information_form, encryption_key_information_value, mac_signature_key_information_form, mac_signature_key_information_value, key_wrapping_data_form, written_key_wrapping_data, read_key_wrapping_data};
+ghost use Rattle.get_messages.specs.Wrappings.{wrapping_method_form, wrapping_method_value, wrapping_method_number, block_cipher_mode_form, block_cipher_mode_value, block_cipher_mode_number, padding_method_form, padding_method_value, padding_method_number, hashing_algorithm_form, hashing_algorithm_value, hashing_algorithm_number, role_type_form, role_type_value, role_type_number, cryptographic_parameters_form, written_cryptographic_parameters, read_cryptographic_parameters, encryption_key_information_form, written_encryption_key_information, read_encryption_key_information, mac_signature_key_information_form, written_mac_signature_key_information, read_mac_signature_key_information, key_wrapping_data_form, written_key_wrapping_data, read_key_wrapping_data};
 
 use kmip_ttlv::messages::reading::Readable;
 use kmip_ttlv::messages::{choices, reading, shapes, writing};
@@ -80,18 +80,516 @@ impl<A: Allocator + Copy> Deserialize<A> for WrappingMethod {
     }
 }
 
+/// The mode of a block cipher.
+#[derive(Clone, Copy, Debug, PartialEq, Eq)]
+pub enum BlockCipherMode {
+    /// Cipher block chaining.
+    Cbc,
+    /// Electronic code book.
+    Ecb,
+    /// Propagating cipher block chaining.
+    Pcbc,
+    /// Cipher feedback.
+    Cfb,
+    /// Output feedback.
+    Ofb,
+    /// Counter.
+    Ctr,
+    /// The authentication code CMAC.
+    Cmac,
+    /// Counter with CBC-MAC.
+    Ccm,
+    /// Galois and counter.
+    Gcm,
+    /// The authentication code CBC-MAC.
+    CbcMac,
+    /// Tweaked code book with ciphertext stealing.
+    Xts,
+    /// AES key wrap with padding.
+    AesKeyWrapPadding,
+    /// AES key wrap of NIST.
+    NistKeyWrap,
+    /// AESKW of X9.102.
+    X9102Aeskw,
+    /// TDKW of X9.102.
+    X9102Tdkw,
+    /// AKW1 of X9.102.
+    X9102Akw1,
+    /// AKW2 of X9.102.
+    X9102Akw2,
+}
+
+// Each number, and what it stands for.
+const BLOCK_CIPHER_MODE: [(&str, BlockCipherMode); 17] = [
+    ("0x00000001", BlockCipherMode::Cbc),
+    ("0x00000002", BlockCipherMode::Ecb),
+    ("0x00000003", BlockCipherMode::Pcbc),
+    ("0x00000004", BlockCipherMode::Cfb),
+    ("0x00000005", BlockCipherMode::Ofb),
+    ("0x00000006", BlockCipherMode::Ctr),
+    ("0x00000007", BlockCipherMode::Cmac),
+    ("0x00000008", BlockCipherMode::Ccm),
+    ("0x00000009", BlockCipherMode::Gcm),
+    ("0x0000000A", BlockCipherMode::CbcMac),
+    ("0x0000000B", BlockCipherMode::Xts),
+    ("0x0000000C", BlockCipherMode::AesKeyWrapPadding),
+    ("0x0000000D", BlockCipherMode::NistKeyWrap),
+    ("0x0000000E", BlockCipherMode::X9102Aeskw),
+    ("0x0000000F", BlockCipherMode::X9102Tdkw),
+    ("0x00000010", BlockCipherMode::X9102Akw1),
+    ("0x00000011", BlockCipherMode::X9102Akw2),
+];
+
+impl BlockCipherMode {
+    // Its number.
+    fn number(self) -> &'static str
+        ensures { result.now ≡ block_cipher_mode_number self }
+    {
+        match self {
+            BlockCipherMode::Cbc => "0x00000001",
+            BlockCipherMode::Ecb => "0x00000002",
+            BlockCipherMode::Pcbc => "0x00000003",
+            BlockCipherMode::Cfb => "0x00000004",
+            BlockCipherMode::Ofb => "0x00000005",
+            BlockCipherMode::Ctr => "0x00000006",
+            BlockCipherMode::Cmac => "0x00000007",
+            BlockCipherMode::Ccm => "0x00000008",
+            BlockCipherMode::Gcm => "0x00000009",
+            BlockCipherMode::CbcMac => "0x0000000A",
+            BlockCipherMode::Xts => "0x0000000B",
+            BlockCipherMode::AesKeyWrapPadding => "0x0000000C",
+            BlockCipherMode::NistKeyWrap => "0x0000000D",
+            BlockCipherMode::X9102Aeskw => "0x0000000E",
+            BlockCipherMode::X9102Tdkw => "0x0000000F",
+            BlockCipherMode::X9102Akw1 => "0x00000010",
+            BlockCipherMode::X9102Akw2 => "0x00000011",
+        }
+    }
+}
+
+impl Serialize for BlockCipherMode {
+    ghost stated = { block_cipher_mode_value };
+
+    #[tactic(auto, unfolding(crate::specs::Wrappings::block_cipher_mode_value))]
+    fn visit<V: Visitor>(&self, visitor: &mut V) -> Result<(), AllocError> {
+        writing::unit_variant(visitor, "0x420011", self.number())?;
+        Ok(())
+    }
+}
+
+impl Readable for BlockCipherMode {
+    ghost read_by = { block_cipher_mode_form };
+
+    ghost read_as = { block_cipher_mode_value };
+}
+
+impl<A: Allocator + Copy> Deserialize<A> for BlockCipherMode {
+    ghost form = { block_cipher_mode_form };
+
+    ghost is_value = { λ v x. v ≡ block_cipher_mode_value x };
+
+    fn shape(alloc: A) -> Result<Shape<A>, AllocError> {
+        shapes::units(alloc, "0x420011", &BLOCK_CIPHER_MODE)
+    }
+
+    #[tactic(auto, unfolding(crate::specs::Wrappings::block_cipher_mode_value))]
+    fn from_data(_alloc: A, value: &mut Data<A>) -> Result<Self, AllocError> {
+        Ok(choices::unit::<Self, A>(value, &BLOCK_CIPHER_MODE))
+    }
+}
+
+/// How content is filled up to whole blocks.
+#[derive(Clone, Copy, Debug, PartialEq, Eq)]
+pub enum PaddingMethod {
+    /// It isn't.
+    NoPadding,
+    /// OAEP.
+    Oaep,
+    /// PKCS #5.
+    Pkcs5,
+    /// SSL 3.
+    Ssl3,
+    /// By zeros.
+    Zeros,
+    /// ANSI X9.23.
+    AnsiX923,
+    /// ISO 10126.
+    Iso10126,
+    /// PKCS #1, version 1.5.
+    Pkcs1V15,
+    /// X9.31.
+    X931,
+    /// PSS.
+    Pss,
+}
+
+// Each number, and what it stands for.
+const PADDING_METHOD: [(&str, PaddingMethod); 10] = [
+    ("0x00000001", PaddingMethod::NoPadding),
+    ("0x00000002", PaddingMethod::Oaep),
+    ("0x00000003", PaddingMethod::Pkcs5),
+    ("0x00000004", PaddingMethod::Ssl3),
+    ("0x00000005", PaddingMethod::Zeros),
+    ("0x00000006", PaddingMethod::AnsiX923),
+    ("0x00000007", PaddingMethod::Iso10126),
+    ("0x00000008", PaddingMethod::Pkcs1V15),
+    ("0x00000009", PaddingMethod::X931),
+    ("0x0000000A", PaddingMethod::Pss),
+];
+
+impl PaddingMethod {
+    // Its number.
+    fn number(self) -> &'static str
+        ensures { result.now ≡ padding_method_number self }
+    {
+        match self {
+            PaddingMethod::NoPadding => "0x00000001",
+            PaddingMethod::Oaep => "0x00000002",
+            PaddingMethod::Pkcs5 => "0x00000003",
+            PaddingMethod::Ssl3 => "0x00000004",
+            PaddingMethod::Zeros => "0x00000005",
+            PaddingMethod::AnsiX923 => "0x00000006",
+            PaddingMethod::Iso10126 => "0x00000007",
+            PaddingMethod::Pkcs1V15 => "0x00000008",
+            PaddingMethod::X931 => "0x00000009",
+            PaddingMethod::Pss => "0x0000000A",
+        }
+    }
+}
+
+impl Serialize for PaddingMethod {
+    ghost stated = { padding_method_value };
+
+    #[tactic(auto, unfolding(crate::specs::Wrappings::padding_method_value))]
+    fn visit<V: Visitor>(&self, visitor: &mut V) -> Result<(), AllocError> {
+        writing::unit_variant(visitor, "0x42005F", self.number())?;
+        Ok(())
+    }
+}
+
+impl Readable for PaddingMethod {
+    ghost read_by = { padding_method_form };
+
+    ghost read_as = { padding_method_value };
+}
+
+impl<A: Allocator + Copy> Deserialize<A> for PaddingMethod {
+    ghost form = { padding_method_form };
+
+    ghost is_value = { λ v x. v ≡ padding_method_value x };
+
+    fn shape(alloc: A) -> Result<Shape<A>, AllocError> {
+        shapes::units(alloc, "0x42005F", &PADDING_METHOD)
+    }
+
+    #[tactic(auto, unfolding(crate::specs::Wrappings::padding_method_value))]
+    fn from_data(_alloc: A, value: &mut Data<A>) -> Result<Self, AllocError> {
+        Ok(choices::unit::<Self, A>(value, &PADDING_METHOD))
+    }
+}
+
+/// What makes a hash.
+#[derive(Clone, Copy, Debug, PartialEq, Eq)]
+pub enum HashingAlgorithm {
+    /// MD2.
+    Md2,
+    /// MD4.
+    Md4,
+    /// MD5.
+    Md5,
+    /// SHA-1.
+    Sha1,
+    /// SHA-224.
+    Sha224,
+    /// SHA-256.
+    Sha256,
+    /// SHA-384.
+    Sha384,
+    /// SHA-512.
+    Sha512,
+}
+
+// Each number, and what it stands for.
+const HASHING_ALGORITHM: [(&str, HashingAlgorithm); 8] = [
+    ("0x00000001", HashingAlgorithm::Md2),
+    ("0x00000002", HashingAlgorithm::Md4),
+    ("0x00000003", HashingAlgorithm::Md5),
+    ("0x00000004", HashingAlgorithm::Sha1),
+    ("0x00000005", HashingAlgorithm::Sha224),
+    ("0x00000006", HashingAlgorithm::Sha256),
+    ("0x00000007", HashingAlgorithm::Sha384),
+    ("0x00000008", HashingAlgorithm::Sha512),
+];
+
+impl HashingAlgorithm {
+    // Its number.
+    fn number(self) -> &'static str
+        ensures { result.now ≡ hashing_algorithm_number self }
+    {
+        match self {
+            HashingAlgorithm::Md2 => "0x00000001",
+            HashingAlgorithm::Md4 => "0x00000002",
+            HashingAlgorithm::Md5 => "0x00000003",
+            HashingAlgorithm::Sha1 => "0x00000004",
+            HashingAlgorithm::Sha224 => "0x00000005",
+            HashingAlgorithm::Sha256 => "0x00000006",
+            HashingAlgorithm::Sha384 => "0x00000007",
+            HashingAlgorithm::Sha512 => "0x00000008",
+        }
+    }
+}
+
+impl Serialize for HashingAlgorithm {
+    ghost stated = { hashing_algorithm_value };
+
+    #[tactic(auto, unfolding(crate::specs::Wrappings::hashing_algorithm_value))]
+    fn visit<V: Visitor>(&self, visitor: &mut V) -> Result<(), AllocError> {
+        writing::unit_variant(visitor, "0x420038", self.number())?;
+        Ok(())
+    }
+}
+
+impl Readable for HashingAlgorithm {
+    ghost read_by = { hashing_algorithm_form };
+
+    ghost read_as = { hashing_algorithm_value };
+}
+
+impl<A: Allocator + Copy> Deserialize<A> for HashingAlgorithm {
+    ghost form = { hashing_algorithm_form };
+
+    ghost is_value = { λ v x. v ≡ hashing_algorithm_value x };
+
+    fn shape(alloc: A) -> Result<Shape<A>, AllocError> {
+        shapes::units(alloc, "0x420038", &HASHING_ALGORITHM)
+    }
+
+    #[tactic(auto, unfolding(crate::specs::Wrappings::hashing_algorithm_value))]
+    fn from_data(_alloc: A, value: &mut Data<A>) -> Result<Self, AllocError> {
+        Ok(choices::unit::<Self, A>(value, &HASHING_ALGORITHM))
+    }
+}
+
+/// What a key is for, by the names of ANSI X9 TR-31.
+#[derive(Clone, Copy, Debug, PartialEq, Eq)]
+pub enum RoleType {
+    /// A base derivation key.
+    Bdk,
+    /// It verifies cards.
+    Cvk,
+    /// It encrypts data.
+    Dek,
+    /// An EMV master key for application cryptograms.
+    Mkac,
+    /// An EMV master key for secure messaging, secret.
+    Mksmc,
+    /// An EMV master key for secure messaging, intact.
+    Mksmi,
+    /// An EMV master key for data authentication codes.
+    Mkdac,
+    /// An EMV master key for dynamic numbers.
+    Mkdn,
+    /// An EMV master key for personalizing cards.
+    Mkcp,
+    /// Another EMV master key.
+    Mkoth,
+    /// It encrypts keys.
+    Kek,
+    /// A key of ISO 16609.
+    Mac16609,
+    /// A key of ISO 9797-1, algorithm 1.
+    Mac97971,
+    /// A key of ISO 9797-1, algorithm 2.
+    Mac97972,
+    /// A key of ISO 9797-1, algorithm 3.
+    Mac97973,
+    /// A key of ISO 9797-1, algorithm 4.
+    Mac97974,
+    /// A key of ISO 9797-1, algorithm 5.
+    Mac97975,
+    /// It encrypts PINs.
+    Zpk,
+    /// It verifies PINs as IBM 3624 says.
+    Pvkibm,
+    /// It verifies PINs by a PIN verification value.
+    Pvkpvv,
+    /// It verifies PINs otherwise.
+    Pvkoth,
+}
+
+// Each number, and what it stands for.
+const ROLE_TYPE: [(&str, RoleType); 21] = [
+    ("0x00000001", RoleType::Bdk),
+    ("0x00000002", RoleType::Cvk),
+    ("0x00000003", RoleType::Dek),
+    ("0x00000004", RoleType::Mkac),
+    ("0x00000005", RoleType::Mksmc),
+    ("0x00000006", RoleType::Mksmi),
+    ("0x00000007", RoleType::Mkdac),
+    ("0x00000008", RoleType::Mkdn),
+    ("0x00000009", RoleType::Mkcp),
+    ("0x0000000A", RoleType::Mkoth),
+    ("0x0000000B", RoleType::Kek),
+    ("0x0000000C", RoleType::Mac16609),
+    ("0x0000000D", RoleType::Mac97971),
+    ("0x0000000E", RoleType::Mac97972),
+    ("0x0000000F", RoleType::Mac97973),
+    ("0x00000010", RoleType::Mac97974),
+    ("0x00000011", RoleType::Mac97975),
+    ("0x00000012", RoleType::Zpk),
+    ("0x00000013", RoleType::Pvkibm),
+    ("0x00000014", RoleType::Pvkpvv),
+    ("0x00000015", RoleType::Pvkoth),
+];
+
+impl RoleType {
+    // Its number.
+    fn number(self) -> &'static str
+        ensures { result.now ≡ role_type_number self }
+    {
+        match self {
+            RoleType::Bdk => "0x00000001",
+            RoleType::Cvk => "0x00000002",
+            RoleType::Dek => "0x00000003",
+            RoleType::Mkac => "0x00000004",
+            RoleType::Mksmc => "0x00000005",
+            RoleType::Mksmi => "0x00000006",
+            RoleType::Mkdac => "0x00000007",
+            RoleType::Mkdn => "0x00000008",
+            RoleType::Mkcp => "0x00000009",
+            RoleType::Mkoth => "0x0000000A",
+            RoleType::Kek => "0x0000000B",
+            RoleType::Mac16609 => "0x0000000C",
+            RoleType::Mac97971 => "0x0000000D",
+            RoleType::Mac97972 => "0x0000000E",
+            RoleType::Mac97973 => "0x0000000F",
+            RoleType::Mac97974 => "0x00000010",
+            RoleType::Mac97975 => "0x00000011",
+            RoleType::Zpk => "0x00000012",
+            RoleType::Pvkibm => "0x00000013",
+            RoleType::Pvkpvv => "0x00000014",
+            RoleType::Pvkoth => "0x00000015",
+        }
+    }
+}
+
+impl Serialize for RoleType {
+    ghost stated = { role_type_value };
+
+    #[tactic(auto, unfolding(crate::specs::Wrappings::role_type_value))]
+    fn visit<V: Visitor>(&self, visitor: &mut V) -> Result<(), AllocError> {
+        writing::unit_variant(visitor, "0x420083", self.number())?;
+        Ok(())
+    }
+}
+
+impl Readable for RoleType {
+    ghost read_by = { role_type_form };
+
+    ghost read_as = { role_type_value };
+}
+
+impl<A: Allocator + Copy> Deserialize<A> for RoleType {
+    ghost form = { role_type_form };
+
+    ghost is_value = { λ v x. v ≡ role_type_value x };
+
+    fn shape(alloc: A) -> Result<Shape<A>, AllocError> {
+        shapes::units(alloc, "0x420083", &ROLE_TYPE)
+    }
+
+    #[tactic(auto, unfolding(crate::specs::Wrappings::role_type_value))]
+    fn from_data(_alloc: A, value: &mut Data<A>) -> Result<Self, AllocError> {
+        Ok(choices::unit::<Self, A>(value, &ROLE_TYPE))
+    }
+}
+
+/// How a key is used.
+#[derive(Clone, Copy, Debug, PartialEq, Eq)]
+pub struct CryptographicParameters {
+    /// The mode of its block cipher.
+    pub block_cipher_mode: Option<BlockCipherMode>,
+    /// How content is filled up.
+    pub padding_method: Option<PaddingMethod>,
+    /// What makes a hash of it.
+    pub hashing_algorithm: Option<HashingAlgorithm>,
+    /// What the key is for.
+    pub role_type: Option<RoleType>,
+}
+
+impl Serialize for CryptographicParameters {
+    ghost stated = { written_cryptographic_parameters };
+
+    #[tactic(auto, using(kmip_ttlv_base::proofs::Visiting::visited_joined), unfolding(crate::specs::Wrappings::written_cryptographic_parameters))]
+    fn visit<V: Visitor>(&self, visitor: &mut V) -> Result<(), AllocError> {
+        writing::begin_struct(visitor, "0x42002B")?;
+        writing::option(visitor, &self.block_cipher_mode)?;
+        writing::option(visitor, &self.padding_method)?;
+        writing::option(visitor, &self.hashing_algorithm)?;
+        writing::option(visitor, &self.role_type)?;
+        writing::end_struct(visitor, "0x42002B")?;
+        Ok(())
+    }
+}
+
+impl Readable for CryptographicParameters {
+    ghost read_by = { cryptographic_parameters_form };
+
+    ghost read_as = { read_cryptographic_parameters };
+}
+
+impl<A: Allocator + Copy> Deserialize<A> for CryptographicParameters {
+    ghost form = { cryptographic_parameters_form };
+
+    ghost is_value = { λ v x. v ≡ read_cryptographic_parameters x };
+
+    fn shape(alloc: A) -> Result<Shape<A>, AllocError> {
+        let mut fields = Vec::new(alloc);
+        let field = shapes::field("0x420011", BlockCipherMode::shape(alloc)?);
+        fields.push(shapes::optional(alloc, field)?)?;
+        let field = shapes::field("0x42005F", PaddingMethod::shape(alloc)?);
+        fields.push(shapes::optional(alloc, field)?)?;
+        let field = shapes::field("0x420038", HashingAlgorithm::shape(alloc)?);
+        fields.push(shapes::optional(alloc, field)?)?;
+        let field = shapes::field("0x420083", RoleType::shape(alloc)?);
+        fields.push(shapes::optional(alloc, field)?)?;
+        Ok(shapes::strict_structure("0x42002B", fields))
+    }
+
+    #[tactic(auto, unfolding(crate::specs::Wrappings::read_cryptographic_parameters))]
+    fn from_data(alloc: A, value: &mut Data<A>) -> Result<Self, AllocError> {
+        let mut parts = reading::parts::<Self, A>(value);
+        let block_cipher_mode = reading::optional::<Self, BlockCipherMode, A>(
+            alloc, &mut parts, 0,
+        )?;
+        let padding_method = reading::optional::<Self, PaddingMethod, A>(alloc, &mut parts, 1)?;
+        let hashing_algorithm = reading::optional::<Self, HashingAlgorithm, A>(
+            alloc, &mut parts, 2,
+        )?;
+        let role_type = reading::optional::<Self, RoleType, A>(alloc, &mut parts, 3)?;
+        Ok(CryptographicParameters {
+            block_cipher_mode,
+            padding_method,
+            hashing_algorithm,
+            role_type,
+        })
+    }
+}
+
 /// The key that encrypted.
 #[derive(Drop)]
 #[derive_where(Debug, PartialEq)]
 pub struct EncryptionKeyInformation<A: Allocator = Global> {
     /// The identifier of that key.
     pub unique_identifier: String<A>,
+    /// How that key was used.
+    pub cryptographic_parameters: Option<CryptographicParameters>,
 }
 
 impl<B: Allocator> Serialize for EncryptionKeyInformation<B> {
-    ghost stated = { encryption_key_information_value };
+    ghost stated = { written_encryption_key_information };
 
-    #[tactic(auto, unfolding(crate::specs::Wrappings::encryption_key_information_value))]
+    #[tactic(auto, using(kmip_ttlv_base::proofs::Visiting::visited_joined), unfolding(crate::specs::Wrappings::written_encryption_key_information))]
     fn visit<V: Visitor>(&self, visitor: &mut V) -> Result<(), AllocError> {
         writing::begin_struct(visitor, "0x420036")?;
         writing::text_string(
@@ -99,6 +597,7 @@ impl<B: Allocator> Serialize for EncryptionKeyInformation<B> {
             "Transparent:0x420094",
             self.unique_identifier.as_str(),
         )?;
+        writing::option(visitor, &self.cryptographic_parameters)?;
         writing::end_struct(visitor, "0x420036")?;
         Ok(())
     }
@@ -107,29 +606,37 @@ impl<B: Allocator> Serialize for EncryptionKeyInformation<B> {
 impl<A: Allocator> Readable for EncryptionKeyInformation<A> {
     ghost read_by = { encryption_key_information_form };
 
-    ghost read_as = { encryption_key_information_value };
+    ghost read_as = { read_encryption_key_information };
 }
 
 impl<A: Allocator + Copy> Deserialize<A> for EncryptionKeyInformation<A> {
     ghost form = { encryption_key_information_form };
 
-    ghost is_value = { λ v x. v ≡ encryption_key_information_value x };
+    ghost is_value = { λ v x. v ≡ read_encryption_key_information x };
 
     fn shape(alloc: A) -> Result<Shape<A>, AllocError> {
         let mut fields = Vec::new(alloc);
         fields.push(shapes::text_string(alloc, "0x420094", "Transparent:0x420094")?)?;
+        let field = shapes::field("0x42002B", CryptographicParameters::shape(alloc)?);
+        fields.push(shapes::optional(alloc, field)?)?;
         Ok(shapes::strict_structure("0x420036", fields))
     }
 
-    #[tactic(auto, unfolding(crate::specs::Wrappings::encryption_key_information_value))]
-    fn from_data(_alloc: A, value: &mut Data<A>) -> Result<Self, AllocError> {
+    #[tactic(auto, unfolding(crate::specs::Wrappings::read_encryption_key_information))]
+    fn from_data(alloc: A, value: &mut Data<A>) -> Result<Self, AllocError> {
         let mut parts = reading::parts::<Self, A>(value);
         let unique_identifier = reading::text_string::<Self, A>(
             &mut parts,
             0,
             "Transparent:0x420094",
         );
-        Ok(EncryptionKeyInformation { unique_identifier })
+        let cryptographic_parameters = reading::optional::<Self, CryptographicParameters, A>(
+            alloc, &mut parts, 1,
+        )?;
+        Ok(EncryptionKeyInformation {
+            unique_identifier,
+            cryptographic_parameters,
+        })
     }
 }
 
@@ -139,12 +646,14 @@ impl<A: Allocator + Copy> Deserialize<A> for EncryptionKeyInformation<A> {
 pub struct MacSignatureKeyInformation<A: Allocator = Global> {
     /// The identifier of that key.
     pub unique_identifier: String<A>,
+    /// How that key was used.
+    pub cryptographic_parameters: Option<CryptographicParameters>,
 }
 
 impl<B: Allocator> Serialize for MacSignatureKeyInformation<B> {
-    ghost stated = { mac_signature_key_information_value };
+    ghost stated = { written_mac_signature_key_information };
 
-    #[tactic(auto, unfolding(crate::specs::Wrappings::mac_signature_key_information_value))]
+    #[tactic(auto, using(kmip_ttlv_base::proofs::Visiting::visited_joined), unfolding(crate::specs::Wrappings::written_mac_signature_key_information))]
     fn visit<V: Visitor>(&self, visitor: &mut V) -> Result<(), AllocError> {
         writing::begin_struct(visitor, "0x42004E")?;
         writing::text_string(
@@ -152,6 +661,7 @@ impl<B: Allocator> Serialize for MacSignatureKeyInformation<B> {
             "Transparent:0x420094",
             self.unique_identifier.as_str(),
         )?;
+        writing::option(visitor, &self.cryptographic_parameters)?;
         writing::end_struct(visitor, "0x42004E")?;
         Ok(())
     }
@@ -160,29 +670,37 @@ impl<B: Allocator> Serialize for MacSignatureKeyInformation<B> {
 impl<A: Allocator> Readable for MacSignatureKeyInformation<A> {
     ghost read_by = { mac_signature_key_information_form };
 
-    ghost read_as = { mac_signature_key_information_value };
+    ghost read_as = { read_mac_signature_key_information };
 }
 
 impl<A: Allocator + Copy> Deserialize<A> for MacSignatureKeyInformation<A> {
     ghost form = { mac_signature_key_information_form };
 
-    ghost is_value = { λ v x. v ≡ mac_signature_key_information_value x };
+    ghost is_value = { λ v x. v ≡ read_mac_signature_key_information x };
 
     fn shape(alloc: A) -> Result<Shape<A>, AllocError> {
         let mut fields = Vec::new(alloc);
         fields.push(shapes::text_string(alloc, "0x420094", "Transparent:0x420094")?)?;
+        let field = shapes::field("0x42002B", CryptographicParameters::shape(alloc)?);
+        fields.push(shapes::optional(alloc, field)?)?;
         Ok(shapes::strict_structure("0x42004E", fields))
     }
 
-    #[tactic(auto, unfolding(crate::specs::Wrappings::mac_signature_key_information_value))]
-    fn from_data(_alloc: A, value: &mut Data<A>) -> Result<Self, AllocError> {
+    #[tactic(auto, unfolding(crate::specs::Wrappings::read_mac_signature_key_information))]
+    fn from_data(alloc: A, value: &mut Data<A>) -> Result<Self, AllocError> {
         let mut parts = reading::parts::<Self, A>(value);
         let unique_identifier = reading::text_string::<Self, A>(
             &mut parts,
             0,
             "Transparent:0x420094",
         );
-        Ok(MacSignatureKeyInformation { unique_identifier })
+        let cryptographic_parameters = reading::optional::<Self, CryptographicParameters, A>(
+            alloc, &mut parts, 1,
+        )?;
+        Ok(MacSignatureKeyInformation {
+            unique_identifier,
+            cryptographic_parameters,
+        })
     }
 }
 

@@ -3,7 +3,10 @@
 use get_messages::key::SymmetricKey;
 use get_messages::request::GetRequest;
 use get_messages::response::GetResponse;
-use get_messages::wrapping::{KeyWrappingData, WrappingMethod};
+use get_messages::wrapping::{
+    BlockCipherMode, CryptographicParameters, HashingAlgorithm, KeyWrappingData, PaddingMethod,
+    RoleType, WrappingMethod,
+};
 use kmip_ttlv::{from_slice, to_vec};
 use std::alloc::Global;
 use std::test::Fail;
@@ -72,7 +75,7 @@ const FOLLOWED_WITHIN: &str = "42007B010000019042007A01000000484200690100000020\
 42003D080000000CA0A1A2A3A4A5A6A7A8A9AAAB00000000\
 54000105000000040000000100000000";
 
-// The same with Cryptographic Parameters (42002B, with the mode GCM), behind the identifier of the key of the MAC.
+// The same with Cryptographic Parameters (42002B, KMIP 1.0, section 3.6) behind the identifier of the key of the MAC: the mode GCM.
 const WITH_PARAMETERS: &str = "42007B010000019842007A01000000484200690100000020\
 42006A0200000004000000010000000042006B02000000040000000000000000\
 4200920900000008000000004F9A54E542000D02000000040000000100000000\
@@ -85,6 +88,40 @@ const WITH_PARAMETERS: &str = "42007B010000019842007A01000000484200690100000020\
 420046010000007042009E05000000040000000200000000\
 42004E010000002842009407000000076D61632D6B657900\
 42002B010000001042001105000000040000000900000000\
+42004D0800000010F0F1F2F3F4F5F6F7F8F9FAFBFCFDFEFF\
+42003D080000000CA0A1A2A3A4A5A6A7A8A9AAAB00000000";
+
+// The same with the padding of PKCS #5, SHA-256 and the role KEK too.
+const WITH_ALL_PARAMETERS: &str = "42007B01000001C842007A01000000484200690100000020\
+42006A0200000004000000010000000042006B02000000040000000000000000\
+4200920900000008000000004F9A54E542000D02000000040000000100000000\
+42000F010000017042005C05000000040000000A00000000\
+42007F0500000004000000000000000042007C010000014842005705000000040000000200000000\
+420094070000002434396131636138382D366265612D346662322D623435302D37653538383032633330333800000000\
+42008F010000010042004001000000F842004205000000040000000100000000\
+42004501000000184200430800000010000102030405060708090A0B0C0D0E0F\
+4200280500000004000000030000000042002A02000000040000008000000000\
+42004601000000A042009E05000000040000000200000000\
+42004E010000005842009407000000076D61632D6B657900\
+42002B010000004042001105000000040000000900000000\
+42005F050000000400000003000000004200380500000004000000060000000042008305000000040000000B00000000\
+42004D0800000010F0F1F2F3F4F5F6F7F8F9FAFBFCFDFEFF\
+42003D080000000CA0A1A2A3A4A5A6A7A8A9AAAB00000000";
+
+// The same with the mode, and an item behind it (of a vendor, 540001).
+const FOLLOWED_PARAMETERS: &str = "42007B01000001A842007A01000000484200690100000020\
+42006A0200000004000000010000000042006B02000000040000000000000000\
+4200920900000008000000004F9A54E542000D02000000040000000100000000\
+42000F010000015042005C05000000040000000A00000000\
+42007F0500000004000000000000000042007C010000012842005705000000040000000200000000\
+420094070000002434396131636138382D366265612D346662322D623435302D37653538383032633330333800000000\
+42008F01000000E042004001000000D842004205000000040000000100000000\
+42004501000000184200430800000010000102030405060708090A0B0C0D0E0F\
+4200280500000004000000030000000042002A02000000040000008000000000\
+420046010000008042009E05000000040000000200000000\
+42004E010000003842009407000000076D61632D6B657900\
+42002B010000002042001105000000040000000900000000\
+54000105000000040000000100000000\
 42004D0800000010F0F1F2F3F4F5F6F7F8F9FAFBFCFDFEFF\
 42003D080000000CA0A1A2A3A4A5A6A7A8A9AAAB00000000";
 
@@ -181,6 +218,7 @@ fn is_the_wrapping(wrapping: &KeyWrappingData) -> bool {
         return false;
     };
     key.unique_identifier.as_str() == "mac-key"
+        && matches!(&key.cryptographic_parameters, None)
         && mac.as_slice()
             == [
                 240, 241, 242, 243, 244, 245, 246, 247, 248, 249, 250, 251, 252, 253, 254, 255,
@@ -188,6 +226,35 @@ fn is_the_wrapping(wrapping: &KeyWrappingData) -> bool {
             .as_slice()
         && nonce.as_slice()
             == [160, 161, 162, 163, 164, 165, 166, 167, 168, 169, 170, 171].as_slice()
+}
+
+// The parameters of the key that made the MAC of a response; none where it has no such key, or none of them.
+fn parameters_of(response: &GetResponse) -> Option<CryptographicParameters> {
+    let Some(wrapping) = &response
+        .item
+        .payload
+        .symmetric_key
+        .key_block
+        .key_wrapping_data
+    else {
+        return None;
+    };
+    let Some(key) = &wrapping.mac_signature_key_information else {
+        return None;
+    };
+    key.cryptographic_parameters
+}
+
+// Whether these bytes are a response with these parameters, and are written for it again.
+fn has_parameters(alloc: Global, digits: &str, wanted: CryptographicParameters) -> bool {
+    let Ok(bytes) = hex::decode(alloc, digits) else {
+        return false;
+    };
+    let read: kmip_ttlv::error::Result<GetResponse> = from_slice(alloc, bytes.as_slice());
+    let Ok(response) = read else {
+        return false;
+    };
+    parameters_of(&response) == Some(wanted) && is_response(alloc, bytes.as_slice(), IDENTIFIER)
 }
 
 // Whether these bytes are a response at all.
@@ -219,6 +286,26 @@ fn a_wrapped_key_there_and_back(rt: HostRuntime) -> Result<(), Fail> {
 }
 
 #[test]
+fn parameters_there_and_back(rt: HostRuntime) -> Result<(), Fail> {
+    let alloc = rt.alloc();
+    let mode = CryptographicParameters {
+        block_cipher_mode: Some(BlockCipherMode::Gcm),
+        padding_method: None,
+        hashing_algorithm: None,
+        role_type: None,
+    };
+    assert!(rt; has_parameters(alloc, WITH_PARAMETERS, mode));
+    let all = CryptographicParameters {
+        block_cipher_mode: Some(BlockCipherMode::Gcm),
+        padding_method: Some(PaddingMethod::Pkcs5),
+        hashing_algorithm: Some(HashingAlgorithm::Sha256),
+        role_type: Some(RoleType::Kek),
+    };
+    assert!(rt; has_parameters(alloc, WITH_ALL_PARAMETERS, all));
+    Ok(())
+}
+
+#[test]
 fn a_plain_key_has_no_wrapping(rt: HostRuntime) -> Result<(), Fail> {
     let alloc = rt.alloc();
     let bytes = hex::decode(alloc, RESPONSE)?;
@@ -240,7 +327,8 @@ fn what_would_be_lost_is_refused(rt: HostRuntime) -> Result<(), Fail> {
     assert!(rt; is_read(alloc, WRAPPED));
     assert!(rt; !is_read(alloc, FOLLOWED));
     assert!(rt; !is_read(alloc, FOLLOWED_WITHIN));
-    assert!(rt; !is_read(alloc, WITH_PARAMETERS));
+    assert!(rt; is_read(alloc, WITH_PARAMETERS));
+    assert!(rt; !is_read(alloc, FOLLOWED_PARAMETERS));
     assert!(rt; !is_read(alloc, ENCRYPTED));
     Ok(())
 }
