@@ -1,5 +1,4 @@
 mod Pairs
-mod Taken
 mod PairItems
 mod Refusals
 mod Ends
