@@ -1,0 +1,10 @@
+pub mod Front
+pub mod Cuts
+pub mod RuleLemmas
+pub mod FieldTagLemmas
+pub mod NumberLemmas
+mod Walks
+pub mod Steps
+pub mod Loops
+pub mod Standing
+pub mod MessageLemmas

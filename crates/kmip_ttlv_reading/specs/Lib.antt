@@ -1,0 +1,13 @@
+pub mod Keeps
+pub mod Kept
+pub mod HeldTexts
+pub mod Rules
+pub mod Reads
+pub mod FieldTags
+pub mod Steps
+pub mod Faults
+pub mod Outcomes
+pub mod Results
+pub mod LeafForms
+pub mod Laws
+pub mod Messages

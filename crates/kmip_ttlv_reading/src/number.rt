@@ -1,0 +1,175 @@
+//! Enums that are read by a number: the text that names a variant.
+
+ghost use Rattle.std.specs.Prelude.{◌≡◌, ◌+◌, ◌<◌, ◌≤◌, ◌++◌, length, true, IfOk, IfSome, option_map, string_bytes};
+ghost use Rattle.std.specs.Str.{IsAscii};
+ghost use Rattle.std.specs.Fmt.{digit_glyph};
+ghost use Rattle.kmip_ttlv_base.specs.Values.{view};
+ghost use Rattle.kmip_ttlv_base.specs.Forms.{variants_of, content_of};
+ghost use Rattle.kmip_ttlv_reading.specs.Keeps.{Keep};
+ghost use Rattle.kmip_ttlv_reading.specs.Reads.{is_number_type, byte_digits, number_text, first_named};
+ghost use Rattle.kmip_ttlv_reading.specs.Outcomes.{number_outcome, unit_wanted, named_content};
+ghost use Rattle.kmip_ttlv_reading.specs.Results.{IsRead, IsStep, fault_by};
+
+use crate::failure::{Cause, Failure, FaultAt, Step, at_item, in_struct};
+use crate::head::{content_there, inside, length_there, length_wanted, tag_at, type_wanted};
+use crate::keep::KeptTexts;
+use crate::scope::Scope;
+use kmip_ttlv_base::error::MalformedTtlvError;
+use kmip_ttlv_base::shape::{Data, VariantContent, VariantShape};
+use kmip_ttlv_base::types::{FieldType, TtlvType};
+use std::alloc::{AllocError, Allocator};
+use std::str;
+
+// A hexadecimal digit in upper case.
+#[inline(always)]
+fn digit(n: u8) -> u8
+    requires { n < 16 }
+    ensures value { result ≡ digit_glyph true n }
+    ensures ascii { result < 128 }
+{
+    if n < 10 { 48 + n } else { 55 + n }
+}
+
+// `0x` and the upper case digits of these four bytes.
+#[inline(always)]
+fn number_text(content: &[u8]) -> [u8; 10]
+    requires { length content.now ≡ 4 }
+    ensures text { result ≡ number_text content.now }
+    ensures ascii { IsAscii result }
+{
+    [
+        48,
+        120,
+        digit(content[0] / 16),
+        digit(content[0] % 16),
+        digit(content[1] / 16),
+        digit(content[1] % 16),
+        digit(content[2] / 16),
+        digit(content[2] % 16),
+        digit(content[3] / 16),
+        digit(content[3] % 16),
+    ]
+}
+
+/// The same as a text of its own.
+pub fn number_string<A: Allocator>(alloc: A, content: &[u8]) -> Result<String<A>, AllocError>
+    requires { length content.now ≡ 4 }
+    ensures { IfOk result (λ s. string_bytes s ≡ number_text content.now) }
+{
+    let digits = number_text(content);
+    String::from_str(alloc, unsafe { str::from_utf8_unchecked(&digits) })
+}
+
+// The first variant of this name.
+#[inline(always)]
+fn first_named<'s, A: Allocator>(
+    name: &str,
+    variants: &'s [VariantShape<A>],
+) -> Option<&'s VariantShape<A>>
+    ensures content { option_map (λ v. content_of v.now.content) result
+        ≡ first_named name.now (variants_of variants.now) }
+    ensures name { IfSome result (λ v. v.now.name.now ≡ name.now) }
+{
+    for variant in variants {
+        if variant.name == name {
+            return Some(variant);
+        }
+    }
+    None
+}
+
+#[inline(always)]
+fn is_number_type(typ: TtlvType) -> bool
+    ensures { result ≡ is_number_type typ }
+{
+    typ == TtlvType::Integer || typ == TtlvType::Enumeration
+}
+
+// Content at a variant that a number names.
+#[cold]
+fn named_content<A: Allocator + Copy>(
+    alloc: A,
+    bytes: &[u8],
+    pos: usize,
+    typ: TtlvType,
+    actual: FieldType,
+) -> Result<Box<FaultAt<A>, A>, AllocError>
+    requires there { pos + 4 ≤ length bytes.now }
+    ensures { IfOk result (λ f. fault_by f.value ≡ named_content bytes.now pos typ actual) }
+{
+    let cause = Cause::Malformed(MalformedTtlvError::UnexpectedTtlvField {
+        expected: FieldType::Tag,
+        actual,
+    });
+    at_item(alloc, bytes, pos, 16, typ, cause)
+}
+
+// The name of the unit variant that a number's text names.
+#[inline(always)]
+fn named_unit<A: Allocator + Copy>(
+    alloc: A,
+    bytes: &[u8],
+    scope: &Scope,
+    variants: &[VariantShape<A>],
+    typ: TtlvType,
+    pos: usize,
+    text: &str,
+) -> Step<&'static str, A>
+    requires there { pos + 4 ≤ length bytes.now }
+    ensures step { IsStep (λ _. tt) (unit_wanted bytes.now scope.now.owner pos typ
+        (first_named text.now (variants_of variants.now))) result }
+    ensures name { IfOk result (λ name. name.now ≡ text.now) }
+{
+    let Some(variant) = first_named(text, variants) else {
+        return Err(Failure::Fault(in_struct(alloc, pos + 16, scope.owner, "unknown variant")?));
+    };
+    match variant.content {
+        VariantContent::Unit => Ok(variant.name),
+        VariantContent::Newtype(_) => {
+            let actual = FieldType::LengthAndValue;
+            Err(Failure::Fault(named_content(alloc, bytes, pos, typ, actual)?))
+        }
+        VariantContent::Tuple(_) => {
+            let actual = FieldType::Length;
+            Err(Failure::Fault(named_content(alloc, bytes, pos, typ, actual)?))
+        }
+    }
+}
+
+/// The variant that a number names.
+#[tactic(auto, unfolding(crate::specs::Outcomes::number_outcome), using(crate::proofs::Steps::failure_then))]
+#[inline(always)]
+pub fn read_number<'b, A: Allocator + Copy>(
+    alloc: A,
+    bytes: &'b [u8],
+    scope: &Scope,
+    name: &'static str,
+    variants: &[VariantShape<A>],
+    typ: TtlvType,
+    pos: usize,
+    kept: &mut KeptTexts<'b, A>,
+) -> Step<(Data<A>, usize), A>
+    requires there { pos + 4 ≤ length bytes.now }
+    ensures read { IsRead view kept.new (number_outcome name.now (variants_of variants.now) typ
+        bytes.now scope.now.owner kept.old pos scope.now.end) result }
+    ensures further { IfOk result (λ r. (pos + 8 ≤ r.1) × (r.1 ≤ scope.now.end) × (r.1 ≤ length bytes.now)) }
+{
+    type_wanted(
+        alloc,
+        is_number_type(typ),
+        TtlvType::Enumeration,
+        bytes,
+        pos,
+        typ,
+    )?;
+    let _ = length_there(bytes, pos)?;
+    length_wanted(alloc, bytes, pos, 4, typ, Some(4))?;
+    let (content, next) = content_there(alloc, bytes, pos, typ)?;
+    let digits = number_text(content);
+    let text = unsafe { str::from_utf8_unchecked(&digits) };
+    let variant = named_unit(alloc, bytes, scope, variants, typ, pos, text)?;
+    inside(alloc, bytes, pos, scope.end, typ, next)?;
+    let lent: &'b str = variant;
+    kept.keep(tag_at(bytes, pos), lent)?;
+    Ok((Data::UnitVariant { name, variant }, next))
+}

@@ -1,0 +1,434 @@
+//! Reading by a shape: one cycle of functions. Each returns the outcome of its form, or runs out of memory.
+
+ghost use Rattle.std.specs.Prelude.{◌≡◌, ◌≢◌, ℕ, suc, ◌+◌, Bool, true, false, ◌<◌, ◌≤◌, List, [], length, IfOk};
+ghost use Rattle.kmip_ttlv_base.specs.Values.{view, views, struct_value, seq_value};
+ghost use Rattle.kmip_ttlv_base.specs.Forms.{Form, Fields, form_of, forms_of, fields_of, variants_of, content_of};
+ghost use Rattle.kmip_ttlv_reading.specs.Keeps.{Keep};
+ghost use Rattle.kmip_ttlv_reading.specs.Reads.{is_option, is_struct};
+ghost use Rattle.kmip_ttlv_reading.specs.Outcomes.{outcome, fields_outcome, field_outcome, seq_outcome, struct_outcome};
+ghost use Rattle.kmip_ttlv_reading.specs.Outcomes.{all_outcome, goes_on, enum_outcome, variant_outcome, content_outcome};
+ghost use Rattle.kmip_ttlv_reading.specs.Outcomes.{tuple_outcome, forms_outcome, part_outcome};
+ghost use Rattle.kmip_ttlv_reading.specs.Results.{IsRead, IsStep};
+
+use crate::failure::{Failure, Step, in_struct, within};
+use crate::head::{
+    has_tag, inside, length_there, opened, structure_wanted, tag_at, tag_wanted, type_there,
+};
+use crate::keep::KeptTexts;
+use crate::leaf::{Leaf, read_leaf};
+use crate::number::read_number;
+use crate::rest::read_rest;
+use crate::scope::Scope;
+use crate::variant::{chosen, chosen_unit};
+use kmip_ttlv_base::shape::{Data, FieldShape, Shape, VariantContent, VariantShape};
+use kmip_ttlv_base::types::TtlvType;
+use std::alloc::Allocator;
+
+#[inline(always)]
+fn is_option<A: Allocator>(shape: &Shape<A>) -> bool
+    ensures { result ≡ is_option (form_of shape.now) }
+{
+    matches!(shape, Shape::Option(_))
+}
+
+// Whether the shape is a struct, newtypes taken off.
+fn is_struct<A: Allocator>(shape: &Shape<A>) -> bool
+    ensures { result ≡ is_struct (form_of shape.now) }
+{
+    match shape {
+        Shape::Struct { .. } => true,
+        Shape::Newtype { inner, .. } => is_struct(inner),
+        _ => false,
+    }
+}
+
+/// What a shape reads from `pos` on.
+#[cycle(reader)]
+#[tactic(auto, unfolding(crate::specs::Outcomes::outcome), using(crate::proofs::Steps::failure_then))]
+pub fn read_shape<'b, A: Allocator + Copy>(
+    alloc: A,
+    bytes: &'b [u8],
+    scope: &Scope,
+    shape: &Shape<A>,
+    pos: usize,
+    kept: &mut KeptTexts<'b, A>,
+) -> Step<(Data<A>, usize), A>
+    requires inside { pos ≤ length bytes.now }
+    ensures read { IsRead view kept.new
+        (outcome (form_of shape.now) bytes.now scope.now.owner kept.old pos scope.now.end) result }
+    ensures further { IfOk result (λ r. (pos + 8 ≤ r.1) × (r.1 ≤ scope.now.end) × (r.1 ≤ length bytes.now)) }
+{
+    match shape {
+        Shape::I32 => read_leaf(alloc, bytes, scope, Leaf::I32, pos, kept),
+        Shape::I64 => read_leaf(alloc, bytes, scope, Leaf::I64, pos, kept),
+        Shape::Bool => read_leaf(alloc, bytes, scope, Leaf::Bool, pos, kept),
+        Shape::Text => read_leaf(alloc, bytes, scope, Leaf::Text, pos, kept),
+        Shape::Bytes => read_leaf(alloc, bytes, scope, Leaf::Bytes, pos, kept),
+        Shape::Interval => read_leaf(alloc, bytes, scope, Leaf::Interval, pos, kept),
+        Shape::BigInteger => read_leaf(alloc, bytes, scope, Leaf::BigInteger, pos, kept),
+        Shape::U32 => read_leaf(alloc, bytes, scope, Leaf::U32, pos, kept),
+        Shape::Enum { name, variants } => read_enum(alloc, bytes, scope, name, variants, pos, kept),
+        Shape::Option(inner) => {
+            let (data, next) = read_shape(alloc, bytes, scope, inner, pos, kept)?;
+            Ok((Data::Some(Box::new(alloc, data)?), next))
+        }
+        Shape::Newtype { name, inner } => {
+            let (data, next) = read_shape(alloc, bytes, scope, inner, pos, kept)?;
+            let inner = Box::new(alloc, data)?;
+            Ok((Data::Newtype { name, inner }, next))
+        }
+        Shape::Seq(inner) => {
+            let (all, next) = read_seq(alloc, bytes, scope, inner, pos, kept)?;
+            Ok((Data::Seq(all), next))
+        }
+        Shape::Struct {
+            name,
+            fields,
+            deny_unknown,
+        } => {
+            let (fields, next) = read_struct(
+                alloc,
+                bytes,
+                scope,
+                name,
+                fields,
+                *deny_unknown,
+                pos,
+                kept,
+            )?;
+            Ok((Data::Struct { name, fields }, next))
+        }
+    }
+}
+
+/// A structure: its header, its fields, and its end.
+#[cycle(reader)]
+#[tactic(auto, unfolding(crate::specs::Outcomes::struct_outcome), using(crate::proofs::Steps::failure_then))]
+#[inline(always)]
+fn read_struct<'b, A: Allocator + Copy>(
+    alloc: A,
+    bytes: &'b [u8],
+    scope: &Scope,
+    name: &str,
+    fields: &[FieldShape<A>],
+    deny: bool,
+    pos: usize,
+    kept: &mut KeptTexts<'b, A>,
+) -> Step<(Vec<Data<A>, A>, usize), A>
+    requires inside { pos ≤ length bytes.now }
+    ensures read { IsRead (λ v. views v.items) kept.new
+        (struct_outcome name.now (fields_of fields.now) deny (fields_outcome (fields_of fields.now))
+        bytes.now scope.now.owner kept.old pos scope.now.end) result }
+    ensures further { IfOk result (λ r. (pos + 8 ≤ r.1) × (r.1 ≤ scope.now.end) × (r.1 ≤ length bytes.now)) }
+{
+    let stop = opened(alloc, name, bytes, pos)?;
+    let owner = tag_at(bytes, pos);
+    let content = Scope { owner, end: stop };
+    match read_content(alloc, bytes, &content, fields, deny, pos + 8, kept) {
+        Ok((values, stop)) => {
+            inside(alloc, bytes, pos, scope.end, TtlvType::Structure, stop)?;
+            Ok((values, stop))
+        }
+        Err(failure) => Err(within(owner, failure)),
+    }
+}
+
+/// All that a structure contains: the fields, and what may follow.
+#[cycle(reader)]
+#[tactic(auto, unfolding(crate::specs::Outcomes::all_outcome), using(crate::proofs::Steps::failure_then))]
+pub fn read_content<'b, A: Allocator + Copy>(
+    alloc: A,
+    bytes: &'b [u8],
+    scope: &Scope,
+    fields: &[FieldShape<A>],
+    deny: bool,
+    pos: usize,
+    kept: &mut KeptTexts<'b, A>,
+) -> Step<(Vec<Data<A>, A>, usize), A>
+    requires inside { pos ≤ length bytes.now }
+    requires before { pos ≤ scope.now.end }
+    ensures read { IsRead (λ v. views v.items) kept.new
+        (all_outcome (fields_of fields.now) deny (fields_outcome (fields_of fields.now))
+        bytes.now scope.now.owner kept.old pos scope.now.end) result }
+    ensures whole { IfOk result (λ r. (r.1 ≡ scope.now.end) × (scope.now.end ≤ length bytes.now)) }
+{
+    let (values, next) = read_fields(alloc, bytes, scope, fields, pos, kept)?;
+    let next = read_rest(alloc, bytes, scope, fields, deny, next)?;
+    Ok((values, next))
+}
+
+/// The fields, one after the other.
+#[cycle(reader)]
+#[tactic(auto, using(crate::proofs::Steps::failure_then))]
+fn read_fields<'b, A: Allocator + Copy>(
+    alloc: A,
+    bytes: &'b [u8],
+    scope: &Scope,
+    fields: &[FieldShape<A>],
+    pos: usize,
+    kept: &mut KeptTexts<'b, A>,
+) -> Step<(Vec<Data<A>, A>, usize), A>
+    requires inside { pos ≤ length bytes.now }
+    requires before { pos ≤ scope.now.end }
+    ensures read { IsRead (λ v. views v.items) kept.new
+        (fields_outcome (fields_of fields.now) bytes.now scope.now.owner kept.old pos scope.now.end) result }
+    ensures further { IfOk result (λ r. (pos ≤ r.1) × (r.1 ≤ scope.now.end) × (r.1 ≤ length bytes.now)) }
+{
+    let mut values = Vec::with_capacity(alloc, fields.len())?;
+    let mut next = pos;
+    for field in fields {
+        let (value, after) = read_field(alloc, bytes, scope, field.name, &field.shape, next, kept)?;
+        values.push(value)?;
+        next = after;
+    }
+    Ok((values, next))
+}
+
+/// One field: a struct goes by its own name, any other by the field's, and an option may be left out.
+#[cycle(reader)]
+#[tactic(auto, unfolding(crate::specs::Outcomes::field_outcome), using(crate::proofs::Steps::failure_then))]
+#[inline(always)]
+fn read_field<'b, A: Allocator + Copy>(
+    alloc: A,
+    bytes: &'b [u8],
+    scope: &Scope,
+    name: &str,
+    shape: &Shape<A>,
+    pos: usize,
+    kept: &mut KeptTexts<'b, A>,
+) -> Step<(Data<A>, usize), A>
+    requires inside { pos ≤ length bytes.now }
+    requires before { pos ≤ scope.now.end }
+    ensures read { IsRead view kept.new
+        (field_outcome name.now (form_of shape.now) (outcome (form_of shape.now))
+        bytes.now scope.now.owner kept.old pos scope.now.end) result }
+    ensures further { IfOk result (λ r. (pos ≤ r.1) × (r.1 ≤ scope.now.end) × (r.1 ≤ length bytes.now)) }
+{
+    if pos == scope.end {
+        if is_option(shape) {
+            return Ok((Data::None, pos));
+        }
+        return Err(Failure::Fault(in_struct(alloc, scope.end, scope.owner, "missing field")?));
+    }
+    if is_struct(shape) {
+        return read_shape(alloc, bytes, scope, shape, pos, kept);
+    }
+    let typ = type_there(alloc, bytes, pos)?;
+    if !has_tag(name, tag_at(bytes, pos)) {
+        if is_option(shape) {
+            return Ok((Data::None, pos));
+        }
+        tag_wanted(alloc, name, bytes, pos, typ)?;
+    }
+    read_shape(alloc, bytes, scope, shape, pos, kept)
+}
+
+/// A sequence: the first item, and then as long as the next has its tag and type.
+#[cycle(reader)]
+#[tactic(auto, unfolding(crate::specs::Outcomes::seq_outcome), using(crate::proofs::Steps::failure_then))]
+fn read_seq<'b, A: Allocator + Copy>(
+    alloc: A,
+    bytes: &'b [u8],
+    scope: &Scope,
+    shape: &Shape<A>,
+    pos: usize,
+    kept: &mut KeptTexts<'b, A>,
+) -> Step<(Vec<Data<A>, A>, usize), A>
+    requires inside { pos ≤ length bytes.now }
+    ensures read { IsRead (λ v. views v.items) kept.new
+        (seq_outcome (outcome (form_of shape.now)) bytes.now scope.now.owner kept.old pos scope.now.end) result }
+    ensures further { IfOk result (λ r. (pos + 8 ≤ r.1) × (r.1 ≤ scope.now.end) × (r.1 ≤ length bytes.now)) }
+{
+    let mut values = Vec::new(alloc);
+    let (first, after) = read_shape(alloc, bytes, scope, shape, pos, kept)?;
+    values.push(first)?;
+    let mut next = after;
+    while goes_on(alloc, bytes, pos, next, scope.end)? {
+        let (value, after) = read_shape(alloc, bytes, scope, shape, next, kept)?;
+        values.push(value)?;
+        next = after;
+    }
+    Ok((values, next))
+}
+
+/// Whether the next item is there, with the first one's tag and type.
+#[tactic(auto, unfolding(crate::specs::Outcomes::goes_on), using(crate::proofs::Steps::failure_then))]
+#[inline(always)]
+fn goes_on<A: Allocator + Copy>(
+    alloc: A,
+    bytes: &[u8],
+    first: usize,
+    pos: usize,
+    end: usize,
+) -> Step<bool, A>
+    requires first { first + 4 ≤ length bytes.now }
+    requires inside { pos ≤ length bytes.now }
+    ensures step { IsStep (λ more. more) (goes_on bytes.now first pos end) result }
+    ensures there { IfOk result (λ more. more ≡ true → pos + 4 ≤ length bytes.now) }
+{
+    if pos == end {
+        return Ok(false);
+    }
+    let _ = type_there(alloc, bytes, pos)?;
+    Ok(tag_at(bytes, pos) == tag_at(bytes, first) && bytes[pos + 3] == bytes[first + 3])
+}
+
+/// An enum, by the rules of its variants, or else by a number.
+#[cycle(reader)]
+#[tactic(auto, unfolding(crate::specs::Outcomes::enum_outcome), using(crate::proofs::Steps::failure_then))]
+#[inline(always)]
+fn read_enum<'b, A: Allocator + Copy>(
+    alloc: A,
+    bytes: &'b [u8],
+    scope: &Scope,
+    name: &'static str,
+    variants: &[VariantShape<A>],
+    pos: usize,
+    kept: &mut KeptTexts<'b, A>,
+) -> Step<(Data<A>, usize), A>
+    requires inside { pos ≤ length bytes.now }
+    ensures read { IsRead view kept.new
+        (enum_outcome name.now (variants_of variants.now) (variant_outcome name.now (variants_of variants.now))
+        bytes.now scope.now.owner kept.old pos scope.now.end) result }
+    ensures further { IfOk result (λ r. (pos + 8 ≤ r.1) × (r.1 ≤ scope.now.end) × (r.1 ≤ length bytes.now)) }
+{
+    let typ = type_there(alloc, bytes, pos)?;
+    let index = chosen(alloc, variants, kept, typ, bytes, pos)?;
+    match index {
+        Some(i) => read_variant(alloc, bytes, scope, name, &variants[i], typ, pos, kept),
+        None => read_number(alloc, bytes, scope, name, variants, typ, pos, kept),
+    }
+}
+
+/// What a variant contains that a rule chose.
+#[cycle(reader)]
+#[tactic(auto, unfolding(crate::specs::Outcomes::content_outcome), using(crate::proofs::Steps::failure_then))]
+fn read_variant<'b, A: Allocator + Copy>(
+    alloc: A,
+    bytes: &'b [u8],
+    scope: &Scope,
+    name: &'static str,
+    shape: &VariantShape<A>,
+    typ: TtlvType,
+    pos: usize,
+    kept: &mut KeptTexts<'b, A>,
+) -> Step<(Data<A>, usize), A>
+    requires there { pos + 4 ≤ length bytes.now }
+    ensures read { IsRead view kept.new
+        (content_outcome name.now shape.now.name.now (content_of shape.now.content) typ
+        bytes.now scope.now.owner kept.old pos scope.now.end) result }
+    ensures further { IfOk result (λ r. (pos + 8 ≤ r.1) × (r.1 ≤ scope.now.end) × (r.1 ≤ length bytes.now)) }
+{
+    let variant = shape.name;
+    match &shape.content {
+        VariantContent::Unit => {
+            let fault = chosen_unit(alloc, bytes, pos, typ)?;
+            Err(Failure::Fault(fault))
+        }
+        VariantContent::Newtype(inner) => {
+            let (data, next) = read_shape(alloc, bytes, scope, inner, pos, kept)?;
+            let inner = Box::new(alloc, data)?;
+            let data = Data::NewtypeVariant {
+                name,
+                variant,
+                inner,
+            };
+            Ok((data, next))
+        }
+        VariantContent::Tuple(shapes) => {
+            let (fields, next) = read_tuple(alloc, bytes, scope, shapes, typ, pos, kept)?;
+            let data = Data::TupleVariant {
+                name,
+                variant,
+                fields,
+            };
+            Ok((data, next))
+        }
+    }
+}
+
+/// A structure whose items the shapes use up.
+#[cycle(reader)]
+#[tactic(auto, unfolding(crate::specs::Outcomes::tuple_outcome), using(crate::proofs::Steps::failure_then))]
+fn read_tuple<'b, A: Allocator + Copy>(
+    alloc: A,
+    bytes: &'b [u8],
+    scope: &Scope,
+    shapes: &[Shape<A>],
+    typ: TtlvType,
+    pos: usize,
+    kept: &mut KeptTexts<'b, A>,
+) -> Step<(Vec<Data<A>, A>, usize), A>
+    requires there { pos + 4 ≤ length bytes.now }
+    ensures read { IsRead (λ v. views v.items) kept.new
+        (tuple_outcome typ (forms_outcome (forms_of shapes.now))
+        bytes.now scope.now.owner kept.old pos scope.now.end) result }
+    ensures further { IfOk result (λ r. (pos + 8 ≤ r.1) × (r.1 ≤ scope.now.end) × (r.1 ≤ length bytes.now)) }
+{
+    structure_wanted(alloc, bytes, pos, typ)?;
+    let n = length_there(bytes, pos)?;
+    let stop = pos + 8 + n as usize;
+    let content = Scope {
+        owner: scope.owner,
+        end: stop,
+    };
+    let (values, next) = read_parts(alloc, bytes, &content, shapes, pos + 8, kept)?;
+    if next < stop {
+        return Err(Failure::Fault(in_struct(alloc, next, scope.owner, "too many items")?));
+    }
+    inside(alloc, bytes, pos, scope.end, typ, stop)?;
+    Ok((values, stop))
+}
+
+/// The items of a structure, one for each shape.
+#[cycle(reader)]
+#[tactic(auto, using(crate::proofs::Steps::failure_then))]
+fn read_parts<'b, A: Allocator + Copy>(
+    alloc: A,
+    bytes: &'b [u8],
+    scope: &Scope,
+    shapes: &[Shape<A>],
+    pos: usize,
+    kept: &mut KeptTexts<'b, A>,
+) -> Step<(Vec<Data<A>, A>, usize), A>
+    requires inside { pos ≤ length bytes.now }
+    requires before { pos ≤ scope.now.end }
+    ensures read { IsRead (λ v. views v.items) kept.new
+        (forms_outcome (forms_of shapes.now) bytes.now scope.now.owner kept.old pos scope.now.end) result }
+    ensures further { IfOk result (λ r. (pos ≤ r.1) × (r.1 ≤ scope.now.end) × (r.1 ≤ length bytes.now)) }
+{
+    let mut values = Vec::with_capacity(alloc, shapes.len())?;
+    let mut next = pos;
+    for shape in shapes {
+        let (value, after) = read_part(alloc, bytes, scope, shape, next, kept)?;
+        values.push(value)?;
+        next = after;
+    }
+    Ok((values, next))
+}
+
+/// One item of a tuple, which must be there.
+#[cycle(reader)]
+#[tactic(auto, unfolding(crate::specs::Outcomes::part_outcome), using(crate::proofs::Steps::failure_then))]
+#[inline(always)]
+fn read_part<'b, A: Allocator + Copy>(
+    alloc: A,
+    bytes: &'b [u8],
+    scope: &Scope,
+    shape: &Shape<A>,
+    pos: usize,
+    kept: &mut KeptTexts<'b, A>,
+) -> Step<(Data<A>, usize), A>
+    requires inside { pos ≤ length bytes.now }
+    requires before { pos ≤ scope.now.end }
+    ensures read { IsRead view kept.new
+        (part_outcome (outcome (form_of shape.now))
+        bytes.now scope.now.owner kept.old pos scope.now.end) result }
+    ensures further { IfOk result (λ r. (pos ≤ r.1) × (r.1 ≤ scope.now.end) × (r.1 ≤ length bytes.now)) }
+{
+    if pos == scope.end {
+        let fault = in_struct(alloc, scope.end, scope.owner, "too few items")?;
+        return Err(Failure::Fault(fault));
+    }
+    read_shape(alloc, bytes, scope, shape, pos, kept)
+}
