@@ -41,7 +41,7 @@ const GROWN: [(Task<'static>, &str); 5] = [
 enum Answer {
     // The text, and no growth was refused.
     Whole,
-    // The text or want of memory, and a growth was refused.
+    // The text, or a beginning of it and out of memory; and a growth was refused.
     Refused,
     // Another one, where this growth was refused.
     Wrong(u64),
@@ -51,7 +51,7 @@ const NO_MEMORY: &str = "capture: out of memory\n";
 
 fn answer_of(outcome: &Outcome, text: &str, refused: bool, before: u64) -> Answer {
     let whole = outcome.is(0, text, "");
-    if refused && (whole || outcome.is(3, "", NO_MEMORY)) {
+    if refused && (whole || outcome.begins(3, text, NO_MEMORY)) {
         Answer::Refused
     } else if whole && !refused {
         Answer::Whole

@@ -1,6 +1,6 @@
 //! Tests of the tool `ttlv`: what a run prints of worked messages in each encoding, which status and
 //! which line malformed or undecodable input has, what refused growths, failing writers and closed
-//! pipes come to, and what the words of the command line ask for.
+//! pipes come to, what is printed of long inputs, and what the words of the command line ask for.
 #![tactic(auto)]
 
 #[cfg(test)]
@@ -9,6 +9,8 @@ mod failing;
 mod faults;
 #[cfg(test)]
 mod files;
+#[cfg(test)]
+mod long;
 #[cfg(test)]
 mod names;
 #[cfg(test)]

@@ -36,6 +36,22 @@ impl Outcome {
             && self.output.as_slice() == output.as_bytes()
             && self.errors.as_slice() == errors.as_bytes()
     }
+
+    /// Whether it is these, with a beginning of this text as its output.
+    pub fn begins(&self, status: u8, text: &str, errors: &str) -> bool {
+        self.status == status
+            && text.as_bytes().starts_with(self.output.as_slice())
+            && self.errors.as_slice() == errors.as_bytes()
+    }
+}
+
+/// A text so many times, one behind the other.
+pub fn repeated(alloc: Global, text: &str, times: u64) -> Result<String, AllocError> {
+    let mut all = String::new(alloc);
+    for _ in 0..times {
+        all.push_str(text)?;
+    }
+    Ok(all)
 }
 
 /// A run on an input in memory, with the standard's names.

@@ -8,11 +8,11 @@ use Rattle.std.proofs.lemmas.List.{length-drop}
 use Rattle.std.proofs.Math.ListN.{drop_of_length-le}
 use Rattle.kmip_ttlv_util.specs.Undiag.{undiag_lines}
 use Rattle.kmip_ttlv_util.specs.Lines.{bounded_part}
-use Rattle.kmip_ttlv_util.specs.ReadBack.{Part, Stands, StandAll, EndsAt}
+use Rattle.kmip_ttlv_util.specs.ReadBack.{StandAll, EndsAt}
 use Rattle.kmip_ttlv_names.specs.NameTables.{is_line_feed, lines_of}
 use Rattle.kmip_ttlv_names.proofs.Tables.{first_line, last_line}
 use Rattle.ttlv_run.specs.declared.back.BackFault.{BackFault}
-use Rattle.ttlv_run.specs.Backs.{IsWholeLine, IsWrong, Stopped, Stops, Breaks, Tries, FirstBreak, all_whole, breaks_here, whole_here}
+use Rattle.ttlv_run.specs.Backs.{IsWholeLine, IsWrong, Stopped, Tries, FirstBreak, all_whole, breaks_here, whole_here}
 use Rattle.ttlv_run.specs.Texts.{line_back, text_back}
 
 module _ (tags : ℕ → Option (List ℕ)) (prefix : List ℕ) where

@@ -14,7 +14,7 @@ use Rattle.ttlv_run.specs.declared.job.Task.TheVariants.{Show}
 use Rattle.ttlv_run.specs.declared.job.Values.{Values}
 use Rattle.ttlv_run.specs.declared.messages.Place.{Place}
 use Rattle.ttlv_run.specs.Messages.{first_size, message_at, Whole, whole_more, tag_there, Breaks, Prints, GoesOn}
-use Rattle.ttlv_run.specs.Texts.{Names, item_line, message_text}
+use Rattle.ttlv_run.specs.Texts.{Names, item_line, message_text, Adds}
 
 -- a message is some of the bytes that are left
 first_within : (r : List ℕ) → 0 < length r → (0 < first_size r) × (first_size r ≤ length r)
@@ -44,9 +44,13 @@ module _ (bytes : List ℕ) (p : ℕ) (lt : p < length bytes) where
         | inr past ↦ omega (arith, get_or_past (message_at bytes p) k 0 (omega (arith, message_size, past)))
       ]
 
-flat_map-append : (f : FoundItem → List ℕ) (xs ys : List FoundItem) → flat_map f (xs ++ ys) ≡ flat_map f xs ++ flat_map f ys
+pub flat_map-append : {X : Type 0} (f : X → List ℕ) (xs ys : List X) → flat_map f (xs ++ ys) ≡ flat_map f xs ++ flat_map f ys
 flat_map-append f [] ys = refl
 flat_map-append f (x ∷ xs) ys = ap (λ (s : List ℕ). f x ++ s) (flat_map-append f xs ys) ∙ sym (append_assoc (f x) (flat_map f xs) (flat_map f ys))
+
+-- one more
+pub flat_map-more : {X : Type 0} (f : X → List ℕ) (x : X) (ys : List X) → flat_map f (ys ++ (x ∷ [])) ≡ flat_map f ys ++ f x
+flat_map-more f x ys = flat_map-append f ys (x ∷ []) ∙ ap (λ (s : List ℕ). flat_map f ys ++ s) (append-nil (f x))
 
 module _ (names : Names) (task : Task) (bytes : List ℕ) where
   -- behind a beginning too
@@ -98,6 +102,11 @@ module _ (names : Names) (task : Task) (bytes : List ℕ) where
     -- behind whole messages
     pub whole_goes : (p : ℕ) (front : List ℕ) → p ≤ length bytes → Whole names task bytes p front → GoesOn names task bytes front
     whole_goes p front le whole = whole_by (length bytes - p) p front (omega arith) le whole
+
+    -- behind a message, of which this is printed
+    pub goes_behind : (p : ℕ) (front : List ℕ) → p < length bytes → Whole names task bytes p front → (t : List ℕ) (fault : Option Fault) → Adds names task (message_at bytes p) [] t fault → GoesOn names task bytes (front ++ t)
+    goes_behind p front lt whole t fault adds =
+        here p front whole lt adds.found fault adds.ended (front ++ t) (ap (λ (s : List ℕ). front ++ s) adds.is) (λ next. whole_goes (p + length (message_at bytes p)) (front ++ t) (message_within bytes p lt) next)
 
 module _ (names : Names) (values : Values) (bytes : List ℕ) (plain : (k : ℕ) → get_or bytes k 0 < 256) where
   -- behind the lines of the items that were met of a message

@@ -1,6 +1,9 @@
 pub mod Appending
+pub mod BackEnds
 pub mod Backs
 pub mod Completion
 pub mod Good
+pub mod Hexadecimal
+pub mod Printing
 pub mod Sequences
 pub mod Told

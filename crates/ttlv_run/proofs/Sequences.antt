@@ -1,5 +1,5 @@
 -- Runs over several inputs.
-use Rattle.std.proofs.Common.{◌≡◌, ◌≢◌, ℕ, ◌+◌, ◌<◌, ◌≤◌, Bor, List, [], ◌∷◌, ◌++◌, length, take, get_or, arith}
+use Rattle.std.proofs.Common.{◌≡◌, ◌≢◌, ℕ, ◌+◌, ◌<◌, Bor, List, length, take, get_or, arith}
 use Rattle.std.proofs.lemmas.Grind.{take_at_read}
 use Rattle.ttlv_run.specs.declared.job.Asked.{Asked}
 use Rattle.ttlv_run.specs.Files.{At, Opening, FileDone, AllDone, one_more, greater, FilesDone}

@@ -1,7 +1,6 @@
 -- What is told of an input, and why a run fails.
-use Rattle.std.proofs.Common.{◌≡◌, ◌≢◌, ℕ, suc, List, [], ◌∷◌, ◌++◌, Option, Some, None, Result, Ok, Err, OnOk, OnErr, Bool, true, false, is_ok, length, take, sym, ap, refl, subst, ◌∙◌, ◌≤◌, ◌+◌, arith, append_assoc, codes, length-append}
+use Rattle.std.proofs.Common.{◌≡◌, ◌≢◌, inl, inr, ℕ, suc, List, [], ◌∷◌, ◌++◌, Option, Result, Ok, Err, OnOk, OnErr, Bool, true, is_ok, length, take, sym, ap, refl, subst, ◌∙◌, ◌+◌, arith, codes, length-append}
 use Rattle.std.proofs.KnownBytes.{Appends-trans}
-use Rattle.std.proofs.lemmas.List.{take-append-le}
 use Rattle.std.specs.Io.KnownBytes.{Appends, Keeps}
 use Rattle.kmip_ttlv_types.specs.Streams.{AppendsFront}
 use Rattle.ttlv_run.specs.declared.job.Encoding.{Encoding}
@@ -10,8 +9,9 @@ use Rattle.ttlv_run.specs.declared.job.Job.{Job}
 use Rattle.ttlv_run.specs.declared.refusal.Refusal.{Refusal}
 use Rattle.ttlv_run.specs.declared.refusal.Refusal.TheVariants.{UnopenedInput, UnreadableInput, BadCharacter, WrongCount, NotUtf8, UnwritableOutput, ClosedPipe, RefusedMemory}
 use Rattle.ttlv_run.specs.Inputs.{TakesAll, IsNoneAs, encoding_of, IsUndecoded}
-use Rattle.ttlv_run.specs.Reasons.{Tells, place_told, offset_told, words_of, refusal_line}
-use Rattle.ttlv_run.specs.Runs.{Streams, Fails, Responds}
+use Rattle.ttlv_run.specs.declared.job.BackJob.{BackJob}
+use Rattle.ttlv_run.specs.Reasons.{IsOfPrinting, Tells, place_told, offset_told, words_of, refusal_line}
+use Rattle.ttlv_run.specs.Runs.{Streams, Unwritten, Fails, Responds, UnwrittenBack, FailsBack}
 use Rattle.ttlv_run.specs.Texts.{Names}
 
 take_more : (front text : List ℕ) (n : ℕ) → take (length front + n) (front ++ text) ≡ front ++ take n text
@@ -73,10 +73,25 @@ undecoded names job s (WrongCount at) input taken none kept = (record { input = 
 undecoded names job s NotUtf8 input taken none kept = (record { input = input; taken = taken; undecoded = none }, kept)
 undecoded names job s UnwritableOutput input taken none kept = absurd (not_written (encoding_of job.encoding input) input none)
 undecoded names job s ClosedPipe input taken none kept = absurd (not_closed (encoding_of job.encoding input) input none)
-undecoded names job s RefusedMemory input taken none kept = kept
+undecoded names job s RefusedMemory input taken none kept = inl kept
 
 -- the same, where this is answered
 pub responds_undecoded : {T : Type 0} (text : T → List ℕ) (names : Names) (job : Job) (s : Streams) (e y : Refusal) (input : List ℕ) (r : Result (Option T) Refusal) → r ≡ Err y → y ≡ e → TakesAll s.input s.input_left input → IsUndecoded job.encoding input e → Keeps s.output s.output_now → Responds text names job s r
 responds_undecoded {T} text names job s e y input r is same taken none kept =
     let fails = undecoded names job s e input taken none kept in
     subst (λ (q : Result (Option T) Refusal). Responds text names job s q) (sym is) (subst (λ (x : Refusal). Fails names job s x) (sym same) fails)
+
+-- printing failed behind a beginning of the text
+pub unwritten : (names : Names) (job : Job) (s : Streams) (why : Refusal) → IsOfPrinting why → Unwritten names job s → Fails names job s why
+unwritten names job s why (inl is) h = subst (Fails names job s) (sym is) h
+unwritten names job s why (inr (inl is)) h = subst (Fails names job s) (sym is) h
+unwritten names job s why (inr (inr is)) h = subst (Fails names job s) (sym is) (inr h)
+
+pub unwritten_back : (names : Names) (job : BackJob) (s : Streams) (why : Refusal) → IsOfPrinting why → UnwrittenBack names job s → FailsBack names job s why
+unwritten_back names job s why (inl is) h = subst (FailsBack names job s) (sym is) h
+unwritten_back names job s why (inr (inl is)) h = subst (FailsBack names job s) (sym is) h
+unwritten_back names job s why (inr (inr is)) h = subst (FailsBack names job s) (sym is) (inr h)
+
+-- the same, where this is returned
+pub responds_unwritten : {T : Type 0} (text : T → List ℕ) (names : Names) (job : Job) (s : Streams) (why : Refusal) (r : Result (Option T) Refusal) → r ≡ Err why → IsOfPrinting why → Unwritten names job s → Responds text names job s r
+responds_unwritten {T} text names job s why r is of h = subst (λ (q : Result (Option T) Refusal). Responds text names job s q) (sym is) (unwritten names job s why of h)

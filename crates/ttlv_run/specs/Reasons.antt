@@ -1,5 +1,5 @@
 -- Why a run ends with status 2 or 3, and the line that says so.
-use Rattle.std.specs.Prelude.{ℕ, Bool, true, false, List, [], ◌++◌, Option, Some, None, codes}
+use Rattle.std.specs.Prelude.{◌≡◌, ◌⊎◌, ℕ, Bool, true, false, List, [], ◌++◌, Option, Some, None, codes}
 use Rattle.std.specs.Io.KnownBytes.{Appends}
 use Rattle.std.specs.Fmt.{decimal}
 use Rattle.kmip_ttlv_types.specs.Streams.{AppendsFront}
@@ -29,6 +29,10 @@ words_of NotUtf8 = codes "it is not UTF-8"
 words_of UnwritableOutput = codes "the output can't be written"
 words_of ClosedPipe = []
 words_of RefusedMemory = codes "out of memory"
+
+-- the output, or out of memory: why printing can fail
+abbrev pub IsOfPrinting : Refusal → Type 0
+IsOfPrinting why = (why ≡ UnwritableOutput) ⊎ (why ≡ ClosedPipe) ⊎ (why ≡ RefusedMemory)
 
 -- where it is wrong, if that is told
 abbrev pub offset_told : Refusal → Option ℕ

@@ -1,5 +1,5 @@
 -- What a run takes, prints and says.
-use Rattle.std.specs.Prelude.{◌≡◌, ℕ, List, Option, Some, None, Result, Ok, Err}
+use Rattle.std.specs.Prelude.{◌≡◌, ◌⊎◌, ℕ, List, Option, Some, None, Result, Ok, Err}
 use Rattle.std.specs.Io.KnownBytes.{Appends, Keeps}
 use Rattle.kmip_ttlv_types.specs.Streams.{AppendsFront}
 use Rattle.std.specs.Str.{IsUtf8}
@@ -7,7 +7,7 @@ use Rattle.ttlv_run.specs.declared.job.Job.{Job}
 use Rattle.ttlv_run.specs.declared.job.BackJob.{BackJob}
 use Rattle.ttlv_run.specs.declared.messages.Place.{Place}
 use Rattle.ttlv_run.specs.declared.refusal.Refusal.{Refusal}
-use Rattle.ttlv_run.specs.declared.refusal.Refusal.TheVariants.{UnreadableInput, BadCharacter, WrongCount, NotUtf8}
+use Rattle.ttlv_run.specs.declared.refusal.Refusal.TheVariants.{UnreadableInput, NotUtf8}
 use Rattle.ttlv_run.specs.declared.refusal.Refusal.TheVariants.{UnwritableOutput, ClosedPipe, RefusedMemory}
 use Rattle.kmip_ttlv_names.specs.NameTables.{lines_of}
 use Rattle.ttlv_run.specs.declared.back.BackFault.{BackFault}
@@ -61,13 +61,13 @@ pub record Unwritten (names : Names) (job : Job) (s : Streams) : Type 0 where
   pub has : HasText names job s text place
   pub appended : AppendsFront s.output s.output_now text
 
--- why a run ends with status 2 or 3, and what it did by then: but for an output that can't be written, that
--- stays as it was
+-- why a run ends with status 2 or 3, and what it did by then: the output stays as it was, but where it can't be
+-- written, and where memory ran out behind a beginning of what is printed
 abbrev pub Fails : Names → Job → Streams → Refusal → Type 0
 Fails names job s UnreadableInput = Keeps s.output s.output_now
 Fails names job s UnwritableOutput = Unwritten names job s
 Fails names job s ClosedPipe = Unwritten names job s
-Fails names job s RefusedMemory = Keeps s.output s.output_now
+Fails names job s RefusedMemory = Keeps s.output s.output_now ⊎ Unwritten names job s
 Fails names job s why = Undecoded job s why × Keeps s.output s.output_now
 
 -- what is done for a job
@@ -132,7 +132,7 @@ FailsBack names job s UnreadableInput = Keeps s.output s.output_now
 FailsBack names job s NotUtf8 = NoText s × Keeps s.output s.output_now
 FailsBack names job s UnwritableOutput = UnwrittenBack names job s
 FailsBack names job s ClosedPipe = UnwrittenBack names job s
-FailsBack names job s RefusedMemory = Keeps s.output s.output_now
+FailsBack names job s RefusedMemory = Keeps s.output s.output_now ⊎ UnwrittenBack names job s
 FailsBack names job s _ = ⊥
 
 abbrev pub RespondsBack : Names → BackJob → Streams → Result (Option BackFault) Refusal → Type 0

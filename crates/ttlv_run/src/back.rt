@@ -1,13 +1,13 @@
 //! Diagnostics read back as readable lines: a line of the input for each.
 
-ghost use Rattle.std.specs.Prelude.{◌≡◌, ◌<◌, ◌+◌, ◌++◌, ◌^◌, length, IfOk, OnOk, string_bytes};
+ghost use Rattle.std.specs.Prelude.{◌≡◌, ◌<◌, ◌+◌, ◌++◌, ◌^◌, length, IfOk, OnOk, OnErr};
 ghost use Rattle.kmip_ttlv_util.specs.TagNames.{name_in};
 ghost use Rattle.kmip_ttlv_names.specs.NameTables.{lines_of};
 ghost use Rattle.ttlv_run.specs.Backs.{Stopped, Tries, FirstBreak, back_words};
 ghost use Rattle.ttlv_run.specs.Texts.{line_back, text_back};
 
-use kmip_ttlv_util::{Indentation, LentTagMap, read_back_counted};
-use std::alloc::{AllocError, Allocator};
+use kmip_ttlv_util::{Indentation, LentTagMap, TextSink, read_back_counted};
+use std::alloc::Allocator;
 
 /// What is wrong with a line of diagnostics.
 #[derive(Clone, Copy, Debug, PartialEq, Eq)]
@@ -54,18 +54,19 @@ fn stopped_at(offset: usize, depth: usize, left: usize) -> Option<BackFault>
 }
 
 // Adds what a line, which begins at an offset, is read back as, but for white space at its end, and a
-// line feed; nothing for an empty line. Answers where it stops being a diagnostic, if it does.
-fn push_back<A: Allocator + Copy>(
+// line feed; nothing for an empty line. Gives where it stops being a diagnostic, if it does. What one line
+// is read back as is made in memory first.
+fn push_back<S: TextSink, A: Allocator + Copy>(
     alloc: A,
-    out: &mut String<A>,
+    out: &mut S,
     names: &LentTagMap<'_, A>,
     prefix: &str,
     at: usize,
     line: &str,
-) -> Result<Option<BackFault>, AllocError>
+) -> Result<Option<BackFault>, S::Error>
     requires { at + length line.now < 2 ^ 64 }
-    ensures text { OnOk result (string_bytes out.new
-        ≡ string_bytes out.old ++ line_back (name_in names.now) prefix.now line.now) }
+    ensures text { OnOk result (S.adds out.old (line_back (name_in names.now) prefix.now line.now) out.new) }
+    ensures broken { OnErr result (S.breaks out.old (line_back (name_in names.now) prefix.now line.now) out.new) }
     ensures fault { IfOk result (λ fault. Tries prefix.now at line.now fault) }
 {
     let line = line.trim_end();
@@ -78,29 +79,31 @@ fn push_back<A: Allocator + Copy>(
     Ok(stopped_at(at + read.used, read.depth, line.len() - read.used))
 }
 
-/// What diagnostics under a prefix are read back as, each in a line of its own, and where the first of
-/// them that is not whole stops being one.
+/// Adds what diagnostics under a prefix are read back as, each in a line of its own, and gives where the first
+/// of them that is not whole stops being one.
 ///
-/// It refuses for want of memory alone.
-pub fn text_back<A: Allocator + Copy>(
+/// It takes memory for what one line is read back as. It fails where the sink fails and when out of memory; a
+/// beginning of the text was added then.
+pub fn print_back<S: TextSink, A: Allocator + Copy>(
     alloc: A,
+    out: &mut S,
     names: &LentTagMap<'_, A>,
     prefix: &str,
     text: &str,
-) -> Result<(String<A>, Option<BackFault>), AllocError>
-    ensures text { IfOk result (λ r. string_bytes r.0 ≡ text_back (name_in names.now) prefix.now text.now) }
-    ensures fault { IfOk result (λ r. FirstBreak prefix.now 0 (lines_of text.now) r.1) }
+) -> Result<Option<BackFault>, S::Error>
+    ensures text { OnOk result (S.adds out.old (text_back (name_in names.now) prefix.now text.now) out.new) }
+    ensures broken { OnErr result (S.breaks out.old (text_back (name_in names.now) prefix.now text.now) out.new) }
+    ensures fault { IfOk result (λ fault. FirstBreak prefix.now 0 (lines_of text.now) fault) }
 {
-    let mut out = String::new(alloc);
     let mut rest = text;
     let mut first = None;
     'lines: while let Some((line, more)) = rest.split_once('\n') {
         let at = text.len() - rest.len();
-        let found = push_back(alloc, &mut out, names, prefix, at, line)?;
+        let found = push_back(alloc, out, names, prefix, at, line)?;
         first = first.or(found);
         rest = more;
     }
     let at = text.len() - rest.len();
-    let found = push_back(alloc, &mut out, names, prefix, at, rest)?;
-    Ok((out, first.or(found)))
+    let found = push_back(alloc, out, names, prefix, at, rest)?;
+    Ok(first.or(found))
 }

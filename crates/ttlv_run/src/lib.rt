@@ -3,10 +3,10 @@
 //! diagnostics or in hexadecimal, or checks them; or it reads diagnostics back.
 //!
 //! `files` is the entry, for several inputs, and `run` for one. `job` says what is to be done, `coding` takes
-//! the bytes out of the input, `messages` goes from message to message, `texts`, `lines` and `escape` print one,
-//! `back` reads diagnostics back, and `refusal` has the reasons for statuses 2 and 3. `table` reads a file of names,
-//! and `progress` tells how far the reading is. Items, faults and diagnostics are those of kmip_ttlv_items and
-//! kmip_ttlv_util.
+//! the bytes out of the input, `messages` goes from message to message, `texts`, `lines` and `escape` print one
+//! to any sink of texts, `back` reads diagnostics back, and `refusal` has the reasons for statuses 2 and 3. `table`
+//! reads a file of names, and `progress` tells how far the reading is. Items, faults and diagnostics are those of
+//! kmip_ttlv_items and kmip_ttlv_util.
 #![tactic(auto)]
 
 mod back;

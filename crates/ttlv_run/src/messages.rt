@@ -1,7 +1,9 @@
 //! The messages of an input, one after the other: what is printed of them, and the first fault.
 
-ghost use Rattle.std.specs.Prelude.{◌≡◌, ◌<◌, ◌≤◌, ◌+◌, length, ◌++◌, IfOk, OnOk, string_bytes};
+ghost use Rattle.std.specs.Prelude.{◌≡◌, ◌<◌, ◌≤◌, ◌+◌, length, ◌++◌, Option, IfOk, OnOk, OnErr, string_bytes};
 ghost use Rattle.kmip_ttlv_types.specs.Places.{length_at};
+ghost use Rattle.kmip_ttlv_util.specs.Pieces.{SomeText};
+ghost use Rattle.ttlv_run.specs.declared.messages.Place.{Place as APlace};
 ghost use Rattle.ttlv_run.specs.Messages.{first_size, message_at, tag_there, Prints, fault_words, fault_line, tag_told};
 ghost use Rattle.ttlv_run.specs.Texts.{names_of};
 
@@ -10,7 +12,7 @@ use crate::texts::push_message;
 use itoa::Buffer;
 use kmip_ttlv_items::FaultKind;
 use kmip_ttlv_types::TtlvTag;
-use kmip_ttlv_util::push_tag;
+use kmip_ttlv_util::{TextSink, push_tag};
 use std::alloc::{AllocError, Allocator};
 
 /// A fault among the bytes of an input's messages.
@@ -69,31 +71,35 @@ fn tag_there(bytes: &[u8], at: usize) -> Option<TtlvTag>
     Some(TtlvTag::from([bytes[at], bytes[at + 1], bytes[at + 2]]))
 }
 
-/// What a task prints of the messages that bytes are, one after the other, up to the first fault, and
-/// that fault.
+/// Adds what a task prints of the messages that bytes are, one after the other, up to the first fault, and
+/// gives that fault.
 ///
-/// It refuses for want of memory alone.
-pub fn print_all<A: Allocator + Copy>(
+/// It fails where the sink fails and when out of memory; a beginning of the text was added then.
+pub fn print_all<S: TextSink, A: Allocator + Copy>(
     alloc: A,
+    out: &mut S,
     names: &Names<'_, A>,
     task: Task<'_>,
     bytes: &[u8],
-) -> Result<(String<A>, Option<Place>), AllocError>
-    ensures { IfOk result (λ r. Prints (names_of names.now) task.entry bytes.now (string_bytes r.0) r.1) }
+) -> Result<Option<Place>, S::Error>
+    ensures ok { IfOk result (λ place. SomeText (λ t. Prints (names_of names.now) task.entry bytes.now t place)
+        (λ t. S.adds out.old t out.new)) }
+    ensures err { OnErr result (SomeText
+        (λ t. (place : Option APlace) × Prints (names_of names.now) task.entry bytes.now t place)
+        (λ t. S.breaks out.old t out.new)) }
 {
-    let mut out = String::new(alloc);
     let mut at = 0;
     'messages: while at < bytes.len() {
         let message = message_at(bytes, at);
-        if let Some(fault) = push_message(alloc, &mut out, names, task, message)? {
+        if let Some(fault) = push_message(alloc, out, names, task, message)? {
             let offset = at + fault.offset;
             let tag = tag_there(bytes, offset);
             let kind = fault.kind;
-            return Ok((out, Some(Place { offset, tag, kind })));
+            return Ok(Some(Place { offset, tag, kind }));
         }
         at += message.len();
     }
-    Ok((out, None))
+    Ok(None)
 }
 
 // What is wrong, in words.

@@ -1,26 +1,61 @@
 //! The whole run over one input, for any reader and any writers.
 
-ghost use Rattle.std.specs.Prelude.{◌≡◌, ◌≤◌, ◌⊎◌, ◌++◌, ℕ, List, Option, Some, None, string_bytes};
-ghost use Rattle.std.specs.Io.KnownBytes.{Keeps};
+ghost use Rattle.std.specs.Prelude.{◌≡◌, ◌≤◌, ◌⊎◌, ◌++◌, ℕ, List, Option, Some, None, IfOk, OnOk, OnErr, string_bytes};
+ghost use Rattle.std.specs.Io.KnownBytes.{Appends, Keeps};
+ghost use Rattle.kmip_ttlv_names.specs.NameTables.{lines_of};
 ghost use Rattle.kmip_ttlv_types.specs.Streams.{AppendsFront};
-ghost use Rattle.ttlv_run.specs.Backs.{back_line};
-ghost use Rattle.ttlv_run.specs.Reasons.{Tells, place_told, refusal_line};
+ghost use Rattle.kmip_ttlv_util.specs.Pieces.{SomeText};
+ghost use Rattle.ttlv_run.specs.declared.messages.Place.{Place as APlace};
+ghost use Rattle.ttlv_run.specs.Backs.{FirstBreak, back_line};
+ghost use Rattle.ttlv_run.specs.Messages.{Prints};
+ghost use Rattle.ttlv_run.specs.Reasons.{IsOfPrinting, Tells, place_told, refusal_line};
 ghost use Rattle.ttlv_run.specs.Runs.{Responds, Printed, Malformed, Refused, RespondsBack, PrintedBack, MalformedBack, RefusedBack};
-ghost use Rattle.ttlv_run.specs.Texts.{names_of};
+ghost use Rattle.ttlv_run.specs.Texts.{names_of, text_back};
 
-use crate::back::{BackFault, text_back};
+use crate::back::{BackFault, print_back};
 use crate::coding::{bytes_of, read_all};
-use crate::job::{BackJob, Job, Names};
-use crate::messages::{fault_line, print_all};
+use crate::job::{BackJob, Job, Names, Task};
+use crate::messages::{Place, fault_line, print_all};
 use crate::refusal::Refusal;
 use itoa::Buffer;
 use kmip_ttlv_types::stream::Sink;
+use kmip_ttlv_util::Pieces;
 use std::alloc::Allocator;
-use std::io::{ErrorKind, Read, Write};
-use std::str;
+use std::io::{Error, ErrorKind, Read, Write};
+use std::{io, str};
 
-// Prints what a job asks for, and answers the line that says what is malformed, if anything is. The
-// whole text is made before its first byte is written.
+// Why printing failed: the output, or out of memory.
+fn refusal_of(error: &Error) -> Refusal
+    ensures { IsOfPrinting result }
+{
+    match error.kind() {
+        ErrorKind::BrokenPipe => Refusal::ClosedPipe,
+        ErrorKind::OutOfMemory => Refusal::RefusedMemory,
+        _ => Refusal::UnwritableOutput,
+    }
+}
+
+// Prints what a task prints of messages to the output, in pieces, and gives the first fault.
+fn print_messages<A: Allocator + Copy, W: Write>(
+    alloc: A,
+    names: &Names<'_, A>,
+    task: Task<'_>,
+    bytes: &[u8],
+    output: &mut W,
+) -> io::Result<Option<Place>>
+    ensures ok { IfOk result (λ place. SomeText (λ t. Prints (names_of names.now) task.entry bytes.now t place)
+        (Appends (W.contents output.old) (W.contents output.new))) }
+    ensures err { OnErr result (SomeText
+        (λ t. (place : Option APlace) × Prints (names_of names.now) task.entry bytes.now t place)
+        (AppendsFront (W.contents output.old) (W.contents output.new))) }
+{
+    let mut pieces = Pieces::new(output);
+    let place = print_all(alloc, &mut pieces, names, task, bytes)?;
+    pieces.finish()?;
+    Ok(place)
+}
+
+// Prints what a job asks for, message by message, and gives the line that says what is malformed, if anything is.
 fn respond<A: Allocator + Copy, R: Read, W: Write>(
     alloc: A,
     job: &Job<'_>,
@@ -38,20 +73,36 @@ fn respond<A: Allocator + Copy, R: Read, W: Write>(
 {
     let taken = read_all(alloc, input)?;
     let bytes = bytes_of(alloc, job.encoding, taken)?;
-    let (text, place) = print_all(alloc, names, job.task, bytes.as_slice())?;
-    let line = match place {
-        Some(place) => Some(fault_line(alloc, names, job.name, place)?),
-        None => None,
-    };
-    match output.send(text.as_bytes()) {
-        Ok(()) => Ok(line),
-        Err(e) if e.kind() == ErrorKind::BrokenPipe => Err(Refusal::ClosedPipe),
-        Err(_) => Err(Refusal::UnwritableOutput),
+    match print_messages(alloc, names, job.task, bytes.as_slice(), output) {
+        Ok(None) => Ok(None),
+        Ok(Some(place)) => Ok(Some(fault_line(alloc, names, job.name, place)?)),
+        Err(e) => Err(refusal_of(&e)),
     }
 }
 
-// Prints what diagnostics are read back as, and answers where the first line that is not whole stops being
-// one, if there is such a line. The whole text is made before its first byte is written.
+// Prints what diagnostics are read back as to the output, in pieces, and gives where the first line that is not
+// whole stops being one.
+fn print_diagnostics<A: Allocator + Copy, W: Write>(
+    alloc: A,
+    names: &Names<'_, A>,
+    prefix: &str,
+    diagnostics: &str,
+    output: &mut W,
+) -> io::Result<Option<BackFault>>
+    ensures ok { OnOk result (Appends (W.contents output.old) (W.contents output.new)
+        (text_back (names_of names.now).tags prefix.now diagnostics.now)) }
+    ensures err { OnErr result (AppendsFront (W.contents output.old) (W.contents output.new)
+        (text_back (names_of names.now).tags prefix.now diagnostics.now)) }
+    ensures fault { IfOk result (λ fault. FirstBreak prefix.now 0 (lines_of diagnostics.now) fault) }
+{
+    let mut pieces = Pieces::new(output);
+    let fault = print_back(alloc, &mut pieces, &names.tags, prefix, diagnostics)?;
+    pieces.finish()?;
+    Ok(fault)
+}
+
+// Prints what diagnostics are read back as, line by line, and gives where the first line that is not whole stops
+// being one, if there is such a line.
 fn respond_back<A: Allocator + Copy, R: Read, W: Write>(
     alloc: A,
     job: &BackJob<'_>,
@@ -71,11 +122,9 @@ fn respond_back<A: Allocator + Copy, R: Read, W: Write>(
     let Ok(diagnostics) = str::from_utf8(taken.as_slice()) else {
         return Err(Refusal::NotUtf8);
     };
-    let (text, fault) = text_back(alloc, &names.tags, job.prefix, diagnostics)?;
-    match output.send(text.as_bytes()) {
-        Ok(()) => Ok(fault),
-        Err(e) if e.kind() == ErrorKind::BrokenPipe => Err(Refusal::ClosedPipe),
-        Err(_) => Err(Refusal::UnwritableOutput),
+    match print_diagnostics(alloc, names, job.prefix, diagnostics, output) {
+        Ok(fault) => Ok(fault),
+        Err(e) => Err(refusal_of(&e)),
     }
 }
 
@@ -126,9 +175,11 @@ fn tell_back_fault<E: Write>(errors: &mut E, name: &str, fault: BackFault)
 /// 0 where all messages are whole, 1 where one is malformed, 2 where the input can't be read or
 /// decoded, 3 where memory is refused or the output can't be written.
 ///
-/// With status 1 the output has what is printed up to the fault, and with statuses 1 to 3 one line on
-/// `errors` says why, but for a closed pipe. Interrupted reads and writes are tried again, as often as
-/// a 64-bit count allows. Where `errors` can't be written, the status is the same.
+/// Each message is printed as it is met, in pieces of 8,192 bytes, so what is printed is never held as a whole.
+/// With status 1 the output has what is printed up to the fault; with status 3 it has a beginning of what is
+/// printed, or nothing was printed yet. With statuses 1 to 3 one line on `errors` says why, but for a closed pipe.
+/// Interrupted reads and writes are tried again, as often as a 64-bit count allows. Where `errors` can't be
+/// written, the status is the same.
 pub fn run<A: Allocator + Copy, R: Read, W: Write, E: Write>(
     alloc: A,
     job: &Job<'_>,
@@ -185,7 +236,8 @@ pub fn run<A: Allocator + Copy, R: Read, W: Write, E: Write>(
 /// is refused or the output can't be written.
 ///
 /// With status 1 too all lines are read back, each as far as it goes, and the first that is not whole is
-/// told on `errors`. Statuses 2 and 3 are told there as [`run`] tells them.
+/// told on `errors`. Statuses 2 and 3 are told there as [`run`] tells them, and with status 3 the output is as
+/// there. What one line is read back as is held in memory, and no more of the text.
 pub fn read_back<A: Allocator + Copy, R: Read, W: Write, E: Write>(
     alloc: A,
     job: &BackJob<'_>,

@@ -1,28 +1,32 @@
 //! What is printed of one message.
 
-ghost use Rattle.std.specs.Prelude.{◌≡◌, ◌++◌, ◌∷◌, [], length, IfOk, OnOk, string_bytes};
+ghost use Rattle.std.specs.Prelude.{◌≡◌, ◌++◌, ◌∷◌, [], length, Option, IfOk, OnOk, OnErr};
 ghost use Rattle.hex.specs.Hex.{encode_upper};
+ghost use Rattle.kmip_ttlv_items.specs.declared.found.Fault.{Fault as AFault};
 ghost use Rattle.kmip_ttlv_util.specs.Diagnostics.{hostile};
+ghost use Rattle.kmip_ttlv_util.specs.Pieces.{SomeText};
 ghost use Rattle.kmip_ttlv_util.specs.Traces.{trace};
 ghost use Rattle.ttlv_run.specs.Texts.{names_of, Adds};
 
 use crate::job::{Names, Task};
 use crate::lines::push_lines;
 use kmip_ttlv_items::{Fault, find_fault};
-use kmip_ttlv_util::PrettyPrinter;
-use std::alloc::{AllocError, Allocator};
+use kmip_ttlv_types::TtlvType;
+use kmip_ttlv_util::{PrettyPrinter, TextSink, push_value};
+use std::alloc::Allocator;
 
-// Adds the diagnostic of a message and a line feed.
-fn push_diagnostic<A: Allocator + Copy>(
+// Adds the diagnostic of a message and a line feed. The diagnostic is made in memory first.
+fn push_diagnostic<S: TextSink, A: Allocator + Copy>(
     alloc: A,
-    out: &mut String<A>,
+    out: &mut S,
     closed: bool,
     prefix: &str,
     message: &[u8],
-) -> Result<(), AllocError>
-    ensures { OnOk result (string_bytes out.new
-        ≡ string_bytes out.old
-        ++ (hostile prefix.now closed (length message.now) (trace closed message.now) ++ 10 ∷ [])) }
+) -> Result<(), S::Error>
+    ensures ok { OnOk result (S.adds out.old
+        (hostile prefix.now closed (length message.now) (trace closed message.now) ++ 10 ∷ []) out.new) }
+    ensures err { OnErr result (S.breaks out.old
+        (hostile prefix.now closed (length message.now) (trace closed message.now) ++ 10 ∷ []) out.new) }
 {
     let mut printer = PrettyPrinter::new(alloc);
     printer.with_tag_prefix(String::from_str(alloc, prefix)?);
@@ -33,37 +37,37 @@ fn push_diagnostic<A: Allocator + Copy>(
 }
 
 // Adds the bytes of a message in hexadecimal and a line feed.
-fn push_hexadecimal<A: Allocator + Copy>(
-    alloc: A,
-    out: &mut String<A>,
-    message: &[u8],
-) -> Result<(), AllocError>
-    ensures { OnOk result (string_bytes out.new ≡ string_bytes out.old ++ (encode_upper message.now ++ 10 ∷ [])) }
+fn push_hexadecimal<S: TextSink>(out: &mut S, message: &[u8]) -> Result<(), S::Error>
+    ensures ok { OnOk result (S.adds out.old (encode_upper message.now ++ 10 ∷ []) out.new) }
+    ensures err { OnErr result (S.breaks out.old (encode_upper message.now ++ 10 ∷ []) out.new) }
 {
-    let digits = hex::encode_upper(alloc, message)?;
-    out.push_str(digits.as_str())?;
+    push_value(out, TtlvType::ByteString, message)?;
     out.push_str("\n")
 }
 
-/// Adds what a task prints of a message, and answers its first fault; what is wrong with it comes up to
+/// Adds what a task prints of a message, and gives its first fault; what is wrong with it comes up to
 /// there.
 ///
-/// It refuses for want of memory alone.
-pub fn push_message<A: Allocator + Copy>(
+/// It fails where the sink fails and when out of memory; a beginning of the text was added then.
+pub fn push_message<S: TextSink, A: Allocator + Copy>(
     alloc: A,
-    out: &mut String<A>,
+    out: &mut S,
     names: &Names<'_, A>,
     task: Task<'_>,
     message: &[u8],
-) -> Result<Option<Fault>, AllocError>
-    ensures { IfOk result (λ fault. Adds (names_of names.now) task.entry message.now
-        (string_bytes out.old) (string_bytes out.new) fault) }
+) -> Result<Option<Fault>, S::Error>
+    ensures ok { IfOk result (λ fault. SomeText
+        (λ t. Adds (names_of names.now) task.entry message.now [] t fault)
+        (λ t. S.adds out.old t out.new)) }
+    ensures err { OnErr result (SomeText
+        (λ t. (fault : Option AFault) × Adds (names_of names.now) task.entry message.now [] t fault)
+        (λ t. S.breaks out.old t out.new)) }
 {
     match task {
         Task::Show { values } => return push_lines(alloc, out, names, values, message),
         Task::Diagnose { closed, prefix } => push_diagnostic(alloc, out, closed, prefix, message)?,
-        Task::Hexadecimal => push_hexadecimal(alloc, out, message)?,
+        Task::Hexadecimal => push_hexadecimal(out, message)?,
         Task::Check => {}
     }
-    find_fault(alloc, message)
+    Ok(find_fault(alloc, message)?)
 }

@@ -1,4 +1,4 @@
-use Rattle.std.proofs.Common.{◌≡◌, refl}
+use Rattle.std.proofs.Common.{refl}
 use Rattle.ttlv_run.specs.Files.{opened}
 use Rattle.ttlv_run.proofs.files.run_file.Goals as goal
 

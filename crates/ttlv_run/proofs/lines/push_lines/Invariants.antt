@@ -1,4 +1,4 @@
-use Rattle.std.proofs.Common.{◌≡◌, ◌++◌, List, string_bytes}
+use Rattle.std.proofs.Common.{◌≡◌, List}
 use Rattle.std.specs.List.{flat_map}
 use Rattle.kmip_ttlv_items.specs.declared.found.FoundItem.{FoundItem}
 use Rattle.kmip_ttlv_items.specs.Stepping.{Met, left}
@@ -11,7 +11,7 @@ invariant-items g l = record {
   told :
       (found : List FoundItem)
       × Met l.walk found
-      × (string_bytes l.out ≡ string_bytes l.fn.out ++ flat_map (item_line (names_of l.names) l.values l.message) found);
+      × g.S.TextSink.adds l.fn.out (flat_map (item_line (names_of l.names) l.values l.message) found) l.out;
 }
 
 abbrev pub decreases-items : goal.decreases-items

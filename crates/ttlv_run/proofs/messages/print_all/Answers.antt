@@ -1,22 +1,75 @@
-use Rattle.std.proofs.Common.{◌≡◌, ◌+◌, length, ◌∙◌, ap, sym, subst, refl, rules, List, ℕ, [], arith, string_bytes, Some, None, Option}
+use Rattle.std.proofs.Common.{◌≡◌, ◌+◌, ◌<◌, ◌++◌, length, get_or, ap, subst, refl, List, ℕ, [], arith, Some, None, Option}
 use Rattle.kmip_ttlv_items.specs.declared.found.Fault.{Fault}
+use Rattle.kmip_ttlv_util.specs.Pieces.{SomeText}
 use Rattle.ttlv_run.specs.Messages.{Whole, whole_none, whole_more, message_at}
 use Rattle.ttlv_run.specs.Texts.{names_of, Adds}
 use Rattle.ttlv_run.proofs.Good.{fault_within}
+use Rattle.ttlv_run.proofs.Printing.{err_holds, behind, broken_message}
 use Rattle.ttlv_run.proofs.messages.print_all.Goals as goal
 
 pub messages-init : goal.messages-init
-messages-init g c = (omega arith, subst (Whole (names_of c.args.names.now) c.args.task c.args.bytes.now 0) (sym c.new-out.ensures.bytes) whole_none)
+messages-init g c = record { within = omega arith; whole = record { text = []; is = whole_none; holds = g.met.S.TextSink.adds_none c.args.out.now } }
 
 pub overflow_add-offset : goal.overflow_add-offset
 overflow_add-offset g c =
-    let adds = subst (λ (o : Option Fault). Adds (names_of c.args.names.now) c.args.task c.message_at-message.result.now (string_bytes c.messages.out) (string_bytes c.push_message.new.out) o) c.in-Some.is c.in_ok-fault.ensures in
-    let within = fault_within c.message_at-message.result.now adds.found c.in-Some.fault adds.ended in
+    let names = names_of c.args.names.now in
+    let message = c.message_at-message.result.now in
+    let adds = subst (λ (o : Option Fault). SomeText (λ t. Adds names c.args.task message [] t o) (λ t. g.S.TextSink.adds c.messages.out t c.push_message.new.out)) c.in-Some.is c.in_ok-fault.ensures.ok in
+    let within = fault_within message adds.is.found c.in-Some.fault adds.is.ended in
     omega (arith, within, c.message_at-message.ensures.within)
 
 pub messages-preserved : goal.messages-preserved
 messages-preserved g c =
-    let adds = subst (λ (o : Option Fault). Adds (names_of c.args.names.now) c.args.task c.message_at-message.result.now (string_bytes c.messages.out) (string_bytes c.push_message.new.out) o) c.in_default.is c.in_ok-fault.ensures in
-    let here = subst (λ (m : List ℕ). Adds (names_of c.args.names.now) c.args.task m (string_bytes c.messages.out) (string_bytes c.push_message.new.out) None) c.message_at-message.ensures.is adds in
-    let at : c.messages.at + length c.message_at-message.result.now ≡ c.messages.at + length (message_at c.args.bytes.now c.messages.at) = ap (λ m. c.messages.at + length m) c.message_at-message.ensures.is in
-    (c.message_at-message.ensures.within, whole_more _ _ _ _ c.messages.invariant.1 c.messages-test.true here at)
+    let names = names_of c.args.names.now in
+    let message = c.message_at-message.result.now in
+    let w = c.messages.invariant.whole in
+    let adds = subst (λ (o : Option Fault). SomeText (λ t. Adds names c.args.task message [] t o) (λ t. g.S.TextSink.adds c.messages.out t c.push_message.new.out)) c.in_default.is c.in_ok-fault.ensures.ok in
+    let here = subst (λ (m : List ℕ). Adds names c.args.task m w.text (w.text ++ adds.text) None) c.message_at-message.ensures.is (behind names c.args.task message w.text adds.text None adds.is) in
+    let at : c.messages.at + length message ≡ c.messages.at + length (message_at c.args.bytes.now c.messages.at) = ap (λ m. c.messages.at + length m) c.message_at-message.ensures.is in
+    record {
+      within = c.message_at-message.ensures.within;
+      whole = record { text = w.text ++ adds.text; is = whole_more _ _ _ _ w.is c.messages-test.true here at; holds = g.met.S.TextSink.adds_both _ _ _ w.text adds.text w.holds adds.holds };
+    }
+
+pub returns-in-Some-clause-ok : goal.returns-in-Some-clause-ok
+returns-in-Some-clause-ok g c =
+    let names = names_of c.args.names.now in
+    let message = c.message_at-message.result.now in
+    let w = c.messages.invariant.whole in
+    let fault = c.in-Some.fault in
+    let adds = subst (λ (o : Option Fault). SomeText (λ t. Adds names c.args.task message [] t o) (λ t. g.S.TextSink.adds c.messages.out t c.push_message.new.out)) c.in-Some.is c.in_ok-fault.ensures.ok in
+    let here = subst (λ (m : List ℕ). Adds names c.args.task m w.text (w.text ++ adds.text) (Some fault)) c.message_at-message.ensures.is (behind names c.args.task message w.text adds.text (Some fault) adds.is) in
+    record {
+      text = w.text ++ adds.text;
+      is = record {
+        at = c.messages.at;
+        front = w.text;
+        fault = fault;
+        whole = w.is;
+        left = c.messages-test.true;
+        adds = here;
+        offset = refl;
+        tag = c.tag_there-tag.ensures;
+        kind = refl;
+      };
+      holds = g.met.S.TextSink.adds_both _ _ _ w.text adds.text w.holds adds.holds;
+    }
+
+-- the sink failed in a message, or memory ran out there: what would follow is printed of the others
+pub returns-in_err-fault-clause-err : goal.returns-in_err-fault-clause-err
+returns-in_err-fault-clause-err g c =
+    let names = names_of c.args.names.now in
+    let bytes = c.args.bytes.now in
+    let plain : (k : ℕ) → get_or bytes k 0 < 256 = λ k. omega (arith, c.type_inv.bytes k) in
+    let message = c.message_at-message.result.now in
+    err_holds _ _ (broken_message g.S.TextSink.adds g.S.TextSink.breaks g.met.S.TextSink.breaks_first g.met.S.TextSink.breaks_second names c.args.task bytes plain c.messages.at message _ _ _ c.message_at-message.ensures.is c.messages-test.true c.messages.invariant.whole c.in_err-fault.ensures.err)
+
+pub returns-clause-ok : goal.returns-clause-ok
+returns-clause-ok g c =
+    let w = c.messages.invariant.whole in
+    let end : c.messages.at ≡ length c.args.bytes.now = omega (arith, c.messages-test.false, c.messages.invariant.within) in
+    record {
+      text = w.text;
+      is = subst (λ (p : ℕ). Whole (names_of c.args.names.now) c.args.task c.args.bytes.now p w.text) end w.is;
+      holds = w.holds;
+    }

@@ -1,0 +1,162 @@
+//! Long inputs, which are printed as they go: where memory is refused, or the output fails, a beginning is there.
+
+use crate::runs::{Outcome, VERSION, VERSION_LINES, back_with, repeated, run_with};
+use kmip_ttlv_names::{standard_names, standard_values};
+use refusing_allocator::{BoundedAllocator, RefusingAllocator};
+use std::alloc::{AllocError, Global};
+use std::io;
+use std::io::{ErrorKind, Write};
+use ttlv_run::run::run;
+use ttlv_run::{Encoding, Job, Names, Task, Values};
+
+const SHOW: Task<'static> = Task::Show {
+    values: Values::Escaped,
+};
+
+// A task, and what it prints of the version's message.
+const PRINTED: [(Task<'static>, &str); 3] = [
+    (SHOW, VERSION_LINES),
+    (
+        Task::Diagnose {
+            closed: true,
+            prefix: "4200",
+        },
+        "69[6Ai6Bi]\n",
+    ),
+    (
+        Task::Hexadecimal,
+        "420069010000002042006A0200000004000000010000000042006B02000000040000000000000000\n",
+    ),
+];
+
+// Whether a task prints of so many messages its text so many times.
+fn prints(alloc: Global, task: Task<'_>, text: &str, times: u64) -> Result<bool, AllocError> {
+    let input = repeated(alloc, VERSION, times)?;
+    let whole = repeated(alloc, text, times)?;
+    let outcome = run_with(alloc, alloc, task, Encoding::Detected, input.as_bytes())?;
+    Ok(outcome.is(0, whole.as_str(), ""))
+}
+
+// Whether so many lines of diagnostics are read back.
+fn reads_back(alloc: Global, times: u64) -> Result<bool, AllocError> {
+    let line = "Tag: Protocol Version (0x420069), Type: Structure (0x01), Data:\n";
+    let input = repeated(alloc, "69[]\n", times)?;
+    let whole = repeated(alloc, line, times)?;
+    let outcome = back_with(alloc, alloc, "4200", input.as_bytes())?;
+    Ok(outcome.is(0, whole.as_str(), ""))
+}
+
+#[test]
+fn long_inputs(rt: HostRuntime) {
+    for (task, text) in PRINTED {
+        assert_eq!(rt; prints(rt.alloc(), task, text, 2000), Ok(true), "{task:?}");
+    }
+    assert_eq!(rt; reads_back(rt.alloc(), 2000), Ok(true));
+}
+
+// Whether a long text is printed where no block of its size is to be had.
+fn prints_within(alloc: Global, times: u64, most: usize) -> Result<bool, AllocError> {
+    let input = repeated(alloc, VERSION, times)?;
+    let whole = repeated(alloc, VERSION_LINES, times)?;
+    let heap = BoundedAllocator::new(alloc, most);
+    let outcome = run_with(&heap, alloc, SHOW, Encoding::Detected, input.as_bytes())?;
+    Ok(most < whole.len() && outcome.is(0, whole.as_str(), ""))
+}
+
+#[test]
+fn a_text_is_not_held(rt: HostRuntime) {
+    assert_eq!(rt; prints_within(rt.alloc(), 2000, 300_000), Ok(true));
+}
+
+// How much of the text is there where this growth is refused; none where another text is, or another line.
+fn begun(alloc: Global, input: &str, text: &str, before: u64) -> Option<usize> {
+    let heap = RefusingAllocator::new(alloc, before);
+    match run_with(&heap, alloc, SHOW, Encoding::Detected, input.as_bytes()) {
+        Ok(outcome) if outcome.begins(3, text, "capture: out of memory\n") => {
+            Some(outcome.output.len())
+        }
+        _ => None,
+    }
+}
+
+// Whether some growth, where it is refused, leaves a beginning that is neither empty nor the whole.
+fn stops_within(alloc: Global, times: u64) -> Result<bool, AllocError> {
+    let input = repeated(alloc, VERSION, times)?;
+    let text = repeated(alloc, VERSION_LINES, times)?;
+    for before in 0..300u64 {
+        let length = begun(alloc, input.as_str(), text.as_str(), before).unwrap_or(0);
+        if 0 < length && length < text.len() {
+            return Ok(true);
+        }
+    }
+    Ok(false)
+}
+
+#[test]
+fn memory_is_refused_while_printing(rt: HostRuntime) {
+    assert_eq!(rt; stops_within(rt.alloc(), 200), Ok(true));
+}
+
+// Takes so many bytes, and fails then.
+#[derive(Drop)]
+struct Full<'a> {
+    taken: &'a mut Vec<u8>,
+    room: usize,
+}
+
+impl Write for Full<'_> {
+    fn write(&mut self, buf: &[u8]) -> io::Result<usize> {
+        if self.room == 0 {
+            return Err(io::Error::from(ErrorKind::StorageFull));
+        }
+        let most = buf.len().min(self.room);
+        self.room -= most;
+        self.taken.write(&buf[..most])
+    }
+
+    fn flush(&mut self) -> io::Result<()> {
+        Ok(())
+    }
+}
+
+// A run whose output is full after so many bytes.
+fn run_into(alloc: Global, input: &str, room: usize) -> Result<Outcome, AllocError> {
+    let (Ok(tags), Ok(values)) = (standard_names(alloc), standard_values(alloc)) else {
+        return Err(AllocError);
+    };
+    let names = Names { tags, values };
+    let job = Job {
+        name: "capture",
+        task: SHOW,
+        encoding: Encoding::Detected,
+    };
+    let mut input = input.as_bytes();
+    let mut output = Vec::new(alloc);
+    let mut errors = Vec::new(alloc);
+    let mut full = Full {
+        taken: &mut output,
+        room,
+    };
+    let status = run(alloc, &job, &names, &mut input, &mut full, &mut errors);
+    Ok(Outcome {
+        status,
+        output,
+        errors,
+    })
+}
+
+// Whether the output has exactly as many bytes of the text as it had room for.
+fn is_filled(alloc: Global, times: u64, room: usize) -> Result<bool, AllocError> {
+    let input = repeated(alloc, VERSION, times)?;
+    let text = repeated(alloc, VERSION_LINES, times)?;
+    let outcome = run_into(alloc, input.as_str(), room)?;
+    let line = "capture: the output can't be written\n";
+    Ok(outcome.output.len() == room && outcome.begins(3, text.as_str(), line))
+}
+
+#[test]
+fn an_output_is_full(rt: HostRuntime) {
+    for room in [1, 8191, 8192, 8193, 20_000] {
+        assert_eq!(rt; is_filled(rt.alloc(), 200, room), Ok(true), "{room}");
+    }
+}
