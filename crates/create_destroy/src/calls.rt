@@ -3,8 +3,8 @@
 ghost use Rattle.std.specs.Prelude.{◌≡◌, ◌↔◌, IfOk, IfErr, IsTrue};
 ghost use Rattle.kmip_ttlv.specs.WriteAnswers.{Writes};
 ghost use Rattle.kmip_ttlv.specs.Reads.{Begins};
-ghost use Rattle.kmip_ttlv.specs.ReadAnswers.{RefusalStands, early_end, sort_of};
-ghost use Rattle.kmip_ttlv.specs.RootFacts.{RefusalFacts, root_fault};
+ghost use Rattle.kmip_ttlv.specs.Outcomes.{root_outcome};
+ghost use Rattle.kmip_ttlv.specs.ReadResults.{IsReadAs, ErrorStands, early_end, sort_of};
 ghost use Rattle.kmip_ttlv.specs.Wholes.{BeginsWhole};
 ghost use Rattle.create_destroy.specs.Requests.{read_request, request_form, written_request};
 ghost use Rattle.create_destroy.specs.Responses.{read_response, response_form, written_response};
@@ -33,16 +33,16 @@ pub fn write_request<A: Allocator + Copy, B: Allocator>(
 /// The request that bytes begin with, of which `is_consistent` says whether its parts agree. What stands behind it is not
 /// read.
 ///
-/// It refuses as `kmip_ttlv::from_slice` does, by the place of what it can't read; beside memory and an early end,
-/// these are refusals of bytes that no request begins with.
+/// It fails as `kmip_ttlv::from_slice` does, with the place of what it can't read; beside out of memory and an early end,
+/// these are errors of bytes that no request begins with.
 pub fn read_request<A: Allocator + Copy>(alloc: A, bytes: &[u8]) -> Result<Request<A>, A>
+    // Which request comes, or which error and where: unless memory runs out, what the form reads the bytes as.
+    ensures equals { IsReadAs (λ v x. v ≡ read_request x) (root_outcome request_form bytes.now) result }
     // The request is the one with which the bytes begin.
     ensures found { IfOk result (λ x. Begins request_form bytes.now (read_request x)) }
-    // Bytes that are refused begin with none; but for an early end, whatever bytes follow.
-    ensures refused { IfErr result (λ e. RefusalStands request_form bytes.now e) }
-    // What a refusal names stands in the bytes, and is refused exactly where it is due.
-    ensures facts { RefusalFacts (root_fault request_form bytes.now) request_form bytes.now result }
-    // A whole message is never refused as ending too early.
+    // Bytes with an error begin with none; but for an early end, whatever bytes follow.
+    ensures refused { IfErr result (λ e. ErrorStands request_form bytes.now e) }
+    // A whole message never ends too early.
     ensures whole { IfErr result (λ e. BeginsWhole bytes.now → sort_of e ≡ early_end → ⊥) }
 {
     from_slice(alloc, bytes)
@@ -63,16 +63,16 @@ pub fn write_response<A: Allocator + Copy, B: Allocator>(
 /// The response that bytes begin with, of which `is_consistent` says whether its parts agree. What stands behind it is not
 /// read.
 ///
-/// It refuses as `kmip_ttlv::from_slice` does, by the place of what it can't read; beside memory and an early end,
-/// these are refusals of bytes that no response begins with.
+/// It fails as `kmip_ttlv::from_slice` does, with the place of what it can't read; beside out of memory and an early end,
+/// these are errors of bytes that no response begins with.
 pub fn read_response<A: Allocator + Copy>(alloc: A, bytes: &[u8]) -> Result<Response<A>, A>
+    // Which response comes, or which error and where: unless memory runs out, what the form reads the bytes as.
+    ensures equals { IsReadAs (λ v x. v ≡ read_response x) (root_outcome response_form bytes.now) result }
     // The response is the one with which the bytes begin.
     ensures found { IfOk result (λ x. Begins response_form bytes.now (read_response x)) }
-    // Bytes that are refused begin with none; but for an early end, whatever bytes follow.
-    ensures refused { IfErr result (λ e. RefusalStands response_form bytes.now e) }
-    // What a refusal names stands in the bytes, and is refused exactly where it is due.
-    ensures facts { RefusalFacts (root_fault response_form bytes.now) response_form bytes.now result }
-    // A whole message is never refused as ending too early.
+    // Bytes with an error begin with none; but for an early end, whatever bytes follow.
+    ensures refused { IfErr result (λ e. ErrorStands response_form bytes.now e) }
+    // A whole message never ends too early.
     ensures whole { IfErr result (λ e. BeginsWhole bytes.now → sort_of e ≡ early_end → ⊥) }
 {
     from_slice(alloc, bytes)

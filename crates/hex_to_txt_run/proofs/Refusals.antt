@@ -7,7 +7,7 @@ use Rattle.kmip_ttlv.specs.Errors.{out_of_memory, view_of_kind, kind_of}
 use Rattle.kmip_ttlv.specs.Values.{Value}
 use Rattle.kmip_ttlv.specs.Forms.{Form}
 use Rattle.kmip_ttlv.specs.Reads.{Begins}
-use Rattle.kmip_ttlv.specs.ReadAnswers.{RefusalStands, NothingBegins, sort_of_kind}
+use Rattle.kmip_ttlv.specs.ReadResults.{ErrorStands, NothingBegins, sort_of_kind}
 use Rattle.hex_to_txt_run.specs.Inputs.{decoded}
 use Rattle.hex_to_txt_run.specs.Pair.{pair_form}
 use Rattle.hex_to_txt_run.specs.Reasons.{Reason, unknown_words, unreadable_input, not_hexadecimal, not_utf8, refused_message, unwritable_output, refused_memory}
@@ -36,7 +36,7 @@ none_begins (SerdeError e) s bytes other h v b = h [] v (on_no_more s bytes v b)
 none_begins LengthOverflow s bytes other h v b = h [] v (on_no_more s bytes v b)
 
 -- a refusal that is no want of memory says that there is no pair
-pub no_pair : {A : Type 0} (e : Error A) (input bytes : List ℕ) (why : Reason) → decoded input ≡ Ok bytes → RefusalStands pair_form bytes e → MeansRefused e why → TaskRefuses pair_task input why
+pub no_pair : {A : Type 0} (e : Error A) (input bytes : List ℕ) (why : Reason) → decoded input ≡ Ok bytes → ErrorStands pair_form bytes e → MeansRefused e why → TaskRefuses pair_task input why
 no_pair e input bytes refused_memory decodes refuses means = tt
 no_pair e input bytes (refused_message line) decodes refuses means = (record { bytes = bytes; decodes = decodes; none = none_begins (kind_of e) pair_form bytes means.1 refuses }, means.0)
 no_pair e input bytes unknown_words decodes refuses means = absurd means

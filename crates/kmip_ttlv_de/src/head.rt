@@ -1,114 +1,245 @@
-//! An item's header and content at a place among the bytes, as far as they are there: what is missing or wrong is
-//! refused in the order of reading.
+//! The steps of reading an item: each is a step of the page.
 
-ghost use Rattle.std.specs.Prelude.{◌≡◌, ◌≢◌, ℕ, Bool, ◌+◌, ◌<◌, ◌≤◌, ◌⊎◌, length, take, drop, None, Some, IfOk, IfErr};
-ghost use Rattle.std.specs.Prelude.{IfSome, IfNone};
-ghost use Rattle.kmip_ttlv_types.specs.ItemTypes.{code, type_of, is_structure};
-ghost use Rattle.kmip_ttlv_types.specs.Places.{code_at, length_at};
-ghost use Rattle.kmip_ttlv_base.specs.Errors.{malformed};
-ghost use Rattle.kmip_ttlv_base.specs.declared.error.MalformedTtlvError.TheVariants as malformeds;
-ghost use Rattle.kmip_ttlv_base.specs.Forms.{Form};
-ghost use Rattle.kmip_ttlv_de.specs.ReadPlaces.{ItemMayBegin};
-ghost use Rattle.kmip_ttlv_de.specs.ReadAnswers.{early_end};
-ghost use Rattle.kmip_ttlv_de.specs.Refusals.{refusal_cause, refusal_place, refusal_sort};
-ghost use Rattle.kmip_ttlv_de.specs.Facts.{Says, code_place};
+ghost use Rattle.std.specs.Prelude.{◌≡◌, ◌≢◌, ℕ, ◌+◌, ◌<◌, ◌≤◌, ◌^◌, length, take, drop, IfOk, Some, None, true};
+ghost use Rattle.kmip_ttlv_types.specs.ItemTypes.{code, is_structure};
+ghost use Rattle.kmip_ttlv_types.specs.Places.{tag_at, code_at, length_at, size};
+ghost use Rattle.kmip_ttlv_types.specs.Leaves.{is_valid};
+ghost use Rattle.kmip_ttlv_de.specs.Outcomes.{type_there, tag_wanted, length_there, structure_wanted, inside, type_wanted};
+ghost use Rattle.kmip_ttlv_de.specs.Outcomes.{content_there, opened, length_wanted, end_there};
+ghost use Rattle.kmip_ttlv_de.specs.Results.{IsStep};
+ghost use Rattle.kmip_ttlv_de.specs.Reads.{has_tag};
 
-use crate::refusal::{Answer, Refusal};
-use crate::refuse::{bad_code, early};
-pub use kmip_ttlv_base::types::places::{end_of, tag_at};
-use kmip_ttlv_base::types::{TtlvType, places};
+use crate::failure::{Cause, Failure, Step, at_item, bad_code, overflow};
+use kmip_ttlv_base::error::{MalformedTtlvError, SerdeError};
+pub use kmip_ttlv_base::types::places::tag_at;
+use kmip_ttlv_base::types::{TtlvTag, TtlvType, places};
 use std::alloc::Allocator;
 
-/// The type at a place, if its byte is there and is the code of one. Where there is none, `no_type` says why: a
-/// refusal is large, and is made only where one is due.
-#[inline(always)]
-pub fn type_there(bytes: &[u8], pos: usize) -> Option<TtlvType>
-    requires inside { pos ≤ length bytes.now }
-    ensures some { IfSome result (λ t. (pos + 4 ≤ length bytes.now) × (code_at bytes.now pos ≡ code t)) }
-    ensures none { IfNone result ((length bytes.now < pos + 4) ⊎ (type_of (code_at bytes.now pos) ≡ None)) }
-{
-    if bytes.len() - pos < 4 {
-        return None;
-    }
-    places::type_at(bytes, pos)
-}
-
-/// Why there is no type at a place.
-///
-/// UnexpectedEof where its byte is missing, InvalidType where it is the code of none.
-#[cold]
-pub fn no_type<A: Allocator>(bytes: &[u8], pos: usize) -> Refusal<A>
-    requires none { (length bytes.now < pos + 4) ⊎ (type_of (code_at bytes.now pos) ≡ None) }
-    requires inside { pos ≤ length bytes.now }
-    ensures sort { ((refusal_sort result ≡ early_end) × (length bytes.now < pos + 4))
-        ⊎ ((pos + 4 ≤ length bytes.now) × (type_of (code_at bytes.now pos) ≡ None)) }
-    ensures fault { pos + 4 ≤ length bytes.now
-        → (refusal_cause result ≡ malformed (malformeds.InvalidType (code_at bytes.now pos)))
-        × (refusal_place result ≡ code_place bytes.now pos) }
-    ensures says { (f : Form) (e : ℕ)
-        → pos < e
-        → ItemMayBegin f bytes.now pos
-        → Says f bytes.now pos e result }
-{
-    if bytes.len() - pos < 4 {
-        return early();
-    }
-    bad_code(bytes, pos)
-}
-
 /// The type at a place.
-///
-/// UnexpectedEof where its byte is missing, InvalidType where it is the code of none.
+#[tactic(auto, unfolding(crate::specs::Outcomes::type_there))]
 #[inline(always)]
-pub fn type_at<A: Allocator>(bytes: &[u8], pos: usize) -> Answer<TtlvType, A>
+pub fn type_there<A: Allocator + Copy>(alloc: A, bytes: &[u8], pos: usize) -> Step<TtlvType, A>
     requires inside { pos ≤ length bytes.now }
-    ensures ok { IfOk result (λ t. (pos + 4 ≤ length bytes.now) × (code_at bytes.now pos ≡ code t)) }
-    ensures err { IfErr result (λ r.
-        ((refusal_sort r ≡ early_end) × (length bytes.now < pos + 4))
-        ⊎ ((pos + 4 ≤ length bytes.now) × (type_of (code_at bytes.now pos) ≡ None))) }
-    ensures fault { IfErr result (λ r. pos + 4 ≤ length bytes.now
-        → (refusal_cause r ≡ malformed (malformeds.InvalidType (code_at bytes.now pos)))
-        × (refusal_place r ≡ code_place bytes.now pos)) }
-    ensures says { IfErr result (λ r. (f : Form) (e : ℕ)
-        → pos < e
-        → ItemMayBegin f bytes.now pos
-        → Says f bytes.now pos e r) }
+    ensures step { IsStep (λ t. t) (type_there bytes.now pos) result }
+    ensures there { IfOk result (λ t. pos + 4 ≤ length bytes.now) }
 {
-    match type_there(bytes, pos) {
+    if bytes.len() - pos < 4 {
+        return Err(Failure::EarlyEnd);
+    }
+    match places::type_at(bytes, pos) {
         Some(typ) => Ok(typ),
-        None => Err(no_type(bytes, pos)),
+        None => Err(Failure::Fault(bad_code(alloc, bytes, pos)?)),
     }
 }
 
+/// The item's tag is the one that the name is.
+#[tactic(auto, unfolding(crate::specs::Outcomes::tag_wanted))]
 #[inline(always)]
-pub fn is_structure(typ: TtlvType) -> bool
-    ensures { result ≡ is_structure typ }
+pub fn tag_wanted<A: Allocator + Copy>(
+    alloc: A,
+    name: &str,
+    bytes: &[u8],
+    pos: usize,
+    typ: TtlvType,
+) -> Step<(), A>
+    requires there { pos + 4 ≤ length bytes.now }
+    ensures step { IsStep (λ u. tt) (tag_wanted name.now bytes.now pos typ) result }
 {
-    typ == TtlvType::Structure
+    match TtlvTag::from_name(name) {
+        Some(tag) => {
+            if tag != tag_at(bytes, pos) {
+                let cause = Cause::Mismatch(SerdeError::UnexpectedTag {
+                    expected: tag,
+                    actual: tag_at(bytes, pos),
+                });
+                return Err(Failure::Fault(at_item(alloc, bytes, pos, 4, typ, cause)?));
+            }
+            Ok(())
+        }
+        None => {
+            let name = String::from_str(alloc, name)?;
+            let cause = Cause::Mismatch(SerdeError::InvalidTag(name));
+            Err(Failure::Fault(at_item(alloc, bytes, pos, 4, typ, cause)?))
+        }
+    }
 }
 
-/// The length at a place, if its bytes are there.
+/// The length at a place.
+#[tactic(auto, unfolding(crate::specs::Outcomes::length_there))]
 #[inline(always)]
-pub fn length_at(bytes: &[u8], pos: usize) -> Option<u32>
-    requires { pos + 4 ≤ length bytes.now }
-    ensures some { IfSome result (λ n. (pos + 8 ≤ length bytes.now) × (n ≡ length_at bytes.now pos)) }
-    ensures none { IfNone result (length bytes.now < pos + 8) }
+pub fn length_there<A: Allocator + Copy>(bytes: &[u8], pos: usize) -> Step<u32, A>
+    requires there { pos ≤ length bytes.now }
+    ensures step { IsStep (λ n. n) (length_there bytes.now pos) result }
+    ensures there { IfOk result (λ n. (pos + 8 ≤ length bytes.now) × (n ≡ length_at bytes.now pos)) }
 {
     if bytes.len() - pos < 8 {
-        return None;
+        return Err(Failure::EarlyEnd);
     }
-    Some(places::length_at(bytes, pos))
+    Ok(places::length_at(bytes, pos))
 }
 
-/// The content of an item, if its bytes are there without the padding.
+/// The item is a Structure.
+#[tactic(auto, unfolding(crate::specs::Outcomes::structure_wanted))]
 #[inline(always)]
-pub fn content_at(bytes: &[u8], pos: usize, n: u32) -> Option<&[u8]>
-    requires { pos + 8 ≤ length bytes.now }
-    ensures some { IfSome result (λ r. (r.now ≡ take n (drop (pos + 8) bytes.now)) × (pos + 8 + n ≤ length bytes.now)) }
-    ensures none { IfNone result (length bytes.now < pos + 8 + n) }
+pub fn structure_wanted<A: Allocator + Copy>(
+    alloc: A,
+    bytes: &[u8],
+    pos: usize,
+    typ: TtlvType,
+) -> Step<(), A>
+    requires there { pos + 4 ≤ length bytes.now }
+    ensures step { IsStep (λ u. tt) (structure_wanted bytes.now pos typ) result }
 {
-    if bytes.len() - pos - 8 < n as usize {
-        return None;
+    if typ != TtlvType::Structure {
+        let cause = Cause::Malformed(MalformedTtlvError::UnexpectedType {
+            expected: TtlvType::Structure,
+            actual: typ,
+        });
+        return Err(Failure::Fault(at_item(alloc, bytes, pos, 4, typ, cause)?));
     }
-    Some(places::content_at(bytes, pos, n))
+    Ok(())
+}
+
+/// The item goes no further than the structure around it.
+#[tactic(auto, unfolding(crate::specs::Outcomes::inside))]
+#[inline(always)]
+pub fn inside<A: Allocator + Copy>(
+    alloc: A,
+    bytes: &[u8],
+    pos: usize,
+    end: usize,
+    typ: TtlvType,
+    next: usize,
+) -> Step<(), A>
+    requires there { pos + 4 ≤ length bytes.now }
+    ensures step { IsStep (λ u. tt) (inside bytes.now pos end typ next) result }
+    ensures before { IfOk result (λ u. next ≤ end) }
+{
+    if end < next {
+        return Err(Failure::Fault(overflow(alloc, bytes, pos, end, typ, next)?));
+    }
+    Ok(())
+}
+
+/// A leaf of a type that the shape takes.
+#[tactic(auto, unfolding(crate::specs::Outcomes::type_wanted))]
+#[inline(always)]
+pub fn type_wanted<A: Allocator + Copy>(
+    alloc: A,
+    takes: bool,
+    wanted: TtlvType,
+    bytes: &[u8],
+    pos: usize,
+    typ: TtlvType,
+) -> Step<(), A>
+    requires there { pos + 4 ≤ length bytes.now }
+    ensures step { IsStep (λ u. tt) (type_wanted takes wanted bytes.now pos typ) result }
+    ensures taken { IfOk result (λ u. takes ≡ true) }
+{
+    if !takes {
+        let cause = Cause::Mismatch(SerdeError::UnexpectedType {
+            expected: wanted,
+            actual: typ,
+        });
+        return Err(Failure::Fault(at_item(alloc, bytes, pos, 4, typ, cause)?));
+    }
+    Ok(())
+}
+
+/// The length is the one of the type, if that is fixed.
+#[inline(always)]
+pub fn length_wanted<A: Allocator + Copy>(
+    alloc: A,
+    bytes: &[u8],
+    pos: usize,
+    after: usize,
+    typ: TtlvType,
+    wanted: Option<u32>,
+) -> Step<(), A>
+    requires there { pos + 8 ≤ length bytes.now }
+    requires fits { after < 2 ^ 33 }
+    ensures { IsStep (λ u. tt) (length_wanted bytes.now pos after typ wanted) result }
+{
+    if let Some(w) = wanted {
+        let n = places::length_at(bytes, pos);
+        if n != w {
+            let cause = Cause::Malformed(MalformedTtlvError::InvalidLength {
+                expected: w,
+                actual: n,
+                typ,
+            });
+            return Err(Failure::Fault(at_item(alloc, bytes, pos, after, typ, cause)?));
+        }
+    }
+    Ok(())
+}
+
+/// The content of a leaf, and the place behind its padding.
+#[tactic(auto, unfolding(crate::specs::Outcomes::content_there), using(crate::proofs::Steps::failure_then))]
+#[inline(always)]
+pub fn content_there<A: Allocator + Copy>(
+    alloc: A,
+    bytes: &[u8],
+    pos: usize,
+    typ: TtlvType,
+) -> Step<(&[u8], usize), A>
+    requires there { pos + 4 ≤ length bytes.now }
+    requires leaf { typ ≢ TtlvType.Structure }
+    ensures step { IsStep (λ r. (r.0.now, r.1)) (content_there bytes.now pos typ) result }
+    ensures there { IfOk result (λ r. (is_valid typ r.0.now ≡ true) × (pos + 8 ≤ r.1) × (r.1 ≤ length bytes.now)) }
+{
+    let n = length_there(bytes, pos)?;
+    length_wanted(alloc, bytes, pos, 8, typ, places::fixed_length(typ))?;
+    if bytes.len() - pos - 8 < n as usize {
+        return Err(Failure::EarlyEnd);
+    }
+    let content = places::content_at(bytes, pos, n);
+    if !places::is_valid(typ, content) {
+        let cause = Cause::Malformed(MalformedTtlvError::InvalidValue { typ });
+        return Err(Failure::Fault(at_item(alloc, bytes, pos, 8 + n as usize, typ, cause)?));
+    }
+    let next = end_there(bytes, pos, typ, n)?;
+    Ok((content, next))
+}
+
+/// The place behind an item's padding.
+#[tactic(auto, unfolding(crate::specs::Outcomes::end_there))]
+#[inline(always)]
+pub fn end_there<A: Allocator + Copy>(
+    bytes: &[u8],
+    pos: usize,
+    typ: TtlvType,
+    n: u32,
+) -> Step<usize, A>
+    requires inside { pos ≤ length bytes.now }
+    ensures step { IsStep (λ q. q) (end_there bytes.now pos typ n) result }
+    ensures there { IfOk result (λ q. (q ≡ pos + size typ n) × (q ≤ length bytes.now)) }
+{
+    match places::end_of(bytes, pos, typ, n) {
+        Some(next) => Ok(next),
+        None => Err(Failure::EarlyEnd),
+    }
+}
+
+/// Where the content of a struct's item ends.
+#[tactic(auto, unfolding(crate::specs::Outcomes::opened), using(crate::proofs::Steps::failure_then))]
+#[inline(always)]
+pub fn opened<A: Allocator + Copy>(alloc: A, name: &str, bytes: &[u8], pos: usize) -> Step<usize, A>
+    requires inside { pos ≤ length bytes.now }
+    ensures step { IsStep (λ q. q) (opened name.now bytes.now pos) result }
+    ensures there { IfOk result (λ q. (pos + 8 ≤ length bytes.now) × (pos + 8 ≤ q)) }
+{
+    let typ = type_there(alloc, bytes, pos)?;
+    tag_wanted(alloc, name, bytes, pos, typ)?;
+    structure_wanted(alloc, bytes, pos, typ)?;
+    let n = length_there(bytes, pos)?;
+    Ok(pos + 8 + n as usize)
+}
+
+/// The name is that of this tag.
+#[inline(always)]
+pub fn has_tag(name: &str, tag: TtlvTag) -> bool
+    ensures { result ≡ has_tag name.now tag }
+{
+    TtlvTag::from_name(name) == Some(tag)
 }

@@ -67,13 +67,11 @@ impl<'b, A: Allocator> HeldText<'b, A> {
 }
 
 /// The texts that were kept. Contracts see all of them, as a list; held is the last one of each
-/// tag. Once reading stops, the tags of the structures around that place are gathered here, where
-/// no answer that goes well has to carry them.
+/// tag.
 #[derive(Drop)]
 pub struct KeptTexts<'b, A: Allocator = Global> {
     newest: BTreeMap<u32, HeldText<'b, A>, A>,
     all: History,
-    parents: Vec<TtlvTag, A>,
 }
 
 impl<'b, A: Allocator> Model for KeptTexts<'b, A> {
@@ -100,7 +98,6 @@ impl<'b, A: Allocator + Copy> KeptTexts<'b, A> {
         KeptTexts {
             newest: BTreeMap::new(alloc),
             all: History::new(),
-            parents: Vec::new(alloc),
         }
     }
 
@@ -110,7 +107,7 @@ impl<'b, A: Allocator + Copy> KeptTexts<'b, A> {
     pub fn keep(&mut self, tag: TtlvTag, text: &'b str) -> Result<(), AllocError>
         ensures { IfOk result (λ _. self.new ≡ self.old ++ record { tag = tag; text = text.now } ∷ []) }
     {
-        let KeptTexts { newest, all, .. } = self;
+        let KeptTexts { newest, all } = self;
         newest.insert(*tag, HeldText::lent(text))?;
         *all = all.and(&Kept { tag, text });
         Ok(())
@@ -120,7 +117,7 @@ impl<'b, A: Allocator + Copy> KeptTexts<'b, A> {
     pub fn keep_own(&mut self, tag: TtlvTag, text: String<A>) -> Result<(), AllocError>
         ensures { IfOk result (λ _. self.new ≡ self.old ++ record { tag = tag; text = string_bytes text } ∷ []) }
     {
-        let KeptTexts { newest, all, .. } = self;
+        let KeptTexts { newest, all } = self;
         let listed = all.and(&Kept {
             tag,
             text: text.as_str(),
@@ -150,19 +147,5 @@ impl<'b, A: Allocator + Copy> KeptTexts<'b, A> {
             Some(held) => Some((held.text(), held.number)),
             None => None,
         }
-    }
-
-    /// One more structure around the place where reading stops, the innermost first.
-    pub fn add_parent(&mut self, tag: TtlvTag) -> Result<(), AllocError>
-        ensures { self.new ≡ self.old }
-    {
-        self.parents.push(tag)?;
-        Ok(())
-    }
-
-    /// The tags of the structures around the place where reading stopped, the innermost first.
-    pub fn into_parents(self) -> Vec<TtlvTag, A> {
-        let KeptTexts { parents, .. } = self;
-        parents
     }
 }

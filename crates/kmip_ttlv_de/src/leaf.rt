@@ -1,30 +1,22 @@
 //! Leaves: their content, and the values that shapes read from it.
 
-ghost use Rattle.std.specs.Prelude.{◌≡◌, ◌≢◌, ℕ, Bool, ◌+◌, ◌<◌, ◌≤◌, ◌++◌, length, take, drop, None, Some, true};
-ghost use Rattle.std.specs.Prelude.{false, IfOk, IfErr, List, string_bytes};
-ghost use Rattle.kmip_ttlv_types.specs.ItemTypes.{code};
-ghost use Rattle.kmip_ttlv_types.specs.Leaves.{is_valid};
-ghost use Rattle.kmip_ttlv_types.specs.Places.{tag_at, code_at, length_at};
+ghost use Rattle.std.specs.Prelude.{◌≡◌, ◌+◌, ◌<◌, ◌≤◌, length, true, false, IfOk};
 ghost use Rattle.kmip_ttlv_types.specs.Items.{Raw};
+ghost use Rattle.kmip_ttlv_types.specs.Leaves.{is_valid};
 ghost use Rattle.kmip_ttlv_base.specs.Values.{view};
-ghost use Rattle.kmip_ttlv_base.specs.Forms.{Form};
-ghost use Rattle.kmip_ttlv_de.specs.ReadPlaces.{LeafAt, IsItem, PartAt};
 ghost use Rattle.kmip_ttlv_de.specs.Keeps.{Keep};
-ghost use Rattle.kmip_ttlv_de.specs.Reads.{takes, leaf_value, with_leaf, byte_digits, number_text};
-ghost use Rattle.kmip_ttlv_de.specs.Reading.{any_leaf, read_leaf};
-ghost use Rattle.kmip_ttlv_de.specs.ReadLeaves.{form_of_leaf, first_type};
-ghost use Rattle.kmip_ttlv_de.specs.Refusals.{IsWant, refusal_sort};
-ghost use Rattle.kmip_ttlv_de.specs.ReaderSteps.{Answers, ReadsNothing};
-ghost use Rattle.kmip_ttlv_de.specs.Facts.{Says, WrongLength, WrongValue, LeafRead};
+ghost use Rattle.kmip_ttlv_de.specs.Reads.{takes, leaf_value, with_leaf};
+ghost use Rattle.kmip_ttlv_de.specs.Outcomes.{leaf_outcome, first_type};
+ghost use Rattle.kmip_ttlv_de.specs.Results.{IsRead};
+ghost use Rattle.kmip_ttlv_de.specs.LeafForms.{form_of_leaf};
 
-use crate::head::{content_at, end_of, length_at, no_type, tag_at, type_there};
+use crate::failure::Step;
+use crate::head::{content_there, inside, tag_at, type_there, type_wanted};
 use crate::keep::KeptTexts;
 use crate::number::number_string;
-use crate::refusal::Answer;
-use crate::refuse::{bad_length, bad_value, early, other_type};
+use crate::scope::Scope;
 use kmip_ttlv_base::shape::Data;
 use kmip_ttlv_base::types::numbers::{number_of_eight, number_of_four};
-use kmip_ttlv_base::types::places::{fixed_length, is_valid};
 use kmip_ttlv_base::types::{TtlvTag, TtlvType};
 use std::alloc::{AllocError, Allocator};
 use std::str;
@@ -43,7 +35,7 @@ pub enum Leaf {
 }
 
 impl Leaf {
-    // Whether the shape reads leaves of this type.
+    // Whether an item of this type is read.
     #[inline(always)]
     fn takes(self, typ: TtlvType) -> bool
         ensures { result ≡ takes (form_of_leaf self) typ }
@@ -60,9 +52,9 @@ impl Leaf {
         }
     }
 
-    // The type that is named where another one is refused.
+    // The type that an error names as the expected one.
     fn first_type(self) -> TtlvType
-        ensures { result ≡ first_type self }
+        ensures { result ≡ first_type (form_of_leaf self) }
     {
         match self {
             Leaf::I32 => TtlvType::Integer,
@@ -75,44 +67,6 @@ impl Leaf {
             Leaf::U32 => TtlvType::Enumeration,
         }
     }
-}
-
-/// The content of a leaf, checked on the slice, and the place behind its padding.
-#[inline(always)]
-pub fn leaf_at<A: Allocator>(bytes: &[u8], pos: usize, typ: TtlvType) -> Answer<(&[u8], usize), A>
-    requires there { pos + 4 ≤ length bytes.now }
-    requires typ_is { code_at bytes.now pos ≡ code typ }
-    requires leaf { typ ≢ TtlvType.Structure }
-    ensures ok { IfOk result (λ r.
-        LeafAt bytes.now pos typ (length_at bytes.now pos) r.0.now r.1
-        × (is_valid typ r.0.now ≡ true)) }
-    ensures err { IfErr result (λ r. (k : List Keep) (e : ℕ)
-        → pos < e
-        → ReadsNothing any_leaf bytes.now pos e k (refusal_sort r)) }
-    ensures says { IfErr result (λ r. (f : Form) (e : ℕ)
-        → pos < e
-        → ((w n : ℕ) → WrongLength bytes.now pos typ w n → LeafRead f bytes.now pos typ)
-        → (WrongValue bytes.now pos typ → LeafRead f bytes.now pos typ)
-        → Says f bytes.now pos e r) }
-{
-    let Some(n) = length_at(bytes, pos) else {
-        return Err(early());
-    };
-    if let Some(w) = fixed_length(typ) {
-        if n != w {
-            return Err(bad_length(bytes, pos, typ, w, n));
-        }
-    }
-    let Some(content) = content_at(bytes, pos, n) else {
-        return Err(early());
-    };
-    if !is_valid(typ, content) {
-        return Err(bad_value(bytes, pos, typ, n));
-    }
-    let Some(next) = end_of(bytes, pos, typ, n) else {
-        return Err(early());
-    };
-    Ok((content, next))
 }
 
 // The text that valid content is.
@@ -157,14 +111,11 @@ fn keep_leaf<'b, A: Allocator + Copy>(
     typ: TtlvType,
     content: &'b [u8],
     kept: &mut KeptTexts<'b, A>,
-) -> Answer<(), A>
+) -> Result<(), AllocError>
     requires takes { takes (form_of_leaf leaf) typ ≡ true }
     requires valid { is_valid typ content.now ≡ true }
-    ensures ok { IfOk result (λ _. (x : Raw)
-        → x.tag ≡ tag
-        → x.content ≡ content.now
-        → kept.new ≡ with_leaf (form_of_leaf leaf) x kept.old) }
-    ensures err { IfErr result (λ e. IsWant e) }
+    ensures ok { IfOk result (λ _. kept.new ≡ with_leaf (form_of_leaf leaf)
+        record { tag = tag; typ = typ; content = content.now } kept.old) }
 {
     match leaf {
         Leaf::Text => kept.keep(tag, text_of(content))?,
@@ -174,35 +125,39 @@ fn keep_leaf<'b, A: Allocator + Copy>(
     Ok(())
 }
 
-/// A leaf by its shape, within a structure that ends at `end`.
-#[tactic(auto, using(crate::proofs::FactLemmas::memory_says))]
+/// A leaf by its shape.
+#[tactic(auto, unfolding(crate::specs::Outcomes::leaf_outcome), using(crate::proofs::Steps::failure_then))]
 #[inline(always)]
 pub fn read_leaf<'b, A: Allocator + Copy>(
-    alloc: A,
+    scope: &Scope<'b, A>,
     leaf: Leaf,
-    bytes: &'b [u8],
     pos: usize,
-    end: usize,
     kept: &mut KeptTexts<'b, A>,
-) -> Answer<(Data<A>, usize), A>
-    requires before_end { pos < end }
-    requires inside { pos ≤ length bytes.now }
-    ensures answers { Answers view (read_leaf (form_of_leaf leaf)) bytes.now pos end
-        kept.old kept.new result }
-    ensures further { IfOk result (λ r. pos + 8 ≤ r.1) }
-    ensures says { IfErr result (λ r. (f : Form) (o : ℕ)
-        → PartAt f bytes.now (form_of_leaf leaf) pos o end
-        → Says f bytes.now pos end r) }
-    ensures item { IfOk result (λ r. IsItem bytes.now pos r.1) }
+) -> Step<(Data<A>, usize), A>
+    requires inside { pos ≤ length scope.now.bytes.now }
+    ensures read { IsRead view kept.new
+        (leaf_outcome (form_of_leaf leaf) scope.now.bytes.now scope.now.owner kept.old pos scope.now.end) result }
+    ensures further { IfOk result (λ r. (pos + 8 ≤ r.1) × (r.1 ≤ scope.now.end) × (r.1 ≤ length scope.now.bytes.now)) }
 {
-    let Some(typ) = type_there(bytes, pos) else {
-        return Err(no_type(bytes, pos));
-    };
-    if !leaf.takes(typ) {
-        return Err(other_type(bytes, pos, leaf.first_type(), typ));
-    }
-    let (content, next) = leaf_at(bytes, pos, typ)?;
-    let data = leaf_data(alloc, leaf, typ, content)?;
-    keep_leaf(alloc, leaf, tag_at(bytes, pos), typ, content, kept)?;
+    let typ = type_there(scope.alloc, scope.bytes, pos)?;
+    type_wanted(
+        scope.alloc,
+        leaf.takes(typ),
+        leaf.first_type(),
+        scope.bytes,
+        pos,
+        typ,
+    )?;
+    let (content, next) = content_there(scope.alloc, scope.bytes, pos, typ)?;
+    inside(scope.alloc, scope.bytes, pos, scope.end, typ, next)?;
+    let data = leaf_data(scope.alloc, leaf, typ, content)?;
+    keep_leaf(
+        scope.alloc,
+        leaf,
+        tag_at(scope.bytes, pos),
+        typ,
+        content,
+        kept,
+    )?;
     Ok((data, next))
 }

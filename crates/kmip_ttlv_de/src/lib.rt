@@ -1,25 +1,26 @@
 //! Reading values from TTLV bytes by the shape of their type.
 //!
-//! `from_slice` is the entry. What a shape reads is defined in specs/: `Reads` has one rule for
-//! each way to read from a list of items, and `Begins` says that bytes begin with an item from
-//! which a form reads a value.
+//! `from_slice` is the entry. What a shape reads is defined in specs/: `Outcomes` says as one total
+//! function which value comes, or which error and where; `Reads` has one rule for each way to read
+//! from a list of items, and `Begins` says that bytes begin with an item from which a form reads a
+//! value. The two agree (`read_by_rules`).
 #![tactic(auto)]
 
-ghost use Rattle.std.specs.Prelude.{◌≡◌, ◌++◌, ◌∷◌, [], List, ℕ, IfOk, IfErr};
+ghost use Rattle.std.specs.Prelude.{◌≡◌, ◌+◌, ◌≤◌, ◌++◌, List, ℕ, length, IfOk, IfErr};
+ghost use Rattle.kmip_ttlv_types.specs.Items.{Raw, Splits};
+ghost use Rattle.kmip_ttlv_types.specs.Places.{ItemsAt};
 ghost use Rattle.kmip_ttlv_base.specs.Values.{Value};
 ghost use Rattle.kmip_ttlv_base.specs.Forms.{Form};
 ghost use Rattle.kmip_ttlv_base.specs.Gives.{Gives};
-ghost use Rattle.kmip_ttlv_types.specs.Items.{Raw, Splits};
 ghost use Rattle.kmip_ttlv_de.specs.Keeps.{Keep};
 ghost use Rattle.kmip_ttlv_de.specs.Reads.{Reads, Begins};
-ghost use Rattle.kmip_ttlv_de.specs.Reading.{got, read_of};
-ghost use Rattle.kmip_ttlv_de.specs.ReadAnswers.{RefusalStands, early_end, sort_of};
+ghost use Rattle.kmip_ttlv_de.specs.Steps.{Read, gives, ends_early, reads};
+ghost use Rattle.kmip_ttlv_de.specs.Outcomes.{outcome, root_outcome};
+ghost use Rattle.kmip_ttlv_de.specs.ReadResults.{IsReadAs, ErrorStands, early_end, sort_of};
 ghost use Rattle.kmip_ttlv_de.specs.Wholes.{BeginsWhole};
-ghost use Rattle.kmip_ttlv_de.specs.Messages.{outer, four_bytes, long_four, one_integer, one_integer_value};
-ghost use Rattle.kmip_ttlv_de.specs.Messages.{may_lack_first, lacks_first_value, chosen_by_first};
-ghost use Rattle.kmip_ttlv_de.specs.Messages.{chosen_by_first_value, integers};
-ghost use Rattle.kmip_ttlv_de.specs.RootFacts.{root_fault, RefusalFacts};
+ghost use Rattle.kmip_ttlv_de.specs.ReadLaws.{AreBytes, Stands};
 
+mod failure;
 mod field_tags;
 mod head;
 mod history;
@@ -27,26 +28,29 @@ mod keep;
 mod leaf;
 mod number;
 mod read;
-mod refusal;
-mod refuse;
-mod refuse_root;
+mod rest;
+mod root;
+mod rows;
 mod rules;
+mod scope;
+mod variant;
 
-use crate::read::read_root;
+use crate::root::read_root;
+pub use crate::rows::small_messages;
 use kmip_ttlv_base::error::Result;
 use kmip_ttlv_base::shape::Deserialize;
 use std::alloc::Allocator;
 
-/// The value with which the bytes begin: one Structure, padding included, by the shape of `T`.
-/// Bytes behind that item are not read.
+/// The value with which the bytes begin: one Structure, padding included, by the shape of `T`
+/// (KMIP 1.0, section 9.1). Bytes behind that item are not read.
 ///
-/// Refusals of an unknown place:
+/// Errors without a place:
 ///
+/// - `OutOfMemory`: memory ran out.
 /// - `IoError` of kind UnexpectedEof: the bytes end too early.
-/// - `OutOfMemory`: memory was refused.
 ///
-/// Every other refusal says where it stands, in bytes from the first byte, and stands whatever
-/// bytes follow. `MalformedTtlv`:
+/// Every other error says where it is, in bytes from the first byte, with the tag and the type of the
+/// item and the tags of the structures around it. More bytes don't help. `MalformedTtlv`:
 ///
 /// - `InvalidType`: an item's code is that of no type.
 /// - `InvalidLength`: an item has another length than its type's.
@@ -69,20 +73,62 @@ use std::alloc::Allocator;
 ///   parts of a tuple, are read; an item is too many for a tuple; an item behind the fields has the
 ///   tag of one of them, or the struct allows no other; a number names no variant.
 pub fn from_slice<T: Deserialize<A>, A: Allocator + Copy>(alloc: A, bytes: &[u8]) -> Result<T, A>
-    // What is answered is the value for data with which the bytes begin.
+    // Which value comes, or which error and where: unless memory runs out, what the form reads the bytes as.
+    ensures equals { IsReadAs T.is_value (root_outcome T.form bytes.now) result }
+    // What is returned is the value for data with which the bytes begin.
     ensures found { IfOk result (λ x. (v : Value) × Begins T.form bytes.now v × T.is_value v x) }
-    // Bytes that are refused begin with no data; but for an early end, whatever bytes follow.
-    ensures refused { IfErr result (λ e. RefusalStands T.form bytes.now e) }
-    // A root that is no struct, or has another name, tag or type, is refused for that, exactly where it is due. Any
-    // other refusal names what stands in the bytes, its place, and the part of the form that can't read it.
-    ensures facts { RefusalFacts (root_fault T.form bytes.now) T.form bytes.now result }
-    // A Structure that is split into items at every depth is never refused as ending too early.
+    // Bytes with an error begin with no data; but for an early end, whatever bytes follow.
+    ensures refused { IfErr result (λ e. ErrorStands T.form bytes.now e) }
+    // A Structure that is split into items at every depth never ends too early.
     ensures whole { IfErr result (λ e. BeginsWhole bytes.now → sort_of e ≡ early_end → ⊥) }
+{
+    read_as(alloc, bytes)
+}
+
+// The same, by the first clause.
+fn read_as<T: Deserialize<A>, A: Allocator + Copy>(alloc: A, bytes: &[u8]) -> Result<T, A>
+    ensures { IsReadAs T.is_value (root_outcome T.form bytes.now) result }
 {
     let shape = T::shape(alloc)?;
     let mut data = read_root(alloc, &shape, bytes)?;
     Ok(T::from_data(alloc, &mut data)?)
 }
+
+/// What a form reads by its rules, that comes of the bytes, and nothing else.
+pub fn read_by_rules()
+    // From items that stand from one place to another.
+    ensures complete { (s : Form) (bytes : List ℕ) (o : ℕ) (k k' : List Keep) (p e : ℕ) (xs ys : List Raw) (v : Value)
+        → p ≤ length bytes
+        → ItemsAt bytes p e xs
+        → Reads s k xs v k' ys
+        → (q : ℕ) × (outcome s bytes o k p e ≡ reads v k' q) × ItemsAt bytes q e ys }
+    ensures sound { (s : Form) (bytes : List ℕ) (o : ℕ) (k : List Keep) (p e : ℕ) (r : Read Value)
+        → AreBytes bytes
+        → p ≤ e
+        → p ≤ length bytes
+        → outcome s bytes o k p e ≡ gives r
+        → (ys : List Raw)
+        → ItemsAt bytes r.next e ys
+        → (xs : List Raw) × ItemsAt bytes p e xs × Reads s k xs r.value r.kept ys }
+    // Of whole messages.
+    ensures whole_complete { (s : Form) (bytes : List ℕ) (v : Value)
+        → Begins s bytes v
+        → root_outcome s bytes ≡ gives v }
+    ensures whole_sound { (s : Form) (bytes : List ℕ) (v : Value)
+        → AreBytes bytes
+        → root_outcome s bytes ≡ gives v
+        → Begins s bytes v }
+{}
+
+/// A value stands whatever bytes follow, and so does an error other than an early end.
+pub fn results_stand()
+    ensures { (s : Form) (bytes after : List ℕ) → Stands (root_outcome s bytes) (root_outcome s (bytes ++ after)) }
+{}
+
+/// A Structure that is split into items at every depth never ends too early.
+pub fn whole_messages_never_end_early()
+    ensures { (s : Form) (bytes : List ℕ) → BeginsWhole bytes → root_outcome s bytes ≡ ends_early → ⊥ }
+{}
 
 /// What is read, from items or from bytes, is of the form's kind and names.
 pub fn what_begins_is_given()
@@ -100,30 +146,4 @@ pub fn one_value()
 /// At most one list of items splits bytes.
 pub fn one_split()
     ensures { (bytes : List ℕ) (xs ys : List Raw) → Splits xs bytes → Splits ys bytes → xs ≡ ys }
-{}
-
-/// What a form reads by its rules, the function of the same meaning reads, and nothing else.
-pub fn read_by_rules()
-    ensures complete { (s : Form) (k k' : List Keep) (xs ys : List Raw) (v : Value)
-        → Reads s k xs v k' ys
-        → read_of s k xs ≡ got v k' ys }
-    ensures sound { (s : Form) (k k' : List Keep) (xs ys : List Raw) (v : Value)
-        → read_of s k xs ≡ got v k' ys
-        → Reads s k xs v k' ys }
-{}
-
-/// What small messages are read as.
-pub fn small_messages()
-    // A required integer, also where its padding isn't zero, and with bytes behind the message.
-    ensures flat { Begins one_integer (outer 16 ++ four_bytes 187 2 3 0) (one_integer_value 3) }
-    ensures padded { Begins one_integer (outer 16 ++ four_bytes 187 2 3 255) (one_integer_value 3) }
-    ensures longer { Begins one_integer (outer 16 ++ four_bytes 187 2 3 0 ++ 9 ∷ []) (one_integer_value 3) }
-    // An option whose name isn't the item's is left out; a required integer is not.
-    ensures left_out { Begins may_lack_first (outer 16 ++ four_bytes 204 2 5 0) (lacks_first_value 5) }
-    ensures other_tag { (v : Value) → Begins one_integer (outer 16 ++ four_bytes 204 2 5 0) v → ⊥ }
-    // A rule sees the text of the number that was read before.
-    ensures chosen { Begins chosen_by_first (outer 32 ++ four_bytes 187 5 1 0 ++ four_bytes 204 2 7 0)
-        (chosen_by_first_value 7) }
-    // A sequence ends at another type, and what follows is a field that was read already.
-    ensures duplicate { (v : Value) → Begins integers (outer 32 ++ four_bytes 187 2 3 0 ++ long_four) v → ⊥ }
 {}

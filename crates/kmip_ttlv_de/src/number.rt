@@ -1,27 +1,22 @@
 //! Enums that are read by a number: the text that names a variant.
 
-ghost use Rattle.std.specs.Prelude.{◌≡◌, ◌≢◌, ℕ, Bool, ◌+◌, ◌<◌, ◌≤◌, ◌++◌, List, length, Some, true, IfOk, IfErr};
-ghost use Rattle.std.specs.Prelude.{IfSome, option_map, string_bytes};
+ghost use Rattle.std.specs.Prelude.{◌≡◌, ◌+◌, ◌<◌, ◌≤◌, ◌++◌, length, true, IfOk, IfSome, option_map, string_bytes};
 ghost use Rattle.std.specs.Str.{IsAscii};
 ghost use Rattle.std.specs.Fmt.{digit_glyph};
-ghost use Rattle.kmip_ttlv_types.specs.ItemTypes.{code};
-ghost use Rattle.kmip_ttlv_types.specs.Places.{code_at};
 ghost use Rattle.kmip_ttlv_base.specs.Values.{view};
-ghost use Rattle.kmip_ttlv_base.specs.Forms.{Form, enum, unit, variants_of, content_of};
-ghost use Rattle.kmip_ttlv_de.specs.ReadPlaces.{IsItem, PartAt, content_at};
-ghost use Rattle.kmip_ttlv_de.specs.Parts.{NumberChooses};
+ghost use Rattle.kmip_ttlv_base.specs.Forms.{variants_of, content_of};
+ghost use Rattle.kmip_ttlv_de.specs.Keeps.{Keep};
 ghost use Rattle.kmip_ttlv_de.specs.Reads.{is_number_type, byte_digits, number_text, first_named};
-ghost use Rattle.kmip_ttlv_de.specs.Reading.{read_number};
-ghost use Rattle.kmip_ttlv_de.specs.ReaderSteps.{Answers};
-ghost use Rattle.kmip_ttlv_de.specs.Facts.{Says};
+ghost use Rattle.kmip_ttlv_de.specs.Outcomes.{number_outcome, unit_wanted, named_content};
+ghost use Rattle.kmip_ttlv_de.specs.Results.{IsRead, IsStep, fault_by};
 
-use crate::head::{length_at, tag_at};
+use crate::failure::{Cause, Failure, FaultAt, Step, at_item, in_struct};
+use crate::head::{content_there, inside, length_there, length_wanted, tag_at, type_wanted};
 use crate::keep::KeptTexts;
-use crate::leaf::leaf_at;
-use crate::refusal::Answer;
-use crate::refuse::{bad_number_length, named_content, other_type, unknown_variant};
+use crate::scope::Scope;
+use kmip_ttlv_base::error::MalformedTtlvError;
 use kmip_ttlv_base::shape::{Data, VariantContent, VariantShape};
-use kmip_ttlv_base::types::{FieldType, TtlvTag, TtlvType};
+use kmip_ttlv_base::types::{FieldType, TtlvType};
 use std::alloc::{AllocError, Allocator};
 use std::str;
 
@@ -90,80 +85,92 @@ fn is_number_type(typ: TtlvType) -> bool
     typ == TtlvType::Integer || typ == TtlvType::Enumeration
 }
 
+// Content at a variant that a number names.
+#[cold]
+fn named_content<A: Allocator + Copy>(
+    alloc: A,
+    bytes: &[u8],
+    pos: usize,
+    typ: TtlvType,
+    actual: FieldType,
+) -> Result<Box<FaultAt<A>, A>, AllocError>
+    requires there { pos + 4 ≤ length bytes.now }
+    ensures { IfOk result (λ f. fault_by f.value ≡ named_content bytes.now pos typ actual) }
+{
+    let cause = Cause::Malformed(MalformedTtlvError::UnexpectedTtlvField {
+        expected: FieldType::Tag,
+        actual,
+    });
+    at_item(alloc, bytes, pos, 16, typ, cause)
+}
+
 // The name of the unit variant that a number's text names.
 #[inline(always)]
 fn named_unit<A: Allocator + Copy>(
-    alloc: A,
-    owner: TtlvTag,
+    scope: &Scope<'_, A>,
     variants: &[VariantShape<A>],
     typ: TtlvType,
-    bytes: &[u8],
     pos: usize,
     text: &str,
-) -> Answer<&'static str, A>
-    requires there { pos + 16 ≤ length bytes.now }
-    requires typ_is { code_at bytes.now pos ≡ code typ }
-    requires number { is_number_type typ ≡ true }
+) -> Step<&'static str, A>
+    requires there { pos + 4 ≤ length scope.now.bytes.now }
+    ensures step { IsStep (λ _. tt) (unit_wanted scope.now.bytes.now scope.now.owner pos typ
+        (first_named text.now (variants_of variants.now))) result }
     ensures name { IfOk result (λ name. name.now ≡ text.now) }
-    ensures ok { IfOk result (λ _. first_named text.now (variants_of variants.now) ≡ Some unit) }
-    ensures err { IfErr result (λ _. first_named text.now (variants_of variants.now) ≢ Some unit) }
-    ensures says { IfErr result (λ r. (f : Form) (name : List ℕ) (e : ℕ)
-        → PartAt f bytes.now (enum name (variants_of variants.now)) pos owner e
-        → NumberChooses (variants_of variants.now) typ
-        → text.now ≡ number_text (content_at bytes.now pos)
-        → Says f bytes.now pos e r) }
 {
     let Some(variant) = first_named(text, variants) else {
-        return Err(unknown_variant(alloc, bytes, pos, owner));
+        return Err(Failure::Fault(in_struct(
+            scope.alloc,
+            pos + 16,
+            scope.owner,
+            "unknown variant",
+        )?));
     };
     match variant.content {
         VariantContent::Unit => Ok(variant.name),
         VariantContent::Newtype(_) => {
-            Err(named_content(bytes, pos, typ, FieldType::LengthAndValue))
+            let actual = FieldType::LengthAndValue;
+            Err(Failure::Fault(named_content(scope.alloc, scope.bytes, pos, typ, actual)?))
         }
-        VariantContent::Tuple(_) => Err(named_content(bytes, pos, typ, FieldType::Length)),
+        VariantContent::Tuple(_) => {
+            let actual = FieldType::Length;
+            Err(Failure::Fault(named_content(scope.alloc, scope.bytes, pos, typ, actual)?))
+        }
     }
 }
 
-/// The variant that a number names, within a structure that ends at `end`.
-#[tactic(auto, using(crate::proofs::FactLemmas::memory_says))]
+/// The variant that a number names.
+#[tactic(auto, unfolding(crate::specs::Outcomes::number_outcome), using(crate::proofs::Steps::failure_then))]
 #[inline(always)]
 pub fn read_number<'b, A: Allocator + Copy>(
-    alloc: A,
-    owner: TtlvTag,
+    scope: &Scope<'b, A>,
     name: &'static str,
     variants: &[VariantShape<A>],
     typ: TtlvType,
-    bytes: &'b [u8],
     pos: usize,
-    end: usize,
     kept: &mut KeptTexts<'b, A>,
-) -> Answer<(Data<A>, usize), A>
-    requires before_end { pos < end }
-    requires there { pos + 4 ≤ length bytes.now }
-    requires typ_is { code_at bytes.now pos ≡ code typ }
-    ensures answers { Answers view (read_number name.now (variants_of variants.now)) bytes.now pos end
-        kept.old kept.new result }
-    ensures further { IfOk result (λ r. pos + 8 ≤ r.1) }
-    ensures says { IfErr result (λ r. (f : Form)
-        → PartAt f bytes.now (enum name.now (variants_of variants.now)) pos owner end
-        → NumberChooses (variants_of variants.now) typ
-        → Says f bytes.now pos end r) }
-    ensures item { IfOk result (λ r. IsItem bytes.now pos r.1) }
+) -> Step<(Data<A>, usize), A>
+    requires there { pos + 4 ≤ length scope.now.bytes.now }
+    ensures read { IsRead view kept.new (number_outcome name.now (variants_of variants.now) typ
+        scope.now.bytes.now scope.now.owner kept.old pos scope.now.end) result }
+    ensures further { IfOk result (λ r. (pos + 8 ≤ r.1) × (r.1 ≤ scope.now.end) × (r.1 ≤ length scope.now.bytes.now)) }
 {
-    if !is_number_type(typ) {
-        return Err(other_type(bytes, pos, TtlvType::Enumeration, typ));
-    }
-    if let Some(n) = length_at(bytes, pos) {
-        if n != 4 {
-            return Err(bad_number_length(bytes, pos, typ, 4, n));
-        }
-    }
-    let (content, next) = leaf_at(bytes, pos, typ)?;
+    type_wanted(
+        scope.alloc,
+        is_number_type(typ),
+        TtlvType::Enumeration,
+        scope.bytes,
+        pos,
+        typ,
+    )?;
+    let _ = length_there(scope.bytes, pos)?;
+    length_wanted(scope.alloc, scope.bytes, pos, 4, typ, Some(4))?;
+    let (content, next) = content_there(scope.alloc, scope.bytes, pos, typ)?;
     let digits = number_text(content);
     let text = unsafe { str::from_utf8_unchecked(&digits) };
-    let variant = named_unit(alloc, owner, variants, typ, bytes, pos, text)?;
+    let variant = named_unit(scope, variants, typ, pos, text)?;
+    inside(scope.alloc, scope.bytes, pos, scope.end, typ, next)?;
     let lent: &'b str = variant;
-    kept.keep(tag_at(bytes, pos), lent)?;
+    kept.keep(tag_at(scope.bytes, pos), lent)?;
     Ok((Data::UnitVariant { name, variant }, next))
 }

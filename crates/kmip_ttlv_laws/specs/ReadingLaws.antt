@@ -11,7 +11,7 @@ use Rattle.kmip_ttlv_ser.specs.declared.held.Held.{Held}
 use Rattle.kmip_ttlv_ser.specs.declared.held.Held.TheVariants.{Nothing, Plain}
 use Rattle.kmip_ttlv_ser.specs.WriteAnswers.{IsWrittenAs}
 use Rattle.kmip_ttlv_ser.specs.WrittenItems.{items, take_tag}
-use Rattle.kmip_ttlv_de.specs.ReadAnswers.{NothingBegins, other}
+use Rattle.kmip_ttlv_de.specs.ReadResults.{NothingBegins, other}
 use Rattle.kmip_ttlv_de.specs.Keeps.{Keep}
 use Rattle.kmip_ttlv_de.specs.Reads.{Reads, Begins, is_root, with_leaf}
 use Rattle.kmip_ttlv_laws.specs.Contents.{ContainsItems}

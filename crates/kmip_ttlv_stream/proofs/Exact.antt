@@ -11,8 +11,10 @@ use Rattle.kmip_ttlv_types.specs.Places.{code_at}
 use Rattle.kmip_ttlv_types.specs.Streams.{IsShort}
 use Rattle.kmip_ttlv_base.specs.declared.error.Error.{Error}
 use Rattle.kmip_ttlv_base.specs.declared.error.MalformedTtlvError.TheVariants as malformeds
-use Rattle.kmip_ttlv_base.specs.Errors.{Location, unknown, io_error, exceeds_limit, kind_of, view_of_kind, location_of, view_of_location, malformed, IsMemory}
-use Rattle.kmip_ttlv_stream.specs.StreamMessages.{message_size, Forbids, HasSize, behind_header, behind_tag, ComesUntyped, IsIoFault, LackCause, no_memory, no_bytes, IsKept, ComesOver, Stops, in_header, of_no_type, over_limit, in_body, Gives, Ends, OrMemory, TakesFirst, Exactly}
+use Rattle.kmip_ttlv_base.specs.Errors.{Kind, Location, unknown, io_error, exceeds_limit, kind_of, view_of_kind, location_of, view_of_location, malformed, IsMemory}
+use Rattle.kmip_ttlv_de.specs.Steps.{Fault}
+use Rattle.kmip_ttlv_de.specs.ReadResults.{seen, end_fault}
+use Rattle.kmip_ttlv_stream.specs.StreamMessages.{message_size, size_fault, type_fault, Forbids, HasSize, behind_header, behind_tag, ComesUntyped, IsIoFault, LackCause, no_memory, no_bytes, IsKept, ComesOver, Stops, in_header, of_no_type, over_limit, in_body, Gives, Ends, OrMemory, TakesFirst, Exactly}
 use Rattle.kmip_ttlv_stream.proofs.Fronts.{SameHeader, same_header, SameHeader-sym, HasSize-along, HasSize-least, HasSize-one, HasSize-allowed, HasSize-typed}
 
 -- what was taken, and what is left
@@ -83,11 +85,16 @@ memory_exact answers limit bytes new kept e want = record {
   whole = λ there n due enough. inl want;
 }
 
+-- an error of this kind and place
+seen_is : {A : Type 0} (e : Error A) (f : Fault) → view_of_kind (kind_of e) ≡ f.why → view_of_location (location_of e) ≡ f.place → seen e ≡ f
+seen_is e f kind place =
+    ap (λ (k : Kind). let g : Fault = record { why = k; place = view_of_location (location_of e) } in g) kind
+    ∙ ap (λ (l : Location). let g : Fault = record { why = f.why; place = l } in g) place
+
 -- an early end as a fault
 ends_early : {A : Type 0} (fault : IoFault) (e : Error A) → IsIoFault fault e → error_kind fault ≡ UnexpectedEof
-    → IsMemory e ⊎ ((view_of_kind (kind_of e) ≡ io_error UnexpectedEof)
-    × (view_of_location (location_of e) ≡ unknown))
-ends_early fault e io eof = inr (ap view_of_kind io.kind ∙ ap io_error eof, io.place)
+    → IsMemory e ⊎ (seen e ≡ end_fault)
+ends_early fault e io eof = inr (seen_is e end_fault (ap view_of_kind io.kind ∙ ap io_error eof) io.place)
 
 lack_of : {A : Type 0} (a : Option (List ℕ)) (n : ℕ) (e : Error A) → LackCause false a n e
     → IsMemory e ⊎ ((fault : IoFault) × IsIoFault fault e × (error_kind fault ≡ UnexpectedEof) × IsShort a n)
@@ -134,11 +141,7 @@ over_exact answers limit bytes new kept head e comes k =
       untyped = λ there none. absurd (cc);
       over_limit = λ there t is h.
           let one : comes.over.typ ≡ t = cc in (
-            inr (
-              ap view_of_kind comes.over.kind ∙ ap exceeds_limit (sym same.size),
-              comes.over.place
-                  ∙ over_place bytes head comes.over.typ t same one,
-            ),
+            inr (seen_is e (size_fault bytes t) (ap view_of_kind comes.over.kind ∙ ap exceeds_limit (sym same.size)) (comes.over.place ∙ over_place bytes head comes.over.typ t same one)),
             inr first.0,
           );
       in_body = λ there n due low. absurd (HasSize-allowed limit bytes comes.over.typ n typ due over);
@@ -162,10 +165,7 @@ untyped_exact answers limit bytes new kept head e comes k =
     record {
       in_header = λ low. absurd (omega arith);
       untyped = λ there is. (
-        inr (
-          comes.untyped.kind ∙ ap (λ (n : ℕ). malformed (malformeds.InvalidType n)) (sym same.code),
-          comes.untyped.place ∙ untyped_place bytes head same,
-        ),
+        inr (seen_is e (type_fault bytes) (comes.untyped.kind ∙ ap (λ (n : ℕ). malformed (malformeds.InvalidType n)) (sym same.code)) (comes.untyped.place ∙ untyped_place bytes head same)),
         inr first.0,
       );
       over_limit = λ there t is h. absurd (cc);

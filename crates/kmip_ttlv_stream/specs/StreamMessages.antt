@@ -17,16 +17,17 @@ use Rattle.kmip_ttlv_base.specs.Errors.{view_of_location, IsMemory}
 use Rattle.kmip_ttlv_base.specs.Values.{Value}
 use Rattle.kmip_ttlv_base.specs.Forms.{Form}
 use Rattle.kmip_ttlv_de.specs.Reads.{Begins}
-use Rattle.kmip_ttlv_de.specs.ReadAnswers.{RefusalStands, early_end, sort_of}
+use Rattle.kmip_ttlv_de.specs.Steps.{Fault}
+use Rattle.kmip_ttlv_de.specs.Outcomes.{root_outcome}
+use Rattle.kmip_ttlv_de.specs.ReadResults.{IsReadAs, IsFault, ErrorStands, end_fault, early_end, sort_of}
 use Rattle.kmip_ttlv_de.specs.Wholes.{BeginsWhole}
-use Rattle.kmip_ttlv_de.specs.RootFacts.{root_fault, RefusalFacts, Fault, IsFault}
 
--- what `from_slice` answers of these bytes
-pub record Answered {T A : Type 0} (s : Form) (is_value : Value → T → Type 0) (bytes : List ℕ) (r : Result T (Error A))
+-- what `from_slice` returns of these bytes
+pub record SliceResult {T A : Type 0} (s : Form) (is_value : Value → T → Type 0) (bytes : List ℕ) (r : Result T (Error A))
     : Type 0 where
+  pub equals : IsReadAs is_value (root_outcome s bytes) r
   pub found : IfOk r (λ x. (v : Value) × Begins s bytes v × is_value v x)
-  pub refused : IfErr r (λ e. RefusalStands s bytes e)
-  pub facts : RefusalFacts (root_fault s bytes) s bytes r
+  pub refused : IfErr r (λ e. ErrorStands s bytes e)
   pub whole : IfErr r (λ e. BeginsWhole bytes → sort_of e ≡ early_end → ⊥)
 
 -- how many bytes the message has that begins so: eight of header, and as many as it states
@@ -161,17 +162,13 @@ pub record TakesFirst (bytes : List ℕ) (n : ℕ) (new kept : Option (List ℕ)
   pub left : new ≡ Some (drop n bytes)
   pub is_kept : IsKept kept (take n bytes)
 
--- a stream's early end, at an unknown place
-abbrev pub end_fault : Fault
-end_fault = record { kind = io_error UnexpectedEof; place = unknown }
-
 -- a size above the limit, behind the header
 abbrev pub size_fault : List ℕ → TtlvType → Fault
-size_fault bytes t = record { kind = exceeds_limit (message_size bytes); place = behind_header bytes t }
+size_fault bytes t = record { why = exceeds_limit (message_size bytes); place = behind_header bytes t }
 
 -- the code of no type, behind the tag
 abbrev pub type_fault : List ℕ → Fault
-type_fault bytes = record { kind = untyped_kind bytes; place = behind_tag bytes }
+type_fault bytes = record { why = untyped_kind bytes; place = behind_tag bytes }
 
 -- what reading a message from these bytes comes to, by what they begin with; in place of each answer,
 -- want of memory may come

@@ -6,7 +6,7 @@
 
 ghost use Rattle.std.specs.Prelude.{◌≡◌, ℕ, List, Some, false, IfErr, IfOk};
 ghost use Rattle.kmip_ttlv_stream.specs.Settings.{settings_of, KeepsSettings};
-ghost use Rattle.kmip_ttlv_stream.specs.StreamMessages.{Answered, Ends, IsBySize, Exactly};
+ghost use Rattle.kmip_ttlv_stream.specs.StreamMessages.{SliceResult, Ends, IsBySize, Exactly};
 
 mod config;
 mod take;
@@ -44,13 +44,13 @@ pub fn from_reader<T: Deserialize<A>, S: Source, A: Allocator + Copy>(
     config: &mut Config<A>,
 ) -> Result<T, A>
     // What is taken from the stream, and what is answered.
-    ensures ends { Ends (Answered T.form T.is_value) S.can_fail (settings_of config.old).limit
+    ensures ends { Ends (SliceResult T.form T.is_value) S.can_fail (settings_of config.old).limit
         (S.left reader.old) (S.left reader.new) (settings_of config.new).kept result }
     // A refusal by size comes only of a message that is larger than the limit.
     ensures limit { IfErr result (IsBySize (settings_of config.old).limit (S.left reader.old) (S.left reader.new)) }
     // The same by cases, where the stream's bytes are known and reading them can't fail.
     ensures exact { S.can_fail ≡ false → (bytes : List ℕ) → S.left reader.old ≡ Some bytes
-        → Exactly (Answered T.form T.is_value) (settings_of config.old).limit bytes
+        → Exactly (SliceResult T.form T.is_value) (settings_of config.old).limit bytes
         (S.left reader.new) (settings_of config.new).kept result }
     // The limit stays, and there is a buffer afterwards exactly where there was one.
     ensures config { KeepsSettings (settings_of config.old) (settings_of config.new) }
@@ -71,7 +71,7 @@ fn read_message<T: Deserialize<A>, S: Source, A: Allocator + Copy>(
     limit: Option<u32>,
     bytes: &mut Vec<u8, A>,
 ) -> Result<T, A>
-    ensures { Ends (Answered T.form T.is_value) S.can_fail limit (S.left reader.old) (S.left reader.new)
+    ensures { Ends (SliceResult T.form T.is_value) S.can_fail limit (S.left reader.old) (S.left reader.new)
         (Some bytes.new.items) result }
 {
     take_message(reader, limit, bytes)?;

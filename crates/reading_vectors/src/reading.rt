@@ -3,9 +3,7 @@
 ghost use Rattle.std.specs.Prelude.{◌≡◌};
 
 use crate::parts::Part;
-use kmip_ttlv::error::Error;
 use kmip_ttlv::shape::{Data, Deserialize, Shape};
-use kmip_ttlv_reading::read_root;
 use std::alloc::{AllocError, Allocator, Global};
 use std::marker::PhantomData;
 
@@ -33,15 +31,4 @@ impl<P: Part, A: Allocator + Copy> Deserialize<A> for Reading<P, A> {
             shape: PhantomData,
         })
     }
-}
-
-/// What the bytes are read as by the readers of kmip_ttlv_reading.
-pub fn by_outcome<P: Part>(alloc: Global, bytes: &[u8]) -> Result<Reading<P>, Error> {
-    let shape = P::shape(alloc)?;
-    let data = read_root(alloc, &shape, bytes)?;
-    let text = format!(in alloc; "{:?}", &data)?;
-    Ok(Reading {
-        text,
-        shape: PhantomData,
-    })
 }

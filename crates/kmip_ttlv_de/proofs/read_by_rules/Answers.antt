@@ -1,8 +1,6 @@
-use Rattle.kmip_ttlv_de.proofs.ReadLemmas.{read_of_reads, reads_read_of}
+use Rattle.kmip_ttlv_de.proofs.Founding.{found_at, found_root}
+use Rattle.kmip_ttlv_de.proofs.Giving.{given_at, given_root}
 use Rattle.kmip_ttlv_de.proofs.read_by_rules.Goals as goal
 
-pub returns-clause-complete : goal.returns-clause-complete
-returns-clause-complete c = λ s k k' xs ys v r. read_of_reads r
-
-pub returns-clause-sound : goal.returns-clause-sound
-returns-clause-sound c = λ s k k' xs ys v e. reads_read_of s k xs record { value = v; kept = k'; rest = ys } e
+pub returns : goal.returns
+returns c = record { complete = given_at; sound = found_at; whole_complete = given_root; whole_sound = found_root }

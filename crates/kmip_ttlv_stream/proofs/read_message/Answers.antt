@@ -13,8 +13,8 @@ returns g c =
     let answer = c.from_slice.ensures in
     ends_with _ _ _ _ _ _ _ _ c.in_ok-take_message.ensures.ok c.as_slice.ensures.value
     record {
+      equals = answer.equals;
       found = answer.found;
       refused = answer.refused;
-      facts = answer.facts;
       whole = answer.whole;
     }

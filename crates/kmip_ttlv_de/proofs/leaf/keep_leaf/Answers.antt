@@ -1,4 +1,4 @@
-use Rattle.kmip_ttlv_de.proofs.Leaves.{any_number_four}
+use Rattle.kmip_ttlv_de.proofs.NumberLemmas.{any_number_four}
 use Rattle.kmip_ttlv_de.proofs.leaf.keep_leaf.Goals as goal
 
 pub number_string-requires : goal.number_string-requires

@@ -1,27 +1,25 @@
-use Rattle.std.proofs.Common.{◌+◌, ◌-◌, ◌<◌, ◌≤◌, length, drop}
+use Rattle.std.proofs.Common.{◌≡◌, ℕ, suc, ◌+◌, ◌-◌, ◌≤◌, length, drop}
 use Rattle.kmip_ttlv_de.proofs.read.+reader.Given as goal
-use Rattle.kmip_ttlv_types.specs.Items.{Raw}
-use Rattle.kmip_ttlv_types.specs.Places.{ItemAt}
 use Rattle.kmip_ttlv_base.specs.Forms.{fields_of, form_of, forms_of}
 use Rattle.kmip_ttlv_base.specs.Values.{views}
-use Rattle.kmip_ttlv_de.proofs.Front.{seq_front, with_front}
-use Rattle.kmip_ttlv_de.specs.ReaderSteps.{Goes}
-use Rattle.kmip_ttlv_de.specs.ReadPlaces.{IsLast}
-use Rattle.kmip_ttlv_de.specs.Reading.{read_fields, read_forms, read_of, read_seq, read_used, run_of, used_up, ◌>>=◌}
+use Rattle.kmip_ttlv_de.specs.Outcomes.{outcome, fields_outcome, forms_outcome, seq_outcome, run_outcome}
+use Rattle.kmip_ttlv_de.proofs.Loops.{with_front}
 
 abbrev pub invariant-read_fields-loop-field : goal.invariant-read_fields-loop-field
 invariant-read_fields-loop-field g l =
-    Goes (read_fields (fields_of l.fields)) (λ k ys. with_front (views l.values.items) (read_fields (fields_of (drop l.field-index l.fields)) k ys)) l.bytes l.pos l.end l.fn.kept l.kept l.next
-    × (l.pos ≤ l.end → l.end < l.next → IsLast l.bytes l.pos l.last l.next l.end)
-
-abbrev pub invariant-read_seq-loop-values : goal.invariant-read_seq-loop-values
-invariant-read_seq-loop-values g l =
-    (h : Raw) × ItemAt l.bytes l.pos h × (l.pos + 8 ≤ l.next) × Goes (read_seq (read_of (form_of l.shape))) (λ k ys. seq_front (views l.values.items) (run_of (read_of (form_of l.shape)) h (length ys) k ys)) l.bytes l.pos l.end l.fn.kept l.kept l.next × (l.end < l.next → IsLast l.bytes l.pos l.last l.next l.end)
-
-abbrev pub decreases-read_seq-loop-values : goal.decreases-read_seq-loop-values
-decreases-read_seq-loop-values g l = length l.bytes - l.next
+    (fields_outcome (fields_of l.fields) l.scope.bytes.now l.scope.owner l.fn.kept l.pos l.scope.end ≡ with_front (views l.values.items) (fields_outcome (fields_of (drop l.field-index l.fields)) l.scope.bytes.now l.scope.owner l.kept l.next l.scope.end))
+    × (l.pos ≤ l.next) × (l.next ≤ l.scope.end) × (l.next ≤ length l.scope.bytes.now)
 
 abbrev pub invariant-read_parts-loop-shape : goal.invariant-read_parts-loop-shape
 invariant-read_parts-loop-shape g l =
-    Goes (read_used (read_forms (forms_of l.shapes))) (λ k ys. with_front (views l.values.items) (read_forms (forms_of (drop l.shape-index l.shapes)) k ys) >>= used_up) l.bytes l.pos l.end l.fn.kept l.kept l.next
-    × (l.pos ≤ l.end → l.end < l.next → IsLast l.bytes l.pos l.last l.next l.end)
+    (forms_outcome (forms_of l.shapes) l.scope.bytes.now l.scope.owner l.fn.kept l.pos l.scope.end ≡ with_front (views l.values.items) (forms_outcome (forms_of (drop l.shape-index l.shapes)) l.scope.bytes.now l.scope.owner l.kept l.next l.scope.end))
+    × (l.pos ≤ l.next) × (l.next ≤ l.scope.end) × (l.next ≤ length l.scope.bytes.now)
+
+abbrev pub invariant-read_seq-loop-values : goal.invariant-read_seq-loop-values
+invariant-read_seq-loop-values g l =
+    (n : ℕ)
+    × (seq_outcome (outcome (form_of l.shape)) l.scope.bytes.now l.scope.owner l.fn.kept l.pos l.scope.end ≡ with_front (views l.values.items) (run_outcome (suc n) (outcome (form_of l.shape)) l.pos l.scope.bytes.now l.scope.owner l.kept l.next l.scope.end))
+    × (length l.scope.bytes.now ≤ n + l.next) × (l.pos + 8 ≤ l.next) × (l.next ≤ l.scope.end) × (l.next ≤ length l.scope.bytes.now)
+
+abbrev pub decreases-read_seq-loop-values : goal.decreases-read_seq-loop-values
+decreases-read_seq-loop-values g l = length l.scope.bytes.now - l.next

@@ -1,0 +1,15 @@
+use Rattle.std.proofs.Common.{rules, ◌≡◌, true, sym, ◌∙◌}
+use Rattle.std.proofs.lemmas.Result.{err_from_is_err_and}
+use Rattle.kmip_ttlv_base.specs.Forms.{fields_of}
+use Rattle.kmip_ttlv_de.specs.Reads.{has_fields}
+use Rattle.kmip_ttlv_de.specs.Outcomes.{ignored, item_end}
+use Rattle.kmip_ttlv_de.proofs.Steps.{failure_then}
+use Rattle.kmip_ttlv_de.proofs.rest.read_ignored.Goals as goal
+
+pub returns-in_err-next-clause-step : goal.returns-in_err-next-clause-step
+unfolding ignored
+returns-in_err-next-clause-step g c =
+    let p = err_from_is_err_and c.from_residual-in_err-next.result c.from_residual-in_err-next.ensures.1 in
+    let some : has_fields (fields_of c.args.fields.now) ≡ true = search rules in
+    let other = rw c.tag_at.ensures at (sym (c.is_field.ensures (fields_of c.args.fields.now) c.requires.tags) ∙ c.if-is_field.false) in
+    rw (p.1, p.2, c.in_ok-typ.ensures.step, some, other, c.if-deny.false) (failure_then (item_end c.args.scope.now.bytes.now c.args.pos c.in_ok-typ.typ) _ _ c.in_err-next.ensures.step)

@@ -1,0 +1,128 @@
+//! What follows the fields of a struct, up to the structure's end.
+
+ghost use Rattle.std.specs.Prelude.{◌≡◌, ◌≢◌, ℕ, suc, ◌+◌, ◌<◌, ◌≤◌, length, IfOk};
+ghost use Rattle.kmip_ttlv_base.specs.Forms.{fields_of};
+ghost use Rattle.kmip_ttlv_de.specs.Reads.{has_fields};
+ghost use Rattle.kmip_ttlv_de.specs.FieldTags.{HasTagsOf};
+ghost use Rattle.kmip_ttlv_de.specs.Outcomes.{rest_outcome, ignored, item_end};
+ghost use Rattle.kmip_ttlv_de.specs.Results.{IsStep};
+
+use crate::failure::{Cause, Failure, Step, at_item, in_struct};
+use crate::field_tags::{is_field, tags_of};
+use crate::head::{content_there, end_there, inside, length_there, tag_at, type_there};
+use crate::scope::Scope;
+use kmip_ttlv_base::error::SerdeError;
+use kmip_ttlv_base::shape::FieldShape;
+use kmip_ttlv_base::types::TtlvType;
+use std::alloc::Allocator;
+use std::collections::BTreeSet;
+
+/// What follows the fields, up to the end: in most messages nothing.
+#[inline(always)]
+pub fn read_rest<A: Allocator + Copy>(
+    scope: &Scope<'_, A>,
+    fields: &[FieldShape<A>],
+    deny: bool,
+    pos: usize,
+) -> Step<usize, A>
+    requires inside { pos ≤ length scope.now.bytes.now }
+    requires before { pos ≤ scope.now.end }
+    ensures step { IsStep (λ q. q)
+        (rest_outcome (suc (length scope.now.bytes.now)) (fields_of fields.now) deny scope.now.bytes.now scope.now.owner pos scope.now.end) result }
+    ensures whole { IfOk result (λ q. (q ≡ scope.now.end) × (scope.now.end ≤ length scope.now.bytes.now)) }
+{
+    if scope.end <= pos {
+        return Ok(pos);
+    }
+    read_others(scope, fields, deny, pos)
+}
+
+// The items behind the fields. The fields' tags are read once for all of them.
+#[tactic(auto, using(crate::proofs::Steps::failure_then))]
+fn read_others<A: Allocator + Copy>(
+    scope: &Scope<'_, A>,
+    fields: &[FieldShape<A>],
+    deny: bool,
+    pos: usize,
+) -> Step<usize, A>
+    requires inside { pos ≤ length scope.now.bytes.now }
+    requires before { pos ≤ scope.now.end }
+    ensures step { IsStep (λ q. q)
+        (rest_outcome (suc (length scope.now.bytes.now)) (fields_of fields.now) deny scope.now.bytes.now scope.now.owner pos scope.now.end) result }
+    ensures whole { IfOk result (λ q. (q ≡ scope.now.end) × (scope.now.end ≤ length scope.now.bytes.now)) }
+{
+    let tags = tags_of(scope.alloc, fields)?;
+    let mut next = pos;
+    while next < scope.end {
+        next = read_ignored(scope, fields, &tags, deny, next)?;
+    }
+    Ok(next)
+}
+
+/// An item behind the fields, which is ignored.
+#[tactic(auto, unfolding(crate::specs::Outcomes::ignored), using(crate::proofs::Steps::failure_then))]
+fn read_ignored<A: Allocator + Copy>(
+    scope: &Scope<'_, A>,
+    fields: &[FieldShape<A>],
+    tags: &BTreeSet<u32, A>,
+    deny: bool,
+    pos: usize,
+) -> Step<usize, A>
+    requires inside { pos ≤ length scope.now.bytes.now }
+    requires tags { HasTagsOf (fields_of fields.now) tags.now }
+    ensures step { IsStep (λ q. q) (ignored (fields_of fields.now) deny scope.now.bytes.now scope.now.owner pos scope.now.end) result }
+    ensures further { IfOk result (λ q. (pos + 8 ≤ q) × (q ≤ scope.now.end) × (q ≤ length scope.now.bytes.now)) }
+{
+    let typ = type_there(scope.alloc, scope.bytes, pos)?;
+    if !has_fields(fields) {
+        let cause = Cause::Mismatch(SerdeError::MissingIdentifier);
+        return Err(Failure::Fault(at_item(scope.alloc, scope.bytes, pos, 4, typ, cause)?));
+    }
+    if is_field(tags, tag_at(scope.bytes, pos)) {
+        return Err(Failure::Fault(in_struct(
+            scope.alloc,
+            pos + 4,
+            scope.owner,
+            "duplicate field",
+        )?));
+    }
+    if deny {
+        return Err(Failure::Fault(in_struct(scope.alloc, pos + 4, scope.owner, "unknown field")?));
+    }
+    let next = item_end(scope.alloc, scope.bytes, pos, typ)?;
+    inside(scope.alloc, scope.bytes, pos, scope.end, typ, next)?;
+    Ok(next)
+}
+
+// The place behind an item.
+#[tactic(auto, unfolding(crate::specs::Outcomes::item_end), using(crate::proofs::Steps::failure_then))]
+#[inline(always)]
+fn item_end<A: Allocator + Copy>(
+    alloc: A,
+    bytes: &[u8],
+    pos: usize,
+    typ: TtlvType,
+) -> Step<usize, A>
+    requires there { pos + 4 ≤ length bytes.now }
+    ensures step { IsStep (λ q. q) (item_end bytes.now pos typ) result }
+    ensures further { IfOk result (λ q. (pos + 8 ≤ q) × (q ≤ length bytes.now)) }
+{
+    if typ == TtlvType::Structure {
+        let n = length_there(bytes, pos)?;
+        let next = end_there(bytes, pos, typ, n)?;
+        return Ok(next);
+    }
+    let (_, next) = content_there(alloc, bytes, pos, typ)?;
+    Ok(next)
+}
+
+// Whether there is a field.
+#[inline(always)]
+fn has_fields<A: Allocator + Copy>(fields: &[FieldShape<A>]) -> bool
+    ensures { result ≡ has_fields (fields_of fields.now) }
+{
+    match fields {
+        [] => false,
+        [_, ..] => true,
+    }
+}

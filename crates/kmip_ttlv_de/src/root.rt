@@ -1,0 +1,181 @@
+//! Whole messages.
+
+ghost use Rattle.std.specs.Prelude.{◌≡◌, ◌⊎◌, ◌+◌, ◌<◌, ◌≤◌, [], length, reverse, IfOk, Some, None};
+ghost use Rattle.kmip_ttlv_types.specs.Names.{tag_of};
+ghost use Rattle.kmip_ttlv_base.specs.Errors.{view_of_kind, IsMemory, tags_of};
+ghost use Rattle.kmip_ttlv_base.specs.Values.{Value, view, views};
+ghost use Rattle.kmip_ttlv_base.specs.Forms.{form_of, fields_of};
+ghost use Rattle.kmip_ttlv_de.specs.Steps.{Outcome, gives};
+ghost use Rattle.kmip_ttlv_de.specs.Outcomes.{root_outcome, first_outcome, fields_outcome, named_first};
+ghost use Rattle.kmip_ttlv_de.specs.ReadFaults.{at_first};
+ghost use Rattle.kmip_ttlv_de.specs.ReadResults.{IsError, IsOfBytes, seen};
+ghost use Rattle.kmip_ttlv_de.specs.Results.{IsStep, IsFailure, IsOutcome, kind_by, fault_by};
+
+use crate::failure::{Cause, Failure, FaultAt, Step, at_first, within};
+use crate::head::{opened, tag_at};
+use crate::keep::KeptTexts;
+use crate::read::read_content;
+use crate::scope::Scope;
+use kmip_ttlv_base::error::{
+    Error, ErrorKind, ErrorLocation, MalformedTtlvError, Result, SerdeError,
+};
+use kmip_ttlv_base::shape::{Data, FieldShape, Shape};
+use kmip_ttlv_base::types::{ByteOffset, FieldType, TtlvTag};
+use std::alloc::Allocator;
+use std::io;
+
+// The kind that a cause is.
+fn kind<A: Allocator>(cause: Cause<A>) -> ErrorKind<A>
+    ensures is { view_of_kind result ≡ kind_by cause }
+    ensures of_bytes { IsOfBytes (kind_by cause) }
+{
+    match cause {
+        Cause::Malformed(fault) => ErrorKind::MalformedTtlv(fault),
+        Cause::Mismatch(fault) => ErrorKind::SerdeError(fault),
+    }
+}
+
+// The tags of the structures around, the outermost first, if there are any.
+fn parents<A: Allocator>(around: Vec<TtlvTag, A>) -> Option<Vec<TtlvTag, A>>
+    ensures { tags_of result ≡ reverse around.items }
+{
+    if around.is_empty() {
+        return None;
+    }
+    let mut tags = around;
+    tags.reverse();
+    Some(tags)
+}
+
+// The fault as an error.
+fn error_at<A: Allocator>(fault: FaultAt<A>) -> Error<A>
+    ensures is { seen result ≡ fault_by fault }
+    ensures of_bytes { IsOfBytes (kind_by fault.cause) }
+{
+    let FaultAt {
+        cause,
+        offset,
+        tag,
+        typ,
+        around,
+    } = fault;
+    let offset = ByteOffset(offset as u64);
+    let location = ErrorLocation::at(Some(offset), parents(around), tag, typ);
+    Error::new(kind(cause), location)
+}
+
+// The failure as an error.
+#[cold]
+fn error<A: Allocator>(failure: Failure<A>) -> Error<A>
+    ensures { (o : Outcome Value) → IsFailure o failure → IsMemory result ⊎ IsError o (seen result) }
+{
+    match failure {
+        Failure::OutOfMemory => { Error::new(ErrorKind::OutOfMemory, ErrorLocation::unknown()) }
+        Failure::EarlyEnd => {
+            let early = io::Error::from(io::ErrorKind::UnexpectedEof);
+            Error::new(ErrorKind::IoError(early), ErrorLocation::unknown())
+        }
+        Failure::Fault(fault) => error_at(Box::into_inner(fault)),
+    }
+}
+
+// The name of the message's struct is a tag.
+fn named_first<A: Allocator + Copy>(alloc: A, name: &str) -> Step<(), A>
+    ensures { IsStep (λ _. tt) (named_first name.now (tag_of name.now)) result }
+{
+    match TtlvTag::from_name(name) {
+        Some(_) => Ok(()),
+        None => {
+            let cause = Cause::Mismatch(SerdeError::InvalidTag(String::from_str(alloc, name)?));
+            Err(Failure::Fault(at_first(alloc, cause)?))
+        }
+    }
+}
+
+// The fields of the struct that a message is.
+#[tactic(auto, unfolding(crate::specs::Outcomes::first_outcome), using(crate::proofs::Steps::failure_then))]
+fn read_first<A: Allocator + Copy>(
+    alloc: A,
+    name: &str,
+    fields: &[FieldShape<A>],
+    deny: bool,
+    bytes: &[u8],
+) -> Step<Vec<Data<A>, A>, A>
+    ensures step { IsStep (λ v. views v.items) (first_outcome name.now (fields_of fields.now) deny
+        (fields_outcome (fields_of fields.now)) bytes.now) result }
+{
+    named_first(alloc, name)?;
+    let end = opened(alloc, name, bytes, 0)?;
+    let owner = tag_at(bytes, 0);
+    let scope = Scope {
+        alloc,
+        bytes,
+        owner,
+        end,
+    };
+    let mut kept = KeptTexts::new(alloc);
+    match read_content(&scope, fields, deny, 8, &mut kept) {
+        Ok((values, _)) => Ok(values),
+        Err(failure) => Err(within(owner, failure)),
+    }
+}
+
+// What a whole message is read as.
+#[tactic(auto, unfolding(crate::specs::Outcomes::root_outcome), using(crate::proofs::Steps::failure_then))]
+fn read_message<A: Allocator + Copy>(alloc: A, shape: &Shape<A>, bytes: &[u8]) -> Step<Data<A>, A>
+    ensures step { IsStep view (root_outcome (form_of shape.now) bytes.now) result }
+{
+    match shape {
+        Shape::Option(inner) => {
+            let data = read_message(alloc, inner, bytes)?;
+            Ok(Data::Some(Box::new(alloc, data)?))
+        }
+        Shape::Newtype { name, inner } => {
+            let data = read_message(alloc, inner, bytes)?;
+            let inner = Box::new(alloc, data)?;
+            Ok(Data::Newtype { name, inner })
+        }
+        Shape::Struct {
+            name,
+            fields,
+            deny_unknown,
+        } => {
+            let fields = read_first(alloc, name, fields, *deny_unknown, bytes)?;
+            Ok(Data::Struct { name, fields })
+        }
+        Shape::Seq(_) | Shape::Enum { .. } => {
+            let words = String::from_str(alloc, "no struct")?;
+            let cause = Cause::Mismatch(SerdeError::Other(words));
+            Err(Failure::Fault(at_first(alloc, cause)?))
+        }
+        Shape::I32
+        | Shape::I64
+        | Shape::Bool
+        | Shape::Text
+        | Shape::Bytes
+        | Shape::Interval
+        | Shape::BigInteger
+        | Shape::U32 => {
+            let cause = Cause::Malformed(MalformedTtlvError::UnexpectedTtlvField {
+                expected: FieldType::Tag,
+                actual: FieldType::LengthAndValue,
+            });
+            Err(Failure::Fault(at_first(alloc, cause)?))
+        }
+    }
+}
+
+/// The value with which the bytes begin, by a shape that may stand for a whole message: a struct,
+/// with options and newtypes around it.
+pub fn read_root<A: Allocator + Copy>(
+    alloc: A,
+    shape: &Shape<A>,
+    bytes: &[u8],
+) -> Result<Data<A>, A>
+    ensures { IsOutcome view (root_outcome (form_of shape.now) bytes.now) result }
+{
+    match read_message(alloc, shape, bytes) {
+        Ok(data) => Ok(data),
+        Err(failure) => Err(error(failure)),
+    }
+}
