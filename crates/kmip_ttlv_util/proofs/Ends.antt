@@ -6,10 +6,11 @@ use Rattle.std.proofs.Math.Seq.{drop-append_seam}
 use Rattle.kmip_ttlv_types.specs.declared.typ.TtlvType.{TtlvType}
 use Rattle.kmip_ttlv_types.specs.declared.typ.TtlvType.TheVariants.{Structure, Integer, LongInteger, BigInteger, Enumeration, Boolean, TextString, ByteString, DateTime, Interval}
 use Rattle.kmip_ttlv_util.specs.Letters.{letter, is_hex}
-use Rattle.kmip_ttlv_util.specs.Undiag.{Step, reads_on, stops_with, step, Reads}
+use Rattle.kmip_ttlv_util.specs.Undiag.{Step, reads_on, stops_with, step}
 use Rattle.kmip_ttlv_util.specs.ReadBack.{close_part, item_part}
 use Rattle.kmip_ttlv_util.specs.ReadBack.{Part, StandsBehind, Stands, StandAll, depth_behind, part_line, part_lines, unfinished, EndsAt}
 use Rattle.kmip_ttlv_util.proofs.Longest.{Tells, tells}
+use Rattle.kmip_ttlv_util.proofs.Reading.{Reads}
 
 module _ (beginning : ℕ → ℕ → List ℕ) (prefix : List ℕ) where
   -- the parts that stand in front of what is left, and their lines

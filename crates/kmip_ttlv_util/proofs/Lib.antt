@@ -1,7 +1,9 @@
 pub mod Appending
 pub mod Ends
 pub mod Entries
+pub mod Firm
 pub mod Fronts
+pub mod Going
 pub mod HexDigits
 pub mod Letters
 pub mod LineParts

@@ -1,47 +1,16 @@
--- What a call that reads a part answers.
-use Rattle.std.proofs.Common.{◌≡◌, ◌≢◌, ℕ, zero, suc, ◌+◌, ◌-◌, Bool, true, false, not, cond, Bor, List, [], ◌∷◌, ◌++◌, length, take, drop, Option, Some, None, refl, sym, ap, subst, ◌∙◌, arith, append_assoc, append-nil}
-use Rattle.std.specs.Prelude.{codes}
+-- What stands in front of a text that is read back: its next part.
+use Rattle.std.proofs.Common.{◌≡◌, ◌≢◌, ℕ, zero, suc, ◌-◌, ◌<◌, Bool, true, false, cond, eqb, List, [], ◌∷◌, length, drop, Option, Some, None, refl, ap, ◌∙◌, arith}
 use Rattle.std.specs.List.{prefix_len}
-use Rattle.std.proofs.lemmas.Bool.{ne_eqb}
+use Rattle.std.proofs.lemmas.Bool.{eqb-true}
 use Rattle.kmip_ttlv_types.specs.declared.typ.TtlvType.{TtlvType}
-use Rattle.kmip_ttlv_types.specs.declared.typ.TtlvType.TheVariants.{Structure, Integer, LongInteger, BigInteger, Enumeration, Boolean, TextString, ByteString, DateTime, Interval}
-use Rattle.kmip_ttlv_types.specs.Names.{tag_of}
+use Rattle.kmip_ttlv_types.specs.declared.typ.TtlvType.TheVariants.{Enumeration}
 use Rattle.kmip_ttlv_util.specs.Letters.{is_hex, type_of_letter}
-use Rattle.kmip_ttlv_util.specs.Undiag.{with_rest, front_type, front_value, Step, reads_on, stops_with, close_step, data_step, type_step, letter_step, tag_step, step, Reads}
-use Rattle.kmip_ttlv_util.specs.Lines.{line, hidden}
-use Rattle.kmip_ttlv_util.specs.Lines.{typ_part}
+use Rattle.kmip_ttlv_util.specs.Undiag.{with_rest, front_type, front_value, Step, reads_on, stops_with, close_step, data_step, type_step, letter_step, tag_step, step}
+use Rattle.kmip_ttlv_util.specs.Lines.{line, typ_part}
+use Rattle.kmip_ttlv_util.specs.ReadBack.{tag_in_front}
 
 module _ (beginning : ℕ → ℕ → List ℕ) where
-  wrote_line : (before old new shown : List ℕ) (depth tag : ℕ) (typ : TtlvType) → old ≡ before ++ typ_part beginning depth tag typ → new ≡ old ++ (codes ", Data: " ++ (shown ++ (10 ∷ []))) → new ≡ before ++ line beginning depth tag typ shown
-  unfolding line
-  wrote_line before old new shown depth tag typ at e = e ∙ ap (λ (o : List ℕ). o ++ (codes ", Data: " ++ (shown ++ (10 ∷ [])))) at ∙ append_assoc before (typ_part beginning depth tag typ) (codes ", Data: " ++ (shown ++ (10 ∷ [])))
-
-  -- the opening of a structure
-  pub reads_structure : (before old new s : List ℕ) (depth tag : ℕ) (typ : TtlvType) (x : ℕ × Bor (List ℕ)) → typ ≡ Structure → length s ≢ 0 → old ≡ before ++ typ_part beginning depth tag typ → new ≡ old ++ codes ", Data: \n" → x.0 ≡ depth + 1 → x.1.now ≡ s → Reads (data_step beginning depth tag typ s) before new (Some x)
-  reads_structure before old new [] depth tag typ x is some at e d r = absurd (some refl)
-  reads_structure before old new (c ∷ s) depth tag typ x is some at e d r =
-      subst (λ (u : TtlvType). old ≡ before ++ typ_part beginning depth tag u → Reads (data_step beginning depth tag u (c ∷ s)) before new (Some x)) (sym is)
-      (λ at. (wrote_line before old new [] depth tag Structure at e, d ∙ omega arith, r)) at
-
-  -- a leaf that is no enumeration
-  plain_step : (typ : TtlvType) (depth tag c : ℕ) (s : List ℕ) → typ ≢ Structure → typ ≢ Enumeration → data_step beginning depth tag typ (c ∷ s) ≡ reads_on (line beginning depth tag typ hidden) depth (c ∷ s)
-  plain_step Structure depth tag c s a b = absurd (a refl)
-  plain_step Integer depth tag c s a b = refl
-  plain_step LongInteger depth tag c s a b = refl
-  plain_step BigInteger depth tag c s a b = refl
-  plain_step Enumeration depth tag c s a b = absurd (b refl)
-  plain_step Boolean depth tag c s a b = refl
-  plain_step TextString depth tag c s a b = refl
-  plain_step ByteString depth tag c s a b = refl
-  plain_step DateTime depth tag c s a b = refl
-  plain_step Interval depth tag c s a b = refl
-
-  -- its line
-  pub reads_plain : (before old new s : List ℕ) (depth tag : ℕ) (typ : TtlvType) (x : ℕ × Bor (List ℕ)) → typ ≢ Structure → typ ≢ Enumeration → length s ≢ 0 → old ≡ before ++ typ_part beginning depth tag typ → new ≡ old ++ codes ", Data: <redacted>\n" → x.0 ≡ depth → x.1.now ≡ s → Reads (data_step beginning depth tag typ s) before new (Some x)
-  reads_plain before old new [] depth tag typ x a b some at e d r = absurd (some refl)
-  reads_plain before old new (c ∷ s) depth tag typ x a b some at e d r =
-      subst (λ (t : Step). Reads t before new (Some x)) (sym (plain_step typ depth tag c s a b)) (wrote_line before old new hidden depth tag typ at e, d, r)
-
+  -- a value and what follows it, or none
   abbrev pick : Bool → List ℕ × List ℕ → Option (List ℕ × List ℕ)
   pick b p = cond b (Some p) None
 
@@ -57,49 +26,51 @@ module _ (beginning : ℕ → ℕ → List ℕ) where
   chosen_none true depth tag x y e = absurd cc
   chosen_none false depth tag x y e = refl
 
-  -- an enumeration's line
-  pub reads_value : (before old new s v : List ℕ) (depth tag : ℕ) (typ : TtlvType) (x : ℕ × Bor (List ℕ)) → typ ≡ Enumeration → length s ≢ 0 → front_value s ≡ Some (v, x.1.now) → old ≡ before ++ typ_part beginning depth tag typ → new ≡ old ++ (codes ", Data: " ++ (v ++ (10 ∷ []))) → x.0 ≡ depth → Reads (data_step beginning depth tag typ s) before new (Some x)
+  -- an enumeration
+  pub data_value : (s v r : List ℕ) (depth tag : ℕ) (typ : TtlvType) → typ ≡ Enumeration → length s ≢ 0 → front_value s ≡ Some (v, r) → data_step beginning depth tag typ s ≡ reads_on (line beginning depth tag typ v) depth r
   unfolding front_value
-  reads_value before old new [] v depth tag typ x is some value at e d = absurd (some refl)
-  reads_value before old new (c ∷ s) v depth tag typ x is some value at e d =
-      subst (λ (u : TtlvType). old ≡ before ++ typ_part beginning depth tag u → Reads (data_step beginning depth tag u (c ∷ s)) before new (Some x)) (sym is)
-      (λ at. subst (λ (t : Step). Reads t before new (Some x)) (sym (chosen_value _ depth tag _ _ v x.1.now value)) (wrote_line before old new v depth tag Enumeration at e, d, refl)) at
+  data_value [] v r depth tag typ is some value = absurd (some refl)
+  data_value (c ∷ s) v r depth tag typ is some value = rw is (chosen_value _ depth tag _ _ v r value)
 
   -- an enumeration without a value
-  pub reads_no_value : (before old s : List ℕ) (depth tag : ℕ) (typ : TtlvType) → typ ≡ Enumeration → length s ≢ 0 → front_value s ≡ None → old ≡ before ++ typ_part beginning depth tag typ → Reads (data_step beginning depth tag typ s) before old None
+  pub data_no_value : (s : List ℕ) (depth tag : ℕ) (typ : TtlvType) → typ ≡ Enumeration → length s ≢ 0 → front_value s ≡ None → data_step beginning depth tag typ s ≡ stops_with (typ_part beginning depth tag typ)
   unfolding front_value
-  reads_no_value before old [] depth tag typ is some value at = absurd (some refl)
-  reads_no_value before old (c ∷ s) depth tag typ is some value at =
-      subst (λ (u : TtlvType). old ≡ before ++ typ_part beginning depth tag u → Reads (data_step beginning depth tag u (c ∷ s)) before old None) (sym is)
-      (λ at. subst (λ (t : Step). Reads t before old None) (sym (chosen_none _ depth tag _ _ value)) at) at
-
-  -- a part from its front
-  pub reads_nothing : (prefix before s : List ℕ) (depth : ℕ) → length s ≡ 0 → Reads (step beginning prefix depth s) before before None
-  unfolding step
-  reads_nothing prefix before [] depth none = sym (append-nil before)
-  reads_nothing prefix before (c ∷ s) depth none = absurd (omega (arith, none))
+  data_no_value [] depth tag typ is some value = absurd (some refl)
+  data_no_value (c ∷ s) depth tag typ is some value = rw is (chosen_none _ depth tag _ _ value)
 
   -- a `]` in front
   close_is : (prefix s r : List ℕ) (depth : ℕ) → s ≡ 93 ∷ r → step beginning prefix depth s ≡ close_step depth r
   unfolding step
   close_is prefix s r depth e = rw e refl
 
-  -- a surplus `]`
-  pub reads_last_close : (prefix before s r : List ℕ) (depth : ℕ) → s ≡ 93 ∷ r → depth ≡ 0 → Reads (step beginning prefix depth s) before before None
-  reads_last_close prefix before s r depth e z = subst (λ (t : Step). Reads t before before None) (sym (close_is prefix s r depth e ∙ ap (λ (d : ℕ). close_step d r) z)) (sym (append-nil before))
-
   -- a `]` within a structure
-  pub reads_close : (prefix before s r : List ℕ) (depth : ℕ) (x : ℕ × Bor (List ℕ)) → s ≡ 93 ∷ r → depth ≢ 0 → x.0 ≡ depth - 1 → x.1.now ≡ r → Reads (step beginning prefix depth s) before before (Some x)
-  reads_close prefix before s r zero x e z d f = absurd (z refl)
-  reads_close prefix before s r (suc depth) x e z d f = subst (λ (t : Step). Reads t before before (Some x)) (sym (close_is prefix s r (suc depth) e)) (sym (append-nil before), d ∙ omega arith, f)
+  pub step_close : (prefix s r : List ℕ) (depth : ℕ) → s ≡ 93 ∷ r → 0 < depth → step beginning prefix depth s ≡ reads_on [] (depth - 1) r
+  step_close prefix s r zero e z = absurd (omega (arith, z))
+  step_close prefix s r (suc depth) e z = close_is prefix s r (suc depth) e ∙ ap (λ (d : ℕ). reads_on [] d r) (omega arith)
 
-  -- digits in front
-  pub tag_is : (prefix s : List ℕ) (depth : ℕ) (o : Option ℕ) → length s ≢ 0 → ((r : List ℕ) → s ≡ 93 ∷ r → ⊥) → o ≡ tag_of (48 ∷ 120 ∷ (prefix ++ take (prefix_len is_hex s) s)) → step beginning prefix depth s ≡ tag_step beginning depth (drop (prefix_len is_hex s) s) o
+  -- a tag, or none
+  pick_some : (b : Bool) (o : Option ℕ) (tag : ℕ) (t : Step) (f : Option ℕ → Step) → cond b None o ≡ Some tag → cond b t (f o) ≡ f (Some tag)
+  pick_some true o tag t f e = absurd cc
+  pick_some false o tag t f e = ap f e
+
+  pick_none : (b : Bool) (o : Option ℕ) (t : Step) (f : Option ℕ → Step) → cond b None o ≡ None → (b ≡ true → t ≡ f None) → cond b t (f o) ≡ f None
+  pick_none true o t f e same = same refl
+  pick_none false o t f e same = ap f e
+
+  -- a tag in front
+  pub step_tag : (prefix s : List ℕ) (depth tag : ℕ) → tag_in_front prefix s ≡ Some tag → step beginning prefix depth s ≡ letter_step beginning depth tag (drop (prefix_len is_hex s) s)
   unfolding step
-  tag_is prefix [] depth o some not e = absurd (some refl)
-  tag_is prefix (c ∷ s) depth o some not e =
-      let ne : c ≢ 93 = λ h. not s (ap (λ (d : ℕ). d ∷ s) h) in
-      rw (ne_eqb c 93 ne) (ap (tag_step beginning depth (drop (prefix_len is_hex (c ∷ s)) (c ∷ s))) (sym e))
+  step_tag prefix [] depth tag e = absurd cc
+  step_tag prefix (c ∷ s) depth tag e =
+      pick_some (eqb c 93) _ tag (close_step depth s) (tag_step beginning depth (drop (prefix_len is_hex (c ∷ s)) (c ∷ s))) e
+
+  -- none, and no close of an open structure
+  pub step_no_tag : (prefix s : List ℕ) (depth : ℕ) → tag_in_front prefix s ≡ None → ((rest : List ℕ) → s ≡ 93 ∷ rest → depth ≡ 0) → step beginning prefix depth s ≡ stops_with []
+  unfolding step
+  step_no_tag prefix [] depth e shut = refl
+  step_no_tag prefix (c ∷ s) depth e shut =
+      pick_none (eqb c 93) _ (close_step depth s) (tag_step beginning depth (drop (prefix_len is_hex (c ∷ s)) (c ∷ s))) e
+      (λ h. ap (λ (d : ℕ). close_step d s) (shut s (ap (λ (a : ℕ). a ∷ s) (eqb-true c 93 h))))
 
   -- a letter behind them
   pub letter_is : (depth tag : ℕ) (s r : List ℕ) (typ : TtlvType) → front_type s ≡ Some (typ, r) → letter_step beginning depth tag s ≡ data_step beginning depth tag typ r
@@ -118,7 +89,3 @@ module _ (beginning : ℕ → ℕ → List ℕ) where
       by : (o : Option TtlvType) → with_rest s o ≡ None → type_step beginning depth tag s o ≡ stops_with (beginning depth tag)
       by None e = refl
       by (Some t) e = absurd cc
-
-  -- where no whole part stands
-  pub reads_stop : (t : Step) (before now w : List ℕ) → t ≡ stops_with w → now ≡ before ++ w → Reads t before now None
-  reads_stop t before now w e f = subst (λ (u : Step). Reads u before now None) (sym e) f

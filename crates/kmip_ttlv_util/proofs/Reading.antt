@@ -6,7 +6,14 @@ use Rattle.kmip_ttlv_types.specs.declared.typ.TtlvType.{TtlvType}
 use Rattle.kmip_ttlv_types.specs.declared.typ.TtlvType.TheVariants.{Structure, Integer, LongInteger, BigInteger, Enumeration, Boolean, TextString, ByteString, DateTime, Interval}
 use Rattle.kmip_ttlv_types.specs.Names.{tag_of}
 use Rattle.kmip_ttlv_util.specs.Letters.{is_hex, type_of_letter}
-use Rattle.kmip_ttlv_util.specs.Undiag.{Step, reads_on, stops_with, close_step, data_step, type_step, letter_step, tag_step, step, written_by, undiag_from, undiag_lines, Reads}
+use Rattle.kmip_ttlv_util.specs.Undiag.{Step, reads_on, stops_with, close_step, data_step, type_step, letter_step, tag_step, step, written_by, undiag_from, undiag_lines}
+
+-- what was written with a part, the depth and the text that is left
+abbrev pub Reads : Step → List ℕ → List ℕ → Option (ℕ × Bor (List ℕ)) → Type 0
+Reads (reads_on w d r) before now (Some x) = (now ≡ before ++ w) × (x.0 ≡ d) × (x.1.now ≡ r)
+Reads (reads_on w d r) before now None = ⊥
+Reads (stops_with w) before now (Some x) = ⊥
+Reads (stops_with w) before now None = now ≡ before ++ w
 
 module _ (beginning : ℕ → ℕ → List ℕ) where
   -- what is written, with the lines that are left

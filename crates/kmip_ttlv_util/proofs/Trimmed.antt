@@ -22,16 +22,16 @@ use Rattle.kmip_ttlv_util.proofs.ReadBack.{undiag_message, hex_some}
 -- ---- a visible character before a line feed
 
 -- a visible ASCII character of the range that lines end with
-record Visible (c : ℕ) : Type 0 where
-  above : 33 ≤ c
-  below : c < 128
+pub record Visible (c : ℕ) : Type 0 where
+  pub above : 33 ≤ c
+  pub below : c < 128
 
 -- a visible character is no white space
-visible_dark : (c : ℕ) → Visible c → is_whitespace c ≡ false
+pub visible_dark : (c : ℕ) → Visible c → is_whitespace c ≡ false
 visible_dark c v = rw (le-ltb c 14 (omega (arith, v.above)), lt-ltb 8 c (omega (arith, v.above)), ne_eqb c 32 (omega (arith, v.above)), ne_eqb c 133 (omega (arith, v.below)), ne_eqb c 160 (omega (arith, v.below)), ne_eqb c 5760 (omega (arith, v.below)), le-ltb 8191 c (omega (arith, v.below)), ne_eqb c 8232 (omega (arith, v.below)), ne_eqb c 8233 (omega (arith, v.below)), ne_eqb c 8239 (omega (arith, v.below)), ne_eqb c 8287 (omega (arith, v.below)), ne_eqb c 12288 (omega (arith, v.below))) refl
 
 -- a character before others is kept
-stays_on : (b : Bool) (n z : ℕ) (rest : List ℕ) → n ≢ 0 → cond (b && eqb n 0) [] (z ∷ rest) ≡ z ∷ rest
+pub stays_on : (b : Bool) (n z : ℕ) (rest : List ℕ) → n ≢ 0 → cond (b && eqb n 0) [] (z ∷ rest) ≡ z ∷ rest
 stays_on true n z rest ne = rw (ne_eqb n 0 ne) refl
 stays_on false n z rest ne = refl
 
@@ -44,7 +44,7 @@ drop_end (z ∷ zs) c v =
     stays_on (is_whitespace z) (length (drop_trailing_whitespace (zs ++ (c ∷ 10 ∷ [])))) z (drop_trailing_whitespace (zs ++ (c ∷ 10 ∷ []))) some ∙ ap (λ (r : List ℕ). z ∷ r) k
 
 -- one ASCII character
-ascii_one : (c : ℕ) → c < 128 → IsAscii (c ∷ [])
+pub ascii_one : (c : ℕ) → c < 128 → IsAscii (c ∷ [])
 ascii_one c lt zero = lt
 ascii_one c lt (suc i) = omega arith
 
@@ -55,7 +55,7 @@ ascii_two c lt (suc zero) = omega arith
 ascii_two c lt (suc (suc i)) = omega arith
 
 -- what stands before an ASCII character is UTF-8
-front_utf8 : (xs : List ℕ) (c : ℕ) → IsUtf8 (xs ++ (c ∷ 10 ∷ [])) → c < 128 → IsUtf8 xs
+pub front_utf8 : (xs : List ℕ) (c : ℕ) → IsUtf8 (xs ++ (c ∷ 10 ∷ [])) → c < 128 → IsUtf8 xs
 front_utf8 xs c utf8 lt =
     let bs = xs ++ (c ∷ 10 ∷ []) in
     let none : length xs - length xs ≡ 0 = omega arith in
@@ -77,17 +77,17 @@ trim_line xs c utf8 v =
 -- ---- how lines end
 
 -- a text ends with a visible character
-record Ends (text : List ℕ) : Type 0 where
-  front : List ℕ
-  last : ℕ
-  is : text ≡ front ++ (last ∷ [])
-  visible : Visible last
+pub record Ends (text : List ℕ) : Type 0 where
+  pub front : List ℕ
+  pub last : ℕ
+  pub is : text ≡ front ++ (last ∷ [])
+  pub visible : Visible last
 
 -- a text behind another
-ends_behind : (xs text : List ℕ) → Ends text → Ends (xs ++ text)
+pub ends_behind : (xs text : List ℕ) → Ends text → Ends (xs ++ text)
 ends_behind xs text e = record { front = xs ++ e.front; last = e.last; is = ap (λ (s : List ℕ). xs ++ s) e.is ∙ sym (append_assoc xs e.front (e.last ∷ [])); visible = e.visible }
 
-abbrev AllVisible : List ℕ → Type 0
+abbrev pub AllVisible : List ℕ → Type 0
 AllVisible cs = AllByRecursion Visible cs
 
 -- a digit is visible
@@ -111,12 +111,12 @@ onto_visible (suc k) n acc all =
     pick (eqb (n / 16) 0) _ _ more (onto_visible k (n / 16) _ more)
 
 -- digits are visible
-hex_visible : (n : ℕ) → AllVisible (hex_upper n)
+pub hex_visible : (n : ℕ) → AllVisible (hex_upper n)
 unfolding digits
 hex_visible n = onto_visible 64 n [] tt
 
 -- a list of visible characters ends with one
-last_visible : (d : ℕ) (ds : List ℕ) → AllVisible (d ∷ ds) → Ends (d ∷ ds)
+pub last_visible : (d : ℕ) (ds : List ℕ) → AllVisible (d ∷ ds) → Ends (d ∷ ds)
 last_visible d [] all = record { front = []; last = d; is = refl; visible = all.0 }
 last_visible d (e ∷ ds) all = ends_behind (d ∷ []) (e ∷ ds) (last_visible e ds all.1)
 

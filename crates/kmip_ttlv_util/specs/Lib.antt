@@ -15,6 +15,7 @@ pub mod Pretty
 pub mod Printers
 pub mod ReadBack
 pub mod Undiag
+pub mod Pending
 pub mod Pieces
 pub mod Waiting
 pub mod Sinks

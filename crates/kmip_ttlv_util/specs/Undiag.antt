@@ -1,6 +1,5 @@
 -- A diagnostic read back, as a function of the text: part by part. What the answer is, in words of the text alone,
 -- stands in ReadBack.
-use Rattle.std.specs.Borrow.{Bor}
 use Rattle.std.specs.Prelude.{codes, ◌≡◌, ℕ, zero, suc, ◌+◌, ◌&&◌, List, [], ◌∷◌, ◌++◌, length, take, drop, Option}
 use Rattle.std.specs.Prelude.{Some, None, if◌then◌else◌, ◌==◌, nat_lt}
 use Rattle.std.specs.List.{prefix_len, position_or_len}
@@ -99,10 +98,3 @@ undiag_lines beginning prefix s = undiag_from beginning (suc (length s)) prefix 
 -- the same under names of tags, each line indented by two spaces for each structure around, trimmed at the end
 unfoldable pub undiag : (ℕ → Option (List ℕ)) → List ℕ → List ℕ → List ℕ
 undiag names prefix s = trim_end (undiag_lines (tag_part names) prefix s)
-
--- what a call that reads a part answers: what it wrote, the depth and the text that is left
-abbrev pub Reads : Step → List ℕ → List ℕ → Option (ℕ × Bor (List ℕ)) → Type 0
-Reads (reads_on w d r) before now (Some x) = (now ≡ before ++ w) × (x.0 ≡ d) × (x.1.now ≡ r)
-Reads (reads_on w d r) before now None = ⊥
-Reads (stops_with w) before now (Some x) = ⊥
-Reads (stops_with w) before now None = now ≡ before ++ w

@@ -2,9 +2,9 @@
 
 ghost use Rattle.std.specs.Prelude.{OnOk, OnErr};
 ghost use Rattle.kmip_ttlv_util.specs.Lines.{depth_mark, bounded_part, indented};
-ghost use Rattle.kmip_ttlv_util.specs.TagNames.{name_in};
+ghost use Rattle.kmip_ttlv_util.specs.TagNames.{name_in, named};
 
-use crate::lines::{LentTagMap, push_tag_part};
+use crate::lines::{LentTagMap, name_of, push_named_part};
 use crate::sink::TextSink;
 use itoa::Buffer;
 use kmip_ttlv_types::TtlvTag;
@@ -35,20 +35,39 @@ fn push_depth<S: TextSink>(out: &mut S, depth: usize) -> Result<(), S::Error>
 }
 
 // The beginning of a line that is indented by 64 levels at most.
-fn push_bounded<S: TextSink, A: Allocator>(
+fn push_bounded<S: TextSink>(
     out: &mut S,
-    names: &LentTagMap<'_, A>,
+    name: Option<&str>,
     depth: usize,
     tag: TtlvTag,
 ) -> Result<(), S::Error>
-    ensures ok { OnOk result (S.adds out.old (bounded_part (name_in names.now) depth tag) out.new) }
-    ensures err { OnErr result (S.breaks out.old (bounded_part (name_in names.now) depth tag) out.new) }
+    ensures ok { OnOk result (S.adds out.old (bounded_part (named name.entry) depth tag) out.new) }
+    ensures err { OnErr result (S.breaks out.old (bounded_part (named name.entry) depth tag) out.new) }
 {
     if depth <= 64 {
-        return push_tag_part(out, names, depth, tag);
+        return push_named_part(out, name, depth, tag);
     }
     push_depth(out, depth)?;
-    push_tag_part(out, names, 0, tag)
+    push_named_part(out, name, 0, tag)
+}
+
+/// The beginning of the line of an item in so many structures, up to its tag, which is behind its name where it
+/// has one.
+#[inline(always)]
+pub fn push_named_beginning<S: TextSink>(
+    out: &mut S,
+    name: Option<&str>,
+    indentation: Indentation,
+    depth: usize,
+    tag: TtlvTag,
+) -> Result<(), S::Error>
+    ensures ok { OnOk result (S.adds out.old (indented indentation (named name.entry) depth tag) out.new) }
+    ensures err { OnErr result (S.breaks out.old (indented indentation (named name.entry) depth tag) out.new) }
+{
+    match indentation {
+        Indentation::Full => push_named_part(out, name, depth, tag),
+        Indentation::Bounded => push_bounded(out, name, depth, tag),
+    }
 }
 
 /// Adds the beginning of the line of an item in so many structures, up to its tag.
@@ -64,8 +83,5 @@ pub fn push_beginning<S: TextSink, A: Allocator>(
     ensures ok { OnOk result (S.adds out.old (indented indentation (name_in names.now) depth tag) out.new) }
     ensures err { OnErr result (S.breaks out.old (indented indentation (name_in names.now) depth tag) out.new) }
 {
-    match indentation {
-        Indentation::Full => push_tag_part(out, names, depth, tag),
-        Indentation::Bounded => push_bounded(out, names, depth, tag),
-    }
+    push_named_beginning(out, name_of(names, tag), indentation, depth, tag)
 }

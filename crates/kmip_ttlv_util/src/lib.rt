@@ -23,9 +23,9 @@ mod walk;
 
 pub use indentation::{Indentation, push_beginning};
 pub use lines::{LentTagMap, TagMap, push_data_part, push_tag, push_tag_part};
-pub use named::{read_back_counted, read_back_named, text_named};
+pub use named::{push_diag, push_read_back, read_back_counted, read_back_named, text_named};
 pub use pieces::Pieces;
 pub use pretty::push_value;
 pub use printer::PrettyPrinter;
 pub use sink::TextSink;
-pub use undiag::DiagnosticLines;
+pub use undiag::{DiagnosticEnd, DiagnosticLines};

@@ -1,9 +1,10 @@
 //! Parts of readable lines: the indent, the tag with its name, and the type.
 
-ghost use Rattle.std.specs.Prelude.{◌≡◌, ℕ, ◌++◌, OnOk, OnErr, Some, codes};
+ghost use Rattle.std.specs.Prelude.{◌≡◌, ℕ, ◌++◌, OnOk, OnErr, IfSome, Some, codes, option_map};
+ghost use Rattle.std.specs.Str.{IsUtf8};
 ghost use Rattle.kmip_ttlv_types.specs.TypeTexts.{type_text};
 ghost use Rattle.kmip_ttlv_util.specs.Lines.{indent, hex_padded, tag_named, tag_part, typ_part, data_part};
-ghost use Rattle.kmip_ttlv_util.specs.TagNames.{name_in};
+ghost use Rattle.kmip_ttlv_util.specs.TagNames.{name_in, named};
 
 use crate::digits::{eight, push_prefixed, push_wide, shown};
 use crate::sink::TextSink;
@@ -79,6 +80,30 @@ fn push_named<S: TextSink>(out: &mut S, name: &str, n: u32) -> Result<(), S::Err
     out.push_str(")")
 }
 
+/// A text as it is. Its contract says that it is one.
+#[inline(always)]
+fn text_of(text: &str) -> &str
+    ensures same { result.now ≡ text.now }
+    ensures text { IsUtf8 text.now }
+{
+    text
+}
+
+/// The name of a tag, if it has one.
+#[inline(always)]
+pub fn name_of<'n, A: Allocator>(names: &LentTagMap<'n, A>, tag: TtlvTag) -> Option<&'n str>
+    ensures name { option_map (λ s. s.now) result ≡ name_in names.now tag }
+    ensures text { IfSome result (λ s. IsUtf8 s.now) }
+{
+    if names.is_empty() {
+        return None;
+    }
+    match names.get(&tag).copied() {
+        Some(name) => Some(text_of(name)),
+        None => None,
+    }
+}
+
 /// A tag, behind its name where it has one.
 #[inline(always)]
 pub fn push_tag<S: TextSink, A: Allocator>(
@@ -89,10 +114,7 @@ pub fn push_tag<S: TextSink, A: Allocator>(
     ensures ok { OnOk result (S.adds out.old (tag_named (name_in names.now tag) tag) out.new) }
     ensures err { OnErr result (S.breaks out.old (tag_named (name_in names.now tag) tag) out.new) }
 {
-    if names.is_empty() {
-        return push_four(out, *tag);
-    }
-    match names.get(&tag).copied() {
+    match name_of(names, tag) {
         Some(name) => push_named(out, name, *tag),
         None => push_four(out, *tag),
     }
@@ -124,6 +146,25 @@ fn push_bare<S: TextSink>(out: &mut S, n: u32) -> Result<(), S::Error>
     out.push_str(unsafe { str::from_utf8_unchecked(&text) })
 }
 
+/// The beginning of a line, up to the tag, which is behind its name where it has one.
+#[inline(always)]
+pub fn push_named_part<S: TextSink>(
+    out: &mut S,
+    name: Option<&str>,
+    depth: usize,
+    tag: TtlvTag,
+) -> Result<(), S::Error>
+    ensures ok { OnOk result (S.adds out.old (tag_part (named name.entry) depth tag) out.new) }
+    ensures err { OnErr result (S.breaks out.old (tag_part (named name.entry) depth tag) out.new) }
+{
+    push_indent(out, depth)?;
+    let Some(name) = name else {
+        return push_bare(out, *tag);
+    };
+    out.push_str("Tag: ")?;
+    push_named(out, name, *tag)
+}
+
 /// The beginning of a line, up to the tag.
 #[inline(always)]
 pub fn push_tag_part<S: TextSink, A: Allocator>(
@@ -135,12 +176,7 @@ pub fn push_tag_part<S: TextSink, A: Allocator>(
     ensures ok { OnOk result (S.adds out.old (tag_part (name_in names.now) depth tag) out.new) }
     ensures err { OnErr result (S.breaks out.old (tag_part (name_in names.now) depth tag) out.new) }
 {
-    push_indent(out, depth)?;
-    if names.is_empty() {
-        return push_bare(out, *tag);
-    }
-    out.push_str("Tag: ")?;
-    push_tag(out, names, tag)
+    push_named_part(out, name_of(names, tag), depth, tag)
 }
 
 /// What follows the tag, up to the type.

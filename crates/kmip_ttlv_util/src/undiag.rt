@@ -1,22 +1,25 @@
 //! Diagnostics read back: a text is read from its front, a part at a time, in a loop.
 
-ghost use Rattle.std.specs.Prelude.{◌≡◌, ℕ, ◌+◌, ◌++◌, ◌∷◌, ◌<◌, ◌≤◌, ◌^◌, List, length, Option, None, Some, IfOk};
+ghost use Rattle.std.specs.Prelude.{◌≡◌, ℕ, ◌+◌, ◌-◌, ◌++◌, ◌∷◌, ◌<◌, ◌≤◌, ◌^◌, List, length, take, drop, None, Some, IfOk, OnOk, OnErr};
 ghost use Rattle.std.specs.Prelude.{IfSome, IfNone, string_bytes};
-ghost use Rattle.std.specs.Str.{IsUtf8};
+ghost use Rattle.std.specs.List.{prefix_len};
+ghost use Rattle.std.specs.Str.{IsUtf8, trim_end};
 ghost use Rattle.kmip_ttlv_types.specs.Names.{tag_of};
-ghost use Rattle.std.specs.Str.{trim_end};
-ghost use Rattle.kmip_ttlv_util.specs.Lines.{indented, tag_part, typ_part};
-ghost use Rattle.kmip_ttlv_util.specs.TagNames.{name_in};
+ghost use Rattle.kmip_ttlv_util.specs.Lines.{indented, line, tag_part, typ_part};
+ghost use Rattle.kmip_ttlv_util.specs.TagNames.{name_in, named};
 ghost use Rattle.kmip_ttlv_util.specs.LastDigits.{last_digits};
-ghost use Rattle.kmip_ttlv_util.specs.Letters.{type_of_letter};
+ghost use Rattle.kmip_ttlv_util.specs.Letters.{is_hex, type_of_letter};
 ghost use Rattle.kmip_ttlv_util.specs.Prefixes.{IsNumber};
-ghost use Rattle.kmip_ttlv_util.specs.Undiag.{front_type, front_value, data_step, step, Reads, undiag, undiag_lines};
-ghost use Rattle.kmip_ttlv_util.specs.ReadBack.{EndsAt};
+ghost use Rattle.kmip_ttlv_util.specs.Undiag.{front_type, front_value, reads_on, stops_with, data_step};
+ghost use Rattle.kmip_ttlv_util.specs.Undiag.{undiag, undiag_lines};
+ghost use Rattle.kmip_ttlv_util.specs.Pending.{pending_text, last_text};
+ghost use Rattle.kmip_ttlv_util.specs.ReadBack.{EndsAt, tag_in_front};
 
 use crate::diagnostic::{Prefix, prefix_of};
 use crate::digits::digits_in_front;
-use crate::indentation::{Indentation, push_beginning};
-use crate::lines::{LentTagMap, push_type_part};
+use crate::indentation::{Indentation, push_named_beginning};
+use crate::lines::{LentTagMap, name_of, push_type_part};
+use crate::sink::TextSink;
 use kmip_ttlv_types::{TtlvTag, TtlvType};
 use std::alloc::{AllocError, Allocator};
 
@@ -50,11 +53,15 @@ fn tag_of<A: Allocator>(
     if let Some(tag) = six_digits_tag(prefix, digits.len(), number) {
         return Ok(Some(tag));
     }
-    named(alloc, prefix.text, digits)
+    tag_named(alloc, prefix.text, digits)
 }
 
 /// The same, by the name that all of these are.
-fn named<A: Allocator>(alloc: A, prefix: &str, digits: &str) -> Result<Option<TtlvTag>, AllocError>
+fn tag_named<A: Allocator>(
+    alloc: A,
+    prefix: &str,
+    digits: &str,
+) -> Result<Option<TtlvTag>, AllocError>
     ensures { IfOk result (λ r. r ≡ tag_of (48 ∷ 120 ∷ (prefix.now ++ digits.now))) }
 {
     let name = format!(in alloc; "0x{prefix}{digits}")?;
@@ -110,80 +117,121 @@ fn split_value(s: &str) -> Option<(&str, &str)>
     Some((value, rest))
 }
 
-/// The data that follows a type: the depth from there on, and the text that is left.
+/// What is left behind the close of a structure in front of a text, where one is open.
 #[inline(always)]
-fn read_data<'t, A: Allocator>(
-    out: &mut String<A>,
-    depth: usize,
-    typ: TtlvType,
-    s: &'t str,
-) -> Result<Option<(usize, &'t str)>, AllocError>
-    requires room { depth + 1 < 2 ^ 64 }
-    ensures { (beginning : ℕ → ℕ → List ℕ) (before : List ℕ) (tag : ℕ)
-        → string_bytes out.old ≡ before ++ typ_part beginning depth tag typ
-        → IfOk result (λ r. Reads (data_step beginning depth tag typ s.now) before (string_bytes out.new) r) }
+fn split_close(depth: usize, s: &str) -> Option<&str>
+    ensures some { IfSome result (λ rest. (0 < depth) × (s.now ≡ 93 ∷ rest.now)) }
+    ensures none { IfNone result ((rest : List ℕ) → s.now ≡ 93 ∷ rest → depth ≡ 0) }
 {
-    if s.is_empty() {
+    if depth == 0 {
+        return None;
+    }
+    s.strip_prefix(']')
+}
+
+/// The digits in front of a text, the number that they are where they are at most eight, and what follows them.
+#[inline(always)]
+fn split_digits(s: &str) -> (&str, u32, &str)
+    ensures digits { result.0.now ≡ take (prefix_len is_hex s.now) s.now }
+    ensures number { length result.0.now ≤ 8 → result.0.now ≡ last_digits (length result.0.now) result.1 }
+    ensures small { length result.0.now ≤ 8 → result.1 < 16 ^ length result.0.now }
+    ensures behind { result.2.now ≡ drop (prefix_len is_hex s.now) s.now }
+{
+    let (count, number) = digits_in_front(s);
+    let (digits, behind) = s.split_at(count);
+    (digits, number, behind)
+}
+
+/// The tag in front of a text that begins with these digits.
+#[inline(always)]
+fn tag_in_front<A: Allocator>(
+    alloc: A,
+    prefix: &Prefix<'_>,
+    s: &str,
+    digits: &str,
+    number: u32,
+) -> Result<Option<TtlvTag>, AllocError>
+    requires prefix { IsNumber prefix.now }
+    requires digits { digits.now ≡ take (prefix_len is_hex s.now) s.now }
+    requires number { length digits.now ≤ 8 → digits.now ≡ last_digits (length digits.now) number }
+    requires small { length digits.now ≤ 8 → number < 16 ^ length digits.now }
+    ensures { IfOk result (λ tag. tag ≡ tag_in_front prefix.now.text.now s.now) }
+{
+    if s.is_empty() || s.starts_with(']') {
         return Ok(None);
     }
+    tag_of(alloc, prefix, digits, number)
+}
+
+/// What follows a type, where the item is whole: the depth from there on, the text that is left, and what the
+/// line shows.
+#[inline(always)]
+fn split_data(depth: usize, typ: TtlvType, s: &str) -> Option<(usize, &str, &str)>
+    requires room { depth + 1 < 2 ^ 64 }
+    ensures some { (beginning : ℕ → ℕ → List ℕ) (tag : ℕ) → IfSome result (λ r.
+        data_step beginning depth tag typ s.now ≡ reads_on (line beginning depth tag typ r.2.now) r.0 r.1.now) }
+    ensures none { (beginning : ℕ → ℕ → List ℕ) (tag : ℕ) → IfNone result (
+        data_step beginning depth tag typ s.now ≡ stops_with (typ_part beginning depth tag typ)) }
+{
+    if s.is_empty() {
+        return None;
+    }
     match typ {
-        TtlvType::Structure => {
-            out.push_str(", Data: \n")?;
-            Ok(Some((depth + 1, s)))
-        }
+        TtlvType::Structure => Some((depth + 1, s, "")),
         TtlvType::Enumeration => {
             let Some((value, rest)) = split_value(s) else {
-                return Ok(None);
+                return None;
             };
-            out.push_str(", Data: ")?;
-            out.push_str(value)?;
-            out.push_str("\n")?;
-            Ok(Some((depth, rest)))
+            Some((depth, rest, value))
         }
-        _ => {
-            out.push_str(", Data: <redacted>\n")?;
-            Ok(Some((depth, s)))
-        }
+        _ => Some((depth, s, "<redacted>")),
     }
 }
 
-/// The next part of a text: the depth from there on, and the text that is left.
-#[inline(always)]
-fn read_part<'t, A: Allocator + Copy>(
-    alloc: A,
-    prefix: &Prefix<'_>,
-    names: &LentTagMap<'_, A>,
-    indentation: Indentation,
-    out: &mut String<A>,
-    depth: usize,
-    s: &'t str,
-) -> Result<Option<(usize, &'t str)>, AllocError>
-    requires room { depth + 1 < 2 ^ 64 }
-    requires prefix { IsNumber prefix.now }
-    ensures { IfOk result (λ r. Reads (step (indented indentation (name_in names.now)) prefix.now.text.now depth s.now)
-        (string_bytes out.old) (string_bytes out.new) r) }
+/// What is still to be written of the last line, where a line is open: all that follows its type.
+fn push_pending<S: TextSink>(out: &mut S, pending: bool, shown: &str) -> Result<(), S::Error>
+    ensures ok { OnOk result (S.adds out.old (pending_text pending shown.now) out.new) }
+    ensures err { OnErr result (S.breaks out.old (pending_text pending shown.now) out.new) }
 {
-    if s.is_empty() {
-        return Ok(None);
+    if !pending {
+        return Ok(());
     }
-    if let Some(rest) = s.strip_prefix(']') {
-        if depth == 0 {
-            return Ok(None);
-        }
-        return Ok(Some((depth - 1, rest)));
+    out.push_str(", Data: ")?;
+    out.push_str(shown)?;
+    out.push_str("\n")
+}
+
+/// The same where no other line follows: without white space at its end.
+fn push_last<S: TextSink>(out: &mut S, pending: bool, shown: &str) -> Result<(), S::Error>
+    ensures ok { OnOk result (S.adds out.old (last_text pending (trim_end shown.now)) out.new) }
+    ensures err { OnErr result (S.breaks out.old (last_text pending (trim_end shown.now)) out.new) }
+{
+    if !pending {
+        return Ok(());
     }
-    let (count, number) = digits_in_front(s);
-    let (digits, rest) = s.split_at(count);
-    let Some(tag) = tag_of(alloc, prefix, digits, number)? else {
-        return Ok(None);
-    };
-    push_beginning(out, names, indentation, depth, tag)?;
-    let Some((typ, rest)) = split_letter(rest) else {
-        return Ok(None);
-    };
-    push_type_part(out, typ)?;
-    let part = read_data(out, depth, typ, rest)?;
-    Ok(part)
+    let shown = shown.trim_end();
+    if shown.is_empty() {
+        return out.push_str(", Data:");
+    }
+    out.push_str(", Data: ")?;
+    out.push_str(shown)
+}
+
+/// The beginning of a line, and behind it the type.
+#[inline(always)]
+fn push_typed<S: TextSink>(
+    out: &mut S,
+    name: Option<&str>,
+    indentation: Indentation,
+    depth: usize,
+    tag: TtlvTag,
+    typ: TtlvType,
+) -> Result<(), S::Error>
+    ensures ok { OnOk result (S.adds out.old (typ_part (indented indentation (named name.entry)) depth tag typ) out.new) }
+    ensures err { OnErr result (S.breaks out.old (typ_part (indented indentation (named name.entry)) depth tag typ) out.new) }
+{
+    push_named_beginning(out, name, indentation, depth, tag)?;
+    push_type_part(out, typ)
 }
 
 /// An estimate of how long a diagnostic's lines are: sixteen bytes a character, and at most 64 KiB.
@@ -203,41 +251,76 @@ pub struct DiagnosticLines<A: Allocator> {
     pub depth: usize,
 }
 
-/// The lines of a diagnostic, not trimmed at the end, and where reading it ended.
-fn read_lines<A: Allocator + Copy>(
+/// Where reading a diagnostic ended.
+#[derive(Clone, Copy, Debug, PartialEq, Eq)]
+pub struct DiagnosticEnd {
+    /// How many bytes of the diagnostic are whole parts, one behind the other, from its first on.
+    pub used: usize,
+    /// How many structures are open behind these.
+    pub depth: usize,
+}
+
+/// The end of reading a text, where this is left of it.
+fn end_at(s: &str, rest: &str, depth: usize) -> DiagnosticEnd
+    requires { length rest.now ≤ length s.now }
+    ensures used { result.used ≡ length s.now - length rest.now }
+    ensures depth { result.depth ≡ depth }
+{
+    let used = s.len() - rest.len();
+    DiagnosticEnd { used, depth }
+}
+
+/// Adds the lines of a diagnostic, without white space at the end, and gives where reading it ended.
+///
+/// What follows the type of a line is written once another line begins, or none does: till then it is a front of
+/// the text that is read, and nothing else is kept.
+pub fn read_back_to<S: TextSink, A: Allocator + Copy>(
     alloc: A,
+    out: &mut S,
     prefix: &str,
     names: &LentTagMap<'_, A>,
     indentation: Indentation,
     s: &str,
-) -> Result<DiagnosticLines<A>, AllocError>
-    ensures lines { IfOk result (λ r. string_bytes r.text
-        ≡ undiag_lines (indented indentation (name_in names.now)) prefix.now s.now) }
+) -> Result<DiagnosticEnd, S::Error>
+    ensures text { OnOk result (S.adds out.old
+        (trim_end (undiag_lines (indented indentation (name_in names.now)) prefix.now s.now)) out.new) }
+    ensures broken { OnErr result (S.breaks out.old
+        (trim_end (undiag_lines (indented indentation (name_in names.now)) prefix.now s.now)) out.new) }
+    ensures utf8 { IfOk result (λ _. IsUtf8 (undiag_lines (indented indentation (name_in names.now)) prefix.now s.now)) }
     ensures ends { IfOk result (λ r. EndsAt (indented indentation (name_in names.now)) prefix.now s.now
-        (string_bytes r.text) r.used r.depth) }
+        (undiag_lines (indented indentation (name_in names.now)) prefix.now s.now) r.used r.depth) }
 {
     let numbered = prefix_of(prefix);
-    let mut out = String::with_capacity(alloc, room_for(s))?;
     let mut rest = s;
     let mut depth = 0;
-    while let Some((next, left)) = read_part(
-        alloc,
-        &numbered,
-        names,
-        indentation,
-        &mut out,
-        depth,
-        rest,
-    )? {
-        depth = next;
+    let mut pending = false;
+    let mut shown = "";
+    'parts: loop {
+        if let Some(left) = split_close(depth, rest) {
+            depth -= 1;
+            rest = left;
+            continue;
+        }
+        let (digits, number, behind) = split_digits(rest);
+        let Some(tag) = tag_in_front(alloc, &numbered, rest, digits, number)? else {
+            push_last(out, pending, shown)?;
+            return Ok(end_at(s, rest, depth));
+        };
+        let name = name_of(names, tag);
+        push_pending(out, pending, shown)?;
+        let Some((typ, behind)) = split_letter(behind) else {
+            push_named_beginning(out, name, indentation, depth, tag)?;
+            return Ok(end_at(s, rest, depth));
+        };
+        push_typed(out, name, indentation, depth, tag, typ)?;
+        let Some((deep, left, shows)) = split_data(depth, typ, behind) else {
+            return Ok(end_at(s, rest, depth));
+        };
+        depth = deep;
         rest = left;
+        pending = true;
+        shown = shows;
     }
-    let used = s.len() - rest.len();
-    Ok(DiagnosticLines {
-        text: out,
-        used,
-        depth,
-    })
 }
 
 /// The lines of a diagnostic, and where reading it ended.
@@ -254,10 +337,13 @@ pub fn read_counted<A: Allocator + Copy>(
     ensures ends { IfOk result (λ r. EndsAt (indented indentation (name_in names.now)) prefix.now s.now
         (undiag_lines (indented indentation (name_in names.now)) prefix.now s.now) r.used r.depth) }
 {
-    let mut lines = read_lines(alloc, prefix, names, indentation, s)?;
-    let end = lines.text.trim_end().len();
-    lines.text.truncate(end);
-    Ok(lines)
+    let mut text = String::with_capacity(alloc, room_for(s))?;
+    let end = read_back_to(alloc, &mut text, prefix, names, indentation, s)?;
+    Ok(DiagnosticLines {
+        text,
+        used: end.used,
+        depth: end.depth,
+    })
 }
 
 /// The lines of a diagnostic, indented by two spaces for each structure around.

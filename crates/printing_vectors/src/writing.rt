@@ -1,13 +1,17 @@
 //! Texts that go to a writer in pieces: the same as those in one string, also where the writer fails.
 
 use crate::messages::{
-    CREATE_REQUEST, CREATE_RESPONSE, DESTROY_REQUEST, EMPTY_FIRST, SHORT, VERSION,
+    CREATE_REQUEST, CREATE_RESPONSE, DESTROY_REQUEST, EMPTY_FIRST, SHORT, VERSION, repeated,
 };
 use crate::printers::printer;
 use hex::FromHexError;
 use kmip_ttlv::PrettyPrinter;
+use kmip_ttlv::util::{
+    Indentation, LentTagMap, Pieces, push_diag, push_read_back, read_back_counted,
+};
 use refusing_allocator::{BoundedAllocator, RefusingAllocator};
 use std::alloc::{AllocError, Allocator, Global};
+use std::collections::HashMap;
 use std::io;
 use std::io::{ErrorKind, Write};
 
@@ -203,6 +207,87 @@ fn memory_for_open_structures_is_refused(rt: HostRuntime) -> Result<(), FromHexE
     let bytes = hex::decode(rt.alloc(), VERSION)?;
     for kind in KINDS {
         assert!(rt; is_refused(rt.alloc(), kind, &bytes)?, "{kind:?}");
+    }
+    Ok(())
+}
+
+// A structure of so many integers.
+fn many_integers(alloc: Global, count: u32) -> Result<Vec<u8>, AllocError> {
+    let mut message = Vec::new(alloc);
+    message.extend_from_slice(&[0x42, 0, 0x69, 1])?;
+    message.extend_from_slice(&count.saturating_mul(16).to_be_bytes())?;
+    for _ in 0..count {
+        message.extend_from_slice(&[0x42, 0, 0x6A, 2, 0, 0, 0, 4, 0, 0, 0, 5, 0, 0, 0, 0])?;
+    }
+    Ok(message)
+}
+
+// Whether the diagnostic of so many integers is added to a sink, and nearly no memory is taken.
+fn is_diagnosed(alloc: Global, count: u32) -> Result<bool, AllocError> {
+    let bytes = many_integers(alloc, count)?;
+    let mut whole = String::from_str(alloc, "69[")?;
+    whole.push_str(repeated(alloc, "6Ai", count as usize, "]")?.as_str())?;
+    let memory = BoundedAllocator::new(alloc, 64);
+    let mut written = Vec::new(alloc);
+    let mut pieces = Pieces::new(&mut written);
+    let added = push_diag(&memory, &mut pieces, "4200", true, &bytes).is_ok();
+    let sent = pieces.finish().is_ok();
+    Ok(added && sent && written.as_slice() == whole.as_bytes())
+}
+
+#[test]
+fn a_diagnostic_is_added_as_it_is_made(rt: HostRuntime) {
+    assert_eq!(rt; is_diagnosed(rt.alloc(), 10_000), Ok(true));
+}
+
+// Structures in one another, so many of them, as a diagnostic.
+fn nested(alloc: Global, times: usize) -> Result<String, AllocError> {
+    let closes = repeated(alloc, "]", times, "")?;
+    repeated(alloc, "69[", times, closes.as_str())
+}
+
+// Whether a text is added to a sink as what it is read back as in one string, and nearly no memory is taken.
+fn is_added(alloc: Global, text: &str) -> Result<bool, AllocError> {
+    let none: LentTagMap = HashMap::new(alloc);
+    let whole = read_back_counted(alloc, "4200", &none, Indentation::Bounded, text)?;
+    let memory = BoundedAllocator::new(alloc, 64);
+    let names: LentTagMap<&BoundedAllocator<Global>> = HashMap::new(&memory);
+    let mut written = Vec::new(alloc);
+    let mut pieces = Pieces::new(&mut written);
+    let Ok(end) = push_read_back(
+        &memory,
+        &mut pieces,
+        "4200",
+        &names,
+        Indentation::Bounded,
+        text,
+    ) else {
+        return Ok(false);
+    };
+    let sent = pieces.finish().is_ok();
+    let ends = end.used == whole.used && end.depth == whole.depth;
+    Ok(sent && ends && written.as_slice() == whole.text.as_bytes())
+}
+
+// Diagnostics, whole and cut, and values that white space ends.
+const READ: [&str; 9] = [
+    "",
+    "]",
+    "69[6Ai6Bi]",
+    "69[6Ai6B",
+    "69[6Ai6Be12",
+    "69[5Ce  1  :]",
+    "69[5Ce1:5Ce \t :",
+    "69[",
+    "69[5Ce1:zz",
+];
+
+#[test]
+fn a_text_is_added_as_it_is_read_back(rt: HostRuntime) -> Result<(), AllocError> {
+    let deep = nested(rt.alloc(), 2000)?;
+    assert!(rt; is_added(rt.alloc(), deep.as_str())?);
+    for text in READ {
+        assert!(rt; is_added(rt.alloc(), text)?, "{text}");
     }
     Ok(())
 }

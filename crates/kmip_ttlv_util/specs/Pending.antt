@@ -1,0 +1,13 @@
+-- Words of the calls that read a diagnostic back: what is still to be written of a line.
+use Rattle.std.specs.Prelude.{codes, ℕ, Bool, true, false, List, [], ◌∷◌, ◌++◌}
+
+-- what is still to be written of a line, if anything is: all that follows its type
+abbrev pub pending_text : Bool → List ℕ → List ℕ
+pending_text false shown = []
+pending_text true shown = codes ", Data: " ++ (shown ++ (10 ∷ []))
+
+-- the same of the last line, without white space at its end
+abbrev pub last_text : Bool → List ℕ → List ℕ
+last_text false shown = []
+last_text true [] = codes ", Data:"
+last_text true (c ∷ shown) = codes ", Data: " ++ (c ∷ shown)
