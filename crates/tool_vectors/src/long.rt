@@ -68,6 +68,21 @@ fn a_text_is_not_held(rt: HostRuntime) {
     assert_eq!(rt; prints_within(rt.alloc(), 2000, 300_000), Ok(true));
 }
 
+// Whether structures in one another, in one line, are read back where no block of the text's size is to be had.
+fn reads_nested_within(alloc: Global, times: u64, most: usize) -> Result<bool, AllocError> {
+    let mut input = repeated(alloc, "420069[", times)?;
+    let closes = repeated(alloc, "]", times)?;
+    input.push_str(closes.as_str())?;
+    let heap = BoundedAllocator::new(alloc, most);
+    let outcome = back_with(&heap, alloc, "", input.as_bytes())?;
+    Ok(most < outcome.output.len() && outcome.status == 0 && outcome.errors.is_empty())
+}
+
+#[test]
+fn a_line_that_is_read_back_is_not_held(rt: HostRuntime) {
+    assert_eq!(rt; reads_nested_within(rt.alloc(), 4000, 150_000), Ok(true));
+}
+
 // How much of the text is there where this growth is refused; none where another text is, or another line.
 fn begun(alloc: Global, input: &str, text: &str, before: u64) -> Option<usize> {
     let heap = RefusingAllocator::new(alloc, before);

@@ -6,7 +6,7 @@ ghost use Rattle.kmip_ttlv_names.specs.NameTables.{lines_of};
 ghost use Rattle.ttlv_run.specs.Backs.{Stopped, Tries, FirstBreak, back_words};
 ghost use Rattle.ttlv_run.specs.Texts.{line_back, text_back};
 
-use kmip_ttlv_util::{Indentation, LentTagMap, TextSink, read_back_counted};
+use kmip_ttlv_util::{Indentation, LentTagMap, TextSink, push_read_back};
 use std::alloc::Allocator;
 
 /// What is wrong with a line of diagnostics.
@@ -54,8 +54,7 @@ fn stopped_at(offset: usize, depth: usize, left: usize) -> Option<BackFault>
 }
 
 // Adds what a line, which begins at an offset, is read back as, but for white space at its end, and a
-// line feed; nothing for an empty line. Gives where it stops being a diagnostic, if it does. What one line
-// is read back as is made in memory first.
+// line feed; nothing for an empty line. Gives where it stops being a diagnostic, if it does.
 fn push_back<S: TextSink, A: Allocator + Copy>(
     alloc: A,
     out: &mut S,
@@ -73,16 +72,15 @@ fn push_back<S: TextSink, A: Allocator + Copy>(
     if line.is_empty() {
         return Ok(None);
     }
-    let read = read_back_counted(alloc, prefix, names, Indentation::Bounded, line)?;
-    out.push_str(read.text.as_str())?;
+    let end = push_read_back(alloc, out, prefix, names, Indentation::Bounded, line)?;
     out.push_str("\n")?;
-    Ok(stopped_at(at + read.used, read.depth, line.len() - read.used))
+    Ok(stopped_at(at + end.used, end.depth, line.len() - end.used))
 }
 
 /// Adds what diagnostics under a prefix are read back as, each in a line of its own, and gives where the first
 /// of them that is not whole stops being one.
 ///
-/// It takes memory for what one line is read back as. It fails where the sink fails and when out of memory; a
+/// What they are read back as is never held as a whole. It fails where the sink fails and when out of memory; a
 /// beginning of the text was added then.
 pub fn print_back<S: TextSink, A: Allocator + Copy>(
     alloc: A,

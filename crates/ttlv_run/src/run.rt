@@ -237,7 +237,7 @@ pub fn run<A: Allocator + Copy, R: Read, W: Write, E: Write>(
 ///
 /// With status 1 too all lines are read back, each as far as it goes, and the first that is not whole is
 /// told on `errors`. Statuses 2 and 3 are told there as [`run`] tells them, and with status 3 the output is as
-/// there. What one line is read back as is held in memory, and no more of the text.
+/// there. What a line is read back as is never held as a whole.
 pub fn read_back<A: Allocator + Copy, R: Read, W: Write, E: Write>(
     alloc: A,
     job: &BackJob<'_>,

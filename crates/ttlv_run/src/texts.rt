@@ -12,10 +12,10 @@ use crate::job::{Names, Task};
 use crate::lines::push_lines;
 use kmip_ttlv_items::{Fault, find_fault};
 use kmip_ttlv_types::TtlvType;
-use kmip_ttlv_util::{PrettyPrinter, TextSink, push_value};
+use kmip_ttlv_util::{TextSink, push_diag, push_value};
 use std::alloc::Allocator;
 
-// Adds the diagnostic of a message and a line feed. The diagnostic is made in memory first.
+// Adds the diagnostic of a message and a line feed.
 fn push_diagnostic<S: TextSink, A: Allocator + Copy>(
     alloc: A,
     out: &mut S,
@@ -28,11 +28,7 @@ fn push_diagnostic<S: TextSink, A: Allocator + Copy>(
     ensures err { OnErr result (S.breaks out.old
         (hostile prefix.now closed (length message.now) (trace closed message.now) ++ 10 ∷ []) out.new) }
 {
-    let mut printer = PrettyPrinter::new(alloc);
-    printer.with_tag_prefix(String::from_str(alloc, prefix)?);
-    printer.with_closed_empty(closed);
-    let text = printer.to_diag_string(message)?;
-    out.push_str(text.as_str())?;
+    push_diag(alloc, out, prefix, closed, message)?;
     out.push_str("\n")
 }
 

@@ -3,7 +3,6 @@ use Rattle.std.proofs.lemmas.Bool.{eqb-true, eqb-false}
 use Rattle.kmip_ttlv_util.specs.TagNames.{name_in}
 use Rattle.kmip_ttlv_util.specs.Lines.{bounded_part}
 use Rattle.kmip_ttlv_util.proofs.Saying.{adds_same, breaks_same, err_now}
-use Rattle.ttlv_run.specs.Texts.{line_back}
 use Rattle.ttlv_run.proofs.Backs.{empty_back, some_back, empty_whole, line_tries}
 use Rattle.ttlv_run.proofs.back.push_back.Goals as goal
 
@@ -13,31 +12,23 @@ returns-then-is_empty-clause-text g c =
     let none = empty_back (name_in c.args.names.now) c.args.prefix.now c.args.line.now t c.trim_end-line.ensures.trim (eqb-true (length t) 0 (sym c.is_empty.ensures ∙ c.if-is_empty.true)) in
     adds_same g.S.TextSink.adds g.S.TextSink.breaks _ _ _ _ (g.met.S.TextSink.adds_none c.args.out.now) (sym none)
 
--- out of memory, before anything was added
-pub returns-in_err-read-clause-broken : goal.returns-in_err-read-clause-broken
-returns-in_err-read-clause-broken g c =
-    err_now g.S.TextSink.adds g.S.TextSink.breaks _ _ _ _ (g.met.S.TextSink.breaks_first _ _ [] (line_back (name_in c.args.names.now) c.args.prefix.now c.args.line.now) (g.met.S.TextSink.breaks_after _ _ [] (g.met.S.TextSink.adds_none c.args.out.now)))
+pub returns-in_err-end-clause-broken : goal.returns-in_err-end-clause-broken
+returns-in_err-end-clause-broken g c =
+    let t = c.trim_end-line.result.now in
+    let some = some_back (name_in c.args.names.now) c.args.prefix.now c.args.line.now t c.trim_end-line.ensures.trim (eqb-false (length t) 0 (sym c.is_empty.ensures ∙ c.if-is_empty.false)) in
+    err_now g.S.TextSink.adds g.S.TextSink.breaks _ _ _ _ (breaks_same g.S.TextSink.adds g.S.TextSink.breaks _ _ _ _ (g.met.S.TextSink.breaks_first _ _ _ (10 ∷ []) c.in_err-end.ensures.broken) (sym some))
 
 pub returns-in_err-push_str-clause-broken : goal.returns-in_err-push_str-clause-broken
 returns-in_err-push_str-clause-broken g c =
     let t = c.trim_end-line.result.now in
     let some = some_back (name_in c.args.names.now) c.args.prefix.now c.args.line.now t c.trim_end-line.ensures.trim (eqb-false (length t) 0 (sym c.is_empty.ensures ∙ c.if-is_empty.false)) in
-    let read = breaks_same g.S.TextSink.adds g.S.TextSink.breaks _ _ _ _ c.in_err-push_str.ensures.err (c.as_str.ensures.value ∙ c.in_ok-read.ensures.text) in
-    err_now g.S.TextSink.adds g.S.TextSink.breaks _ _ _ _ (breaks_same g.S.TextSink.adds g.S.TextSink.breaks _ _ _ _ (g.met.S.TextSink.breaks_first _ _ _ (10 ∷ []) read) (sym some))
-
-pub returns-in_err-push_str-2-clause-broken : goal.returns-in_err-push_str-2-clause-broken
-returns-in_err-push_str-2-clause-broken g c =
-    let t = c.trim_end-line.result.now in
-    let some = some_back (name_in c.args.names.now) c.args.prefix.now c.args.line.now t c.trim_end-line.ensures.trim (eqb-false (length t) 0 (sym c.is_empty.ensures ∙ c.if-is_empty.false)) in
-    let read = adds_same g.S.TextSink.adds g.S.TextSink.breaks _ _ _ _ c.in_ok-push_str.ensures.ok (c.as_str.ensures.value ∙ c.in_ok-read.ensures.text) in
-    err_now g.S.TextSink.adds g.S.TextSink.breaks _ _ _ _ (breaks_same g.S.TextSink.adds g.S.TextSink.breaks _ _ _ _ (g.met.S.TextSink.breaks_second _ _ _ _ (10 ∷ []) read c.in_err-push_str-2.ensures.err) (sym some))
+    err_now g.S.TextSink.adds g.S.TextSink.breaks _ _ _ _ (breaks_same g.S.TextSink.adds g.S.TextSink.breaks _ _ _ _ (g.met.S.TextSink.breaks_second _ _ _ _ (10 ∷ []) c.in_ok-end.ensures.text c.in_err-push_str.ensures.err) (sym some))
 
 pub returns-clause-text : goal.returns-clause-text
 returns-clause-text g c =
     let t = c.trim_end-line.result.now in
     let some = some_back (name_in c.args.names.now) c.args.prefix.now c.args.line.now t c.trim_end-line.ensures.trim (eqb-false (length t) 0 (sym c.is_empty.ensures ∙ c.if-is_empty.false)) in
-    let read = adds_same g.S.TextSink.adds g.S.TextSink.breaks _ _ _ _ c.in_ok-push_str.ensures.ok (c.as_str.ensures.value ∙ c.in_ok-read.ensures.text) in
-    adds_same g.S.TextSink.adds g.S.TextSink.breaks _ _ _ _ (g.met.S.TextSink.adds_both _ _ _ _ (10 ∷ []) read c.in_ok-push_str-2.ensures.ok) (sym some)
+    adds_same g.S.TextSink.adds g.S.TextSink.breaks _ _ _ _ (g.met.S.TextSink.adds_both _ _ _ _ (10 ∷ []) c.in_ok-end.ensures.text c.in_ok-push_str.ensures.ok) (sym some)
 
 pub returns-then-is_empty-clause-fault : goal.returns-then-is_empty-clause-fault
 returns-then-is_empty-clause-fault g c =
@@ -45,4 +36,4 @@ returns-then-is_empty-clause-fault g c =
 
 pub returns-clause-fault : goal.returns-clause-fault
 returns-clause-fault g c =
-    line_tries (bounded_part (name_in c.args.names.now)) c.args.prefix.now c.args.at c.args.line.now c.trim_end-line.result.now _ _ _ _ _ c.stopped_at.result c.trim_end-line.ensures.trim c.in_ok-read.ensures.ends c.stopped_at.ensures refl refl
+    line_tries (bounded_part (name_in c.args.names.now)) c.args.prefix.now c.args.at c.args.line.now c.trim_end-line.result.now _ _ _ _ _ c.stopped_at.result c.trim_end-line.ensures.trim c.in_ok-end.ensures.ends c.stopped_at.ensures refl refl
