@@ -33,6 +33,8 @@ pub use Rattle.kmip_ttlv_de.specs.Steps
 pub use Rattle.kmip_ttlv_de.specs.ReadFaults
 pub use Rattle.kmip_ttlv_de.specs.Outcomes
 pub use Rattle.kmip_ttlv_de.specs.ReadResults
+pub use Rattle.kmip_ttlv_de.specs.LeafForms
+pub use Rattle.kmip_ttlv_de.specs.Spots
 pub use Rattle.kmip_ttlv_stream.specs.Settings
 pub use Rattle.kmip_ttlv_stream.specs.StreamMessages
 pub use Rattle.kmip_ttlv_util.specs.Outlines

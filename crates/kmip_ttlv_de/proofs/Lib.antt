@@ -13,3 +13,8 @@ pub mod Founding
 pub mod Giving
 pub mod ResultLemmas
 pub mod RowLemmas
+pub mod TagNames
+pub mod Mapped
+pub mod LeafLemmas
+pub mod Items
+pub mod Structures

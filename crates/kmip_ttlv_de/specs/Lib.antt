@@ -13,3 +13,4 @@ pub mod Wholes
 pub mod LeafForms
 pub mod ReadLaws
 pub mod ReadRows
+pub mod Spots

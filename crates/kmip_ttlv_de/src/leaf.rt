@@ -1,9 +1,9 @@
-//! Leaves: their content, and the values that shapes read from it.
+//! Leaves: their content, and the values that are read from it, as data or as a type's own.
 
 ghost use Rattle.std.specs.Prelude.{◌≡◌, ◌+◌, ◌<◌, ◌≤◌, length, true, false, IfOk};
 ghost use Rattle.kmip_ttlv_types.specs.Items.{Raw};
 ghost use Rattle.kmip_ttlv_types.specs.Leaves.{is_valid};
-ghost use Rattle.kmip_ttlv_base.specs.Values.{view};
+ghost use Rattle.kmip_ttlv_base.specs.Values.{Value, view};
 ghost use Rattle.kmip_ttlv_de.specs.Keeps.{Keep};
 ghost use Rattle.kmip_ttlv_de.specs.Reads.{takes, leaf_value, with_leaf};
 ghost use Rattle.kmip_ttlv_de.specs.Outcomes.{leaf_outcome, first_type};
@@ -71,7 +71,7 @@ impl Leaf {
 
 // The text that valid content is.
 #[inline(always)]
-fn text_of<'b>(content: &'b [u8]) -> &'b str
+pub fn text_of<'b>(content: &'b [u8]) -> &'b str
     requires { is_valid TtlvType.TextString content.now ≡ true }
     ensures { result.now ≡ content.now }
 {
@@ -160,4 +160,62 @@ pub fn read_leaf<'b, A: Allocator + Copy>(
         kept,
     )?;
     Ok((data, next))
+}
+
+/// A type whose values the contents of leaves are.
+pub trait LeafValue<A: Allocator>: Sized + Drop {
+    ghost use Rattle.kmip_ttlv_de.specs.declared.leaf.Leaf.{Leaf};
+
+    // The shape of such a leaf.
+    ghost leaf: { Leaf };
+
+    // The value that it stands for.
+    ghost value: { Self → Value };
+
+    /// The shape of such a leaf.
+    fn leaf() -> Leaf
+        ensures { result ≡ leaf };
+
+    /// The value of valid content. An AllocError when out of memory.
+    fn decode(alloc: A, typ: TtlvType, content: &[u8]) -> Result<Self, AllocError>
+        requires takes { takes (form_of_leaf leaf) typ ≡ true }
+        requires valid { is_valid typ content.now ≡ true }
+        ensures { IfOk result (λ x. value x ≡ leaf_value (form_of_leaf leaf) content.now) };
+}
+
+/// A leaf as a value of the type.
+#[tactic(auto, unfolding(crate::specs::Outcomes::leaf_outcome), using(crate::proofs::Steps::failure_then))]
+#[inline(always)]
+pub fn read_leaf_as<'b, K: LeafValue<A>, A: Allocator + Copy>(
+    scope: &Scope<'b, A>,
+    pos: usize,
+    kept: &mut KeptTexts<'b, A>,
+) -> Step<(K, usize), A>
+    requires inside { pos ≤ length scope.now.bytes.now }
+    ensures read { IsRead K.value kept.new
+        (leaf_outcome (form_of_leaf K.leaf) scope.now.bytes.now scope.now.owner kept.old pos scope.now.end) result }
+    ensures further { IfOk result (λ r. (pos + 8 ≤ r.1) × (r.1 ≤ scope.now.end) × (r.1 ≤ length scope.now.bytes.now)) }
+{
+    let leaf = K::leaf();
+    let item_type = type_there(scope.alloc, scope.bytes, pos)?;
+    type_wanted(
+        scope.alloc,
+        leaf.takes(item_type),
+        leaf.first_type(),
+        scope.bytes,
+        pos,
+        item_type,
+    )?;
+    let (content, next) = content_there(scope.alloc, scope.bytes, pos, item_type)?;
+    inside(scope.alloc, scope.bytes, pos, scope.end, item_type, next)?;
+    let value = K::decode(scope.alloc, item_type, content)?;
+    keep_leaf(
+        scope.alloc,
+        leaf,
+        tag_at(scope.bytes, pos),
+        item_type,
+        content,
+        kept,
+    )?;
+    Ok((value, next))
 }

@@ -20,19 +20,24 @@ ghost use Rattle.kmip_ttlv_de.specs.ReadResults.{IsReadAs, ErrorStands, early_en
 ghost use Rattle.kmip_ttlv_de.specs.Wholes.{BeginsWhole};
 ghost use Rattle.kmip_ttlv_de.specs.ReadLaws.{AreBytes, Stands};
 
+mod cursor;
 mod failure;
 mod field_tags;
+mod fields;
 mod head;
 mod history;
 mod keep;
 mod leaf;
 mod number;
 mod read;
+pub mod reader;
 mod rest;
 mod root;
 mod rows;
 mod rules;
 mod scope;
+mod structure;
+mod values;
 mod variant;
 
 use crate::root::read_root;

@@ -250,7 +250,7 @@ fn read_seq<'b, A: Allocator + Copy>(
 /// Whether the next item is there, with the first one's tag and type.
 #[tactic(auto, unfolding(crate::specs::Outcomes::goes_on), using(crate::proofs::Steps::failure_then))]
 #[inline(always)]
-fn goes_on<A: Allocator + Copy>(
+pub fn goes_on<A: Allocator + Copy>(
     alloc: A,
     bytes: &[u8],
     first: usize,

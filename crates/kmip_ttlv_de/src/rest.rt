@@ -94,10 +94,10 @@ fn read_ignored<A: Allocator + Copy>(
     Ok(next)
 }
 
-// The place behind an item.
+/// The place behind an item.
 #[tactic(auto, unfolding(crate::specs::Outcomes::item_end), using(crate::proofs::Steps::failure_then))]
 #[inline(always)]
-fn item_end<A: Allocator + Copy>(
+pub fn item_end<A: Allocator + Copy>(
     alloc: A,
     bytes: &[u8],
     pos: usize,

@@ -64,9 +64,9 @@ fn error_at<A: Allocator>(fault: FaultAt<A>) -> Error<A>
     Error::new(kind(cause), location)
 }
 
-// The failure as an error.
+/// The failure as an error.
 #[cold]
-fn error<A: Allocator>(failure: Failure<A>) -> Error<A>
+pub fn error<A: Allocator>(failure: Failure<A>) -> Error<A>
     ensures { (o : Outcome Value) → IsFailure o failure → IsMemory result ⊎ IsError o (seen result) }
 {
     match failure {

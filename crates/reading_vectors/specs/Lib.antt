@@ -1,2 +1,3 @@
 pub mod ManyFields
 pub mod StreamSamples
+pub mod Selves

@@ -32,6 +32,9 @@ mod response;
 #[cfg(test)]
 mod roots;
 pub mod run;
+pub mod selves;
+#[cfg(test)]
+mod selves_rows;
 #[cfg(test)]
 mod stream_faults;
 #[cfg(test)]

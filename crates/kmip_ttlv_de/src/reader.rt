@@ -1,0 +1,13 @@
+//! Reading without a shape: types that read themselves from the bytes.
+//!
+//! A type that stands for a structure implements `ReadStructure`: it names its tag and its fields, each by
+//! a kind that is a type (`Leaf`, `OptionalLeaf`, `Nested`, `OptionalNested`, `Several`), and says what value
+//! they make. The fields are pairs of the first and the others, up to `()`. `read_message` reads it.
+
+pub use crate::cursor::Cursor;
+pub use crate::failure::{Cause, Failure, FaultAt, Step};
+pub use crate::fields::{Field, FieldList, Leaf, OptionalLeaf};
+pub use crate::leaf::{Leaf as LeafShape, LeafValue};
+pub use crate::scope::Scope;
+pub use crate::structure::{Nested, OptionalNested, ReadStructure, Several, read_message};
+pub use crate::values::{BigInteger, Interval};

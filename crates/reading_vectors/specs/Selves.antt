@@ -1,0 +1,45 @@
+-- Types that read themselves: their forms and the values that they stand for.
+use Rattle.std.specs.Prelude.{codes, false, string_bytes}
+use Rattle.kmip_ttlv.specs.Values.{Value, Values, no_values, value, newtype_value, i32_value, i64_value, text_value, struct_value, seq_value}
+use Rattle.kmip_ttlv.specs.Forms.{Form, struct, Fields, field, no_fields, newtype, option, seq, int32, int64, text}
+use Rattle.kmip_ttlv.specs.Spots.{optional_value, values_by}
+use Rattle.reading_vectors.specs.declared.selves.Point.{Point}
+use Rattle.reading_vectors.specs.declared.selves.Moment.{Moment}
+use Rattle.reading_vectors.specs.declared.selves.Whole.{Whole}
+use Rattle.reading_vectors.specs.declared.selves.Closed.{Closed}
+
+-- an Integer under 0xBBBBBB
+abbrev pub number_fields : Fields
+number_fields = field (codes "0xBBBBBB") (newtype (codes "Transparent:0xBBBBBB") int32) no_fields
+
+abbrev pub point_values : Point → Values
+point_values x = value (newtype_value (codes "Transparent:0xBBBBBB") (i32_value x.number)) no_values
+
+abbrev pub closed_values : Closed → Values
+closed_values x = value (newtype_value (codes "Transparent:0xBBBBBB") (i32_value x.number)) no_values
+
+-- a Long Integer or a Date-Time under 0xBBBBBB
+abbrev pub moment_values : Moment → Values
+moment_values x = value (newtype_value (codes "Transparent:0xBBBBBB") (i64_value x.seconds)) no_values
+
+-- each kind of field
+abbrev pub whole_form : Form
+whole_form =
+    struct (codes "0xAAAAAA") (
+    field (codes "0xBBBBBB") (newtype (codes "Transparent:0xBBBBBB") int32) (
+    field (codes "0xCCCCCC") (option (newtype (codes "Transparent:0xCCCCCC") text)) (
+    field (codes "0xDDDDDD") (option (struct (codes "0xDDDDDD") number_fields false)) (
+    field (codes "0xEEEEEE") (seq (struct (codes "0xEEEEEE") (
+    field (codes "0xBBBBBB") (newtype (codes "Transparent:0xBBBBBB") int64) no_fields) false)) (
+    field (codes "0xDDDDDD") (struct (codes "0xDDDDDD") number_fields false) no_fields))))) false
+
+abbrev pub whole_values : {A : Type 0} → Whole A → Values
+whole_values x =
+    value (newtype_value (codes "Transparent:0xBBBBBB") (i32_value x.number)) (
+    value (optional_value (λ s. newtype_value (codes "Transparent:0xCCCCCC") (text_value (string_bytes s))) x.text) (
+    value (optional_value (λ p. struct_value (codes "0xDDDDDD") (point_values p)) x.first) (
+    value (seq_value (values_by (λ m. struct_value (codes "0xEEEEEE") (moment_values m)) x.moments.items)) (
+    value (struct_value (codes "0xDDDDDD") (point_values x.last)) no_values))))
+
+abbrev pub whole_value : {A : Type 0} → Whole A → Value
+whole_value x = struct_value (codes "0xAAAAAA") (whole_values x)
