@@ -1,6 +1,6 @@
 //! Runs where memory is refused, and where the input, the output or the errors fail.
 
-use crate::runs::{HIDDEN_LINES, Outcome, VERSION, VERSION_LINES, back_with, run_with};
+use crate::runs::{HIDDEN_LINES, Outcome, VERSION, VERSION_LINES, back_with, of, run_with};
 use kmip_ttlv_names::{standard_names, standard_values};
 use refusing_allocator::RefusingAllocator;
 use std::alloc::{AllocError, Global};
@@ -182,7 +182,14 @@ fn run_between(
         room: writes.0,
         kind: writes.1,
     };
-    let status = run(alloc, &job, &names, &mut input, &mut narrow, &mut errors);
+    let status = run(
+        of(alloc),
+        &job,
+        &names,
+        &mut input,
+        &mut narrow,
+        &mut errors,
+    );
     Ok(Outcome {
         status,
         output,

@@ -66,7 +66,7 @@ const MALFORMED: [Row; 8] = [
 ];
 
 // Input that stands for no bytes.
-const UNDECODED: [Row; 7] = [
+const UNDECODED: [Row; 10] = [
     (
         Encoding::Detected,
         "42x9",
@@ -108,6 +108,24 @@ const UNDECODED: [Row; 7] = [
         "Qg==QgBp",
         "",
         "capture: byte 8: digits are missing at the end, or too many are there\n",
+    ),
+    (
+        Encoding::Base64,
+        "QgBpQgA=QgBpQgBp",
+        "",
+        "capture: byte 16: digits are missing at the end, or too many are there\n",
+    ),
+    (
+        Encoding::Base64,
+        "QgBpQgB=",
+        "",
+        "capture: byte 8: digits are missing at the end, or too many are there\n",
+    ),
+    (
+        Encoding::Hexadecimal,
+        "42 00 69 0",
+        "",
+        "capture: byte 10: digits are missing at the end, or too many are there\n",
     ),
 ];
 

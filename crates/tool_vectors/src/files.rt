@@ -1,6 +1,6 @@
 //! Runs over several inputs: their order, the greatest status, and a line for each that is at fault.
 
-use crate::runs::{Outcome, VERSION};
+use crate::runs::{Outcome, VERSION, of};
 use kmip_ttlv_names::{STANDARD_TAGS, TableError, standard_values, tag_names};
 use std::alloc::{AllocError, Global};
 use std::io;
@@ -132,7 +132,7 @@ fn outcome_of(
     let mut output = Vec::new(alloc);
     let mut errors = Vec::new(alloc);
     let status = run_files(
-        alloc,
+        of(alloc),
         asked,
         &names,
         files,
@@ -184,7 +184,7 @@ fn stops_at_three(alloc: Global) -> Result<bool, TableError> {
     let files = ["none", "two", "cut"];
     let mut errors = Vec::new(alloc);
     let status = run_files(
-        alloc,
+        of(alloc),
         HEXADECIMAL,
         &names,
         &files,

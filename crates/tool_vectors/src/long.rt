@@ -1,13 +1,13 @@
 //! Long inputs, which are printed as they go: where memory is refused, or the output fails, a beginning is there.
 
-use crate::runs::{Outcome, VERSION, VERSION_LINES, back_with, repeated, run_with};
+use crate::runs::{Outcome, VERSION, VERSION_LINES, back_with, of, repeated, run_with};
 use kmip_ttlv_names::{standard_names, standard_values};
 use refusing_allocator::{BoundedAllocator, RefusingAllocator};
 use std::alloc::{AllocError, Global};
 use std::io;
 use std::io::{ErrorKind, Write};
 use ttlv_run::run::run;
-use ttlv_run::{Encoding, Job, Names, Task, Values};
+use ttlv_run::{Encoding, Job, Memory, Names, Task, Values};
 
 const SHOW: Task<'static> = Task::Show {
     values: Values::Escaped,
@@ -83,6 +83,99 @@ fn a_line_that_is_read_back_is_not_held(rt: HostRuntime) {
     assert_eq!(rt; reads_nested_within(rt.alloc(), 4000, 150_000), Ok(true));
 }
 
+// A structure with one Integer, in base64.
+const ONE_NUMBER: &str = "QgBpAQAAABBCAGoCAAAABAAAAAEAAAAA";
+
+// How often a run asks for memory for an input.
+fn growths(alloc: Global, encoding: Encoding, input: &str) -> Result<u64, AllocError> {
+    let (tags, values) = (standard_names(alloc), standard_values(alloc));
+    let (Ok(tags), Ok(values)) = (tags, values) else {
+        return Err(AllocError);
+    };
+    let names = Names { tags, values };
+    let job = Job {
+        name: "capture",
+        task: Task::Check,
+        encoding,
+    };
+    for before in 0..100u64 {
+        let heap = RefusingAllocator::new(alloc, before);
+        let memory = Memory {
+            input: &heap,
+            rest: alloc,
+        };
+        let mut input = input.as_bytes();
+        let mut output = Vec::new(alloc);
+        let mut errors = Vec::new(alloc);
+        run(memory, &job, &names, &mut input, &mut output, &mut errors);
+        if !heap.has_refused() {
+            return Ok(before);
+        }
+    }
+    Ok(100)
+}
+
+// Text is decoded in its own memory: it takes as many growths as bytes that stay as they are.
+fn decodes_in_place(alloc: Global, encoding: Encoding, text: &str) -> Result<bool, AllocError> {
+    let input = repeated(alloc, text, 500)?;
+    let raw = growths(alloc, Encoding::Raw, input.as_str())?;
+    let decoded = growths(alloc, encoding, input.as_str())?;
+    Ok(0 < raw && raw < 100 && decoded == raw)
+}
+
+#[test]
+fn text_is_decoded_in_its_own_memory(rt: HostRuntime) {
+    let alloc = rt.alloc();
+    assert_eq!(rt;
+        decodes_in_place(alloc, Encoding::Hexadecimal, VERSION),
+        Ok(true)
+    );
+    assert_eq!(rt;
+        decodes_in_place(alloc, Encoding::Base64, ONE_NUMBER),
+        Ok(true)
+    );
+}
+
+// Structures, each in the one before, as their headers alone.
+fn nested(alloc: Global, depth: u32) -> Result<String, AllocError> {
+    let mut text = String::new(alloc);
+    for level in 0..depth {
+        let below = (depth - 1 - level).wrapping_mul(8);
+        text.push_str(format!(in alloc; "42006901{below:08X}")?.as_str())?;
+    }
+    Ok(text)
+}
+
+// The status of checking structures so deep, where no block above so many bytes is to be had but for the input.
+fn nested_status(alloc: Global, depth: u32, most: usize) -> Result<u8, AllocError> {
+    let text = nested(alloc, depth)?;
+    let small = BoundedAllocator::new(alloc, most);
+    let (Ok(tags), Ok(values)) = (standard_names(&small), standard_values(&small)) else {
+        return Err(AllocError);
+    };
+    let names = Names { tags, values };
+    let job = Job {
+        name: "capture",
+        task: Task::Check,
+        encoding: Encoding::Hexadecimal,
+    };
+    let memory = Memory {
+        input: alloc,
+        rest: &small,
+    };
+    let mut input = text.as_bytes();
+    let mut output = Vec::new(alloc);
+    let mut errors = Vec::new(alloc);
+    Ok(run(memory, &job, &names, &mut input, &mut output, &mut errors))
+}
+
+#[test]
+fn nesting_is_bounded_by_memory(rt: HostRuntime) {
+    let most = 65_536;
+    assert_eq!(rt; nested_status(rt.alloc(), 8000, most), Ok(0));
+    assert_eq!(rt; nested_status(rt.alloc(), 9000, most), Ok(3));
+}
+
 // How much of the text is there where this growth is refused; none where another text is, or another line.
 fn begun(alloc: Global, input: &str, text: &str, before: u64) -> Option<usize> {
     let heap = RefusingAllocator::new(alloc, before);
@@ -152,7 +245,7 @@ fn run_into(alloc: Global, input: &str, room: usize) -> Result<Outcome, AllocErr
         taken: &mut output,
         room,
     };
-    let status = run(alloc, &job, &names, &mut input, &mut full, &mut errors);
+    let status = run(of(alloc), &job, &names, &mut input, &mut full, &mut errors);
     Ok(Outcome {
         status,
         output,

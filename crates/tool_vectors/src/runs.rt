@@ -3,7 +3,7 @@
 use kmip_ttlv_names::{standard_names, standard_values};
 use std::alloc::{AllocError, Allocator, Global};
 use ttlv_run::run::{read_back, run};
-use ttlv_run::{BackJob, Encoding, Job, Names, Task};
+use ttlv_run::{BackJob, Encoding, Job, Memory, Names, Task};
 
 /// A version of the protocol: two numbers.
 pub const VERSION: &str =
@@ -54,6 +54,14 @@ pub fn repeated(alloc: Global, text: &str, times: u64) -> Result<String, AllocEr
     Ok(all)
 }
 
+/// All of a run's memory, from one allocator.
+pub fn of<A: Allocator + Copy>(heap: A) -> Memory<A, A> {
+    Memory {
+        input: heap,
+        rest: heap,
+    }
+}
+
 /// A run on an input in memory, with the standard's names.
 pub fn run_with<A: Allocator + Copy>(
     heap: A,
@@ -74,7 +82,7 @@ pub fn run_with<A: Allocator + Copy>(
     let mut input = input;
     let mut output = Vec::new(alloc);
     let mut errors = Vec::new(alloc);
-    let status = run(heap, &job, &names, &mut input, &mut output, &mut errors);
+    let status = run(of(heap), &job, &names, &mut input, &mut output, &mut errors);
     Ok(Outcome {
         status,
         output,
@@ -100,7 +108,7 @@ pub fn back_with<A: Allocator + Copy>(
     let mut input = input;
     let mut output = Vec::new(alloc);
     let mut errors = Vec::new(alloc);
-    let status = read_back(heap, &job, &names, &mut input, &mut output, &mut errors);
+    let status = read_back(of(heap), &job, &names, &mut input, &mut output, &mut errors);
     Ok(Outcome {
         status,
         output,

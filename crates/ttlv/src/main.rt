@@ -5,16 +5,17 @@
 #![tactic(auto)]
 
 use kmip_ttlv_names::{STANDARD_TAGS, standard_values, tag_names};
-use std::alloc::{AllocError, Global};
+use refusing_allocator::BoundedAllocator;
+use std::alloc::{AllocError, Allocator, Global};
 use std::fs::File;
 use std::io::{IsTerminal, Stderr};
 use std::process::ExitCode;
 use std::rt::Env;
 use std::{env, fs, io};
-use ttlv_run::Names;
 use ttlv_run::files::{Opener, run_asked, run_files};
 use ttlv_run::progress::Progress;
 use ttlv_run::table::own_table;
+use ttlv_run::{Memory, Names};
 use ttlv_words::{Request, request_of};
 
 /// The status of usage, and of input that can't be read.
@@ -58,13 +59,21 @@ impl Opener for Disk<'_> {
     }
 }
 
+/// The most bytes of a block of memory, but for the input: the ends of 131,072 structures that are open at once.
+const MOST: usize = 1_048_576;
+
 // Does with standard input what is asked.
-fn run_stdin(rt: &HostRuntime, request: &Request<'_>, names: &Names<'_>) -> u8 {
+fn run_stdin<B: Allocator + Copy>(
+    rt: &HostRuntime,
+    request: &Request<'_>,
+    memory: Memory<Global, B>,
+    names: &Names<'_, B>,
+) -> u8 {
     let mut errors = rt.stderr();
     let shown = errors.is_terminal();
     let mut input = Progress::new(rt.stdin(), rt.stderr(), None, shown);
     run_asked(
-        rt.alloc(),
+        memory,
         request.asked,
         "standard input",
         names,
@@ -75,12 +84,17 @@ fn run_stdin(rt: &HostRuntime, request: &Request<'_>, names: &Names<'_>) -> u8 {
 }
 
 // Does with each input what is asked.
-fn do_all(rt: &HostRuntime, request: &Request<'_>, names: &Names<'_>) -> u8 {
+fn do_all<B: Allocator + Copy>(
+    rt: &HostRuntime,
+    request: &Request<'_>,
+    memory: Memory<Global, B>,
+    names: &Names<'_, B>,
+) -> u8 {
     if request.files.is_empty() {
-        return run_stdin(rt, request, names);
+        return run_stdin(rt, request, memory, names);
     }
     run_files(
-        rt.alloc(),
+        memory,
         request.asked,
         names,
         request.files.as_slice(),
@@ -105,19 +119,23 @@ fn table(rt: &HostRuntime, path: Option<&str>) -> Result<String, u8> {
 }
 
 fn run_all(rt: &HostRuntime, request: &Request<'_>) -> u8 {
-    let alloc = rt.alloc();
     let table = match table(rt, request.names) {
         Ok(table) => table,
         Err(status) => return status,
     };
-    let Ok(tags) = tag_names(alloc, table.as_str()) else {
+    let small = BoundedAllocator::new(rt.alloc(), MOST);
+    let memory = Memory {
+        input: rt.alloc(),
+        rest: &small,
+    };
+    let Ok(tags) = tag_names(&small, table.as_str()) else {
         return NO_MEMORY;
     };
-    let Ok(values) = standard_values(alloc) else {
+    let Ok(values) = standard_values(&small) else {
         return NO_MEMORY;
     };
     let names = Names { tags, values };
-    do_all(rt, request, &names)
+    do_all(rt, request, memory, &names)
 }
 
 fn main(rt: HostRuntime) -> ExitCode {

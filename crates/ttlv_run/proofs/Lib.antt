@@ -3,7 +3,9 @@ pub mod BackEnds
 pub mod Backs
 pub mod Completion
 pub mod Good
+pub mod Groups
 pub mod Hexadecimal
+pub mod InPlace
 pub mod Printing
 pub mod Sequences
 pub mod Told

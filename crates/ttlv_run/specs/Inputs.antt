@@ -78,7 +78,6 @@ pub record Bad (a : Alphabet) (s : List ℕ) (p : ℕ) : Type 0 where
 -- why digits were not kept
 abbrev pub IsUnkept : Alphabet → List ℕ → Refusal → Type 0
 IsUnkept a s (BadCharacter p) = Bad a s p
-IsUnkept a s RefusedMemory = Unit {0}
 IsUnkept a s _ = ⊥
 
 -- the answer without its error
@@ -86,16 +85,15 @@ abbrev pub answer_of : {T E : Type 0} → Result T E → Option T
 answer_of (Ok x) = Some x
 answer_of (Err e) = None
 
+-- how many digits are a group
+abbrev pub width : Alphabet → ℕ
+width HexadecimalDigits = 2
+width Base64Digits = 4
+
 -- the bytes that digits are, if they are any
 abbrev pub decode_digits : Alphabet → List ℕ → Option (List ℕ)
 decode_digits HexadecimalDigits ds = answer_of (hex.decode_of ds)
 decode_digits Base64Digits ds = answer_of (base64.decode_of standard ds)
-
--- why digits were not decoded
-abbrev pub MissesDigits : Alphabet → List ℕ → ℕ → Refusal → Type 0
-MissesDigits a ds end (WrongCount p) = (p ≡ end) × (decode_digits a ds ≡ None)
-MissesDigits a ds end RefusedMemory = Unit {0}
-MissesDigits a ds end _ = ⊥
 
 -- the bytes that a text is
 pub record Decodes (a : Alphabet) (s bytes : List ℕ) : Type 0 where
@@ -114,7 +112,6 @@ pub record Miscounted (a : Alphabet) (s : List ℕ) (p : ℕ) : Type 0 where
 abbrev pub IsUndecodable : Alphabet → List ℕ → Refusal → Type 0
 IsUndecodable a s (BadCharacter p) = Bad a s p
 IsUndecodable a s (WrongCount p) = Miscounted a s p
-IsUndecodable a s RefusedMemory = Unit {0}
 IsUndecodable a s _ = ⊥
 
 -- a byte that stands in no text

@@ -1,16 +1,15 @@
 //! The bytes of messages that an input stands for: as they are, or as hexadecimal or base64 text.
 
-ghost use Rattle.std.specs.Prelude.{◌≡◌, ◌<◌, ◌≤◌, ◌+◌, true, length, Some, IfOk, IfErr};
+ghost use Rattle.std.specs.Prelude.{◌≡◌, ◌<◌, ◌≤◌, ◌+◌, ◌++◌, true, length, take, drop, Some, None, IfOk, IfErr, IfSome, IfNone};
+ghost use Rattle.base64.specs.GeneralPurpose.{IsBytes};
 ghost use Rattle.ttlv_run.specs.declared.coding.Alphabet.TheVariants.{HexadecimalDigits as TheHexadecimal};
 ghost use Rattle.ttlv_run.specs.Inputs.{TakesAll, IsUnread, is_between, is_letter, is_mark, Kept, IsUnkept, decode_digits};
-ghost use Rattle.ttlv_run.specs.Inputs.{MissesDigits, Decodes, IsUndecodable, is_control, has_control, looks_raw, starts_base64};
+ghost use Rattle.ttlv_run.specs.Inputs.{width, Decodes, IsUndecodable, is_control, has_control, looks_raw, starts_base64};
 ghost use Rattle.ttlv_run.specs.Inputs.{encoding_found, Stands, IsUndecoded};
 
 use crate::job::Encoding;
 use crate::refusal::Refusal;
-use base64::DecodeAllocError;
 use base64::engine::general_purpose::STANDARD;
-use hex::FromHexError;
 use std::alloc::Allocator;
 use std::io::{ErrorKind, Read};
 
@@ -73,70 +72,116 @@ fn is_mark(alphabet: Alphabet, input: &[u8], at: usize) -> bool
         && (input[at + 1] == 120 || input[at + 1] == 88)
 }
 
-// The digits of a text, without what stands between them.
-fn kept_digits<A: Allocator>(
-    alloc: A,
-    alphabet: Alphabet,
-    input: &[u8],
-) -> Result<Vec<u8, A>, Refusal>
-    ensures ok { IfOk result (λ digits. Kept alphabet input.now (length input.now) digits.items) }
-    ensures err { IfErr result (IsUnkept alphabet input.now) }
+// Keeps the digits of a text, without what stands between them, in its front, and gives how many they are.
+fn keep_digits(alphabet: Alphabet, text: &mut [u8]) -> Result<usize, Refusal>
+    ensures within { IfOk result (λ n. n ≤ length text.new) }
+    ensures ok { IfOk result (λ n. Kept alphabet text.old (length text.old) (take n text.new)) }
+    ensures err { IfErr result (IsUnkept alphabet text.old) }
 {
-    let mut digits = Vec::with_capacity(alloc, input.len())?;
     let mut at = 0;
-    'characters: while at < input.len() {
-        if is_mark(alphabet, input, at) {
+    let mut kept = 0;
+    'characters: while at < text.len() {
+        if is_mark(alphabet, text, at) {
             at += 2;
             continue;
         }
-        let b = input[at];
+        let b = text[at];
         if is_letter(alphabet, b) {
-            if digits.push(b).is_err() {
-                return Err(Refusal::RefusedMemory);
-            }
+            text[kept] = b;
+            kept += 1;
         } else if !is_between(b) {
             return Err(Refusal::BadCharacter(at));
         }
         at += 1;
     }
-    Ok(digits)
+    Ok(kept)
 }
 
-// The bytes that digits stand for.
-fn decode_digits<A: Allocator>(
-    alloc: A,
-    alphabet: Alphabet,
-    digits: &[u8],
-    end: usize,
-) -> Result<Vec<u8, A>, Refusal>
-    ensures ok { IfOk result (λ bytes. decode_digits alphabet digits.now ≡ Some bytes.items) }
-    ensures err { IfErr result (λ e. MissesDigits alphabet digits.now end e) }
+// How many digits are a group.
+fn width(alphabet: Alphabet) -> usize
+    ensures { result ≡ width alphabet }
 {
     match alphabet {
-        Alphabet::HexadecimalDigits => match hex::decode(alloc, digits) {
-            Ok(bytes) => Ok(bytes),
-            Err(FromHexError::OutOfMemory) => Err(Refusal::RefusedMemory),
-            Err(_) => Err(Refusal::WrongCount(end)),
-        },
-        Alphabet::Base64Digits => match STANDARD.decode(alloc, digits) {
-            Ok(bytes) => Ok(bytes),
-            Err(DecodeAllocError::OutOfMemory) => Err(Refusal::RefusedMemory),
-            Err(_) => Err(Refusal::WrongCount(end)),
-        },
+        Alphabet::HexadecimalDigits => 2,
+        Alphabet::Base64Digits => 4,
     }
 }
 
-// The bytes that a text stands for.
-fn decode<A: Allocator + Copy>(
-    alloc: A,
-    alphabet: Alphabet,
-    input: &[u8],
-) -> Result<Vec<u8, A>, Refusal>
-    ensures ok { IfOk result (λ bytes. Decodes alphabet input.now bytes.items) }
-    ensures err { IfErr result (IsUndecodable alphabet input.now) }
+// Decodes a group of digits, or less, and gives how many bytes they stand for.
+fn decode_group(alphabet: Alphabet, group: &[u8], bytes: &mut [u8]) -> Option<usize>
+    requires few { length group.now ≤ width alphabet }
+    requires room { length bytes.old ≡ 3 }
+    ensures within { IfSome result (λ n. (n ≤ 3) × (n ≤ length group.now)) }
+    ensures some { IfSome result (λ n. decode_digits alphabet group.now ≡ Some (take n bytes.new)) }
+    ensures none { IfNone result (decode_digits alphabet group.now ≡ None) }
+    ensures bytes { IsBytes bytes.new }
+    ensures len { length bytes.new ≡ 3 }
 {
-    let digits = kept_digits(alloc, alphabet, input)?;
-    decode_digits(alloc, alphabet, digits.as_slice(), input.len())
+    match alphabet {
+        Alphabet::HexadecimalDigits => {
+            let count = group.len() / 2;
+            hex::decode_to_slice(group, &mut bytes[..count]).ok()?;
+            Some(count)
+        }
+        Alphabet::Base64Digits => STANDARD.decode_slice_unchecked(group, bytes).ok(),
+    }
+}
+
+// Puts bytes at a place.
+fn put(digits: &mut [u8], at: usize, bytes: &[u8])
+    requires { at + length bytes.now ≤ length digits.old }
+    ensures front { take (at + length bytes.now) digits.new ≡ take at digits.old ++ bytes.now }
+    ensures behind { drop (at + length bytes.now) digits.new ≡ drop (at + length bytes.now) digits.old }
+    ensures len { length digits.new ≡ length digits.old }
+{
+    digits[at..at + bytes.len()].copy_from_slice(bytes);
+}
+
+// Decodes digits into their own front, and gives how many bytes they stand for.
+fn decode_digits(alphabet: Alphabet, digits: &mut [u8]) -> Option<usize>
+    ensures within { IfSome result (λ n. n ≤ length digits.new) }
+    ensures some { IfSome result (λ n. decode_digits alphabet digits.old ≡ Some (take n digits.new)) }
+    ensures none { IfNone result (decode_digits alphabet digits.old ≡ None) }
+{
+    let width = width(alphabet);
+    let mut bytes = [0; 3];
+    let mut at = 0;
+    let mut made = 0;
+    'groups: while digits.len() - at > width {
+        let count = decode_group(alphabet, &digits[at..at + width], &mut bytes)?;
+        if count + 1 < width {
+            return None;
+        }
+        put(digits, made, &bytes[..count]);
+        at += width;
+        made += count;
+    }
+    let count = decode_group(alphabet, &digits[at..], &mut bytes)?;
+    put(digits, made, &bytes[..count]);
+    Some(made + count)
+}
+
+// Puts the bytes that a text stands for into its front, and gives how many they are.
+fn decode_text(alphabet: Alphabet, text: &mut [u8]) -> Result<usize, Refusal>
+    ensures within { IfOk result (λ n. n ≤ length text.new) }
+    ensures ok { IfOk result (λ n. Decodes alphabet text.old (take n text.new)) }
+    ensures err { IfErr result (IsUndecodable alphabet text.old) }
+{
+    let kept = keep_digits(alphabet, text)?;
+    match decode_digits(alphabet, &mut text[..kept]) {
+        Some(count) => Ok(count),
+        None => Err(Refusal::WrongCount(text.len())),
+    }
+}
+
+// The bytes that a text stands for, in the memory of the text.
+fn decode<A: Allocator>(alphabet: Alphabet, mut text: Vec<u8, A>) -> Result<Vec<u8, A>, Refusal>
+    ensures ok { IfOk result (λ bytes. Decodes alphabet text.items bytes.items) }
+    ensures err { IfErr result (IsUndecodable alphabet text.items) }
+{
+    let count = decode_text(alphabet, text.as_mut_slice())?;
+    text.truncate(count);
+    Ok(text)
 }
 
 fn is_control(b: u8) -> bool
@@ -188,12 +233,8 @@ fn encoding_found(input: &[u8]) -> Encoding
     Encoding::Hexadecimal
 }
 
-/// The bytes of messages that an input stands for.
-pub fn bytes_of<A: Allocator + Copy>(
-    alloc: A,
-    encoding: Encoding,
-    input: Vec<u8, A>,
-) -> Result<Vec<u8, A>, Refusal>
+/// The bytes of messages that an input stands for, in the memory of the input.
+pub fn bytes_of<A: Allocator>(encoding: Encoding, input: Vec<u8, A>) -> Result<Vec<u8, A>, Refusal>
     ensures ok { IfOk result (λ bytes. Stands encoding input.items bytes.items) }
     ensures err { IfErr result (IsUndecoded encoding input.items) }
 {
@@ -202,8 +243,8 @@ pub fn bytes_of<A: Allocator + Copy>(
         _ => encoding,
     };
     match encoding {
-        Encoding::Hexadecimal => decode(alloc, Alphabet::HexadecimalDigits, input.as_slice()),
-        Encoding::Base64 => decode(alloc, Alphabet::Base64Digits, input.as_slice()),
+        Encoding::Hexadecimal => decode(Alphabet::HexadecimalDigits, input),
+        Encoding::Base64 => decode(Alphabet::Base64Digits, input),
         _ => Ok(input),
     }
 }

@@ -5,6 +5,7 @@ ghost use Rattle.ttlv_run.specs.Files.{IsDone, FileDone, greater, FilesDone};
 ghost use Rattle.ttlv_run.specs.Texts.{names_of};
 
 use crate::job::{Asked, BackJob, Job, Names};
+use crate::memory::Memory;
 use crate::refusal::Refusal;
 use crate::run::{read_back, run, tell_refusal};
 use std::alloc::Allocator;
@@ -24,11 +25,11 @@ pub trait Opener {
 }
 
 /// Does with an input what is asked, and answers the exit status, of [`run`] or of [`read_back`].
-pub fn run_asked<A: Allocator + Copy, R: Read, W: Write, E: Write>(
-    alloc: A,
+pub fn run_asked<A: Allocator + Copy, B: Allocator + Copy, R: Read, W: Write, E: Write>(
+    memory: Memory<A, B>,
     asked: Asked<'_>,
     name: &str,
-    names: &Names<'_, A>,
+    names: &Names<'_, B>,
     input: &mut R,
     output: &mut W,
     errors: &mut E,
@@ -49,21 +50,21 @@ pub fn run_asked<A: Allocator + Copy, R: Read, W: Write, E: Write>(
                 task,
                 encoding,
             };
-            run(alloc, &job, names, input, output, errors)
+            run(memory, &job, names, input, output, errors)
         }
         Asked::ReadBack { prefix } => {
             let job = BackJob { name, prefix };
-            read_back(alloc, &job, names, input, output, errors)
+            read_back(memory, &job, names, input, output, errors)
         }
     }
 }
 
 // Does it with a file.
-fn run_file<A: Allocator + Copy, O: Opener, W: Write, E: Write>(
-    alloc: A,
+fn run_file<A: Allocator + Copy, B: Allocator + Copy, O: Opener, W: Write, E: Write>(
+    memory: Memory<A, B>,
     asked: Asked<'_>,
     name: &str,
-    names: &Names<'_, A>,
+    names: &Names<'_, B>,
     opener: &mut O,
     output: &mut W,
     errors: &mut E,
@@ -74,7 +75,7 @@ fn run_file<A: Allocator + Copy, O: Opener, W: Write, E: Write>(
         (record { opener = opener.new; output = W.contents output.new; errors = E.contents errors.new }) result }
 {
     match opener.open(name) {
-        Some(mut input) => run_asked(alloc, asked, name, names, &mut input, output, errors),
+        Some(mut input) => run_asked(memory, asked, name, names, &mut input, output, errors),
         None => {
             tell_refusal(errors, name, Refusal::UnopenedInput);
             2
@@ -92,10 +93,10 @@ fn greater(a: u8, b: u8) -> u8
 /// Does with each file what is asked, one after the other, and answers the greatest of their exit statuses:
 /// those of [`run`] and [`read_back`], and 2 for a file that can't be opened. Behind a file with status 3,
 /// want of memory or an output that fails, no other is read.
-pub fn run_files<A: Allocator + Copy, O: Opener, W: Write, E: Write>(
-    alloc: A,
+pub fn run_files<A: Allocator + Copy, B: Allocator + Copy, O: Opener, W: Write, E: Write>(
+    memory: Memory<A, B>,
     asked: Asked<'_>,
-    names: &Names<'_, A>,
+    names: &Names<'_, B>,
     files: &[&str],
     opener: &mut O,
     output: &mut W,
@@ -108,7 +109,7 @@ pub fn run_files<A: Allocator + Copy, O: Opener, W: Write, E: Write>(
 {
     let mut status = 0;
     'files: for name in files {
-        let next = run_file(alloc, asked, name, names, opener, output, errors);
+        let next = run_file(memory, asked, name, names, opener, output, errors);
         status = greater(status, next);
         if status == 3 {
             return status;

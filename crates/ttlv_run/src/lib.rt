@@ -5,7 +5,7 @@
 //! `files` is the entry, for several inputs, and `run` for one. `job` says what is to be done, `coding` takes
 //! the bytes out of the input, `messages` goes from message to message, `texts`, `lines` and `escape` print one
 //! to any sink of texts, `back` reads diagnostics back, and `refusal` has the reasons for statuses 2 and 3. `table`
-//! reads a file of names, and `progress` tells how far the reading is. Items, faults and diagnostics are those of
+//! reads a file of names, `progress` tells how far the reading is, and `memory` says where a run takes its memory from. Items, faults and diagnostics are those of
 //! kmip_ttlv_items and kmip_ttlv_util.
 #![tactic(auto)]
 
@@ -16,6 +16,7 @@ pub mod files;
 mod job;
 pub mod laws;
 mod lines;
+mod memory;
 mod messages;
 pub mod progress;
 mod refusal;
@@ -24,3 +25,4 @@ pub mod table;
 mod texts;
 
 pub use job::{Asked, BackJob, Encoding, Job, Names, Task, Values};
+pub use memory::Memory;

@@ -15,6 +15,7 @@ ghost use Rattle.ttlv_run.specs.Texts.{names_of, text_back};
 use crate::back::{BackFault, print_back};
 use crate::coding::{bytes_of, read_all};
 use crate::job::{BackJob, Job, Names, Task};
+use crate::memory::Memory;
 use crate::messages::{Place, fault_line, print_all};
 use crate::refusal::Refusal;
 use itoa::Buffer;
@@ -56,13 +57,13 @@ fn print_messages<A: Allocator + Copy, W: Write>(
 }
 
 // Prints what a job asks for, message by message, and gives the line that says what is malformed, if anything is.
-fn respond<A: Allocator + Copy, R: Read, W: Write>(
-    alloc: A,
+fn respond<A: Allocator + Copy, B: Allocator + Copy, R: Read, W: Write>(
+    memory: Memory<A, B>,
     job: &Job<'_>,
-    names: &Names<'_, A>,
+    names: &Names<'_, B>,
     input: &mut R,
     output: &mut W,
-) -> Result<Option<String<A>>, Refusal>
+) -> Result<Option<String<B>>, Refusal>
     ensures { Responds string_bytes (names_of names.now) job.now
         (record {
           input = R.remaining input.old;
@@ -71,11 +72,11 @@ fn respond<A: Allocator + Copy, R: Read, W: Write>(
           output_now = W.contents output.new;
         }) result }
 {
-    let taken = read_all(alloc, input)?;
-    let bytes = bytes_of(alloc, job.encoding, taken)?;
-    match print_messages(alloc, names, job.task, bytes.as_slice(), output) {
+    let taken = read_all(memory.input, input)?;
+    let bytes = bytes_of(job.encoding, taken)?;
+    match print_messages(memory.rest, names, job.task, bytes.as_slice(), output) {
         Ok(None) => Ok(None),
-        Ok(Some(place)) => Ok(Some(fault_line(alloc, names, job.name, place)?)),
+        Ok(Some(place)) => Ok(Some(fault_line(memory.rest, names, job.name, place)?)),
         Err(e) => Err(refusal_of(&e)),
     }
 }
@@ -103,10 +104,10 @@ fn print_diagnostics<A: Allocator + Copy, W: Write>(
 
 // Prints what diagnostics are read back as, line by line, and gives where the first line that is not whole stops
 // being one, if there is such a line.
-fn respond_back<A: Allocator + Copy, R: Read, W: Write>(
-    alloc: A,
+fn respond_back<A: Allocator + Copy, B: Allocator + Copy, R: Read, W: Write>(
+    memory: Memory<A, B>,
     job: &BackJob<'_>,
-    names: &Names<'_, A>,
+    names: &Names<'_, B>,
     input: &mut R,
     output: &mut W,
 ) -> Result<Option<BackFault>, Refusal>
@@ -118,11 +119,11 @@ fn respond_back<A: Allocator + Copy, R: Read, W: Write>(
           output_now = W.contents output.new;
         }) result }
 {
-    let taken = read_all(alloc, input)?;
+    let taken = read_all(memory.input, input)?;
     let Ok(diagnostics) = str::from_utf8(taken.as_slice()) else {
         return Err(Refusal::NotUtf8);
     };
-    match print_diagnostics(alloc, names, job.prefix, diagnostics, output) {
+    match print_diagnostics(memory.rest, names, job.prefix, diagnostics, output) {
         Ok(fault) => Ok(fault),
         Err(e) => Err(refusal_of(&e)),
     }
@@ -180,10 +181,10 @@ fn tell_back_fault<E: Write>(errors: &mut E, name: &str, fault: BackFault)
 /// printed, or nothing was printed yet. With statuses 1 to 3 one line on `errors` says why, but for a closed pipe.
 /// Interrupted reads and writes are tried again, as often as a 64-bit count allows. Where `errors` can't be
 /// written, the status is the same.
-pub fn run<A: Allocator + Copy, R: Read, W: Write, E: Write>(
-    alloc: A,
+pub fn run<A: Allocator + Copy, B: Allocator + Copy, R: Read, W: Write, E: Write>(
+    memory: Memory<A, B>,
     job: &Job<'_>,
-    names: &Names<'_, A>,
+    names: &Names<'_, B>,
     input: &mut R,
     output: &mut W,
     errors: &mut E,
@@ -217,7 +218,7 @@ pub fn run<A: Allocator + Copy, R: Read, W: Write, E: Write>(
         })
         result (E.contents errors.old) (E.contents errors.new) }
 {
-    match respond(alloc, job, names, input, output) {
+    match respond(memory, job, names, input, output) {
         Ok(None) => 0,
         Ok(Some(line)) => {
             let _ = errors.send(line.as_bytes());
@@ -238,10 +239,10 @@ pub fn run<A: Allocator + Copy, R: Read, W: Write, E: Write>(
 /// With status 1 too all lines are read back, each as far as it goes, and the first that is not whole is
 /// told on `errors`. Statuses 2 and 3 are told there as [`run`] tells them, and with status 3 the output is as
 /// there. What a line is read back as is never held as a whole.
-pub fn read_back<A: Allocator + Copy, R: Read, W: Write, E: Write>(
-    alloc: A,
+pub fn read_back<A: Allocator + Copy, B: Allocator + Copy, R: Read, W: Write, E: Write>(
+    memory: Memory<A, B>,
     job: &BackJob<'_>,
-    names: &Names<'_, A>,
+    names: &Names<'_, B>,
     input: &mut R,
     output: &mut W,
     errors: &mut E,
@@ -276,7 +277,7 @@ pub fn read_back<A: Allocator + Copy, R: Read, W: Write, E: Write>(
         })
         result (E.contents errors.old) (E.contents errors.new) }
 {
-    match respond_back(alloc, job, names, input, output) {
+    match respond_back(memory, job, names, input, output) {
         Ok(None) => 0,
         Ok(Some(fault)) => {
             tell_back_fault(errors, job.name, fault);
