@@ -5,8 +5,10 @@ Copy this file beside libkmip_ttlv.so, or set KMIP_TTLV_LIBRARY to the path of t
 import ctypes
 import os
 from collections import namedtuple
+from datetime import datetime, timedelta, timezone
 
-__all__ = ["check", "from_diag", "items", "to_diag", "to_text", "version", "Fault", "Item", "Malformed", "BadNames"]
+__all__ = ["check", "decode", "from_diag", "items", "to_diag", "to_text", "version"]
+__all__ += ["Fault", "Item", "Node", "Malformed", "BadNames"]
 
 _here = os.path.dirname(os.path.abspath(__file__))
 _library = ctypes.CDLL(os.environ.get("KMIP_TTLV_LIBRARY") or os.path.join(_here, "libkmip_ttlv.so"))
@@ -28,6 +30,8 @@ FAULTS = (
 
 # offset: of the header, in bytes from the first; depth: the structures around; length: of the value, in bytes
 Item = namedtuple("Item", "offset depth tag typ length")
+# tag: its number; typ: its code; value: a list of nodes for a Structure, or the value as Python has it (see decode)
+Node = namedtuple("Node", "tag typ value")
 # offset: of the item that is wrong, in bytes from the first; kind: an index into FAULTS
 Fault = namedtuple("Fault", "offset kind")
 
@@ -131,6 +135,56 @@ def items(message):
     if status != OK:
         _refuse(status)
     return found
+
+
+def _number(content):
+    return int.from_bytes(content, "big", signed=True)
+
+
+def _unsigned(content):
+    return int.from_bytes(content, "big")
+
+
+def _time(content):
+    try:
+        return datetime(1970, 1, 1, tzinfo=timezone.utc) + timedelta(seconds=_number(content))
+    except OverflowError:
+        return _number(content)
+
+
+# How the content of a leaf becomes a value, by the code of its type.
+_VALUES = {
+    2: _number,
+    3: _number,
+    4: _number,
+    5: _unsigned,
+    6: lambda content: _unsigned(content) == 1,
+    7: lambda content: content.decode("utf-8"),
+    8: bytes,
+    9: _time,
+    10: _unsigned,
+}
+
+
+def decode(message):
+    """The root of a message as nested nodes. Malformed where the bytes are not one whole message.
+
+    Values are Python's own: int for Integer, Long Integer, Big Integer, Enumeration and Interval (its seconds), bool, str,
+    bytes, and a datetime in UTC for Date-Time, or its seconds since 1970 where a datetime can't hold them. Nesting takes
+    no stack.
+    """
+    opened = []
+    for it in items(message):
+        content = message[it.offset + 8 : it.offset + 8 + it.length]
+        node = Node(it.tag, it.typ, _VALUES[it.typ](content) if it.typ in _VALUES else [])
+        del opened[it.depth :]
+        if opened:
+            opened[-1].value.append(node)
+        if it.typ == 1:
+            opened.append(node)
+        if it.depth == 0:
+            root = node
+    return root
 
 
 def check(message):

@@ -5,6 +5,7 @@
 import ctypes
 import random
 import unittest
+from datetime import datetime, timezone
 
 import kmip_ttlv
 
@@ -58,6 +59,48 @@ class Walks(unittest.TestCase):
         with self.assertRaises(kmip_ttlv.Malformed) as refused:
             kmip_ttlv.items(VERSION[:12] + b"\0\0\0\5" + VERSION[16:])
         self.assertEqual((refused.exception.fault, len(refused.exception.items)), ((8, 5), 1))
+
+    def test_values(self):
+        major, minor = kmip_ttlv.Node(0x42006A, 2, 1), kmip_ttlv.Node(0x42006B, 2, 0)
+        version = kmip_ttlv.Node(0x420069, 1, [major, minor])
+        self.assertEqual(kmip_ttlv.decode(VERSION), version)
+        header, item = kmip_ttlv.decode(DESTROY).value
+        self.assertEqual(header, (0x420077, 1, [version, (0x42000D, 2, 1)]))
+        name = kmip_ttlv.Node(0x420094, 7, "fc8833de-70d2-4ece-b063-fede3a3c59fe")
+        self.assertEqual(item, (0x42000F, 1, [(0x42005C, 5, 0x14), (0x420079, 1, [name])]))
+        # the standard's examples of encodings (9.1.2), and values at the ends of their ranges
+        rows = (
+            ("02 00000004 00000008 00000000", 8),
+            ("02 00000004 FFFFFFFF 00000000", -1),
+            ("03 00000008 01B69B4BA5749200", 123456789000000000),
+            ("04 00000010 0000000003FD35EB6BC2DF4618080000", 1234567890000000000000000000),
+            ("04 00000008 FFFFFFFFFFFFFFFE", -2),
+            ("05 00000004 000000FF 00000000", 255),
+            ("05 00000004 FFFFFFFF 00000000", 0xFFFFFFFF),
+            ("06 00000008 0000000000000001", True),
+            ("06 00000008 0000000000000000", False),
+            ("07 0000000B 48656C6C6F20576F726C640000000000", "Hello World"),
+            ("08 00000003 0102030000000000", b"\1\2\3"),
+            ("09 00000008 0000000047DA67F8", datetime(2008, 3, 14, 11, 56, 40, tzinfo=timezone.utc)),
+            ("09 00000008 7FFFFFFFFFFFFFFF", 0x7FFFFFFFFFFFFFFF),
+            ("0A 00000004 000D2F00 00000000", 10 * 24 * 60 * 60),
+            ("01 00000000", []),
+        )
+        for text, value in rows:
+            leaf = bytes.fromhex("420020" + text)
+            root = kmip_ttlv.decode(bytes.fromhex("42002001") + len(leaf).to_bytes(4, "big") + leaf)
+            self.assertEqual(root, (0x420020, 1, [(0x420020, leaf[3], value)]))
+            self.assertIs(type(root.value[0].value), type(value))
+        with self.assertRaises(kmip_ttlv.Malformed):
+            kmip_ttlv.decode(VERSION[:-1])
+
+    def test_deep_values(self):
+        depth = 20000
+        message = b"".join(bytes.fromhex("42002001") + (8 * (depth - 1 - at)).to_bytes(4, "big") for at in range(depth))
+        node, count = kmip_ttlv.decode(message), 1
+        while node.value:
+            (node,), count = node.value, count + 1
+        self.assertEqual(count, depth)
 
     def test_refusals(self):
         with self.assertRaises(kmip_ttlv.BadNames) as refused:

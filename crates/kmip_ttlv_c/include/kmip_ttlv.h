@@ -1,18 +1,30 @@
 /* TTLV, the encoding of OASIS KMIP 1.0 (section 9.1): messages printed, redacted, walked and checked.
  *
- * Every call answers a status. It keeps nothing of what it is lent, holds no state of its own, and gives back all memory
- * that it takes before it returns, so any number of threads may be in calls at a time. Lengths, counts and offsets are in
+ * Every call returns a status. It keeps nothing of what it is lent, has no state of its own, and frees all memory that it
+ * allocates before it returns, so any number of threads may be in calls at a time. Lengths, counts and offsets are in
  * bytes (or items, where so said) and of type size_t.
  *
- * What is lent is a pointer and a length. No pointer may be null, also where its length is 0; a buffer that is written
- * to may not overlap with anything else that is lent.
+ * What is lent is a pointer and a length of at most PTRDIFF_MAX; a `room` is at most that too. No pointer may be null, also
+ * where its length is 0. What is lent must not change during the call, and what is written to (a buffer, a list, the
+ * places of `length`, `items`, `count`, `bad_line` and `fault`) must not overlap with anything else that is lent.
  *
- * A call that makes a text writes it to `out` where its `room` bytes hold all of it, without an ending zero, and writes
- * nothing behind the text. `*length` is how long the text is, also where there was no room; where the call refuses for
- * another reason it is 0. In each of these cases `out` is as it was.
+ * A call that makes a text writes it to `out` if its `room` bytes hold all of it, without an ending zero, and writes
+ * nothing after the text. `*length` is how long the text is, also if there was no room; on any other error it is 0. On
+ * every error `out` is unchanged.
  *
- * Memory comes from malloc, realloc and free. A program that links the static library can take them from elsewhere by
- * defining kmip_ttlv_malloc, kmip_ttlv_realloc and kmip_ttlv_free, all three of them, with the meaning of these.
+ * Texts: `*length` of a diagnostic is at most a few times the length of the bytes. The readable texts indent each line by
+ * two spaces for each structure around it, so for bytes that nest deeply they grow with the square of the depth: limit the
+ * length or the depth (`kmip_ttlv_items` returns it) of untrusted bytes before printing them.
+ *
+ * The printers take any bytes. They return OK for malformed ones too, with a text that says where it stops: a diagnostic
+ * ends with "ERR" and a readable text with a line "ERROR: .." after an item that can't be read, and both end with the line
+ * "ERROR: TTLV structure content exceeds the structure length." where content goes past the end of its structure. They
+ * follow headers as far as these can be read, so in malformed bytes they may show as tags what lies where a header is
+ * expected. `kmip_ttlv_check` says whether bytes are well-formed.
+ *
+ * Memory comes from malloc, realloc and free. A program that links the static library can take it from elsewhere by
+ * defining kmip_ttlv_malloc, kmip_ttlv_realloc and kmip_ttlv_free, all three of them, with the meaning of these. If the
+ * program calls from several threads, so do the three.
  *
  * Don't call from a signal handler, nor in the child of a fork of a process with threads.
  */
@@ -34,15 +46,15 @@ typedef uint32_t kmip_ttlv_status;
 
 /* The call did all that it was asked for. */
 #define KMIP_TTLV_OK 0u
-/* Memory was refused. */
+/* Out of memory. */
 #define KMIP_TTLV_OUT_OF_MEMORY 1u
 /* A text that was lent is not UTF-8. */
 #define KMIP_TTLV_NOT_UTF8 2u
-/* The buffer or the list is too small; what it has to hold is answered. */
+/* The buffer or the list is too small; `*length` or `*count` says what it has to hold. */
 #define KMIP_TTLV_NO_ROOM 3u
 /* The bytes are not one whole message. */
 #define KMIP_TTLV_MALFORMED 4u
-/* A line of a table of names can't be read; its number is answered. */
+/* A line of a table of names can't be read; `*bad_line` is its number. */
 #define KMIP_TTLV_BAD_NAMES 5u
 
 /* An item of a message. */
@@ -66,7 +78,9 @@ typedef struct {
 #define KMIP_TTLV_DATE_TIME 9u
 #define KMIP_TTLV_INTERVAL 10u
 
-/* The first fault of bytes that are not one whole message. */
+/* The first fault of bytes that are not one whole message, in document order. If several things are wrong with one item, it
+ * is the first of these: for the root, fewer than eight bytes (CUT), UNKNOWN_TYPE, NO_STRUCTURE, fewer bytes than its length
+ * states (CUT); for any other item PARTIAL_HEADER, UNKNOWN_TYPE, WRONG_LENGTH, OVERLONG, INVALID_VALUE. */
 typedef struct {
     size_t offset; /* where the item that is wrong begins, or the surplus, from the first byte; 0 where nothing is wrong */
     uint32_t kind; /* what is wrong there, KMIP_TTLV_WHOLE to KMIP_TTLV_SURPLUS */
@@ -95,7 +109,7 @@ typedef struct {
  *
  * `prefix` holds the hexadecimal digits that are left out where a tag begins with them, as "4200". `closed` is whether an
  * empty structure is closed at once; if not, it stays open until the structure around it ends. `*items` is how many items
- * were tried, at most an eighth of `bytes_len` and one; 0 where the call refuses.
+ * were tried, at most an eighth of `bytes_len` and one; it is set with OK and NO_ROOM, and 0 on any other error.
  *
  * NOT_UTF8: the prefix. NO_ROOM: `out`. OUT_OF_MEMORY. */
 kmip_ttlv_status kmip_ttlv_to_diag(const uint8_t *bytes, size_t bytes_len, const uint8_t *prefix, size_t prefix_len,
@@ -131,18 +145,21 @@ kmip_ttlv_status kmip_ttlv_from_diag(const uint8_t *diagnostic, size_t diagnosti
 
 /* The items of a message in document order, each before those in it, up to the first fault.
  *
- * The first `room` of them are written to `items`, of which the others stay as they are; `*count` is how many there are.
- * `*fault` is what is wrong, its kind KMIP_TTLV_WHOLE where the bytes are one whole message.
+ * The first `room` of them are written to `items`, and the rest of the list is unchanged. `*count` is how many there are,
+ * which may be more than `room` with NO_ROOM and with MALFORMED too. `*fault` is what is wrong; its kind is
+ * KMIP_TTLV_WHOLE if the bytes are one whole message. A message of n bytes has at most n / 8 items.
  *
- * MALFORMED: the bytes are not one whole message; the items before the fault were found. NO_ROOM: a whole message has more
- * than `room` items. OUT_OF_MEMORY: `*count` is 0, the fault is none, and what `items` holds is unspecified. */
+ * MALFORMED: the bytes are not one whole message; the items are those before the fault. NO_ROOM: a whole message has more
+ * than `room` items. OUT_OF_MEMORY: `*count` is 0, the fault's kind is KMIP_TTLV_WHOLE, and what `items` holds is
+ * unspecified. */
 kmip_ttlv_status kmip_ttlv_items(const uint8_t *bytes, size_t bytes_len, kmip_ttlv_item *items, size_t room, size_t *count,
                                  kmip_ttlv_fault *fault);
 
 /* Whether bytes are one whole well-formed message: a Structure whose items, at every depth, are whole, with values of their
  * types, and nothing behind it.
  *
- * MALFORMED: they are not, and `*fault` is the first fault in document order. OUT_OF_MEMORY: the fault is none. */
+ * MALFORMED: they are not, and `*fault` is the first fault in document order. OUT_OF_MEMORY: its kind is
+ * KMIP_TTLV_WHOLE. */
 kmip_ttlv_status kmip_ttlv_check(const uint8_t *bytes, size_t bytes_len, kmip_ttlv_fault *fault);
 
 /* The version of the library, as KMIP_TTLV_VERSION.
