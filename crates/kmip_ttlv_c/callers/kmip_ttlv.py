@@ -8,7 +8,7 @@ from collections import namedtuple
 from datetime import datetime, timedelta, timezone
 
 __all__ = ["check", "decode", "from_diag", "items", "to_diag", "to_text", "version"]
-__all__ += ["Fault", "Item", "Node", "Malformed", "BadNames"]
+__all__ += ["FAULTS", "Fault", "Item", "Node", "Malformed", "BadNames"]
 
 _here = os.path.dirname(os.path.abspath(__file__))
 _library = ctypes.CDLL(os.environ.get("KMIP_TTLV_LIBRARY") or os.path.join(_here, "libkmip_ttlv.so"))
@@ -103,13 +103,19 @@ def _refuse(status, further=()):
 
 
 def to_diag(message, prefix="", closed=False):
-    """The redacted diagnostic of any bytes: tags without a prefix, types, nesting, enumeration values."""
+    """The redacted diagnostic of any bytes: tags without a prefix, types, nesting, enumeration values.
+
+    For malformed bytes it ends with ERR, and may show key bytes where a tag is expected: call check first.
+    """
     prefix, count = prefix.encode(), _size()
     return _text(lambda *out: _to_diag(message, len(message), prefix, len(prefix), closed, *out), len(message) + 64, count)
 
 
 def to_text(message, names=None, closed=False):
-    """Any bytes as readable text, every value shown, with KMIP's names of tags or those of a table of lines `TAG NAME`."""
+    """Any bytes as readable text, every value shown, with KMIP's names of tags or those of a table of lines `TAG NAME`.
+
+    For malformed bytes it ends with a line `ERROR: ..`. Texts keep their control characters.
+    """
     room = 16 * len(message) + 256
     if names is None:
         return _text(lambda *out: _to_standard_text(message, len(message), closed, *out), room)
@@ -118,7 +124,7 @@ def to_text(message, names=None, closed=False):
 
 
 def from_diag(diagnostic, prefix="", names=""):
-    """A diagnostic read back as lines, with `<redacted>` in place of values that it doesn't show."""
+    """A diagnostic read back as lines, with `<redacted>` in place of values that it doesn't show, up to where it stops being one."""
     diagnostic, prefix, names, line = diagnostic.encode(), prefix.encode(), names.encode(), _size()
     lent = (diagnostic, len(diagnostic), prefix, len(prefix), names, len(names))
     return _text(lambda *out: _from_diag(*lent, *out), 32 * len(diagnostic) + 256, line)

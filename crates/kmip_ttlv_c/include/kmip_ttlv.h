@@ -96,7 +96,7 @@ typedef struct {
 #define KMIP_TTLV_UNKNOWN_TYPE 3u
 /* Fewer than eight bytes are left of the structure around, and a header takes eight. */
 #define KMIP_TTLV_PARTIAL_HEADER 4u
-/* The length is none of a value of the type. */
+/* No value of the type has this length. */
 #define KMIP_TTLV_WRONG_LENGTH 5u
 /* The item, with its padding, goes past the end of the structure around. */
 #define KMIP_TTLV_OVERLONG 6u
@@ -105,7 +105,8 @@ typedef struct {
 /* Further bytes follow the root. */
 #define KMIP_TTLV_SURPLUS 8u
 
-/* The redacted diagnostic of any bytes: of each item its tag and type, of an enumeration its value, and no other value.
+/* The redacted diagnostic of any bytes. Of a well-formed message it shows each item's tag and type, the value of an
+ * enumeration, and no other value; in malformed bytes key bytes may sit where a tag is expected, and are shown then.
  *
  * `prefix` holds the hexadecimal digits that are left out where a tag begins with them, as "4200". `closed` is whether an
  * empty structure is closed at once; if not, it stays open until the structure around it ends. `*items` is how many items
@@ -115,10 +116,12 @@ typedef struct {
 kmip_ttlv_status kmip_ttlv_to_diag(const uint8_t *bytes, size_t bytes_len, const uint8_t *prefix, size_t prefix_len,
                                    bool closed, uint8_t *out, size_t room, size_t *length, size_t *items);
 
-/* Any bytes as readable text, a line for each item; it shows every value.
+/* Any bytes as readable text, a line for each item; it shows every value. Texts come as they are in the message, control
+ * characters too: escape them before you print them. To bound how long the text may get, define kmip_ttlv_malloc and
+ * kmip_ttlv_realloc.
  *
  * `names` is a table of names of tags: a line for each, with the tag's hexadecimal digits, a space and its name. Empty
- * lines and those that begin with '#' say nothing; of two lines for one tag the later counts. An empty table has no names.
+ * lines and those that begin with '#' are ignored; of two lines for one tag the later wins. An empty table has no names.
  *
  * `*bad_line` is 0 with every status but BAD_NAMES: OK and NO_ROOM too.
  *

@@ -1,0 +1,20 @@
+# Completion of the command ttlv for bash.
+_ttlv() {
+    local word=${COMP_WORDS[COMP_CWORD]} before=${COMP_WORDS[COMP_CWORD - 1]} command= options=
+    case $before in
+    --input) COMPREPLY=($(compgen -W 'raw hex base64' -- "$word")); return ;;
+    --prefix) COMPREPLY=(); return ;;
+    esac
+    [ "$COMP_CWORD" -gt 1 ] && command=${COMP_WORDS[1]}
+    case $command in
+    '') options='show diag undiag check hex --help --version' ;;
+    show) options='--redact --raw --names --input --help' ;;
+    diag) options='--prefix --closed --input --help' ;;
+    undiag) options='--prefix --names --help' ;;
+    check | hex) options='--input --help' ;;
+    esac
+    if [ -z "$command" ] || [[ $word == -* ]]; then
+        COMPREPLY=($(compgen -W "$options" -- "$word"))
+    fi
+}
+complete -o default -F _ttlv ttlv
