@@ -4,11 +4,12 @@
 //! `ttlv_words` and `ttlv_run`, which do the rest over any reader and any writers.
 #![tactic(auto)]
 
+use either::Either;
 use kmip_ttlv_names::{STANDARD_TAGS, standard_values, tag_names};
 use refusing_allocator::BoundedAllocator;
 use std::alloc::{AllocError, Allocator, Global};
 use std::fs::File;
-use std::io::{IsTerminal, Stderr};
+use std::io::{IsTerminal, Stderr, Stdin};
 use std::process::ExitCode;
 use std::rt::Env;
 use std::{env, fs, io};
@@ -35,27 +36,41 @@ fn words(rt: &(impl Env + Alloc<A = Global>)) -> io::Result<Vec<String>> {
     Ok(words)
 }
 
-// The files of the machine. On a terminal it is shown how far each was read.
+// The files of the machine, and standard input by the name `-`. On a terminal it is shown how far each was read.
 #[derive(Drop)]
 struct Disk<'r> {
     rt: &'r HostRuntime,
 }
 
+impl Disk<'_> {
+    // An input, of so many bytes if that is known.
+    fn shown(
+        &self,
+        input: Either<File, Stdin>,
+        total: Option<u64>,
+    ) -> Progress<Either<File, Stdin>, Stderr> {
+        let errors = self.rt.stderr();
+        let shown = errors.is_terminal();
+        Progress::new(input, errors, total, shown)
+    }
+}
+
 impl Opener for Disk<'_> {
-    type Input = Progress<File, Stderr>;
+    type Input = Progress<Either<File, Stdin>, Stderr>;
 
     // What a disk holds can't be said.
     ghost opens = { λ _ _ _ _. Unit {0} };
 
-    fn open(&mut self, name: &str) -> Option<Progress<File, Stderr>> {
+    fn open(&mut self, name: &str) -> Option<Progress<Either<File, Stdin>, Stderr>> {
+        if name == "-" {
+            return Some(self.shown(Either::Right(self.rt.stdin()), None));
+        }
         let file = fs::open(self.rt, name).ok()?;
         let total = match file.metadata() {
             Ok(metadata) => Some(metadata.len()),
             Err(_) => None,
         };
-        let errors = self.rt.stderr();
-        let shown = errors.is_terminal();
-        Some(Progress::new(file, errors, total, shown))
+        Some(self.shown(Either::Left(file), total))
     }
 }
 
