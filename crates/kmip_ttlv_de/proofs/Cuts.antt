@@ -8,7 +8,7 @@ use Rattle.std.proofs.lemmas.Bool.Decides.{Decides-eqb}
 use Rattle.std.proofs.lemmas.Slice.Eq.{starts_is}
 use Rattle.std.proofs.lemmas.Str.Pattern.{starts_text, ends_text}
 use Rattle.kmip_ttlv_types.specs.Names.{after_prefix}
-use Rattle.kmip_ttlv_de.specs.Rules.{before_suffix, cut, sides}
+use Rattle.kmip_ttlv_reader.specs.Rules.{before_suffix, cut, sides}
 
 -- `strip_prefix`
 pub stripped_prefix : (p s : List ℕ) (r : Option (Bor (List ℕ))) → MatchOption r (FindsTextPrefix p s None) (λ x. StripsPrefix (FindsTextPrefix p) s x.now) → option_map (λ x. x.now) r ≡ after_prefix p s

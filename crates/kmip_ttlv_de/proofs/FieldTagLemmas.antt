@@ -5,8 +5,8 @@ use Rattle.std.specs.BTreeMap.{is_at}
 use Rattle.std.specs.BTreeSet.{contains}
 use Rattle.kmip_ttlv_types.specs.Names.{tag_of}
 use Rattle.kmip_ttlv_base.specs.Forms.{Form, Fields, field}
-use Rattle.kmip_ttlv_de.specs.Reads.{has_tag, names_tag}
-use Rattle.kmip_ttlv_de.proofs.RuleLemmas.{is_eq-nat_cmp}
+use Rattle.kmip_ttlv_reader.specs.Reads.{has_tag, names_tag}
+use Rattle.kmip_ttlv_reader.proofs.RuleLemmas.{is_eq-nat_cmp}
 
 -- whether the name of a tag is that of another
 has_tag_is : (name : List ℕ) (k t : ℕ) → tag_of name ≡ Some k → has_tag name t ≡ (k == t)

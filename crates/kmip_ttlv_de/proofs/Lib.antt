@@ -1,20 +1,3 @@
-pub mod Front
 pub mod Cuts
-pub mod RuleLemmas
 pub mod FieldTagLemmas
-pub mod NumberLemmas
-mod Walks
-pub mod Steps
-pub mod Loops
-pub mod Standing
-pub mod Onward
-pub mod Wholeness
-pub mod Founding
-pub mod Giving
-pub mod ResultLemmas
 pub mod RowLemmas
-pub mod TagNames
-pub mod Mapped
-pub mod LeafLemmas
-pub mod Items
-pub mod Structures

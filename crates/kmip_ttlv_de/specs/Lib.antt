@@ -1,16 +1,3 @@
-pub mod Keeps
-pub mod Kept
-pub mod HeldTexts
-pub mod Rules
-pub mod Reads
 pub mod FieldTags
-pub mod Steps
-pub mod ReadFaults
-pub mod Outcomes
-pub mod ReadResults
-pub mod Results
-pub mod Wholes
-pub mod LeafForms
-pub mod ReadLaws
+pub mod Verdicts
 pub mod ReadRows
-pub mod Spots

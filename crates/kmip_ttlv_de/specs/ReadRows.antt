@@ -8,8 +8,8 @@ use Rattle.kmip_ttlv_base.specs.Values.{Value, i32_value, i64_value, u32_value, 
 use Rattle.kmip_ttlv_base.specs.Values.{struct_value, values_of}
 use Rattle.kmip_ttlv_base.specs.Forms.{Form, struct, enum, int32, any_number, Fields, no_fields, field}
 use Rattle.kmip_ttlv_base.specs.Forms.{Variants, no_variants, variant, Content, unit, wrapped}
-use Rattle.kmip_ttlv_de.specs.Steps.{Outcome, gives, ends_early, fails}
-use Rattle.kmip_ttlv_de.specs.Outcomes.{root_outcome}
+use Rattle.kmip_ttlv_reader.specs.Steps.{Outcome, gives, ends_early, fails}
+use Rattle.kmip_ttlv_reader.specs.Outcomes.{root_outcome}
 
 -- ---- messages
 

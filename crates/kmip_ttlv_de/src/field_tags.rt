@@ -3,7 +3,7 @@
 
 ghost use Rattle.std.specs.Prelude.{◌≡◌, IfOk};
 ghost use Rattle.kmip_ttlv_base.specs.Forms.{Fields, fields_of};
-ghost use Rattle.kmip_ttlv_de.specs.Reads.{names_tag};
+ghost use Rattle.kmip_ttlv_reader.specs.Reads.{names_tag};
 ghost use Rattle.kmip_ttlv_de.specs.FieldTags.{HasTagsOf};
 
 use kmip_ttlv_base::shape::FieldShape;

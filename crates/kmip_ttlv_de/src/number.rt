@@ -1,64 +1,25 @@
 //! Enums that are read by a number: the text that names a variant.
 
 ghost use Rattle.std.specs.Prelude.{◌≡◌, ◌+◌, ◌<◌, ◌≤◌, ◌++◌, length, true, IfOk, IfSome, option_map, string_bytes};
-ghost use Rattle.std.specs.Str.{IsAscii};
-ghost use Rattle.std.specs.Fmt.{digit_glyph};
 ghost use Rattle.kmip_ttlv_base.specs.Values.{view};
 ghost use Rattle.kmip_ttlv_base.specs.Forms.{variants_of, content_of};
-ghost use Rattle.kmip_ttlv_de.specs.Keeps.{Keep};
-ghost use Rattle.kmip_ttlv_de.specs.Reads.{is_number_type, byte_digits, number_text, first_named};
-ghost use Rattle.kmip_ttlv_de.specs.Outcomes.{number_outcome, unit_wanted, named_content};
-ghost use Rattle.kmip_ttlv_de.specs.Results.{IsRead, IsStep, fault_by};
+ghost use Rattle.kmip_ttlv_reader.specs.Keeps.{Keep};
+ghost use Rattle.kmip_ttlv_reader.specs.Reads.{is_number_type, first_named};
+ghost use Rattle.kmip_ttlv_reader.specs.Outcomes.{number_outcome, unit_wanted, named_content};
+ghost use Rattle.kmip_ttlv_reader.specs.Results.{IsRead, IsStep, fault_by};
 
-use crate::failure::{Cause, Failure, FaultAt, Step, at_item, in_struct};
-use crate::head::{content_there, inside, length_there, length_wanted, tag_at, type_wanted};
-use crate::keep::KeptTexts;
-use crate::scope::Scope;
 use kmip_ttlv_base::error::MalformedTtlvError;
 use kmip_ttlv_base::shape::{Data, VariantContent, VariantShape};
 use kmip_ttlv_base::types::{FieldType, TtlvType};
+use kmip_ttlv_reader::failure::{Cause, Failure, FaultAt, Step, at_item, in_struct};
+use kmip_ttlv_reader::head::{
+    content_there, inside, length_there, length_wanted, tag_at, type_wanted,
+};
+use kmip_ttlv_reader::keep::KeptTexts;
+use kmip_ttlv_reader::number_text::number_text;
+use kmip_ttlv_reader::scope::Scope;
 use std::alloc::{AllocError, Allocator};
 use std::str;
-
-// A hexadecimal digit in upper case.
-#[inline(always)]
-fn digit(n: u8) -> u8
-    requires { n < 16 }
-    ensures value { result ≡ digit_glyph true n }
-    ensures ascii { result < 128 }
-{
-    if n < 10 { 48 + n } else { 55 + n }
-}
-
-// `0x` and the upper case digits of these four bytes.
-#[inline(always)]
-fn number_text(content: &[u8]) -> [u8; 10]
-    requires { length content.now ≡ 4 }
-    ensures text { result ≡ number_text content.now }
-    ensures ascii { IsAscii result }
-{
-    [
-        48,
-        120,
-        digit(content[0] / 16),
-        digit(content[0] % 16),
-        digit(content[1] / 16),
-        digit(content[1] % 16),
-        digit(content[2] / 16),
-        digit(content[2] % 16),
-        digit(content[3] / 16),
-        digit(content[3] % 16),
-    ]
-}
-
-/// The same as a text of its own.
-pub fn number_string<A: Allocator>(alloc: A, content: &[u8]) -> Result<String<A>, AllocError>
-    requires { length content.now ≡ 4 }
-    ensures { IfOk result (λ s. string_bytes s ≡ number_text content.now) }
-{
-    let digits = number_text(content);
-    String::from_str(alloc, unsafe { str::from_utf8_unchecked(&digits) })
-}
 
 // The first variant of this name.
 #[inline(always)]
@@ -140,7 +101,7 @@ fn named_unit<A: Allocator + Copy>(
 }
 
 /// The variant that a number names.
-#[tactic(auto, unfolding(crate::specs::Outcomes::number_outcome), using(crate::proofs::Steps::failure_then))]
+#[tactic(auto, unfolding(kmip_ttlv_reader::specs::Outcomes::number_outcome), using(kmip_ttlv_reader::proofs::Steps::failure_then))]
 #[inline(always)]
 pub fn read_number<'b, A: Allocator + Copy>(
     scope: &Scope<'b, A>,

@@ -3,25 +3,26 @@
 ghost use Rattle.std.specs.Prelude.{◌≡◌, ◌≢◌, ℕ, suc, ◌+◌, Bool, true, false, ◌<◌, ◌≤◌, List, [], length, IfOk};
 ghost use Rattle.kmip_ttlv_base.specs.Values.{view, views, struct_value, seq_value};
 ghost use Rattle.kmip_ttlv_base.specs.Forms.{Form, Fields, form_of, forms_of, fields_of, variants_of, content_of};
-ghost use Rattle.kmip_ttlv_de.specs.Keeps.{Keep};
-ghost use Rattle.kmip_ttlv_de.specs.Reads.{is_option, is_struct};
-ghost use Rattle.kmip_ttlv_de.specs.Outcomes.{outcome, fields_outcome, field_outcome, seq_outcome, struct_outcome};
-ghost use Rattle.kmip_ttlv_de.specs.Outcomes.{all_outcome, goes_on, enum_outcome, variant_outcome, content_outcome};
-ghost use Rattle.kmip_ttlv_de.specs.Outcomes.{tuple_outcome, forms_outcome, part_outcome};
-ghost use Rattle.kmip_ttlv_de.specs.Results.{IsRead, IsStep};
+ghost use Rattle.kmip_ttlv_reader.specs.Keeps.{Keep};
+ghost use Rattle.kmip_ttlv_reader.specs.Reads.{is_option, is_struct};
+ghost use Rattle.kmip_ttlv_reader.specs.Outcomes.{outcome, fields_outcome, field_outcome, seq_outcome, struct_outcome};
+ghost use Rattle.kmip_ttlv_reader.specs.Outcomes.{all_outcome, enum_outcome, variant_outcome, content_outcome};
+ghost use Rattle.kmip_ttlv_reader.specs.Outcomes.{tuple_outcome, forms_outcome, part_outcome};
+ghost use Rattle.kmip_ttlv_reader.specs.Results.{IsRead, IsStep};
 
-use crate::failure::{Failure, Step, in_struct, within};
-use crate::head::{
-    has_tag, inside, length_there, opened, structure_wanted, tag_at, tag_wanted, type_there,
-};
-use crate::keep::KeptTexts;
-use crate::leaf::{Leaf, read_leaf};
 use crate::number::read_number;
 use crate::rest::read_rest;
-use crate::scope::Scope;
 use crate::variant::{chosen, chosen_unit};
 use kmip_ttlv_base::shape::{Data, FieldShape, Shape, VariantContent, VariantShape};
 use kmip_ttlv_base::types::TtlvType;
+use kmip_ttlv_reader::failure::{Failure, Step, in_struct, within};
+use kmip_ttlv_reader::head::{
+    goes_on, has_tag, inside, length_there, opened, structure_wanted, tag_at, tag_wanted,
+    type_there,
+};
+use kmip_ttlv_reader::keep::KeptTexts;
+use kmip_ttlv_reader::leaf::{Leaf, read_leaf};
+use kmip_ttlv_reader::scope::Scope;
 use std::alloc::Allocator;
 
 #[inline(always)]
@@ -44,7 +45,7 @@ fn is_struct<A: Allocator>(shape: &Shape<A>) -> bool
 
 /// What a shape reads from `pos` on.
 #[cycle(reader)]
-#[tactic(auto, unfolding(crate::specs::Outcomes::outcome), using(crate::proofs::Steps::failure_then))]
+#[tactic(auto, unfolding(kmip_ttlv_reader::specs::Outcomes::outcome), using(kmip_ttlv_reader::proofs::Steps::failure_then))]
 pub fn read_shape<'b, A: Allocator + Copy>(
     scope: &Scope<'b, A>,
     shape: &Shape<A>,
@@ -92,7 +93,7 @@ pub fn read_shape<'b, A: Allocator + Copy>(
 
 /// A structure: its header, its fields, and its end.
 #[cycle(reader)]
-#[tactic(auto, unfolding(crate::specs::Outcomes::struct_outcome), using(crate::proofs::Steps::failure_then))]
+#[tactic(auto, unfolding(kmip_ttlv_reader::specs::Outcomes::struct_outcome), using(kmip_ttlv_reader::proofs::Steps::failure_then))]
 #[inline(always)]
 fn read_struct<'b, A: Allocator + Copy>(
     scope: &Scope<'b, A>,
@@ -134,7 +135,7 @@ fn read_struct<'b, A: Allocator + Copy>(
 
 /// All that a structure contains: the fields, and what may follow.
 #[cycle(reader)]
-#[tactic(auto, unfolding(crate::specs::Outcomes::all_outcome), using(crate::proofs::Steps::failure_then))]
+#[tactic(auto, unfolding(kmip_ttlv_reader::specs::Outcomes::all_outcome), using(kmip_ttlv_reader::proofs::Steps::failure_then))]
 pub fn read_content<'b, A: Allocator + Copy>(
     scope: &Scope<'b, A>,
     fields: &[FieldShape<A>],
@@ -156,7 +157,7 @@ pub fn read_content<'b, A: Allocator + Copy>(
 
 /// The fields, one after the other.
 #[cycle(reader)]
-#[tactic(auto, using(crate::proofs::Steps::failure_then))]
+#[tactic(auto, using(kmip_ttlv_reader::proofs::Steps::failure_then))]
 fn read_fields<'b, A: Allocator + Copy>(
     scope: &Scope<'b, A>,
     fields: &[FieldShape<A>],
@@ -181,7 +182,7 @@ fn read_fields<'b, A: Allocator + Copy>(
 
 /// One field: a struct goes by its own name, any other by the field's, and an option may be left out.
 #[cycle(reader)]
-#[tactic(auto, unfolding(crate::specs::Outcomes::field_outcome), using(crate::proofs::Steps::failure_then))]
+#[tactic(auto, unfolding(kmip_ttlv_reader::specs::Outcomes::field_outcome), using(kmip_ttlv_reader::proofs::Steps::failure_then))]
 #[inline(always)]
 fn read_field<'b, A: Allocator + Copy>(
     scope: &Scope<'b, A>,
@@ -223,7 +224,7 @@ fn read_field<'b, A: Allocator + Copy>(
 
 /// A sequence: the first item, and then as long as the next has its tag and type.
 #[cycle(reader)]
-#[tactic(auto, unfolding(crate::specs::Outcomes::seq_outcome), using(crate::proofs::Steps::failure_then))]
+#[tactic(auto, unfolding(kmip_ttlv_reader::specs::Outcomes::seq_outcome), using(kmip_ttlv_reader::proofs::Steps::failure_then))]
 fn read_seq<'b, A: Allocator + Copy>(
     scope: &Scope<'b, A>,
     shape: &Shape<A>,
@@ -247,31 +248,9 @@ fn read_seq<'b, A: Allocator + Copy>(
     Ok((values, next))
 }
 
-/// Whether the next item is there, with the first one's tag and type.
-#[tactic(auto, unfolding(crate::specs::Outcomes::goes_on), using(crate::proofs::Steps::failure_then))]
-#[inline(always)]
-pub fn goes_on<A: Allocator + Copy>(
-    alloc: A,
-    bytes: &[u8],
-    first: usize,
-    pos: usize,
-    end: usize,
-) -> Step<bool, A>
-    requires first { first + 4 ≤ length bytes.now }
-    requires inside { pos ≤ length bytes.now }
-    ensures step { IsStep (λ more. more) (goes_on bytes.now first pos end) result }
-    ensures there { IfOk result (λ more. more ≡ true → pos + 4 ≤ length bytes.now) }
-{
-    if pos == end {
-        return Ok(false);
-    }
-    let _ = type_there(alloc, bytes, pos)?;
-    Ok(tag_at(bytes, pos) == tag_at(bytes, first) && bytes[pos + 3] == bytes[first + 3])
-}
-
 /// An enum, by the rules of its variants, or else by a number.
 #[cycle(reader)]
-#[tactic(auto, unfolding(crate::specs::Outcomes::enum_outcome), using(crate::proofs::Steps::failure_then))]
+#[tactic(auto, unfolding(kmip_ttlv_reader::specs::Outcomes::enum_outcome), using(kmip_ttlv_reader::proofs::Steps::failure_then))]
 #[inline(always)]
 fn read_enum<'b, A: Allocator + Copy>(
     scope: &Scope<'b, A>,
@@ -296,7 +275,7 @@ fn read_enum<'b, A: Allocator + Copy>(
 
 /// What a variant contains that a rule chose.
 #[cycle(reader)]
-#[tactic(auto, unfolding(crate::specs::Outcomes::content_outcome), using(crate::proofs::Steps::failure_then))]
+#[tactic(auto, unfolding(kmip_ttlv_reader::specs::Outcomes::content_outcome), using(kmip_ttlv_reader::proofs::Steps::failure_then))]
 fn read_variant<'b, A: Allocator + Copy>(
     scope: &Scope<'b, A>,
     name: &'static str,
@@ -341,7 +320,7 @@ fn read_variant<'b, A: Allocator + Copy>(
 
 /// A structure whose items the shapes use up.
 #[cycle(reader)]
-#[tactic(auto, unfolding(crate::specs::Outcomes::tuple_outcome), using(crate::proofs::Steps::failure_then))]
+#[tactic(auto, unfolding(kmip_ttlv_reader::specs::Outcomes::tuple_outcome), using(kmip_ttlv_reader::proofs::Steps::failure_then))]
 fn read_tuple<'b, A: Allocator + Copy>(
     scope: &Scope<'b, A>,
     shapes: &[Shape<A>],
@@ -374,7 +353,7 @@ fn read_tuple<'b, A: Allocator + Copy>(
 
 /// The items of a structure, one for each shape.
 #[cycle(reader)]
-#[tactic(auto, using(crate::proofs::Steps::failure_then))]
+#[tactic(auto, using(kmip_ttlv_reader::proofs::Steps::failure_then))]
 fn read_parts<'b, A: Allocator + Copy>(
     scope: &Scope<'b, A>,
     shapes: &[Shape<A>],
@@ -399,7 +378,7 @@ fn read_parts<'b, A: Allocator + Copy>(
 
 /// One item of a tuple, which must be there.
 #[cycle(reader)]
-#[tactic(auto, unfolding(crate::specs::Outcomes::part_outcome), using(crate::proofs::Steps::failure_then))]
+#[tactic(auto, unfolding(kmip_ttlv_reader::specs::Outcomes::part_outcome), using(kmip_ttlv_reader::proofs::Steps::failure_then))]
 #[inline(always)]
 fn read_part<'b, A: Allocator + Copy>(
     scope: &Scope<'b, A>,

@@ -2,18 +2,17 @@
 
 ghost use Rattle.std.specs.Prelude.{◌≡◌, ◌≢◌, ℕ, suc, ◌+◌, ◌<◌, ◌≤◌, length, IfOk};
 ghost use Rattle.kmip_ttlv_base.specs.Forms.{fields_of};
-ghost use Rattle.kmip_ttlv_de.specs.Reads.{has_fields};
+ghost use Rattle.kmip_ttlv_reader.specs.Reads.{has_fields};
 ghost use Rattle.kmip_ttlv_de.specs.FieldTags.{HasTagsOf};
-ghost use Rattle.kmip_ttlv_de.specs.Outcomes.{rest_outcome, ignored, item_end};
-ghost use Rattle.kmip_ttlv_de.specs.Results.{IsStep};
+ghost use Rattle.kmip_ttlv_reader.specs.Outcomes.{rest_outcome, ignored};
+ghost use Rattle.kmip_ttlv_reader.specs.Results.{IsStep};
 
-use crate::failure::{Cause, Failure, Step, at_item, in_struct};
 use crate::field_tags::{is_field, tags_of};
-use crate::head::{content_there, end_there, inside, length_there, tag_at, type_there};
-use crate::scope::Scope;
 use kmip_ttlv_base::error::SerdeError;
 use kmip_ttlv_base::shape::FieldShape;
-use kmip_ttlv_base::types::TtlvType;
+use kmip_ttlv_reader::failure::{Cause, Failure, Step, at_item, in_struct};
+use kmip_ttlv_reader::head::{inside, item_end, tag_at, type_there};
+use kmip_ttlv_reader::scope::Scope;
 use std::alloc::Allocator;
 use std::collections::BTreeSet;
 
@@ -38,7 +37,7 @@ pub fn read_rest<A: Allocator + Copy>(
 }
 
 // The items behind the fields. The fields' tags are read once for all of them.
-#[tactic(auto, using(crate::proofs::Steps::failure_then))]
+#[tactic(auto, using(kmip_ttlv_reader::proofs::Steps::failure_then))]
 fn read_others<A: Allocator + Copy>(
     scope: &Scope<'_, A>,
     fields: &[FieldShape<A>],
@@ -60,7 +59,7 @@ fn read_others<A: Allocator + Copy>(
 }
 
 /// An item behind the fields, which is ignored.
-#[tactic(auto, unfolding(crate::specs::Outcomes::ignored), using(crate::proofs::Steps::failure_then))]
+#[tactic(auto, unfolding(kmip_ttlv_reader::specs::Outcomes::ignored), using(kmip_ttlv_reader::proofs::Steps::failure_then))]
 fn read_ignored<A: Allocator + Copy>(
     scope: &Scope<'_, A>,
     fields: &[FieldShape<A>],
@@ -91,28 +90,6 @@ fn read_ignored<A: Allocator + Copy>(
     }
     let next = item_end(scope.alloc, scope.bytes, pos, typ)?;
     inside(scope.alloc, scope.bytes, pos, scope.end, typ, next)?;
-    Ok(next)
-}
-
-/// The place behind an item.
-#[tactic(auto, unfolding(crate::specs::Outcomes::item_end), using(crate::proofs::Steps::failure_then))]
-#[inline(always)]
-pub fn item_end<A: Allocator + Copy>(
-    alloc: A,
-    bytes: &[u8],
-    pos: usize,
-    typ: TtlvType,
-) -> Step<usize, A>
-    requires there { pos + 4 ≤ length bytes.now }
-    ensures step { IsStep (λ q. q) (item_end bytes.now pos typ) result }
-    ensures further { IfOk result (λ q. (pos + 8 ≤ q) × (q ≤ length bytes.now)) }
-{
-    if typ == TtlvType::Structure {
-        let n = length_there(bytes, pos)?;
-        let next = end_there(bytes, pos, typ, n)?;
-        return Ok(next);
-    }
-    let (_, next) = content_there(alloc, bytes, pos, typ)?;
     Ok(next)
 }
 

@@ -1,83 +1,22 @@
 //! Whole messages.
 
-ghost use Rattle.std.specs.Prelude.{◌≡◌, ◌⊎◌, ◌+◌, ◌<◌, ◌≤◌, [], length, reverse, IfOk, Some, None};
+ghost use Rattle.std.specs.Prelude.{◌≡◌, ◌+◌, ◌<◌, ◌≤◌, [], length, IfOk, Some, None};
 ghost use Rattle.kmip_ttlv_types.specs.Names.{tag_of};
-ghost use Rattle.kmip_ttlv_base.specs.Errors.{view_of_kind, IsMemory, tags_of};
-ghost use Rattle.kmip_ttlv_base.specs.Values.{Value, view, views};
+ghost use Rattle.kmip_ttlv_base.specs.Values.{view, views};
 ghost use Rattle.kmip_ttlv_base.specs.Forms.{form_of, fields_of};
-ghost use Rattle.kmip_ttlv_de.specs.Steps.{Outcome, gives};
-ghost use Rattle.kmip_ttlv_de.specs.Outcomes.{root_outcome, first_outcome, fields_outcome, named_first};
-ghost use Rattle.kmip_ttlv_de.specs.ReadFaults.{at_first};
-ghost use Rattle.kmip_ttlv_de.specs.ReadResults.{IsError, IsOfBytes, seen};
-ghost use Rattle.kmip_ttlv_de.specs.Results.{IsStep, IsFailure, IsOutcome, kind_by, fault_by};
+ghost use Rattle.kmip_ttlv_reader.specs.Outcomes.{root_outcome, first_outcome, fields_outcome, named_first};
+ghost use Rattle.kmip_ttlv_reader.specs.Results.{IsStep, IsFailure, IsOutcome};
 
-use crate::failure::{Cause, Failure, FaultAt, Step, at_first, within};
-use crate::head::{opened, tag_at};
-use crate::keep::KeptTexts;
 use crate::read::read_content;
-use crate::scope::Scope;
-use kmip_ttlv_base::error::{
-    Error, ErrorKind, ErrorLocation, MalformedTtlvError, Result, SerdeError,
-};
+use kmip_ttlv_base::error::{MalformedTtlvError, Result, SerdeError};
 use kmip_ttlv_base::shape::{Data, FieldShape, Shape};
-use kmip_ttlv_base::types::{ByteOffset, FieldType, TtlvTag};
+use kmip_ttlv_base::types::{FieldType, TtlvTag};
+use kmip_ttlv_reader::errors::error;
+use kmip_ttlv_reader::failure::{Cause, Failure, Step, at_first, within};
+use kmip_ttlv_reader::head::{opened, tag_at};
+use kmip_ttlv_reader::keep::KeptTexts;
+use kmip_ttlv_reader::scope::Scope;
 use std::alloc::Allocator;
-use std::io;
-
-// The kind that a cause is.
-fn kind<A: Allocator>(cause: Cause<A>) -> ErrorKind<A>
-    ensures is { view_of_kind result ≡ kind_by cause }
-    ensures of_bytes { IsOfBytes (kind_by cause) }
-{
-    match cause {
-        Cause::Malformed(fault) => ErrorKind::MalformedTtlv(fault),
-        Cause::Mismatch(fault) => ErrorKind::SerdeError(fault),
-    }
-}
-
-// The tags of the structures around, the outermost first, if there are any.
-fn parents<A: Allocator>(around: Vec<TtlvTag, A>) -> Option<Vec<TtlvTag, A>>
-    ensures { tags_of result ≡ reverse around.items }
-{
-    if around.is_empty() {
-        return None;
-    }
-    let mut tags = around;
-    tags.reverse();
-    Some(tags)
-}
-
-// The fault as an error.
-fn error_at<A: Allocator>(fault: FaultAt<A>) -> Error<A>
-    ensures is { seen result ≡ fault_by fault }
-    ensures of_bytes { IsOfBytes (kind_by fault.cause) }
-{
-    let FaultAt {
-        cause,
-        offset,
-        tag,
-        typ,
-        around,
-    } = fault;
-    let offset = ByteOffset(offset as u64);
-    let location = ErrorLocation::at(Some(offset), parents(around), tag, typ);
-    Error::new(kind(cause), location)
-}
-
-/// The failure as an error.
-#[cold]
-pub fn error<A: Allocator>(failure: Failure<A>) -> Error<A>
-    ensures { (o : Outcome Value) → IsFailure o failure → IsMemory result ⊎ IsError o (seen result) }
-{
-    match failure {
-        Failure::OutOfMemory => { Error::new(ErrorKind::OutOfMemory, ErrorLocation::unknown()) }
-        Failure::EarlyEnd => {
-            let early = io::Error::from(io::ErrorKind::UnexpectedEof);
-            Error::new(ErrorKind::IoError(early), ErrorLocation::unknown())
-        }
-        Failure::Fault(fault) => error_at(Box::into_inner(fault)),
-    }
-}
 
 // The name of the message's struct is a tag.
 fn named_first<A: Allocator + Copy>(alloc: A, name: &str) -> Step<(), A>
@@ -93,7 +32,7 @@ fn named_first<A: Allocator + Copy>(alloc: A, name: &str) -> Step<(), A>
 }
 
 // The fields of the struct that a message is.
-#[tactic(auto, unfolding(crate::specs::Outcomes::first_outcome), using(crate::proofs::Steps::failure_then))]
+#[tactic(auto, unfolding(kmip_ttlv_reader::specs::Outcomes::first_outcome), using(kmip_ttlv_reader::proofs::Steps::failure_then))]
 fn read_first<A: Allocator + Copy>(
     alloc: A,
     name: &str,
@@ -121,7 +60,7 @@ fn read_first<A: Allocator + Copy>(
 }
 
 // What a whole message is read as.
-#[tactic(auto, unfolding(crate::specs::Outcomes::root_outcome), using(crate::proofs::Steps::failure_then))]
+#[tactic(auto, unfolding(kmip_ttlv_reader::specs::Outcomes::root_outcome), using(kmip_ttlv_reader::proofs::Steps::failure_then))]
 fn read_message<A: Allocator + Copy>(alloc: A, shape: &Shape<A>, bytes: &[u8]) -> Step<Data<A>, A>
     ensures step { IsStep view (root_outcome (form_of shape.now) bytes.now) result }
 {

@@ -16,7 +16,7 @@ ghost use Rattle.kmip_ttlv_base.specs.Values.{values_of};
 ghost use Rattle.kmip_ttlv_base.specs.Forms.{any_number, big_integer, boolean, field, form, int32, int64};
 ghost use Rattle.kmip_ttlv_base.specs.Forms.{interval, newtype, no_fields, no_forms, octets, option, seq, text};
 ghost use Rattle.kmip_ttlv_base.specs.Forms.{tuple, unit, wrapped};
-ghost use Rattle.kmip_ttlv_de.specs.Steps.{gives, ends_early};
+ghost use Rattle.kmip_ttlv_reader.specs.Steps.{gives, ends_early};
 ghost use Rattle.kmip_ttlv_de.specs.ReadRows.{Row, CutRow, OtherRow, NotRow, error_at, error_at_code, error_at_start};
 ghost use Rattle.kmip_ttlv_de.specs.ReadRows.{gives_struct, integer, long_integer, structure, closed, three_integers};
 ghost use Rattle.kmip_ttlv_de.specs.ReadRows.{single, pair, named_pair, either, only, numbers, alone, one_or_none};

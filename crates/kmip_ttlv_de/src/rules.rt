@@ -5,11 +5,12 @@
 ghost use Rattle.std.specs.Prelude.{◌≡◌, ◌<◌, length, IfOk, IfSome, option_map};
 ghost use Rattle.std.specs.Option.{option_copied};
 ghost use Rattle.kmip_ttlv_base.specs.Forms.{variants_of};
-ghost use Rattle.kmip_ttlv_de.specs.Rules.{rule, choice, type_name, sides, in_brackets, equal, at_least, member, verdict_of, choice_of, says};
+ghost use Rattle.kmip_ttlv_reader.specs.Rules.{rule, choice, type_name, sides, in_brackets, equal, at_least, member, says};
+ghost use Rattle.kmip_ttlv_de.specs.Verdicts.{verdict_of, choice_of};
 
-use crate::keep::KeptTexts;
 use kmip_ttlv_base::shape::VariantShape;
 use kmip_ttlv_base::types::{TtlvTag, TtlvType, number};
+use kmip_ttlv_reader::keep::KeptTexts;
 use std::alloc::Allocator;
 
 /// Why a rule is refused.
@@ -50,7 +51,7 @@ pub enum Verdict<'n> {
 /// A rule without operator is refused with the whole name. `>=`, and `in` with brackets, are
 /// refused with the first side where it is no tag; `>=` where a text is kept, with that text or
 /// else the second side, where it is no number.
-#[tactic(auto, unfolding(crate::specs::Rules::rule))]
+#[tactic(auto, unfolding(kmip_ttlv_reader::specs::Rules::rule))]
 #[inline(always)]
 pub fn rule<'n, 'b, A: Allocator + Copy>(
     name: &'n str,
@@ -134,7 +135,7 @@ fn type_name(typ: TtlvType) -> &'static str
 }
 
 // `==`
-#[tactic(auto, unfolding(crate::specs::Rules::equal))]
+#[tactic(auto, unfolding(kmip_ttlv_reader::specs::Rules::equal))]
 fn equal<'n, 'b, A: Allocator + Copy>(
     left: &str,
     right: &str,
@@ -156,7 +157,7 @@ fn equal<'n, 'b, A: Allocator + Copy>(
 }
 
 // `>=`
-#[tactic(auto, unfolding(crate::specs::Rules::at_least))]
+#[tactic(auto, unfolding(kmip_ttlv_reader::specs::Rules::at_least))]
 fn at_least<'n, 'b, A: Allocator + Copy>(
     left: &'n str,
     right: &'n str,
@@ -180,7 +181,7 @@ fn at_least<'n, 'b, A: Allocator + Copy>(
 }
 
 // `in`
-#[tactic(auto, unfolding(crate::specs::Rules::member))]
+#[tactic(auto, unfolding(kmip_ttlv_reader::specs::Rules::member))]
 fn member<'n, 'b, A: Allocator + Copy>(
     left: &'n str,
     right: &str,

@@ -5,17 +5,18 @@ ghost use Rattle.kmip_ttlv_types.specs.declared.field.FieldType.TheVariants.{Len
 ghost use Rattle.kmip_ttlv_base.specs.declared.error.MalformedTtlvError.TheVariants as malformeds;
 ghost use Rattle.kmip_ttlv_base.specs.Errors.{malformed, mismatch};
 ghost use Rattle.kmip_ttlv_base.specs.Forms.{variants_of};
-ghost use Rattle.kmip_ttlv_de.specs.Rules.{choice, mismatch_of};
-ghost use Rattle.kmip_ttlv_de.specs.Outcomes.{picked};
-ghost use Rattle.kmip_ttlv_de.specs.ReadFaults.{at_item};
-ghost use Rattle.kmip_ttlv_de.specs.Results.{IsStep, fault_by};
+ghost use Rattle.kmip_ttlv_de.specs.Verdicts.{mismatch_of};
+ghost use Rattle.kmip_ttlv_reader.specs.Rules.{choice};
+ghost use Rattle.kmip_ttlv_reader.specs.Outcomes.{picked};
+ghost use Rattle.kmip_ttlv_reader.specs.ReadFaults.{at_item};
+ghost use Rattle.kmip_ttlv_reader.specs.Results.{IsStep, fault_by};
 
-use crate::failure::{Cause, Failure, FaultAt, Step, at_item};
-use crate::keep::KeptTexts;
 use crate::rules::{RuleError, choose};
 use kmip_ttlv_base::error::{MalformedTtlvError, SerdeError};
 use kmip_ttlv_base::shape::VariantShape;
 use kmip_ttlv_base::types::{FieldType, TtlvType};
+use kmip_ttlv_reader::failure::{Cause, Failure, FaultAt, Step, at_item};
+use kmip_ttlv_reader::keep::KeptTexts;
 use std::alloc::{AllocError, Allocator};
 
 // What is wrong with a rule.

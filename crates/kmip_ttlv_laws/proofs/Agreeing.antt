@@ -14,9 +14,9 @@ use Rattle.kmip_ttlv_base.specs.Values.{Value, seq_value, Values, no_values, val
 use Rattle.kmip_ttlv_ser.specs.declared.held.Held.{Held}
 use Rattle.kmip_ttlv_ser.specs.declared.held.Held.TheVariants.{Nothing}
 use Rattle.kmip_ttlv_ser.specs.WrittenItems.{◌>>=◌, enumeration, held_tag, items, items_in, left_over, some_item}
-use Rattle.kmip_ttlv_de.proofs.Giving.{begins_one}
-use Rattle.kmip_ttlv_de.specs.Keeps.{Keep}
-use Rattle.kmip_ttlv_de.specs.Reads.{Begins, Reads, ReadsContent, ReadsField, ReadsFields, ReadsForms, ReadsRun, ReadsVariant, absent, by_number, by_rule, done, ends, has_tag, here, inner, is_like, is_root, is_struct, leaf_value, more, named, names, next, no_part, part, parts, run, structure, there, whole, wrap, wrap_some, leaf as read_leaf}
+use Rattle.kmip_ttlv_reader.proofs.Giving.{begins_one}
+use Rattle.kmip_ttlv_reader.specs.Keeps.{Keep}
+use Rattle.kmip_ttlv_reader.specs.Reads.{Begins, Reads, ReadsContent, ReadsField, ReadsFields, ReadsForms, ReadsRun, ReadsVariant, absent, by_number, by_rule, done, ends, has_tag, here, inner, is_like, is_root, is_struct, leaf_value, more, named, names, next, no_part, part, parts, run, structure, there, whole, wrap, wrap_some, leaf as read_leaf}
 use Rattle.kmip_ttlv_laws.specs.Agreements.{Head, Agrees, goes_on, leaf_agrees, inner_agrees, option_agrees, newtype_agrees, struct_agrees, rule_agrees, tuple_agrees, number_agrees, seq_agrees, RunAgrees, last_agrees, next_agrees, FieldsAgree, no_field_agrees, nothing_agrees, absent_agrees, field_agrees, FormsAgree, no_form_agrees, form_agrees, Wraps, some_wraps, newtype_wraps, variant_wraps, Encloses, struct_encloses, newtype_encloses, variant_encloses, tuple_encloses, IsNumbered, unit_is_numbered, number_is_numbered, HasVariant, first_variant, later_variant, is_named, is_alike, is_field_of, is_run, leaf_type, with_value}
 use Rattle.kmip_ttlv_laws.specs.Contents.{items_below}
 use Rattle.kmip_ttlv_laws.specs.ReadingLaws.{AgreeingIsRead, AgreeingIsWritten}

@@ -14,8 +14,8 @@ use Rattle.kmip_ttlv_messages.specs.MessageParts.{by_bits, optional as read_opti
 use Rattle.kmip_ttlv_ser.specs.declared.held.Held.{Held}
 use Rattle.kmip_ttlv_ser.specs.declared.held.Held.TheVariants.{Nothing}
 use Rattle.kmip_ttlv_ser.specs.WrittenItems.{take_tag, held_tag}
-use Rattle.kmip_ttlv_de.specs.Keeps.{Keep}
-use Rattle.kmip_ttlv_de.specs.Reads.{has_tag}
+use Rattle.kmip_ttlv_reader.specs.Keeps.{Keep}
+use Rattle.kmip_ttlv_reader.specs.Reads.{has_tag}
 use Rattle.kmip_ttlv_laws.specs.Agreements.{Head, Agrees, FieldsAgree, IsNumbered, MessageAgrees, RunAgrees, Wraps, absent_agrees, field_agrees, inner_agrees, is_alike, is_named, is_field_of, is_run, goes_on, last_agrees, leaf_agrees, leaf_type, newtype_agrees, newtype_encloses, newtype_wraps, next_agrees, no_field_agrees, number_agrees, option_agrees, seq_agrees, struct_agrees, struct_encloses, unit_is_numbered}
 use Rattle.kmip_ttlv_laws.specs.Returns.{ComesBack, as_date, as_int32, as_int64, NamesUnit, text_of_number}
 

@@ -11,9 +11,9 @@ use Rattle.kmip_ttlv_base.specs.Values.{Value, u32_value, text_value, newtype_va
 use Rattle.kmip_ttlv_ser.specs.declared.held.Held.{Held}
 use Rattle.kmip_ttlv_ser.specs.declared.held.Held.TheVariants.{Nothing}
 use Rattle.kmip_ttlv_ser.specs.WrittenItems.{take_tag, held_tag}
-use Rattle.kmip_ttlv_de.specs.Keeps.{Keep}
-use Rattle.kmip_ttlv_de.specs.Reads.{has_tag}
-use Rattle.kmip_ttlv_de.specs.Rules.{choice, chosen, last}
+use Rattle.kmip_ttlv_reader.specs.Keeps.{Keep}
+use Rattle.kmip_ttlv_reader.specs.Reads.{has_tag}
+use Rattle.kmip_ttlv_reader.specs.Rules.{choice, chosen, last}
 use Rattle.kmip_ttlv_laws.specs.Agreements.{Head, Agrees, FieldsAgree, HasVariant, Wraps, field_agrees, inner_agrees, is_field_of, is_run, leaf_agrees, newtype_agrees, newtype_wraps, rule_agrees, struct_agrees, struct_encloses}
 use Rattle.kmip_ttlv_laws.specs.Returns.{as_number, as_text, NamesUnit, text_of_number}
 use Rattle.kmip_ttlv_laws.proofs.MessageParts.{PartAgrees, PartsAgree, ends, unit_agrees}

@@ -7,9 +7,9 @@ use Rattle.kmip_ttlv_types.specs.Items.{Raw, Splits}
 use Rattle.kmip_ttlv_base.specs.Forms.{Form, Fields, Variants, Content, Forms, struct, seq, enum, tuple}
 use Rattle.kmip_ttlv_base.specs.Values.{Value, Values, seq_value, struct_value, tuple_variant_value, unit_variant_value, value}
 use Rattle.kmip_ttlv_types.proofs.PlaceLemmas.{splits_one}
-use Rattle.kmip_ttlv_de.specs.Keeps.{Keep}
-use Rattle.kmip_ttlv_de.specs.Reads.{Reads, ReadsContent, ReadsField, ReadsFields, ReadsForms, ReadsRun, ReadsVariant, absent, by_number, by_rule, done, ends, here, inner, is_like, leaf, leaf_value, may_follow, may_ignore, more, named, names, next, no_part, number_text, part, parts, run, structure, there, whole, with_leaf, wrap, wrap_some}
-use Rattle.kmip_ttlv_de.specs.Rules.{choice, chosen}
+use Rattle.kmip_ttlv_reader.specs.Keeps.{Keep}
+use Rattle.kmip_ttlv_reader.specs.Reads.{Reads, ReadsContent, ReadsField, ReadsFields, ReadsForms, ReadsRun, ReadsVariant, absent, by_number, by_rule, done, ends, here, inner, is_like, leaf, leaf_value, may_follow, may_ignore, more, named, names, next, no_part, number_text, part, parts, run, structure, there, whole, with_leaf, wrap, wrap_some}
+use Rattle.kmip_ttlv_reader.specs.Rules.{choice, chosen}
 use Rattle.kmip_ttlv_laws.specs.Padding.{AllSameButPadding, SameButPadding, both_go_on, both_end, equal_items, split_alike}
 
 -- items are the same as themselves, and the two may be turned round

@@ -14,8 +14,8 @@ use Rattle.kmip_ttlv_ser.specs.declared.held.Held.{Held}
 use Rattle.kmip_ttlv_ser.specs.declared.held.Held.TheVariants.{Plain}
 use Rattle.kmip_ttlv_types.specs.Primitives.{sign_extended}
 use Rattle.kmip_ttlv_ser.specs.WrittenItems.{held_tag, items, enumeration, one_leaf, ◌>>=◌}
-use Rattle.kmip_ttlv_de.specs.Keeps.{Keep}
-use Rattle.kmip_ttlv_de.specs.Reads.{Reads, leaf, by_number, leaf_value, takes, with_leaf}
+use Rattle.kmip_ttlv_reader.specs.Keeps.{Keep}
+use Rattle.kmip_ttlv_reader.specs.Reads.{Reads, leaf, by_number, leaf_value, takes, with_leaf}
 use Rattle.kmip_ttlv_laws.specs.Agreements.{is_run, leaf_type, with_value}
 use Rattle.kmip_ttlv_laws.specs.ReadingLaws.{LeavesComeBack, UnitsComeBack}
 use Rattle.kmip_ttlv_laws.specs.Returns.{ComesBack, as_big_integer, as_big_octets, as_boolean, as_date, as_int16, as_int32, as_int64, as_int8, as_interval, as_number, as_octets, as_text}

@@ -5,8 +5,8 @@ use Rattle.kmip_ttlv_types.specs.declared.typ.TtlvType.{TtlvType}
 use Rattle.kmip_ttlv_types.specs.declared.typ.TtlvType.TheVariants.{Structure}
 use Rattle.kmip_ttlv_base.specs.Forms.{Form, struct, option, seq, newtype, enum, int32, int64, boolean, text, octets, interval, big_integer, any_number}
 use Rattle.kmip_ttlv_base.specs.Values.{Value}
-use Rattle.kmip_ttlv_de.specs.Keeps.{Keep}
-use Rattle.kmip_ttlv_de.specs.Reads.{Reads, leaf, wrap_some, wrap, run, structure, by_rule, by_number, is_root, takes}
+use Rattle.kmip_ttlv_reader.specs.Keeps.{Keep}
+use Rattle.kmip_ttlv_reader.specs.Reads.{Reads, leaf, wrap_some, wrap, run, structure, by_rule, by_number, is_root, takes}
 
 -- a form of leaves is no root
 no_leaf : (s : Form) (t : TtlvType) → is_root s ≡ true → takes s t ≡ true → t ≡ Structure

@@ -5,7 +5,7 @@ use Rattle.std.specs.Str.{chars, is_utf8, trim_end, trim_start}
 use lib.Utf8.{encode}
 use Rattle.kmip_ttlv_types.specs.Names.{number, override_name, tag_of, transparent_name}
 use Rattle.kmip_ttlv_ser.specs.WrittenItems.{held_over, is_wrapper, take_tag}
-use Rattle.kmip_ttlv_de.specs.Rules.{at_least, equal, in_brackets, member, rule, sides}
+use Rattle.kmip_ttlv_reader.specs.Rules.{at_least, equal, in_brackets, member, rule, sides}
 use Rattle.kmip_ttlv_base.specs.Values.{Value, i32_value, unit_variant_value}
 use Rattle.kmip_ttlv_laws.specs.Agreements.{absent_agrees, field_agrees, first_variant, inner_agrees, later_variant, leaf_agrees, newtype_wraps, no_field_agrees, nothing_agrees, option_agrees, struct_agrees, struct_encloses, unit_is_numbered, variant_wraps}
 use Rattle.kmip_ttlv_laws.proofs.MessageParts.{PartAgrees, a_structure, last_then, message, newtype_structure, nothing_left, sequence_part, structure, wrapped_leaf, wrapped_unit}

@@ -17,9 +17,9 @@ use Rattle.kmip_ttlv_base.specs.Forms.{field, Variants, variant, Content, wrappe
 use Rattle.kmip_ttlv_ser.specs.declared.held.Held.{Held}
 use Rattle.kmip_ttlv_ser.specs.declared.held.Held.TheVariants.{Nothing, Plain}
 use Rattle.kmip_ttlv_ser.specs.WrittenItems.{take_tag, held_tag, held_over, is_wrapper, without_override}
-use Rattle.kmip_ttlv_de.specs.Keeps.{Keep}
-use Rattle.kmip_ttlv_de.specs.Rules.{choice, chosen}
-use Rattle.kmip_ttlv_de.specs.Reads.{has_tag, is_struct}
+use Rattle.kmip_ttlv_reader.specs.Keeps.{Keep}
+use Rattle.kmip_ttlv_reader.specs.Rules.{choice, chosen}
+use Rattle.kmip_ttlv_reader.specs.Reads.{has_tag, is_struct}
 use Rattle.kmip_ttlv_laws.specs.Returns.{ComesBack, NamesUnit, text_of_number}
 
 -- the tag and the type that an item begins with

@@ -11,9 +11,9 @@ use Rattle.kmip_ttlv_ser.specs.declared.held.Held.{Held}
 use Rattle.kmip_ttlv_ser.specs.declared.held.Held.TheVariants.{Nothing, Plain}
 use Rattle.kmip_ttlv_ser.specs.WriteAnswers.{IsWrittenAs}
 use Rattle.kmip_ttlv_ser.specs.WrittenItems.{items, take_tag}
-use Rattle.kmip_ttlv_de.specs.ReadResults.{NothingBegins, other}
-use Rattle.kmip_ttlv_de.specs.Keeps.{Keep}
-use Rattle.kmip_ttlv_de.specs.Reads.{Reads, Begins, is_root, with_leaf}
+use Rattle.kmip_ttlv_reader.specs.ReadResults.{NothingBegins, other}
+use Rattle.kmip_ttlv_reader.specs.Keeps.{Keep}
+use Rattle.kmip_ttlv_reader.specs.Reads.{Reads, Begins, is_root, with_leaf}
 use Rattle.kmip_ttlv_laws.specs.Contents.{ContainsItems}
 use Rattle.kmip_ttlv_laws.specs.Texts.{TextsAreUtf8}
 use Rattle.kmip_ttlv_laws.specs.Agreements.{Head, Agrees, MessageAgrees}

@@ -8,9 +8,9 @@ use Rattle.kmip_ttlv_base.specs.Forms.{Variants, unit}
 use Rattle.kmip_ttlv_base.specs.Values.{Value, boolean_value, i8_value, i16_value, i32_value, i64_value, u64_value}
 use Rattle.kmip_ttlv_base.specs.Values.{u32_value, interval_value, text_value, bytes_value, big_integer_value}
 use Rattle.kmip_ttlv_types.specs.Primitives.{sign_extended}
-use Rattle.kmip_ttlv_de.specs.Keeps.{Keep}
-use Rattle.kmip_ttlv_de.specs.Reads.{number_text, first_named}
-use Rattle.kmip_ttlv_de.specs.Rules.{by_value, choice}
+use Rattle.kmip_ttlv_reader.specs.Keeps.{Keep}
+use Rattle.kmip_ttlv_reader.specs.Reads.{number_text, first_named}
+use Rattle.kmip_ttlv_reader.specs.Rules.{by_value, choice}
 
 -- by this form the one value, written as a leaf, is read back as the other
 pub data ComesBack : Form → Value → Value → Type 0 where

@@ -2,7 +2,7 @@
 //! shapes and bytes are.
 //!
 //! Each law is a function that does nothing and whose contract is the law, so that a proof can cite
-//! it. The statements stand in specs/Laws, and speak of what the writer's and the reader's calls
+//! it. The statements stand in specs/ReadingLaws, and speak of what the writer's and the reader's calls
 //! promise: `IsWrittenAs` is what `to_vec` answers, and `Begins` what `from_slice` finds. Items that
 //! are the same but for padding are defined in specs/Padding. Beside each law a comment says which
 //! of its premises is needed and gives a small example without it.

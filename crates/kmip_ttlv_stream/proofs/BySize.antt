@@ -5,9 +5,9 @@ use Rattle.kmip_ttlv_base.specs.declared.error.Error.{Error}
 use Rattle.kmip_ttlv_base.specs.Errors.{Kind, exceeds_limit, kind_of, view_of_kind}
 use Rattle.kmip_ttlv_base.specs.Values.{Value}
 use Rattle.kmip_ttlv_base.specs.Forms.{Form}
-use Rattle.kmip_ttlv_de.specs.Steps.{Fault, Outcome, gives, ends_early, fails}
-use Rattle.kmip_ttlv_de.specs.Outcomes.{root_outcome}
-use Rattle.kmip_ttlv_de.specs.ReadResults.{IsReadAs, IsError, IsOfBytes, seen}
+use Rattle.kmip_ttlv_reader.specs.Steps.{Fault, Outcome, gives, ends_early, fails}
+use Rattle.kmip_ttlv_reader.specs.Outcomes.{root_outcome}
+use Rattle.kmip_ttlv_reader.specs.ReadResults.{IsReadAs, IsError, IsOfBytes, seen}
 use Rattle.kmip_ttlv_stream.specs.StreamMessages.{SliceResult, message_size, LackCause, no_memory, no_bytes, Stops, in_header, of_no_type, over_limit, in_body, untyped_kind, Ends, IsBySize}
 
 -- no error by size

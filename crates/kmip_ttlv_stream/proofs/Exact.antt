@@ -12,8 +12,8 @@ use Rattle.kmip_ttlv_types.specs.Streams.{IsShort}
 use Rattle.kmip_ttlv_base.specs.declared.error.Error.{Error}
 use Rattle.kmip_ttlv_base.specs.declared.error.MalformedTtlvError.TheVariants as malformeds
 use Rattle.kmip_ttlv_base.specs.Errors.{Kind, Location, unknown, io_error, exceeds_limit, kind_of, view_of_kind, location_of, view_of_location, malformed, IsMemory}
-use Rattle.kmip_ttlv_de.specs.Steps.{Fault}
-use Rattle.kmip_ttlv_de.specs.ReadResults.{seen, end_fault}
+use Rattle.kmip_ttlv_reader.specs.Steps.{Fault}
+use Rattle.kmip_ttlv_reader.specs.ReadResults.{seen, end_fault}
 use Rattle.kmip_ttlv_stream.specs.StreamMessages.{message_size, size_fault, type_fault, Forbids, HasSize, behind_header, behind_tag, ComesUntyped, IsIoFault, LackCause, no_memory, no_bytes, IsKept, ComesOver, Stops, in_header, of_no_type, over_limit, in_body, Gives, Ends, OrMemory, TakesFirst, Exactly}
 use Rattle.kmip_ttlv_stream.proofs.Fronts.{SameHeader, same_header, SameHeader-sym, HasSize-along, HasSize-least, HasSize-one, HasSize-allowed, HasSize-typed}
 

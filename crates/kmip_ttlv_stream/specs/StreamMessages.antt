@@ -16,11 +16,11 @@ use Rattle.kmip_ttlv_base.specs.Errors.{view_of_kind, location_of}
 use Rattle.kmip_ttlv_base.specs.Errors.{view_of_location, IsMemory}
 use Rattle.kmip_ttlv_base.specs.Values.{Value}
 use Rattle.kmip_ttlv_base.specs.Forms.{Form}
-use Rattle.kmip_ttlv_de.specs.Reads.{Begins}
-use Rattle.kmip_ttlv_de.specs.Steps.{Fault}
-use Rattle.kmip_ttlv_de.specs.Outcomes.{root_outcome}
-use Rattle.kmip_ttlv_de.specs.ReadResults.{IsReadAs, IsFault, ErrorStands, end_fault, early_end, sort_of}
-use Rattle.kmip_ttlv_de.specs.Wholes.{BeginsWhole}
+use Rattle.kmip_ttlv_reader.specs.Reads.{Begins}
+use Rattle.kmip_ttlv_reader.specs.Steps.{Fault}
+use Rattle.kmip_ttlv_reader.specs.Outcomes.{root_outcome}
+use Rattle.kmip_ttlv_reader.specs.ReadResults.{IsReadAs, IsFault, ErrorStands, end_fault, early_end, sort_of}
+use Rattle.kmip_ttlv_reader.specs.Wholes.{BeginsWhole}
 
 -- what `from_slice` returns of these bytes
 pub record SliceResult {T A : Type 0} (s : Form) (is_value : Value → T → Type 0) (bytes : List ℕ) (r : Result T (Error A))

@@ -1,7 +1,7 @@
 //! Reading one message from a stream of bytes, by the shape of its type.
 //!
 //! `from_reader` is the entry, and `Config` its settings. What is taken and answered is defined in
-//! specs/Messages: the bytes of one message and none behind it, and of these what `from_slice` answers.
+//! specs/StreamMessages: the bytes of one message and none behind it, and of these what `from_slice` answers.
 #![tactic(auto)]
 
 ghost use Rattle.std.specs.Prelude.{◌≡◌, ℕ, List, Some, false, IfErr, IfOk};

@@ -1,5 +1,5 @@
 use Rattle.std.proofs.Common.{arith}
-use Rattle.kmip_ttlv_de.proofs.ResultLemmas.{result_found, result_stands, result_whole}
+use Rattle.kmip_ttlv_reader.proofs.ResultLemmas.{result_found, result_stands, result_whole}
 use Rattle.kmip_ttlv_de.proofs.from_slice.Goals as goal
 
 pub returns-clause-found : goal.returns-clause-found

@@ -1,7 +1,7 @@
 use Rattle.std.proofs.Common.{arith}
 use Rattle.kmip_ttlv_base.specs.Values.{view}
-use Rattle.kmip_ttlv_de.proofs.Founding.{found_root}
-use Rattle.kmip_ttlv_de.proofs.Giving.{begins_gives}
+use Rattle.kmip_ttlv_reader.proofs.Founding.{found_root}
+use Rattle.kmip_ttlv_reader.proofs.Giving.{begins_gives}
 use Rattle.kmip_ttlv_de.proofs.read_as.Goals as goal
 
 pub from_data-requires : goal.from_data-requires

@@ -1,4 +1,4 @@
-use Rattle.kmip_ttlv_de.proofs.Giving.{begins_gives, reads_gives}
+use Rattle.kmip_ttlv_reader.proofs.Giving.{begins_gives, reads_gives}
 use Rattle.kmip_ttlv_de.proofs.what_begins_is_given.Goals as goal
 
 pub returns-clause-items : goal.returns-clause-items

@@ -1,8 +1,8 @@
 use Rattle.std.proofs.Common.{ℕ, ◌+◌, ◌||◌, drop, nat_cmp, ap, sym, ◌∙◌}
 use Rattle.std.specs.BTreeSet.{contains}
 use Rattle.kmip_ttlv_base.specs.Forms.{fields_of, form_of}
-use Rattle.kmip_ttlv_de.specs.Reads.{names_tag}
-use Rattle.kmip_ttlv_de.proofs.Front.{fields_at}
+use Rattle.kmip_ttlv_reader.specs.Reads.{names_tag}
+use Rattle.kmip_ttlv_reader.proofs.Front.{fields_at}
 use Rattle.kmip_ttlv_de.proofs.FieldTagLemmas.{tag_put, no_tag_put}
 use Rattle.kmip_ttlv_de.proofs.field_tags.tags_of.Goals.{in-Some+in_ok-insert, in_default}
 use Rattle.kmip_ttlv_de.proofs.field_tags.tags_of.Goals as goal

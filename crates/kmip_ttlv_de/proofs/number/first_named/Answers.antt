@@ -1,4 +1,4 @@
-use Rattle.kmip_ttlv_de.proofs.NumberLemmas.{named_here, named_later, named_nowhere}
+use Rattle.kmip_ttlv_reader.proofs.NumberLemmas.{named_here, named_later, named_nowhere}
 use Rattle.kmip_ttlv_de.proofs.number.first_named.Goals as goal
 
 pub returns-then-eq-clause-content : goal.returns-then-eq-clause-content

@@ -1,7 +1,7 @@
 use Rattle.std.proofs.Common.{◌≡◌, true, rules}
 use Rattle.std.proofs.lemmas.Str.{IsUtf8-from_ascii}
-use Rattle.kmip_ttlv_de.specs.Reads.{is_number_type}
-use Rattle.kmip_ttlv_de.proofs.NumberLemmas.{number_four}
+use Rattle.kmip_ttlv_reader.specs.Reads.{is_number_type}
+use Rattle.kmip_ttlv_reader.proofs.NumberLemmas.{number_four}
 use Rattle.kmip_ttlv_de.proofs.number.read_number.Goals as goal
 
 pub number_text-digits-requires : goal.number_text-digits-requires

@@ -4,14 +4,14 @@ use Rattle.std.proofs.lemmas.List.{drop_all}
 use Rattle.kmip_ttlv_de.proofs.read.+reader.Goals as goal
 use Rattle.kmip_ttlv_base.specs.Forms.{fields_of, form_of, forms_of, content_of, tuple}
 use Rattle.kmip_ttlv_base.specs.Values.{views}
-use Rattle.kmip_ttlv_de.specs.Steps.{gives, mapped, within}
-use Rattle.kmip_ttlv_de.specs.Outcomes.{outcome, fields_outcome, run_outcome, seq_outcome, struct_outcome, all_outcome, forms_outcome, tuple_outcome}
+use Rattle.kmip_ttlv_reader.specs.Steps.{gives, mapped, within}
+use Rattle.kmip_ttlv_reader.specs.Outcomes.{outcome, fields_outcome, run_outcome, seq_outcome, struct_outcome, all_outcome, forms_outcome, tuple_outcome}
 use Rattle.kmip_ttlv_types.specs.Places.{tag_at}
 use Rattle.kmip_ttlv_base.specs.Values.{seq_value, struct_value, tuple_variant_value}
 use Rattle.kmip_ttlv_base.proofs.Views.{view-Seq, view-Struct, view-TupleVariant}
 use Rattle.kmip_ttlv_base.proofs.Shapes.{form_of-Struct, form_of-Enum, content_of-Tuple}
-use Rattle.kmip_ttlv_de.proofs.Steps.{failure_then}
-use Rattle.kmip_ttlv_de.proofs.Loops.{with_front, front_none, fields_step, fields_fails, fields_done, run_step, run_fails, run_stops, run_done, more_steps, struct_is, parts_step, parts_fails, parts_done, enum_is, enum_chosen, tuple_fails, content_is}
+use Rattle.kmip_ttlv_reader.proofs.Steps.{failure_then}
+use Rattle.kmip_ttlv_reader.proofs.Loops.{with_front, front_none, fields_step, fields_fails, fields_done, run_step, run_fails, run_stops, run_done, more_steps, struct_is, parts_step, parts_fails, parts_done, enum_is, enum_chosen, tuple_fails, content_is}
 
 pub read_fields-loop-field-init : goal.read_fields-loop-field-init
 read_fields-loop-field-init g t c =

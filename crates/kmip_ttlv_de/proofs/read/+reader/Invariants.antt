@@ -2,8 +2,8 @@ use Rattle.std.proofs.Common.{◌≡◌, ℕ, suc, ◌+◌, ◌-◌, ◌≤◌, 
 use Rattle.kmip_ttlv_de.proofs.read.+reader.Given as goal
 use Rattle.kmip_ttlv_base.specs.Forms.{fields_of, form_of, forms_of}
 use Rattle.kmip_ttlv_base.specs.Values.{views}
-use Rattle.kmip_ttlv_de.specs.Outcomes.{outcome, fields_outcome, forms_outcome, seq_outcome, run_outcome}
-use Rattle.kmip_ttlv_de.proofs.Loops.{with_front}
+use Rattle.kmip_ttlv_reader.specs.Outcomes.{outcome, fields_outcome, forms_outcome, seq_outcome, run_outcome}
+use Rattle.kmip_ttlv_reader.proofs.Loops.{with_front}
 
 abbrev pub invariant-read_fields-loop-field : goal.invariant-read_fields-loop-field
 invariant-read_fields-loop-field g l =

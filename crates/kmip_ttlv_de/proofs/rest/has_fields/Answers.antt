@@ -1,4 +1,4 @@
-use Rattle.kmip_ttlv_de.proofs.Front.{has_some}
+use Rattle.kmip_ttlv_reader.proofs.Front.{has_some}
 use Rattle.kmip_ttlv_de.proofs.rest.has_fields.Goals as goal
 
 pub returns-in-len1-up : goal.returns-in-len1-up

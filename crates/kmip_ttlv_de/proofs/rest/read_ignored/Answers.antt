@@ -1,9 +1,9 @@
 use Rattle.std.proofs.Common.{rules, ◌≡◌, true, sym, ◌∙◌}
 use Rattle.std.proofs.lemmas.Result.{err_from_is_err_and}
 use Rattle.kmip_ttlv_base.specs.Forms.{fields_of}
-use Rattle.kmip_ttlv_de.specs.Reads.{has_fields}
-use Rattle.kmip_ttlv_de.specs.Outcomes.{ignored, item_end}
-use Rattle.kmip_ttlv_de.proofs.Steps.{failure_then}
+use Rattle.kmip_ttlv_reader.specs.Reads.{has_fields}
+use Rattle.kmip_ttlv_reader.specs.Outcomes.{ignored, item_end}
+use Rattle.kmip_ttlv_reader.proofs.Steps.{failure_then}
 use Rattle.kmip_ttlv_de.proofs.rest.read_ignored.Goals as goal
 
 pub returns-in_err-next-clause-step : goal.returns-in_err-next-clause-step

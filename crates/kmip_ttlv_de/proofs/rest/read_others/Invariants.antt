@@ -1,7 +1,7 @@
 use Rattle.std.proofs.Common.{◌≡◌, ℕ, suc, ◌+◌, ◌-◌, ◌≤◌, length}
 use Rattle.kmip_ttlv_de.proofs.rest.read_others.Given as goal
 use Rattle.kmip_ttlv_base.specs.Forms.{fields_of}
-use Rattle.kmip_ttlv_de.specs.Outcomes.{rest_outcome}
+use Rattle.kmip_ttlv_reader.specs.Outcomes.{rest_outcome}
 
 abbrev pub invariant-loop-next : goal.invariant-loop-next
 invariant-loop-next g l =

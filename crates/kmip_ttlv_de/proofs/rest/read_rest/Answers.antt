@@ -1,7 +1,7 @@
 use Rattle.std.proofs.Common.{length}
 use Rattle.std.proofs.lemmas.Bool.{le-ltb}
 use Rattle.kmip_ttlv_base.specs.Forms.{fields_of}
-use Rattle.kmip_ttlv_de.proofs.Loops.{rest_done}
+use Rattle.kmip_ttlv_reader.proofs.Loops.{rest_done}
 use Rattle.kmip_ttlv_de.proofs.rest.read_rest.Goals as goal
 
 pub returns-then-scope-pos-clause-step : goal.returns-then-scope-pos-clause-step

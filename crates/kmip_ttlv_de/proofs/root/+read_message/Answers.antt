@@ -4,10 +4,10 @@ use Rattle.kmip_ttlv_base.specs.Forms.{fields_of}
 use Rattle.kmip_ttlv_base.specs.Values.{struct_value}
 use Rattle.kmip_ttlv_base.proofs.Views.{view-Struct}
 use Rattle.kmip_ttlv_base.proofs.Shapes.{form_of-Struct}
-use Rattle.kmip_ttlv_de.specs.Steps.{◌>>=◌, gives}
-use Rattle.kmip_ttlv_de.specs.Outcomes.{first_outcome, fields_outcome}
-use Rattle.kmip_ttlv_de.proofs.Loops.{root_struct_is}
-use Rattle.kmip_ttlv_de.proofs.Steps.{failure_then}
+use Rattle.kmip_ttlv_reader.specs.Steps.{◌>>=◌, gives}
+use Rattle.kmip_ttlv_reader.specs.Outcomes.{first_outcome, fields_outcome}
+use Rattle.kmip_ttlv_reader.proofs.Loops.{root_struct_is}
+use Rattle.kmip_ttlv_reader.proofs.Steps.{failure_then}
 use Rattle.kmip_ttlv_de.proofs.root.+read_message.Goals as goal
 
 pub returns-in_err-fields-in-Struct : goal.returns-in_err-fields-in-Struct

@@ -1,9 +1,9 @@
 use Rattle.std.proofs.Common.{[]}
 use Rattle.kmip_ttlv_types.specs.Places.{tag_at}
 use Rattle.kmip_ttlv_base.specs.Forms.{fields_of}
-use Rattle.kmip_ttlv_de.specs.Steps.{within}
-use Rattle.kmip_ttlv_de.specs.Outcomes.{all_outcome, fields_outcome, first_outcome}
-use Rattle.kmip_ttlv_de.proofs.Steps.{failure_then}
+use Rattle.kmip_ttlv_reader.specs.Steps.{within}
+use Rattle.kmip_ttlv_reader.specs.Outcomes.{all_outcome, fields_outcome, first_outcome}
+use Rattle.kmip_ttlv_reader.proofs.Steps.{failure_then}
 use Rattle.kmip_ttlv_de.proofs.root.read_first.Goals as goal
 
 pub returns : goal.returns

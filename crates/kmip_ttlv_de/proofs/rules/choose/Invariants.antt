@@ -1,6 +1,6 @@
 use Rattle.std.proofs.Common.{◌≡◌, drop}
 use Rattle.kmip_ttlv_base.specs.Forms.{variants_of}
-use Rattle.kmip_ttlv_de.specs.Rules.{choice, past}
+use Rattle.kmip_ttlv_reader.specs.Rules.{choice, past}
 use Rattle.kmip_ttlv_de.proofs.rules.choose.Given as goal
 
 abbrev pub invariant-loop-i : goal.invariant-loop-i

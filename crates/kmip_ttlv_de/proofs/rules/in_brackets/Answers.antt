@@ -1,6 +1,6 @@
 use Rattle.std.proofs.Common.{ap, sym, ◌∙◌, codes, option_map}
 use Rattle.std.specs.Option.{option_and_then}
-use Rattle.kmip_ttlv_de.specs.Rules.{in_brackets, before_suffix}
+use Rattle.kmip_ttlv_reader.specs.Rules.{in_brackets, before_suffix}
 use Rattle.kmip_ttlv_de.proofs.Cuts.{stripped_prefix, stripped_suffix}
 use Rattle.kmip_ttlv_de.proofs.rules.in_brackets.Goals as goal
 

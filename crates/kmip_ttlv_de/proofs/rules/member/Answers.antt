@@ -4,8 +4,8 @@ use Rattle.std.specs.List.{list_any, slice_split}
 use Rattle.std.specs.Str.{bytes_eq, trim}
 use Rattle.std.proofs.lemmas.Iterator.Search.{any_from_yields_List}
 use Rattle.std.proofs.lemmas.Iterator.Splits.{YieldsList-from_str_split}
-use Rattle.kmip_ttlv_de.specs.Rules.{says}
-use Rattle.kmip_ttlv_de.proofs.RuleLemmas.{member_said}
+use Rattle.kmip_ttlv_reader.specs.Rules.{says}
+use Rattle.kmip_ttlv_reader.proofs.RuleLemmas.{member_said}
 use Rattle.kmip_ttlv_de.proofs.rules.member.Goals as goal
 
 pub returns : goal.returns

@@ -1,6 +1,6 @@
 use Rattle.std.proofs.Common.{option_map, ap, sym, ◌∙◌, rules}
 use Rattle.std.specs.Str.{trim}
-use Rattle.kmip_ttlv_de.specs.Rules.{sides}
+use Rattle.kmip_ttlv_reader.specs.Rules.{sides}
 use Rattle.kmip_ttlv_de.proofs.Cuts.{split_once_is, sides_are}
 use Rattle.kmip_ttlv_de.proofs.rules.sides.Goals as goal
 

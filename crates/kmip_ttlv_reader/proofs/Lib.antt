@@ -1,0 +1,17 @@
+pub mod Front
+pub mod RuleLemmas
+pub mod NumberLemmas
+mod Walks
+pub mod Steps
+pub mod Loops
+pub mod Standing
+pub mod Onward
+pub mod Wholeness
+pub mod Founding
+pub mod Giving
+pub mod ResultLemmas
+pub mod TagNames
+pub mod Mapped
+pub mod LeafLemmas
+pub mod Items
+pub mod Structures

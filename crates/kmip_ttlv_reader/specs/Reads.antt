@@ -1,0 +1,263 @@
+-- What a form reads from a list of items, by one rule for each way to read.
+use Rattle.std.specs.Prelude.{◌≡◌, ℕ, suc, Bool, true, false, List, [], ◌∷◌, ◌++◌, Option, Some, None, ◌/◌, ◌%◌, ◌==◌}
+use Rattle.std.specs.Prelude.{◌&&◌, ◌||◌, not, if◌then◌else◌}
+use Rattle.std.specs.Int.{w32, w64, from_be_bytes, cast_signed}
+use Rattle.std.specs.List.{flat_map}
+use Rattle.std.specs.Str.{bytes_eq}
+use Rattle.std.specs.Fmt.{digit_glyph}
+use Rattle.kmip_ttlv_types.specs.declared.typ.TtlvType.{TtlvType}
+use Rattle.kmip_ttlv_types.specs.declared.typ.TtlvType.TheVariants.{Structure, Integer, LongInteger, BigInteger}
+use Rattle.kmip_ttlv_types.specs.declared.typ.TtlvType.TheVariants.{Enumeration, Boolean, TextString, ByteString}
+use Rattle.kmip_ttlv_types.specs.declared.typ.TtlvType.TheVariants.{DateTime, Interval}
+use Rattle.kmip_ttlv_types.specs.ItemTypes.{code, is_structure}
+use Rattle.kmip_ttlv_types.specs.Leaves.{is_valid}
+use Rattle.kmip_ttlv_types.specs.Items.{Raw, Splits, IsTextOf}
+use Rattle.kmip_ttlv_types.specs.Names.{tag_of}
+use Rattle.kmip_ttlv_base.specs.Values.{Value, boolean_value, i32_value, u32_value, i64_value, interval_value}
+use Rattle.kmip_ttlv_base.specs.Values.{text_value, bytes_value, big_integer_value, none_value, some_value, seq_value, struct_value}
+use Rattle.kmip_ttlv_base.specs.Values.{newtype_value, unit_variant_value, newtype_variant_value, tuple_variant_value}
+use Rattle.kmip_ttlv_base.specs.Values.{Values, no_values, value}
+use Rattle.kmip_ttlv_base.specs.Forms.{Form, struct, option, seq, newtype, enum, int32, int64, boolean, text, octets}
+use Rattle.kmip_ttlv_base.specs.Forms.{interval, big_integer, any_number, Fields, no_fields, field, Variants, no_variants, variant}
+use Rattle.kmip_ttlv_base.specs.Forms.{Content, unit, wrapped, tuple, Forms, no_forms, form}
+use Rattle.kmip_ttlv_reader.specs.Keeps.{Keep}
+use Rattle.kmip_ttlv_reader.specs.Rules.{chosen, by_value, choice}
+
+-- the name is that of this tag
+abbrev pub has_tag : List ℕ → ℕ → Bool
+has_tag name t = is_number (tag_of name)
+  where
+    is_number : Option ℕ → Bool
+    is_number None = false
+    is_number (Some m) = m == t
+
+-- the name is that of the first item's tag
+abbrev pub names : List ℕ → List Raw → Bool
+names name [] = false
+names name (x ∷ xs) = has_tag name x.tag
+
+-- the first item has this one's tag and type
+abbrev pub is_like : Raw → List Raw → Bool
+is_like h [] = false
+is_like h (x ∷ xs) = (x.tag == h.tag) && (code x.typ == code h.typ)
+
+-- an option itself
+abbrev pub is_option : Form → Bool
+is_option (option s) = true
+is_option _ = false
+
+-- a struct, with newtypes around it or none
+abbrev pub is_struct : Form → Bool
+is_struct (struct name fs deny) = true
+is_struct (newtype name s) = is_struct s
+is_struct _ = false
+
+-- some field has this tag
+abbrev pub names_tag : Fields → ℕ → Bool
+names_tag no_fields t = false
+names_tag (field name s fs) t = elim (has_tag name t) [ true ↦ true | false ↦ names_tag fs t ]
+
+-- there is a field
+abbrev pub has_fields : Fields → Bool
+has_fields no_fields = false
+has_fields (field name s fs) = true
+
+-- an item that is ignored: of no declared tag, and valid where it is a leaf
+abbrev pub may_ignore : Fields → Bool → Raw → Bool
+may_ignore fs deny x =
+    has_fields fs
+    && (not deny && (not (names_tag fs x.tag) && (is_structure x.typ || is_valid x.typ x.content)))
+
+-- what may follow the last field
+abbrev pub may_follow : Fields → Bool → List Raw → Bool
+may_follow fs deny [] = true
+may_follow fs deny (x ∷ xs) = may_ignore fs deny x && may_follow fs deny xs
+
+-- the types of leaves that the form reads
+abbrev pub takes : Form → TtlvType → Bool
+takes int32 Integer = true
+takes int64 LongInteger = true
+takes int64 DateTime = true
+takes boolean Boolean = true
+takes text TextString = true
+takes octets ByteString = true
+takes octets BigInteger = true
+takes interval Interval = true
+takes big_integer BigInteger = true
+takes any_number Enumeration = true
+takes _ _ = false
+
+-- the value that the form gives for a leaf's content
+abbrev pub leaf_value : Form → List ℕ → Value
+leaf_value int32 content = i32_value (cast_signed w32 (from_be_bytes w32 content))
+leaf_value int64 content = i64_value (cast_signed w64 (from_be_bytes w64 content))
+leaf_value boolean content = boolean_value (from_be_bytes w64 content == 1)
+leaf_value text content = text_value content
+leaf_value octets content = bytes_value content
+leaf_value interval content = interval_value (from_be_bytes w32 content)
+leaf_value big_integer content = big_integer_value content
+leaf_value any_number content = u32_value (from_be_bytes w32 content)
+leaf_value _ content = none_value
+
+-- the types that an enum reads by value
+abbrev pub is_number_type : TtlvType → Bool
+is_number_type Integer = true
+is_number_type Enumeration = true
+is_number_type _ = false
+
+-- a byte's two uppercase hexadecimal digits
+abbrev pub byte_digits : ℕ → List ℕ
+byte_digits b = digit_glyph true (b / 16) ∷ digit_glyph true (b % 16) ∷ []
+
+-- `0x` and the uppercase hexadecimal digits of these bytes
+abbrev pub number_text : List ℕ → List ℕ
+number_text content = 48 ∷ 120 ∷ flat_map byte_digits content
+
+-- a text is kept under its item's tag, and so is the text of an Enumeration's number; no other leaf is
+abbrev pub with_leaf : Form → Raw → List Keep → List Keep
+with_leaf text x k = k ++ record { tag = x.tag; text = x.content } ∷ []
+with_leaf any_number x k = k ++ record { tag = x.tag; text = number_text x.content } ∷ []
+with_leaf _ x k = k
+
+-- the content of the first variant of this name
+abbrev pub first_named : List ℕ → Variants → Option Content
+first_named name no_variants = None
+first_named name (variant vname c vs) = if bytes_eq vname name then Some c else first_named name vs
+
+mutual
+  -- from these items, with these texts kept, the form reads a value, and leaves these items and texts
+  pub data Reads : Form → List Keep → List Raw → Value → List Keep → List Raw → Type 0 where
+    leaf :
+        {s : Form} {h : Raw} {xs : List Raw} {k : List Keep}
+        → takes s h.typ ≡ true
+        → is_valid h.typ h.content ≡ true
+        → Reads s k (h ∷ xs) (leaf_value s h.content) (with_leaf s h k) xs
+    wrap_some :
+        {s : Form} {k k' : List Keep} {xs ys : List Raw} {v : Value}
+        → Reads s k xs v k' ys
+        → Reads (option s) k xs (some_value v) k' ys
+    wrap :
+        {s : Form} {name : List ℕ} {k k' : List Keep} {xs ys : List Raw} {v : Value}
+        → Reads s k xs v k' ys
+        → Reads (newtype name s) k xs (newtype_value name v) k' ys
+    run :
+        {s : Form} {h : Raw} {k k' k'' : List Keep} {xs ys zs : List Raw} {v : Value} {vs : Values}
+        → Reads s k (h ∷ xs) v k' ys
+        → ReadsRun s h k' ys vs k'' zs
+        → Reads (seq s) k (h ∷ xs) (seq_value (value v vs)) k'' zs
+    structure :
+        {name : List ℕ} {fs : Fields} {deny : Bool} {h : Raw} {xs zs rest : List Raw} {k k' : List Keep} {vs : Values}
+        → names name (h ∷ []) ≡ true
+        → h.typ ≡ Structure
+        → Splits zs h.content
+        → ReadsFields fs k zs vs k' rest
+        → may_follow fs deny rest ≡ true
+        → Reads (struct name fs deny) k (h ∷ xs) (struct_value name vs) k' xs
+    by_rule :
+        {name : List ℕ} {vs : Variants} {h : Raw} {xs ys : List Raw} {k k' : List Keep} {v : Value} {i : ℕ}
+        → choice vs k h.typ ≡ chosen i
+        → ReadsVariant name vs i k (h ∷ xs) v k' ys
+        → Reads (enum name vs) k (h ∷ xs) v k' ys
+    by_number :
+        {name : List ℕ} {vs : Variants} {h : Raw} {xs : List Raw} {k : List Keep}
+        → choice vs k h.typ ≡ by_value
+        → is_number_type h.typ ≡ true
+        → is_valid h.typ h.content ≡ true
+        → first_named (number_text h.content) vs ≡ Some unit
+        → Reads (enum name vs) k (h ∷ xs)
+        (unit_variant_value name (number_text h.content))
+        (k ++ record { tag = h.tag; text = number_text h.content } ∷ []) xs
+
+  -- the variant at this index reads
+  pub data ReadsVariant : List ℕ → Variants → ℕ → List Keep → List Raw → Value → List Keep → List Raw → Type 0 where
+    here :
+        {name vname : List ℕ} {c : Content} {vs : Variants} {k k' : List Keep} {xs ys : List Raw} {v : Value}
+        → ReadsContent name vname c k xs v k' ys
+        → ReadsVariant name (variant vname c vs) 0 k xs v k' ys
+    there :
+        {name vname : List ℕ} {c : Content} {vs : Variants} {i : ℕ} {k k' : List Keep} {xs ys : List Raw} {v : Value}
+        → ReadsVariant name vs i k xs v k' ys
+        → ReadsVariant name (variant vname c vs) (suc i) k xs v k' ys
+
+  -- the content of a variant reads: a form from the same item, or forms that use up a structure's items
+  pub data ReadsContent : List ℕ → List ℕ → Content → List Keep → List Raw → Value → List Keep → List Raw → Type 0 where
+    whole :
+        {name vname : List ℕ} {s : Form} {k k' : List Keep} {xs ys : List Raw} {v : Value}
+        → Reads s k xs v k' ys
+        → ReadsContent name vname (wrapped s) k xs (newtype_variant_value name vname v) k' ys
+    parts :
+        {name vname : List ℕ} {ss : Forms} {h : Raw} {xs zs : List Raw} {k k' : List Keep} {vs : Values}
+        → h.typ ≡ Structure
+        → Splits zs h.content
+        → ReadsForms ss k zs vs k' []
+        → ReadsContent name vname (tuple ss) k (h ∷ xs) (tuple_variant_value name vname vs) k' xs
+
+  -- the forms read one after the other
+  pub data ReadsForms : Forms → List Keep → List Raw → Values → List Keep → List Raw → Type 0 where
+    no_part : {k : List Keep} {xs : List Raw} → ReadsForms no_forms k xs no_values k xs
+    part :
+        {s : Form} {ss : Forms} {k k' k'' : List Keep} {xs ys zs : List Raw} {v : Value} {vs : Values}
+        → Reads s k xs v k' ys
+        → ReadsForms ss k' ys vs k'' zs
+        → ReadsForms (form s ss) k xs (value v vs) k'' zs
+
+  -- the form reads again, as long as the first item is like this one
+  pub data ReadsRun : Form → Raw → List Keep → List Raw → Values → List Keep → List Raw → Type 0 where
+    ends :
+        {s : Form} {h : Raw} {k : List Keep} {xs : List Raw}
+        → is_like h xs ≡ false
+        → ReadsRun s h k xs no_values k xs
+    more :
+        {s : Form} {h : Raw} {k k' k'' : List Keep} {xs ys zs : List Raw} {v : Value} {vs : Values}
+        → is_like h xs ≡ true
+        → Reads s k xs v k' ys
+        → ReadsRun s h k' ys vs k'' zs
+        → ReadsRun s h k xs (value v vs) k'' zs
+
+  -- the fields read one after the other
+  pub data ReadsFields : Fields → List Keep → List Raw → Values → List Keep → List Raw → Type 0 where
+    done : {k : List Keep} {xs : List Raw} → ReadsFields no_fields k xs no_values k xs
+    next :
+        {name : List ℕ} {s : Form} {fs : Fields} {k k' k'' : List Keep} {xs ys zs : List Raw} {v : Value} {vs : Values}
+        → ReadsField name s k xs v k' ys
+        → ReadsFields fs k' ys vs k'' zs
+        → ReadsFields (field name s fs) k xs (value v vs) k'' zs
+
+  -- one field: an option is left out where its name isn't the next item's; a struct goes by its own name, any other by
+  -- the field's
+  pub data ReadsField : List ℕ → Form → List Keep → List Raw → Value → List Keep → List Raw → Type 0 where
+    absent :
+        {name : List ℕ} {s : Form} {k : List Keep} {xs : List Raw}
+        → is_option s ≡ true
+        → names name xs ≡ false
+        → ReadsField name s k xs none_value k xs
+    named :
+        {name : List ℕ} {s : Form} {k k' : List Keep} {xs ys : List Raw} {v : Value}
+        → names name xs ≡ true
+        → is_struct s ≡ false
+        → Reads s k xs v k' ys
+        → ReadsField name s k xs v k' ys
+    inner :
+        {name : List ℕ} {s : Form} {k k' : List Keep} {xs ys : List Raw} {v : Value}
+        → is_struct s ≡ true
+        → Reads s k xs v k' ys
+        → ReadsField name s k xs v k' ys
+
+-- what may stand for a whole message: a struct, with newtypes and options around it or none
+abbrev pub is_root : Form → Bool
+is_root (struct name fs deny) = true
+is_root (option s) = is_root s
+is_root (newtype name s) = is_root s
+is_root _ = false
+
+-- the bytes begin with one structure from which the form reads the value
+pub record Begins (s : Form) (bytes : List ℕ) (v : Value) : Type 0 where
+  pub root : is_root s ≡ true
+  pub item : Raw
+  pub item_text : List ℕ
+  pub after : List ℕ
+  pub kept : List Keep
+  pub is_text : IsTextOf item item_text
+  pub is_structure : item.typ ≡ Structure
+  pub parts : bytes ≡ item_text ++ after
+  pub reads : Reads s [] (item ∷ []) v kept []

@@ -1,0 +1,45 @@
+-- What the code returns, against an outcome.
+use Rattle.std.specs.Prelude.{◌≡◌, ℕ, ◌⊎◌, List, Some, Result, Ok, Err, reverse}
+use Rattle.kmip_ttlv_base.specs.declared.error.Error.{Error}
+use Rattle.kmip_ttlv_base.specs.Errors.{Kind, malformed, mismatch, view_of_serde, IsMemory}
+use Rattle.kmip_ttlv_reader.specs.declared.failure.Cause.{Cause}
+use Rattle.kmip_ttlv_reader.specs.declared.failure.Cause.TheVariants as causes
+use Rattle.kmip_ttlv_reader.specs.declared.failure.FaultAt.{FaultAt}
+use Rattle.kmip_ttlv_reader.specs.declared.failure.Failure.{Failure}
+use Rattle.kmip_ttlv_reader.specs.declared.failure.Failure.TheVariants as failures
+use Rattle.kmip_ttlv_reader.specs.Keeps.{Keep}
+use Rattle.kmip_ttlv_reader.specs.Steps.{Outcome, gives, ends_early, fails, Fault, Read, reads}
+use Rattle.kmip_ttlv_reader.specs.ReadResults.{IsError, seen}
+
+-- the kind that a cause is
+abbrev pub kind_by : {A : Type 0} → Cause A → Kind
+kind_by (causes.Malformed fault) = malformed fault
+kind_by (causes.Mismatch fault) = mismatch (view_of_serde fault)
+
+-- why, and where: the structures around are gathered innermost first
+abbrev pub fault_by : {A : Type 0} → FaultAt A → Fault
+fault_by f = record {
+  why = kind_by f.cause;
+  place = record { offset = Some f.offset; parents = reverse f.around.items; tag = f.tag; typ = f.typ };
+}
+
+-- the failure is that outcome, or memory ran out
+abbrev pub IsFailure : {V A : Type 0} → Outcome V → Failure A → Type 0
+IsFailure o failures.OutOfMemory = Unit {0}
+IsFailure o failures.EarlyEnd = o ≡ ends_early
+IsFailure o (failures.Fault f) = o ≡ fails (fault_by f.value)
+
+-- the result is that outcome, or memory ran out
+abbrev pub IsStep : {X V A : Type 0} → (X → V) → Outcome V → Result X (Failure A) → Type 0
+IsStep view o (Ok x) = o ≡ gives (view x)
+IsStep view o (Err r) = IsFailure o r
+
+-- the same of a value and the place behind it, where these are the texts kept by then
+abbrev pub IsRead : {X V A : Type 0} → (X → V) → List Keep → Outcome (Read V) → Result (X × ℕ) (Failure A) → Type 0
+IsRead view k o (Ok r) = o ≡ reads (view r.0) k r.1
+IsRead view k o (Err r) = IsFailure o r
+
+-- the result is that outcome as a caller sees it, or memory ran out
+abbrev pub IsOutcome : {X V A : Type 0} → (X → V) → Outcome V → Result X (Error A) → Type 0
+IsOutcome view o (Ok x) = o ≡ gives (view x)
+IsOutcome view o (Err e) = IsMemory e ⊎ IsError o (seen e)

@@ -1,0 +1,78 @@
+-- Where a cursor is in a structure, and what is read from there.
+use Rattle.std.specs.Prelude.{◌≡◌, ℕ, ◌≤◌, Bool, List, ◌++◌, length, codes, Option, Some, None, Result, Ok, Err}
+use Rattle.std.specs.Prelude.{ℤ, map, ◌==◌, if◌then◌else◌}
+use Rattle.std.specs.Int.{Width, cast_signed, cast_unsigned}
+use Rattle.kmip_ttlv_types.specs.Digits.{tag_text}
+use Rattle.kmip_ttlv_base.specs.Values.{Value, none_value, some_value, struct_value, Values, no_values, values_of}
+use Rattle.kmip_ttlv_base.specs.Forms.{Form, Fields, newtype, struct}
+use Rattle.kmip_ttlv_reader.specs.declared.failure.Failure.{Failure}
+use Rattle.kmip_ttlv_reader.specs.declared.scope.Scope.{Scope}
+use Rattle.kmip_ttlv_reader.specs.Keeps.{Keep}
+use Rattle.kmip_ttlv_reader.specs.Steps.{Outcome, Read, Reader, reads, fails, gives, ◌>>=◌}
+use Rattle.kmip_ttlv_types.specs.Places.{tag_at}
+use Rattle.kmip_ttlv_reader.specs.Reads.{has_tag}
+use Rattle.kmip_ttlv_reader.specs.Outcomes.{type_there, tag_wanted}
+use Rattle.kmip_ttlv_reader.specs.ReadFaults.{in_struct}
+use Rattle.kmip_ttlv_reader.specs.Results.{IsFailure}
+
+-- the texts that were kept, and the place of the next item
+pub record Spot : Type 0 where
+  pub kept : List Keep
+  pub pos : ℕ
+
+-- the place is among the bytes and in the structure
+abbrev pub IsWithin : {A : Type 0} → Scope A → Spot → Type 0
+IsWithin scope spot = (spot.pos ≤ scope.end) × (spot.pos ≤ length scope.bytes.now)
+
+-- what is read from this spot in this structure
+abbrev pub at : {V A : Type 0} → Reader V → Scope A → Spot → Outcome (Read V)
+at read scope spot = read scope.bytes.now scope.owner spot.kept spot.pos scope.end
+
+-- the result is that outcome, up to this spot, or memory ran out
+abbrev pub IsReadTo : {X V A : Type 0} → (X → V) → Spot → Outcome (Read V) → Result X (Failure A) → Type 0
+IsReadTo view spot o (Ok x) = o ≡ reads (view x) spot.kept spot.pos
+IsReadTo view spot o (Err r) = IsFailure o r
+
+-- the name of the wrapper around a leaf of this tag
+abbrev pub wrapper_name : ℕ → List ℕ
+wrapper_name tag = codes "Transparent:" ++ tag_text tag
+
+-- a leaf's form within its wrapper
+abbrev pub wrapped_leaf : ℕ → Form → Form
+wrapped_leaf tag s = newtype (wrapper_name tag) s
+
+-- the number that the bits of a number are: itself, where it fits
+abbrev pub by_bits : Width → ℤ → ℤ
+by_bits w z = cast_signed w (cast_unsigned w z)
+
+-- a value that there may be
+abbrev pub optional_value : {X : Type 0} → (X → Value) → Option X → Value
+optional_value view None = none_value
+optional_value view (Some x) = some_value (view x)
+
+-- the values of a list
+abbrev pub values_by : {X : Type 0} → (X → Value) → List X → Values
+values_by view xs = values_of (map view xs)
+
+-- the form of a structure of this tag
+abbrev pub structure_form : ℕ → Fields → Bool → Form
+structure_form tag fields deny = struct (tag_text tag) fields deny
+
+-- the value of a structure of this tag
+abbrev pub structure_value : {X : Type 0} → ℕ → (X → Values) → X → Value
+structure_value tag values x = struct_value (tag_text tag) (values x)
+
+-- the values of a struct's fields
+abbrev pub fields_in : Value → Values
+fields_in (struct_value name vs) = vs
+fields_in _ = no_values
+
+-- a structure of this tag ends here, where a field is wanted
+abbrev pub missing_field : ℕ → ℕ → Outcome (Read Value)
+missing_field owner end = fails (in_struct end owner (codes "missing field"))
+
+-- a field that may not be absent is there: an item of this tag
+abbrev pub field_there : ℕ → List ℕ → (owner pos end : ℕ) → Outcome (Unit {0})
+field_there tag b o p e =
+    if p == e then fails (in_struct e o (codes "missing field")) else
+    (type_there b p >>= λ t. if has_tag (tag_text tag) (tag_at b p) then gives tt else tag_wanted (tag_text tag) b p t)

@@ -1,0 +1,232 @@
+//! A cursor: how far reading has come in a structure. A type that reads itself takes its fields by the calls here,
+//! one for each, in their order. Each call reads as the form of such a field is read (specs/Outcomes).
+
+ghost use Rattle.std.specs.Prelude.{◌≡◌, ◌≢◌, ℕ, suc, ◌+◌, ◌<◌, ◌≤◌, ◌^◌, false, length, [], IfOk};
+ghost use Rattle.kmip_ttlv_types.specs.Digits.{tag_text};
+ghost use Rattle.kmip_ttlv_base.specs.Values.{newtype_value};
+ghost use Rattle.kmip_ttlv_base.specs.Forms.{newtype, option};
+ghost use Rattle.kmip_ttlv_reader.specs.Keeps.{Keep};
+ghost use Rattle.kmip_ttlv_reader.specs.LeafForms.{form_of_leaf};
+ghost use Rattle.kmip_ttlv_reader.specs.Reads.{has_tag};
+ghost use Rattle.kmip_ttlv_reader.specs.Outcomes.{outcome, field_outcome, tag_wanted};
+ghost use Rattle.kmip_ttlv_reader.specs.Results.{IsRead, IsStep, IsFailure};
+ghost use Rattle.kmip_ttlv_reader.specs.Spots.{Spot, IsWithin, IsReadTo, at, wrapper_name, wrapped_leaf, optional_value, missing_field, field_there};
+
+use crate::failure::{Cause, Failure, Step, at_item, in_struct};
+use crate::head::{tag_at, type_there};
+use crate::keep::KeptTexts;
+use crate::leaf::{LeafValue, read_leaf_as};
+use crate::scope::Scope;
+use kmip_ttlv_base::error::SerdeError;
+use kmip_ttlv_base::types::{TtlvTag, TtlvType};
+use std::alloc::{Allocator, Global};
+use std::marker::Model;
+
+/// How far reading has come in a structure, and the texts that were kept for the rules of enums.
+#[derive(Drop)]
+pub struct Cursor<'b, A: Allocator = Global> {
+    kept: KeptTexts<'b, A>,
+    pos: usize,
+}
+
+impl<'b, A: Allocator> Model for Cursor<'b, A> {
+    ghost use Rattle.kmip_ttlv_reader.specs.Spots.{Spot};
+
+    ghost Value = { Spot };
+
+    ghost view = { λ c. record { kept = c.kept; pos = c.pos } };
+}
+
+/// Whether a tag has this number, of which the last three bytes count.
+#[inline(always)]
+pub fn is_tag(tag: u32, found: TtlvTag) -> bool
+    ensures { result ≡ has_tag (tag_text tag) found }
+{
+    tag % 0x0100_0000 == *found
+}
+
+/// The item's tag is this one.
+#[tactic(auto, unfolding(crate::specs::Outcomes::tag_wanted))]
+#[inline(always)]
+pub fn tag_is<A: Allocator + Copy>(
+    alloc: A,
+    tag: u32,
+    bytes: &[u8],
+    pos: usize,
+    typ: TtlvType,
+) -> Step<(), A>
+    requires there { pos + 4 ≤ length bytes.now }
+    ensures step { IsStep (λ u. tt) (tag_wanted (tag_text tag) bytes.now pos typ) result }
+{
+    match TtlvTag::from_number(tag % 0x0100_0000) {
+        Some(expected) => {
+            if expected != tag_at(bytes, pos) {
+                let cause = Cause::Mismatch(SerdeError::UnexpectedTag {
+                    expected,
+                    actual: tag_at(bytes, pos),
+                });
+                return Err(Failure::Fault(at_item(alloc, bytes, pos, 4, typ, cause)?));
+            }
+            Ok(())
+        }
+        None => unreachable!(),
+    }
+}
+
+/// The structure ends where a field is wanted.
+#[cold]
+pub fn missing_field<A: Allocator + Copy>(scope: &Scope<'_, A>) -> Failure<A>
+    ensures { IsFailure (missing_field scope.now.owner scope.now.end) result }
+{
+    match in_struct(scope.alloc, scope.end, scope.owner, "missing field") {
+        Ok(fault) => Failure::Fault(fault),
+        Err(_) => Failure::OutOfMemory,
+    }
+}
+
+/// A field that may not be absent is there: an item of this tag.
+#[tactic(auto, using(crate::proofs::Steps::failure_then))]
+#[inline(always)]
+pub fn field_there<A: Allocator + Copy>(scope: &Scope<'_, A>, tag: u32, pos: usize) -> Step<(), A>
+    requires inside { pos ≤ length scope.now.bytes.now }
+    ensures step { IsStep (λ u. tt) (field_there tag scope.now.bytes.now scope.now.owner pos scope.now.end) result }
+{
+    if pos == scope.end {
+        let fault = in_struct(scope.alloc, scope.end, scope.owner, "missing field")?;
+        return Err(Failure::Fault(fault));
+    }
+    let typ = type_there(scope.alloc, scope.bytes, pos)?;
+    if !is_tag(tag, tag_at(scope.bytes, pos)) {
+        tag_is(scope.alloc, tag, scope.bytes, pos, typ)?;
+    }
+    Ok(())
+}
+
+// A leaf within its wrapper.
+#[inline(always)]
+fn read_wrapped<'b, K: LeafValue<A>, A: Allocator + Copy>(
+    scope: &Scope<'b, A>,
+    tag: u32,
+    pos: usize,
+    kept: &mut KeptTexts<'b, A>,
+) -> Step<(K, usize), A>
+    requires inside { pos ≤ length scope.now.bytes.now }
+    ensures read { IsRead (λ x. newtype_value (wrapper_name tag) (K.value x)) kept.new
+        (outcome (wrapped_leaf tag (form_of_leaf K.leaf)) scope.now.bytes.now scope.now.owner kept.old pos scope.now.end) result }
+    ensures further { IfOk result (λ r. (pos + 8 ≤ r.1) × (r.1 ≤ scope.now.end) × (r.1 ≤ length scope.now.bytes.now)) }
+{
+    read_leaf_as(scope, pos, kept)
+}
+
+// A field that is a leaf within its wrapper.
+#[tactic(auto, unfolding(crate::specs::Outcomes::field_outcome), using(crate::proofs::Steps::failure_then))]
+#[inline(always)]
+fn read_leaf_field<'b, K: LeafValue<A>, A: Allocator + Copy>(
+    scope: &Scope<'b, A>,
+    tag: u32,
+    pos: usize,
+    kept: &mut KeptTexts<'b, A>,
+) -> Step<(K, usize), A>
+    requires inside { pos ≤ length scope.now.bytes.now }
+    requires before { pos ≤ scope.now.end }
+    ensures read { IsRead (λ x. newtype_value (wrapper_name tag) (K.value x)) kept.new
+        (field_outcome (tag_text tag) (wrapped_leaf tag (form_of_leaf K.leaf)) (outcome (wrapped_leaf tag (form_of_leaf K.leaf)))
+        scope.now.bytes.now scope.now.owner kept.old pos scope.now.end) result }
+    ensures further { IfOk result (λ r. (pos + 8 ≤ r.1) × (r.1 ≤ scope.now.end) × (r.1 ≤ length scope.now.bytes.now)) }
+{
+    if pos == scope.end {
+        return Err(missing_field(scope));
+    }
+    let typ = type_there(scope.alloc, scope.bytes, pos)?;
+    if !is_tag(tag, tag_at(scope.bytes, pos)) {
+        tag_is(scope.alloc, tag, scope.bytes, pos, typ)?;
+    }
+    read_wrapped(scope, tag, pos, kept)
+}
+
+// A field that is a leaf within its wrapper, where it is there.
+#[tactic(auto, unfolding(crate::specs::Outcomes::field_outcome, crate::specs::Outcomes::outcome), using(crate::proofs::Steps::failure_then))]
+#[inline(always)]
+fn read_optional_leaf<'b, K: LeafValue<A>, A: Allocator + Copy>(
+    scope: &Scope<'b, A>,
+    tag: u32,
+    pos: usize,
+    kept: &mut KeptTexts<'b, A>,
+) -> Step<(Option<K>, usize), A>
+    requires inside { pos ≤ length scope.now.bytes.now }
+    requires before { pos ≤ scope.now.end }
+    ensures read { IsRead (optional_value (λ x. newtype_value (wrapper_name tag) (K.value x))) kept.new
+        (field_outcome (tag_text tag) (option (wrapped_leaf tag (form_of_leaf K.leaf))) (outcome (option (wrapped_leaf tag (form_of_leaf K.leaf))))
+        scope.now.bytes.now scope.now.owner kept.old pos scope.now.end) result }
+    ensures further { IfOk result (λ r. (pos ≤ r.1) × (r.1 ≤ scope.now.end) × (r.1 ≤ length scope.now.bytes.now)) }
+{
+    if pos == scope.end {
+        return Ok((None, pos));
+    }
+    let _ = type_there(scope.alloc, scope.bytes, pos)?;
+    if !is_tag(tag, tag_at(scope.bytes, pos)) {
+        return Ok((None, pos));
+    }
+    let (value, next) = read_wrapped(scope, tag, pos, kept)?;
+    Ok((Some(value), next))
+}
+
+impl<'b, A: Allocator + Copy> Cursor<'b, A> {
+    /// At this place of a message, with no texts kept. Takes no memory.
+    pub fn new(alloc: A, pos: usize) -> Cursor<'b, A>
+        ensures { result ≡ record { kept = []; pos = pos } }
+    {
+        Cursor {
+            kept: KeptTexts::new(alloc),
+            pos,
+        }
+    }
+
+    /// The place of the next item, in bytes from the message's first.
+    #[inline(always)]
+    pub fn pos(&self) -> usize
+        ensures { result ≡ self.now.pos }
+    {
+        self.pos
+    }
+
+    /// Goes to another place.
+    #[inline(always)]
+    pub fn go_to(&mut self, pos: usize)
+        ensures { self.new ≡ record { kept = self.old.kept; pos = pos } }
+    {
+        self.pos = pos;
+    }
+
+    /// The next field, a leaf of this tag.
+    #[inline(always)]
+    pub fn leaf<K: LeafValue<A>>(&mut self, scope: &Scope<'b, A>, tag: u32) -> Step<K, A>
+        requires within { IsWithin scope.now self.old }
+        ensures read { IsReadTo (λ x. newtype_value (wrapper_name tag) (K.value x)) self.new
+            (at (field_outcome (tag_text tag) (wrapped_leaf tag (form_of_leaf K.leaf)) (outcome (wrapped_leaf tag (form_of_leaf K.leaf))))
+            scope.now self.old) result }
+        ensures within { IfOk result (λ _. IsWithin scope.now self.new) }
+    {
+        let (value, next) = read_leaf_field(scope, tag, self.pos, &mut self.kept)?;
+        self.pos = next;
+        Ok(value)
+    }
+
+    /// The next field, a leaf of this tag, where it is there.
+    #[inline(always)]
+    pub fn optional_leaf<K: LeafValue<A>>(
+        &mut self,
+        scope: &Scope<'b, A>,
+        tag: u32,
+    ) -> Step<Option<K>, A>
+        requires within { IsWithin scope.now self.old }
+        ensures read { IsReadTo (optional_value (λ x. newtype_value (wrapper_name tag) (K.value x))) self.new
+            (at (field_outcome (tag_text tag) (option (wrapped_leaf tag (form_of_leaf K.leaf))) (outcome (option (wrapped_leaf tag (form_of_leaf K.leaf)))))
+            scope.now self.old) result }
+        ensures within { IfOk result (λ _. IsWithin scope.now self.new) }
+    {
+        let (value, next) = read_optional_leaf(scope, tag, self.pos, &mut self.kept)?;
+        self.pos = next;
+        Ok(value)
+    }
+}

@@ -1,0 +1,175 @@
+//! Fields that read themselves: each kind of field is a type, and the fields of a structure are pairs of the first and the
+//! others, up to `()`.
+
+ghost use Rattle.std.specs.Prelude.{◌≡◌, ◌≤◌, true, false, length, IfOk};
+ghost use Rattle.kmip_ttlv_types.specs.Digits.{tag_text};
+ghost use Rattle.kmip_ttlv_base.specs.Values.{no_values, value, newtype_value};
+ghost use Rattle.kmip_ttlv_base.specs.Forms.{no_fields, field, option};
+ghost use Rattle.kmip_ttlv_reader.specs.LeafForms.{form_of_leaf};
+ghost use Rattle.kmip_ttlv_reader.specs.Reads.{has_tag, names_tag, has_fields};
+ghost use Rattle.kmip_ttlv_reader.specs.Outcomes.{outcome, field_outcome, fields_outcome};
+ghost use Rattle.kmip_ttlv_reader.specs.Spots.{IsWithin, IsReadTo, at, wrapper_name, wrapped_leaf, optional_value};
+
+use crate::cursor::{Cursor, is_tag};
+use crate::failure::Step;
+use crate::leaf::LeafValue;
+use crate::scope::Scope;
+use kmip_ttlv_base::types::TtlvTag;
+use std::alloc::Allocator;
+use std::marker::PhantomData;
+
+/// A kind of field, and how it is read.
+pub trait Field<A: Allocator + Copy> {
+    ghost use Rattle.std.specs.Prelude.{ℕ, List};
+    ghost use Rattle.kmip_ttlv_base.specs.Values.{Value};
+    ghost use Rattle.kmip_ttlv_base.specs.Forms.{Form};
+
+    /// What is read.
+    type Read: Drop;
+
+    // The field's name.
+    ghost name: { List ℕ };
+
+    // Its form.
+    ghost form: { Form };
+
+    // The value of what is read.
+    ghost stands_for: { Self.Read → Value };
+
+    /// Whether the tag is that of the field's name.
+    fn has_tag(tag: TtlvTag) -> bool
+        ensures { result ≡ has_tag name tag };
+
+    /// The field, from the cursor on.
+    fn read<'b>(scope: &Scope<'b, A>, cursor: &mut Cursor<'b, A>) -> Step<Self::Read, A>
+        requires within { IsWithin scope.now cursor.old }
+        ensures read { IsReadTo stands_for cursor.new (at (field_outcome name form (outcome form)) scope.now cursor.old) result }
+        ensures within { IfOk result (λ _. IsWithin scope.now cursor.new) };
+}
+
+/// The fields of a structure, in their order.
+pub trait FieldList<A: Allocator + Copy> {
+    ghost use Rattle.kmip_ttlv_base.specs.Values.{Values};
+    ghost use Rattle.kmip_ttlv_base.specs.Forms.{Fields};
+
+    /// What is read.
+    type Read: Drop;
+
+    // The fields' names and forms.
+    ghost fields: { Fields };
+
+    // The values of what is read.
+    ghost values: { Self.Read → Values };
+
+    /// Whether there is a field.
+    fn has_fields() -> bool
+        ensures { result ≡ has_fields fields };
+
+    /// Whether the tag is that of a field.
+    fn is_field(tag: TtlvTag) -> bool
+        ensures { result ≡ names_tag fields tag };
+
+    /// The fields, from the cursor on.
+    fn read<'b>(scope: &Scope<'b, A>, cursor: &mut Cursor<'b, A>) -> Step<Self::Read, A>
+        requires within { IsWithin scope.now cursor.old }
+        ensures read { IsReadTo values cursor.new (at (fields_outcome fields) scope.now cursor.old) result }
+        ensures within { IfOk result (λ _. IsWithin scope.now cursor.new) };
+}
+
+/// No fields.
+impl<A: Allocator + Copy> FieldList<A> for () {
+    type Read = ();
+
+    ghost fields = { no_fields };
+
+    ghost values = { λ _. no_values };
+
+    fn has_fields() -> bool {
+        false
+    }
+
+    fn is_field(_tag: TtlvTag) -> bool {
+        false
+    }
+
+    #[tactic(auto, unfolding(crate::specs::Outcomes::fields_outcome))]
+    #[inline(always)]
+    fn read<'b>(_scope: &Scope<'b, A>, _cursor: &mut Cursor<'b, A>) -> Step<(), A> {
+        Ok(())
+    }
+}
+
+/// A field, and others behind it.
+impl<H: Field<A>, R: FieldList<A>, A: Allocator + Copy> FieldList<A> for (H, R) {
+    type Read = (H::Read, R::Read);
+
+    ghost fields = { field H.name H.form R.fields };
+
+    ghost values = { λ x. value (H.stands_for x.0) (R.values x.1) };
+
+    fn has_fields() -> bool {
+        true
+    }
+
+    fn is_field(tag: TtlvTag) -> bool {
+        H::has_tag(tag) || R::is_field(tag)
+    }
+
+    #[tactic(auto, unfolding(crate::specs::Outcomes::fields_outcome), using(crate::proofs::Steps::failure_then))]
+    #[inline(always)]
+    fn read<'b>(scope: &Scope<'b, A>, cursor: &mut Cursor<'b, A>) -> Step<(H::Read, R::Read), A> {
+        let first = H::read(scope, cursor)?;
+        let others = R::read(scope, cursor)?;
+        Ok((first, others))
+    }
+}
+
+/// A leaf of this tag, within its wrapper.
+#[derive(Drop)]
+pub struct Leaf<K, const TAG: u32> {
+    kind: PhantomData<K>,
+}
+
+impl<K: LeafValue<A>, const TAG: u32, A: Allocator + Copy> Field<A> for Leaf<K, TAG> {
+    type Read = K;
+
+    ghost name = { tag_text TAG };
+
+    ghost form = { wrapped_leaf TAG (form_of_leaf K.leaf) };
+
+    ghost stands_for = { λ x. newtype_value (wrapper_name TAG) (K.value x) };
+
+    fn has_tag(tag: TtlvTag) -> bool {
+        is_tag(TAG, tag)
+    }
+
+    #[inline(always)]
+    fn read<'b>(scope: &Scope<'b, A>, cursor: &mut Cursor<'b, A>) -> Step<K, A> {
+        cursor.leaf(scope, TAG)
+    }
+}
+
+/// A leaf of this tag, within its wrapper, that may be absent.
+#[derive(Drop)]
+pub struct OptionalLeaf<K, const TAG: u32> {
+    kind: PhantomData<K>,
+}
+
+impl<K: LeafValue<A>, const TAG: u32, A: Allocator + Copy> Field<A> for OptionalLeaf<K, TAG> {
+    type Read = Option<K>;
+
+    ghost name = { tag_text TAG };
+
+    ghost form = { option (wrapped_leaf TAG (form_of_leaf K.leaf)) };
+
+    ghost stands_for = { optional_value (λ x. newtype_value (wrapper_name TAG) (K.value x)) };
+
+    fn has_tag(tag: TtlvTag) -> bool {
+        is_tag(TAG, tag)
+    }
+
+    #[inline(always)]
+    fn read<'b>(scope: &Scope<'b, A>, cursor: &mut Cursor<'b, A>) -> Step<Option<K>, A> {
+        cursor.optional_leaf(scope, TAG)
+    }
+}

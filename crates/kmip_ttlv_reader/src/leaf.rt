@@ -1,0 +1,221 @@
+//! Leaves: their content, and the values that are read from it, as data or as a type's own.
+
+ghost use Rattle.std.specs.Prelude.{◌≡◌, ◌+◌, ◌<◌, ◌≤◌, length, true, false, IfOk};
+ghost use Rattle.kmip_ttlv_types.specs.Items.{Raw};
+ghost use Rattle.kmip_ttlv_types.specs.Leaves.{is_valid};
+ghost use Rattle.kmip_ttlv_base.specs.Values.{Value, view};
+ghost use Rattle.kmip_ttlv_reader.specs.Keeps.{Keep};
+ghost use Rattle.kmip_ttlv_reader.specs.Reads.{takes, leaf_value, with_leaf};
+ghost use Rattle.kmip_ttlv_reader.specs.Outcomes.{leaf_outcome, first_type};
+ghost use Rattle.kmip_ttlv_reader.specs.Results.{IsRead};
+ghost use Rattle.kmip_ttlv_reader.specs.LeafForms.{form_of_leaf};
+
+use crate::failure::Step;
+use crate::head::{content_there, inside, tag_at, type_there, type_wanted};
+use crate::keep::KeptTexts;
+use crate::number_text::number_string;
+use crate::scope::Scope;
+use kmip_ttlv_base::shape::Data;
+use kmip_ttlv_base::types::numbers::{number_of_eight, number_of_four};
+use kmip_ttlv_base::types::{TtlvTag, TtlvType};
+use std::alloc::{AllocError, Allocator};
+use std::str;
+
+/// The shapes of leaves.
+#[derive(Clone, Copy)]
+pub enum Leaf {
+    I32,
+    I64,
+    Bool,
+    Text,
+    Bytes,
+    Interval,
+    BigInteger,
+    U32,
+}
+
+impl Leaf {
+    // Whether an item of this type is read.
+    #[inline(always)]
+    fn takes(self, typ: TtlvType) -> bool
+        ensures { result ≡ takes (form_of_leaf self) typ }
+    {
+        match self {
+            Leaf::I32 => typ == TtlvType::Integer,
+            Leaf::I64 => typ == TtlvType::LongInteger || typ == TtlvType::DateTime,
+            Leaf::Bool => typ == TtlvType::Boolean,
+            Leaf::Text => typ == TtlvType::TextString,
+            Leaf::Bytes => typ == TtlvType::ByteString || typ == TtlvType::BigInteger,
+            Leaf::Interval => typ == TtlvType::Interval,
+            Leaf::BigInteger => typ == TtlvType::BigInteger,
+            Leaf::U32 => typ == TtlvType::Enumeration,
+        }
+    }
+
+    // The type that an error names as the expected one.
+    fn first_type(self) -> TtlvType
+        ensures { result ≡ first_type (form_of_leaf self) }
+    {
+        match self {
+            Leaf::I32 => TtlvType::Integer,
+            Leaf::I64 => TtlvType::LongInteger,
+            Leaf::Bool => TtlvType::Boolean,
+            Leaf::Text => TtlvType::TextString,
+            Leaf::Bytes => TtlvType::ByteString,
+            Leaf::Interval => TtlvType::Interval,
+            Leaf::BigInteger => TtlvType::BigInteger,
+            Leaf::U32 => TtlvType::Enumeration,
+        }
+    }
+}
+
+// The text that valid content is.
+#[inline(always)]
+pub fn text_of<'b>(content: &'b [u8]) -> &'b str
+    requires { is_valid TtlvType.TextString content.now ≡ true }
+    ensures { result.now ≡ content.now }
+{
+    unsafe { str::from_utf8_unchecked(content) }
+}
+
+// The value that a leaf's content is.
+#[inline(always)]
+fn leaf_data<A: Allocator + Copy>(
+    alloc: A,
+    leaf: Leaf,
+    typ: TtlvType,
+    content: &[u8],
+) -> Result<Data<A>, AllocError>
+    requires takes { takes (form_of_leaf leaf) typ ≡ true }
+    requires valid { is_valid typ content.now ≡ true }
+    ensures { IfOk result (λ d. view d ≡ leaf_value (form_of_leaf leaf) content.now) }
+{
+    Ok(match leaf {
+        Leaf::I32 => Data::I32(number_of_four(content).cast_signed()),
+        Leaf::I64 => Data::I64(number_of_eight(content).cast_signed()),
+        Leaf::Bool => Data::Bool(number_of_eight(content) == 1),
+        Leaf::Text => Data::Text(String::from_str(alloc, text_of(content))?),
+        Leaf::Bytes => Data::Bytes(Vec::from_slice(alloc, content)?),
+        Leaf::Interval => Data::Interval(number_of_four(content)),
+        Leaf::BigInteger => Data::BigInteger(Vec::from_slice(alloc, content)?),
+        Leaf::U32 => Data::U32(number_of_four(content)),
+    })
+}
+
+// A text is kept under its item's tag, and so is the text of an Enumeration's number; no other leaf is.
+#[inline(always)]
+fn keep_leaf<'b, A: Allocator + Copy>(
+    alloc: A,
+    leaf: Leaf,
+    tag: TtlvTag,
+    typ: TtlvType,
+    content: &'b [u8],
+    kept: &mut KeptTexts<'b, A>,
+) -> Result<(), AllocError>
+    requires takes { takes (form_of_leaf leaf) typ ≡ true }
+    requires valid { is_valid typ content.now ≡ true }
+    ensures ok { IfOk result (λ _. kept.new ≡ with_leaf (form_of_leaf leaf)
+        record { tag = tag; typ = typ; content = content.now } kept.old) }
+{
+    match leaf {
+        Leaf::Text => kept.keep(tag, text_of(content))?,
+        Leaf::U32 => kept.keep_own(tag, number_string(alloc, content)?)?,
+        Leaf::I32 | Leaf::I64 | Leaf::Bool | Leaf::Bytes | Leaf::Interval | Leaf::BigInteger => {}
+    }
+    Ok(())
+}
+
+/// A leaf by its shape.
+#[tactic(auto, unfolding(crate::specs::Outcomes::leaf_outcome), using(crate::proofs::Steps::failure_then))]
+#[inline(always)]
+pub fn read_leaf<'b, A: Allocator + Copy>(
+    scope: &Scope<'b, A>,
+    leaf: Leaf,
+    pos: usize,
+    kept: &mut KeptTexts<'b, A>,
+) -> Step<(Data<A>, usize), A>
+    requires inside { pos ≤ length scope.now.bytes.now }
+    ensures read { IsRead view kept.new
+        (leaf_outcome (form_of_leaf leaf) scope.now.bytes.now scope.now.owner kept.old pos scope.now.end) result }
+    ensures further { IfOk result (λ r. (pos + 8 ≤ r.1) × (r.1 ≤ scope.now.end) × (r.1 ≤ length scope.now.bytes.now)) }
+{
+    let typ = type_there(scope.alloc, scope.bytes, pos)?;
+    type_wanted(
+        scope.alloc,
+        leaf.takes(typ),
+        leaf.first_type(),
+        scope.bytes,
+        pos,
+        typ,
+    )?;
+    let (content, next) = content_there(scope.alloc, scope.bytes, pos, typ)?;
+    inside(scope.alloc, scope.bytes, pos, scope.end, typ, next)?;
+    let data = leaf_data(scope.alloc, leaf, typ, content)?;
+    keep_leaf(
+        scope.alloc,
+        leaf,
+        tag_at(scope.bytes, pos),
+        typ,
+        content,
+        kept,
+    )?;
+    Ok((data, next))
+}
+
+/// A type whose values the contents of leaves are.
+pub trait LeafValue<A: Allocator>: Sized + Drop {
+    ghost use Rattle.kmip_ttlv_reader.specs.declared.leaf.Leaf.{Leaf};
+
+    // The shape of such a leaf.
+    ghost leaf: { Leaf };
+
+    // The value that it stands for.
+    ghost value: { Self → Value };
+
+    /// The shape of such a leaf.
+    fn leaf() -> Leaf
+        ensures { result ≡ leaf };
+
+    /// The value of valid content. An AllocError when out of memory.
+    fn decode(alloc: A, typ: TtlvType, content: &[u8]) -> Result<Self, AllocError>
+        requires takes { takes (form_of_leaf leaf) typ ≡ true }
+        requires valid { is_valid typ content.now ≡ true }
+        ensures { IfOk result (λ x. value x ≡ leaf_value (form_of_leaf leaf) content.now) };
+}
+
+/// A leaf as a value of the type.
+#[tactic(auto, unfolding(crate::specs::Outcomes::leaf_outcome), using(crate::proofs::Steps::failure_then))]
+#[inline(always)]
+pub fn read_leaf_as<'b, K: LeafValue<A>, A: Allocator + Copy>(
+    scope: &Scope<'b, A>,
+    pos: usize,
+    kept: &mut KeptTexts<'b, A>,
+) -> Step<(K, usize), A>
+    requires inside { pos ≤ length scope.now.bytes.now }
+    ensures read { IsRead K.value kept.new
+        (leaf_outcome (form_of_leaf K.leaf) scope.now.bytes.now scope.now.owner kept.old pos scope.now.end) result }
+    ensures further { IfOk result (λ r. (pos + 8 ≤ r.1) × (r.1 ≤ scope.now.end) × (r.1 ≤ length scope.now.bytes.now)) }
+{
+    let leaf = K::leaf();
+    let item_type = type_there(scope.alloc, scope.bytes, pos)?;
+    type_wanted(
+        scope.alloc,
+        leaf.takes(item_type),
+        leaf.first_type(),
+        scope.bytes,
+        pos,
+        item_type,
+    )?;
+    let (content, next) = content_there(scope.alloc, scope.bytes, pos, item_type)?;
+    inside(scope.alloc, scope.bytes, pos, scope.end, item_type, next)?;
+    let value = K::decode(scope.alloc, item_type, content)?;
+    keep_leaf(
+        scope.alloc,
+        leaf,
+        tag_at(scope.bytes, pos),
+        item_type,
+        content,
+        kept,
+    )?;
+    Ok((value, next))
+}

@@ -1,0 +1,387 @@
+//! Types that stand for a structure and read themselves: a type reads its fields, and the calls here the header, what
+//! follows the fields, and the end.
+
+ghost use Rattle.std.specs.Prelude.{◌≡◌, ℕ, suc, ◌+◌, ◌<◌, ◌≤◌, ◌^◌, true, length, [], IfOk, IfErr};
+ghost use Rattle.kmip_ttlv_types.specs.Digits.{tag_text};
+ghost use Rattle.kmip_ttlv_base.specs.Values.{Value, seq_value};
+ghost use Rattle.kmip_ttlv_reader.specs.Reads.{has_fields, names_tag, Begins};
+ghost use Rattle.kmip_ttlv_reader.specs.Outcomes.{outcome, field_outcome, seq_outcome, opened, ignored, rest_outcome, all_outcome, struct_outcome, fields_outcome, first_outcome, root_outcome};
+ghost use Rattle.kmip_ttlv_reader.specs.Results.{IsStep};
+ghost use Rattle.kmip_ttlv_reader.specs.ReadResults.{IsReadAs, ErrorStands, early_end, sort_of};
+ghost use Rattle.kmip_ttlv_reader.specs.Wholes.{BeginsWhole};
+ghost use Rattle.kmip_ttlv_reader.specs.Spots.{IsWithin, IsReadTo, at, structure_form, structure_value, optional_value, values_by};
+ghost use Rattle.kmip_ttlv_base.specs.Forms.{option, seq};
+
+use crate::cursor::{Cursor, field_there, is_tag, missing_field, tag_is};
+use crate::errors::error;
+use crate::failure::{Cause, Failure, Step, at_item, in_struct, within};
+use crate::fields::{Field, FieldList};
+use crate::head::{goes_on, inside, item_end, length_there, structure_wanted, tag_at, type_there};
+use crate::scope::Scope;
+use kmip_ttlv_base::error::{Result, SerdeError};
+use kmip_ttlv_base::types::{TtlvTag, TtlvType};
+use std::alloc::Allocator;
+use std::marker::PhantomData;
+
+/// A type that stands for a structure and reads itself from the bytes.
+pub trait ReadStructure<A: Allocator + Copy>: Sized + Drop {
+    ghost use Rattle.std.specs.Prelude.{ℕ, Bool};
+    ghost use Rattle.kmip_ttlv_base.specs.Values.{Values};
+
+    // The structure's tag.
+    ghost TAG: { ℕ };
+
+    // Whether items that no field names are refused.
+    ghost DENIES_UNKNOWN: { Bool };
+
+    // The values of the fields.
+    ghost values: { Self → Values };
+
+    /// The fields, in their order.
+    type Fields: FieldList<A>;
+
+    /// The structure's tag.
+    const TAG: u32;
+
+    /// Whether an item that no field names is an error. Otherwise it is ignored.
+    const DENIES_UNKNOWN: bool;
+
+    /// The value of these fields.
+    fn from_fields(fields: <Self::Fields as FieldList<A>>::Read) -> Self
+        ensures { values result ≡ Self.Fields.values fields };
+}
+
+// Where the content of a structure of this tag ends.
+#[tactic(auto, unfolding(crate::specs::Outcomes::opened), using(crate::proofs::Steps::failure_then))]
+#[inline(always)]
+fn opened<A: Allocator + Copy>(alloc: A, tag: u32, bytes: &[u8], pos: usize) -> Step<usize, A>
+    requires inside { pos ≤ length bytes.now }
+    ensures step { IsStep (λ q. q) (opened (tag_text tag) bytes.now pos) result }
+    ensures there { IfOk result (λ q. (pos + 8 ≤ length bytes.now) × (pos + 8 ≤ q)) }
+{
+    let typ = type_there(alloc, bytes, pos)?;
+    tag_is(alloc, tag, bytes, pos, typ)?;
+    structure_wanted(alloc, bytes, pos, typ)?;
+    let n = length_there(bytes, pos)?;
+    Ok(pos + 8 + n as usize)
+}
+
+// An item behind the fields, which is ignored.
+#[tactic(auto, unfolding(crate::specs::Outcomes::ignored), using(crate::proofs::Steps::failure_then))]
+fn read_ignored<'b, T: ReadStructure<A>, A: Allocator + Copy>(
+    scope: &Scope<'b, A>,
+    pos: usize,
+) -> Step<usize, A>
+    requires inside { pos ≤ length scope.now.bytes.now }
+    ensures step { IsStep (λ q. q) (ignored T.Fields.fields T.DENIES_UNKNOWN scope.now.bytes.now scope.now.owner pos scope.now.end) result }
+    ensures further { IfOk result (λ q. (pos + 8 ≤ q) × (q ≤ scope.now.end) × (q ≤ length scope.now.bytes.now)) }
+{
+    let typ = type_there(scope.alloc, scope.bytes, pos)?;
+    if !T::Fields::has_fields() {
+        let cause = Cause::Mismatch(SerdeError::MissingIdentifier);
+        return Err(Failure::Fault(at_item(scope.alloc, scope.bytes, pos, 4, typ, cause)?));
+    }
+    if T::Fields::is_field(tag_at(scope.bytes, pos)) {
+        return Err(Failure::Fault(in_struct(
+            scope.alloc,
+            pos + 4,
+            scope.owner,
+            "duplicate field",
+        )?));
+    }
+    if T::DENIES_UNKNOWN {
+        return Err(Failure::Fault(in_struct(scope.alloc, pos + 4, scope.owner, "unknown field")?));
+    }
+    let next = item_end(scope.alloc, scope.bytes, pos, typ)?;
+    inside(scope.alloc, scope.bytes, pos, scope.end, typ, next)?;
+    Ok(next)
+}
+
+// What follows the fields, up to the end: in most messages nothing.
+#[tactic(auto, using(crate::proofs::Steps::failure_then))]
+#[inline(always)]
+fn read_rest<'b, T: ReadStructure<A>, A: Allocator + Copy>(
+    scope: &Scope<'b, A>,
+    pos: usize,
+) -> Step<usize, A>
+    requires inside { pos ≤ length scope.now.bytes.now }
+    requires before { pos ≤ scope.now.end }
+    ensures step { IsStep (λ q. q) (rest_outcome (suc (length scope.now.bytes.now)) T.Fields.fields T.DENIES_UNKNOWN
+        scope.now.bytes.now scope.now.owner pos scope.now.end) result }
+    ensures whole { IfOk result (λ q. (q ≡ scope.now.end) × (scope.now.end ≤ length scope.now.bytes.now)) }
+{
+    let mut next = pos;
+    while next < scope.end {
+        next = read_ignored::<T, A>(scope, next)?;
+    }
+    Ok(next)
+}
+
+// All that the structure contains.
+#[tactic(auto, unfolding(crate::specs::Outcomes::all_outcome), using(crate::proofs::Steps::failure_then))]
+#[inline(always)]
+fn read_content<'b, T: ReadStructure<A>, A: Allocator + Copy>(
+    scope: &Scope<'b, A>,
+    cursor: &mut Cursor<'b, A>,
+) -> Step<T, A>
+    requires within { IsWithin scope.now cursor.old }
+    ensures read { IsReadTo T.values cursor.new
+        (at (all_outcome T.Fields.fields T.DENIES_UNKNOWN (fields_outcome T.Fields.fields)) scope.now cursor.old) result }
+    ensures whole { IfOk result (λ _. (cursor.new.pos ≡ scope.now.end) × (scope.now.end ≤ length scope.now.bytes.now)) }
+{
+    let fields = T::Fields::read(scope, cursor)?;
+    let next = read_rest::<T, A>(scope, cursor.pos())?;
+    cursor.go_to(next);
+    Ok(T::from_fields(fields))
+}
+
+/// A structure within another, header and all.
+#[tactic(auto, unfolding(crate::specs::Outcomes::struct_outcome), using(crate::proofs::Steps::failure_then))]
+pub fn read_structure<'b, T: ReadStructure<A>, A: Allocator + Copy>(
+    scope: &Scope<'b, A>,
+    cursor: &mut Cursor<'b, A>,
+) -> Step<T, A>
+    requires within { IsWithin scope.now cursor.old }
+    ensures read { IsReadTo T.values cursor.new
+        (at (struct_outcome (tag_text T.TAG) T.Fields.fields T.DENIES_UNKNOWN (fields_outcome T.Fields.fields)) scope.now cursor.old) result }
+    ensures within { IfOk result (λ _. IsWithin scope.now cursor.new) }
+    ensures further { IfOk result (λ _. cursor.old.pos + 8 ≤ cursor.new.pos) }
+{
+    let pos = cursor.pos();
+    let end = opened(scope.alloc, T::TAG, scope.bytes, pos)?;
+    let owner = tag_at(scope.bytes, pos);
+    let content = Scope {
+        alloc: scope.alloc,
+        bytes: scope.bytes,
+        owner,
+        end,
+    };
+    cursor.go_to(pos + 8);
+    match read_content(&content, cursor) {
+        Ok(value) => {
+            inside(
+                scope.alloc,
+                scope.bytes,
+                pos,
+                scope.end,
+                TtlvType::Structure,
+                end,
+            )?;
+            Ok(value)
+        }
+        Err(failure) => Err(within(owner, failure)),
+    }
+}
+
+// The structure that a message is.
+#[tactic(auto, unfolding(crate::specs::Outcomes::first_outcome), using(crate::proofs::Steps::failure_then))]
+fn read_first<T: ReadStructure<A>, A: Allocator + Copy>(alloc: A, bytes: &[u8]) -> Step<T, A>
+    ensures step { IsStep T.values (first_outcome (tag_text T.TAG) T.Fields.fields T.DENIES_UNKNOWN
+        (fields_outcome T.Fields.fields) bytes.now) result }
+{
+    let end = opened(alloc, T::TAG, bytes, 0)?;
+    let owner = tag_at(bytes, 0);
+    let content = Scope {
+        alloc,
+        bytes,
+        owner,
+        end,
+    };
+    let mut cursor = Cursor::new(alloc, 8);
+    match read_content(&content, &mut cursor) {
+        Ok(value) => Ok(value),
+        Err(failure) => Err(within(owner, failure)),
+    }
+}
+
+// What a message is read as.
+fn read_root<T: ReadStructure<A>, A: Allocator + Copy>(alloc: A, bytes: &[u8]) -> Result<T, A>
+    ensures equals { IsReadAs (λ v x. v ≡ structure_value T.TAG T.values x)
+        (root_outcome (structure_form T.TAG T.Fields.fields T.DENIES_UNKNOWN) bytes.now) result }
+{
+    match read_first(alloc, bytes) {
+        Ok(value) => Ok(value),
+        Err(failure) => Err(error(failure)),
+    }
+}
+
+/// The value with which the bytes begin: one Structure, padding included (KMIP 1.0, section 9.1). It is
+/// read from the bytes where they stand: no shape is made, and no data.
+///
+/// It returns what `from_slice` returns for a type of this form, and has its errors: without a place
+/// `OutOfMemory` and, where the bytes end too early, `IoError` of kind UnexpectedEof; every other with
+/// its offset in bytes from the first byte, the item's tag and type, and the tags of the structures
+/// around it.
+pub fn read_message<T: ReadStructure<A>, A: Allocator + Copy>(
+    alloc: A,
+    bytes: &[u8],
+) -> Result<T, A>
+    // Which value comes, or which error and where: unless memory runs out, what the form reads the bytes as.
+    ensures equals { IsReadAs (λ v x. v ≡ structure_value T.TAG T.values x)
+        (root_outcome (structure_form T.TAG T.Fields.fields T.DENIES_UNKNOWN) bytes.now) result }
+    // What is returned is the value of data with which the bytes begin.
+    ensures found { IfOk result (λ x. (v : Value)
+        × Begins (structure_form T.TAG T.Fields.fields T.DENIES_UNKNOWN) bytes.now v × (v ≡ structure_value T.TAG T.values x)) }
+    // Bytes with an error begin with no data; but for an early end, whatever bytes follow.
+    ensures refused { IfErr result (λ e. ErrorStands (structure_form T.TAG T.Fields.fields T.DENIES_UNKNOWN) bytes.now e) }
+    // A Structure that is split into items at every depth never ends too early.
+    ensures whole { IfErr result (λ e. BeginsWhole bytes.now → sort_of e ≡ early_end → ⊥) }
+{
+    read_root(alloc, bytes)
+}
+
+// A structure within another, as its form has it.
+#[inline(always)]
+fn read_form<'b, T: ReadStructure<A>, A: Allocator + Copy>(
+    scope: &Scope<'b, A>,
+    cursor: &mut Cursor<'b, A>,
+) -> Step<T, A>
+    requires within { IsWithin scope.now cursor.old }
+    ensures read { IsReadTo (structure_value T.TAG T.values) cursor.new
+        (at (outcome (structure_form T.TAG T.Fields.fields T.DENIES_UNKNOWN)) scope.now cursor.old) result }
+    ensures within { IfOk result (λ _. IsWithin scope.now cursor.new) }
+    ensures further { IfOk result (λ _. cursor.old.pos + 8 ≤ cursor.new.pos) }
+{
+    read_structure(scope, cursor)
+}
+
+/// A field that is a structure, of the tag that its type says.
+#[derive(Drop)]
+pub struct Nested<T> {
+    kind: PhantomData<T>,
+}
+
+impl<T: ReadStructure<A>, A: Allocator + Copy> Field<A> for Nested<T> {
+    type Read = T;
+
+    ghost name = { tag_text T.TAG };
+
+    ghost form = { structure_form T.TAG T.Fields.fields T.DENIES_UNKNOWN };
+
+    ghost stands_for = { structure_value T.TAG T.values };
+
+    fn has_tag(tag: TtlvTag) -> bool {
+        is_tag(T::TAG, tag)
+    }
+
+    #[tactic(auto, unfolding(crate::specs::Outcomes::field_outcome), using(crate::proofs::Steps::failure_then))]
+    #[inline(always)]
+    fn read<'b>(scope: &Scope<'b, A>, cursor: &mut Cursor<'b, A>) -> Step<T, A> {
+        if cursor.pos() == scope.end {
+            return Err(missing_field(scope));
+        }
+        read_form(scope, cursor)
+    }
+}
+
+/// A field that is a structure, of the tag that its type says, and may be absent.
+#[derive(Drop)]
+pub struct OptionalNested<T> {
+    kind: PhantomData<T>,
+}
+
+impl<T: ReadStructure<A>, A: Allocator + Copy> Field<A> for OptionalNested<T> {
+    type Read = Option<T>;
+
+    ghost name = { tag_text T.TAG };
+
+    ghost form = { option (structure_form T.TAG T.Fields.fields T.DENIES_UNKNOWN) };
+
+    ghost stands_for = { optional_value (structure_value T.TAG T.values) };
+
+    fn has_tag(tag: TtlvTag) -> bool {
+        is_tag(T::TAG, tag)
+    }
+
+    #[tactic(auto, unfolding(crate::specs::Outcomes::field_outcome, crate::specs::Outcomes::outcome), using(crate::proofs::Steps::failure_then))]
+    #[inline(always)]
+    fn read<'b>(scope: &Scope<'b, A>, cursor: &mut Cursor<'b, A>) -> Step<Option<T>, A> {
+        if cursor.pos() == scope.end {
+            return Ok(None);
+        }
+        let _ = type_there(scope.alloc, scope.bytes, cursor.pos())?;
+        if !is_tag(T::TAG, tag_at(scope.bytes, cursor.pos())) {
+            return Ok(None);
+        }
+        Ok(Some(read_form(scope, cursor)?))
+    }
+}
+
+// Structures of one type, one after the other: at least one.
+#[tactic(auto, using(crate::proofs::Steps::failure_then))]
+fn read_several<'b, T: ReadStructure<A>, A: Allocator + Copy>(
+    scope: &Scope<'b, A>,
+    cursor: &mut Cursor<'b, A>,
+) -> Step<Vec<T, A>, A>
+    requires within { IsWithin scope.now cursor.old }
+    ensures read { IsReadTo (λ xs. values_by (structure_value T.TAG T.values) xs.items) cursor.new
+        (at (seq_outcome (outcome (structure_form T.TAG T.Fields.fields T.DENIES_UNKNOWN))) scope.now cursor.old) result }
+    ensures within { IfOk result (λ _. IsWithin scope.now cursor.new) }
+{
+    let first = cursor.pos();
+    let mut values = Vec::new(scope.alloc);
+    let value = read_form(scope, cursor)?;
+    values.push(value)?;
+    while goes_on(scope.alloc, scope.bytes, first, cursor.pos(), scope.end)? {
+        let value = read_form(scope, cursor)?;
+        values.push(value)?;
+    }
+    Ok(values)
+}
+
+// The same, as the form of a sequence has them.
+#[inline(always)]
+fn read_sequence<'b, T: ReadStructure<A>, A: Allocator + Copy>(
+    scope: &Scope<'b, A>,
+    cursor: &mut Cursor<'b, A>,
+) -> Step<Vec<T, A>, A>
+    requires within { IsWithin scope.now cursor.old }
+    ensures read { IsReadTo (λ xs. seq_value (values_by (structure_value T.TAG T.values) xs.items)) cursor.new
+        (at (outcome (seq (structure_form T.TAG T.Fields.fields T.DENIES_UNKNOWN))) scope.now cursor.old) result }
+    ensures within { IfOk result (λ _. IsWithin scope.now cursor.new) }
+{
+    read_several(scope, cursor)
+}
+
+/// A field that is a sequence of structures, of the tag that their type says: at least one.
+#[derive(Drop)]
+pub struct Several<T> {
+    kind: PhantomData<T>,
+}
+
+impl<T: ReadStructure<A>, A: Allocator + Copy> Field<A> for Several<T> {
+    type Read = Vec<T, A>;
+
+    ghost name = { tag_text T.TAG };
+
+    ghost form = { seq (structure_form T.TAG T.Fields.fields T.DENIES_UNKNOWN) };
+
+    ghost stands_for = { λ xs. seq_value (values_by (structure_value T.TAG T.values) xs.items) };
+
+    fn has_tag(tag: TtlvTag) -> bool {
+        is_tag(T::TAG, tag)
+    }
+
+    #[inline(always)]
+    fn read<'b>(scope: &Scope<'b, A>, cursor: &mut Cursor<'b, A>) -> Step<Vec<T, A>, A> {
+        read_several_field(scope, cursor)
+    }
+}
+
+// A field that is a sequence of structures.
+#[inline(always)]
+fn read_several_field<'b, T: ReadStructure<A>, A: Allocator + Copy>(
+    scope: &Scope<'b, A>,
+    cursor: &mut Cursor<'b, A>,
+) -> Step<Vec<T, A>, A>
+    requires within { IsWithin scope.now cursor.old }
+    ensures read { IsReadTo (λ xs. seq_value (values_by (structure_value T.TAG T.values) xs.items)) cursor.new
+        (at (field_outcome (tag_text T.TAG) (seq (structure_form T.TAG T.Fields.fields T.DENIES_UNKNOWN))
+        (outcome (seq (structure_form T.TAG T.Fields.fields T.DENIES_UNKNOWN)))) scope.now cursor.old) result }
+    ensures within { IfOk result (λ _. IsWithin scope.now cursor.new) }
+{
+    match field_there(scope, T::TAG, cursor.pos()) {
+        Ok(()) => read_sequence(scope, cursor),
+        Err(failure) => Err(failure),
+    }
+}
