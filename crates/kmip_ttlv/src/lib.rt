@@ -4,7 +4,8 @@
 //! This is the crate that users name. It has no code, and gives one path to the crates below it: `types`,
 //! `error`, the traits of a user's type in `shape`, `visit` and `parts`; encoding in `ser`, decoding in `de`
 //! and, for types that read themselves, in `reader`; printing in `util`, `items` and `names`; the parts of
-//! message types in `messages`; and in `laws` what holds of encoding and decoding together.
+//! message types in `messages`; an allocator with limits in `memory`; and in `laws` what holds of encoding and
+//! decoding together.
 //!
 //! The lemmas by which a user's `from_data`, `shape` and `visit` are proved are in proofs/Views, proofs/Shapes
 //! and proofs/Visiting of `kmip_ttlv_base`.
@@ -16,6 +17,7 @@ pub use kmip_ttlv_base::{error, parts, shape, types, visit};
 pub use kmip_ttlv_de::from_slice;
 pub use kmip_ttlv_items as items;
 pub use kmip_ttlv_laws as laws;
+pub use kmip_ttlv_memory as memory;
 pub use kmip_ttlv_messages as messages;
 pub use kmip_ttlv_names as names;
 pub use kmip_ttlv_reader::reader;

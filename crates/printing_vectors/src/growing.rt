@@ -5,7 +5,7 @@ use crate::messages::{REDACTED_LINES, VERSION, VERSION_LINES};
 use crate::printers::{is_counted, is_diagnostic, is_read_back, is_readable, printer};
 use hex::FromHexError;
 use kmip_ttlv::PrettyPrinter;
-use refusing_allocator::{BoundedAllocator, RefusingAllocator};
+use kmip_ttlv_memory::BoundedAllocator;
 use std::alloc::{AllocError, Allocator, Global};
 
 // The diagnostic of the version, by a printer that takes the prefix 4200 from tags.
@@ -84,12 +84,12 @@ fn right_or_wrong(is_right: bool, outcome: Outcome, before: u64) -> Outcome {
 }
 
 fn one_outcome(alloc: Global, call: Call, bytes: &[u8], before: u64) -> Outcome {
-    let heap = RefusingAllocator::new(alloc, before);
+    let heap = BoundedAllocator::failing_after(alloc, before);
     let Ok(printer) = printer(&heap, "4200", false) else {
-        return right_or_wrong(heap.has_refused(), Outcome::Refused, before);
+        return right_or_wrong(heap.has_failed(), Outcome::Refused, before);
     };
     let answer = is_ample(&printer, call, bytes);
-    if heap.has_refused() {
+    if heap.has_failed() {
         let is_right = answer.is_err() && answers_all(&printer, bytes);
         right_or_wrong(is_right, Outcome::Refused, before)
     } else {
@@ -142,7 +142,7 @@ fn has_diagnostic_alone<A: Allocator + Copy>(alloc: A, bytes: &[u8]) -> Result<b
 // square of their number.
 fn is_bounded(alloc: Global, count: u32) -> Result<bool, AllocError> {
     let bytes = headers(alloc, count)?;
-    let heap = BoundedAllocator::new(alloc, 1 << 20);
+    let heap = BoundedAllocator::in_blocks(alloc, 1 << 20);
     has_diagnostic_alone(&heap, bytes.as_slice())
 }
 
@@ -152,7 +152,7 @@ fn a_bound_on_memory_holds_for_deep_texts(rt: HostRuntime) {
 }
 
 fn is_refused(alloc: Global, before: u64, bytes: &[u8]) -> bool {
-    let heap = RefusingAllocator::new(alloc, before);
+    let heap = BoundedAllocator::failing_after(alloc, before);
     let printer = PrettyPrinter::new(&heap);
     printer.to_diag_string(bytes).is_err()
 }

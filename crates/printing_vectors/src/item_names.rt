@@ -3,7 +3,7 @@
 use kmip_ttlv::names::{STANDARD_TAGS, TableError, standard_names, tag_names};
 use kmip_ttlv::types::TtlvTag;
 use kmip_ttlv::util::{read_back_named, text_named};
-use refusing_allocator::RefusingAllocator;
+use kmip_ttlv_memory::BoundedAllocator;
 use std::alloc::Global;
 
 // Some names of the specification (9.1.3.1), first and last ones among them.
@@ -82,21 +82,21 @@ fn tables(rt: HostRuntime) {
 
 // Whether the two texts with a lent name are as they are to be, or memory was refused.
 fn is_printed(alloc: Global, before: u64) -> bool {
-    let heap = RefusingAllocator::new(alloc, before);
+    let heap = BoundedAllocator::failing_after(alloc, before);
     let table = "42006A Major";
     let message = [0x42, 0, 0x6A, 1, 0, 0, 0, 0];
     let Ok(names) = tag_names(&heap, table) else {
-        return heap.has_refused();
+        return heap.has_failed();
     };
     let Ok(text) = text_named(&heap, &names, true, &message) else {
-        return heap.has_refused();
+        return heap.has_failed();
     };
     let Ok(lines) = read_back_named(&heap, "4200", &names, "6A[]") else {
-        return heap.has_refused();
+        return heap.has_failed();
     };
     text.as_str() == "Tag: Major (0x42006A), Type: Structure (0x01), Data:\n"
         && lines.as_str() == "Tag: Major (0x42006A), Type: Structure (0x01), Data:"
-        && !heap.has_refused()
+        && !heap.has_failed()
 }
 
 #[test]

@@ -3,7 +3,7 @@
 use hex::FromHexError;
 use kmip_ttlv::items::{Fault, FaultKind, FoundItem, ItemWalk, Step, find_fault, walk_items};
 use kmip_ttlv::types::{TtlvTag, TtlvType};
-use refusing_allocator::RefusingAllocator;
+use kmip_ttlv_memory::BoundedAllocator;
 use std::alloc::{Allocator, Global};
 
 // A message as hexadecimal text, the place of its first fault, and what is wrong there.
@@ -188,7 +188,7 @@ fn stepped<A: Allocator>(walk: &mut ItemWalk<'_, A>) -> Option<Step> {
 
 // Whether a walk, of which this growth is refused, comes to each item, and then to the end, and stays there.
 fn is_stepped(alloc: Global, bytes: &[u8], before: u64) -> bool {
-    let heap = RefusingAllocator::new(alloc, before);
+    let heap = BoundedAllocator::failing_after(alloc, before);
     let mut walk = ItemWalk::new(&heap, bytes);
     for wanted in ITEMS {
         match stepped(&mut walk) {
@@ -215,11 +215,11 @@ fn steps(rt: HostRuntime) -> Result<(), FromHexError> {
 
 // Whether the walk and the check answer want of memory exactly where this growth is refused.
 fn refuses(alloc: Global, bytes: &[u8], before: u64) -> bool {
-    let heap = RefusingAllocator::new(alloc, before);
+    let heap = BoundedAllocator::failing_after(alloc, before);
     let mut none: [FoundItem; 0] = [];
-    let walked = walk_items(&heap, bytes, &mut none).is_err() == heap.has_refused();
-    let other = RefusingAllocator::new(alloc, before);
-    let checked = find_fault(&other, bytes).is_err() == other.has_refused();
+    let walked = walk_items(&heap, bytes, &mut none).is_err() == heap.has_failed();
+    let other = BoundedAllocator::failing_after(alloc, before);
+    let checked = find_fault(&other, bytes).is_err() == other.has_failed();
     walked && checked
 }
 

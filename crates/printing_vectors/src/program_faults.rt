@@ -3,7 +3,7 @@
 use crate::messages::{VERSION, VERSION_LINES};
 use crate::program::{Outcome, PAIR, PAIR_TEXT, Row, run_with, words_of};
 use hex_to_txt_run::run::run;
-use refusing_allocator::RefusingAllocator;
+use kmip_ttlv_memory::BoundedAllocator;
 use std::alloc::{AllocError, Global};
 use std::io;
 use std::io::{ErrorKind, Read, Write};
@@ -37,13 +37,13 @@ enum Answer {
 // What a run comes to where one growth is refused.
 fn one_answer(alloc: Global, row: Row, before: u64) -> Answer {
     let (line, input, text) = row;
-    let heap = RefusingAllocator::new(alloc, before);
+    let heap = BoundedAllocator::failing_after(alloc, before);
     let Ok(outcome) = run_with(&heap, alloc, line, input.as_bytes()) else {
         return Answer::Wrong(before);
     };
-    if heap.has_refused() && (outcome.prints(text) || outcome.refuses("out of memory\n")) {
+    if heap.has_failed() && (outcome.prints(text) || outcome.refuses("out of memory\n")) {
         Answer::Refused
-    } else if !heap.has_refused() && outcome.prints(text) {
+    } else if !heap.has_failed() && outcome.prints(text) {
         Answer::Whole
     } else {
         Answer::Wrong(before)

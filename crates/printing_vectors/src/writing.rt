@@ -9,7 +9,7 @@ use kmip_ttlv::PrettyPrinter;
 use kmip_ttlv::util::{
     Indentation, LentTagMap, Pieces, push_diag, push_read_back, read_back_counted,
 };
-use refusing_allocator::{BoundedAllocator, RefusingAllocator};
+use kmip_ttlv_memory::BoundedAllocator;
 use std::alloc::{AllocError, Allocator, Global};
 use std::collections::HashMap;
 use std::io;
@@ -182,7 +182,7 @@ fn a_writer_that_fails_has_a_beginning(rt: HostRuntime) -> Result<(), AllocError
 #[test]
 fn a_text_needs_no_memory_of_its_size(rt: HostRuntime) -> Result<(), AllocError> {
     let bytes = long_leaf(rt.alloc(), 8, 0xC5, 100_000)?;
-    let memory = BoundedAllocator::new(rt.alloc(), 1_000);
+    let memory = BoundedAllocator::in_blocks(rt.alloc(), 1_000);
     let printer = printer(&memory, "4200", false)?;
     assert!(rt; printer.to_string(&bytes).is_err());
     let mut written = Vec::new(rt.alloc());
@@ -193,13 +193,13 @@ fn a_text_needs_no_memory_of_its_size(rt: HostRuntime) -> Result<(), AllocError>
 
 // Whether the error is OutOfMemory where each growth is refused, and the writer has no byte.
 fn is_refused(alloc: Global, kind: Kind, bytes: &[u8]) -> Result<bool, AllocError> {
-    let heap = RefusingAllocator::new(alloc, 0);
+    let heap = BoundedAllocator::failing_after(alloc, 0);
     let printer = PrettyPrinter::new(&heap);
     let mut written = Vec::new(alloc);
     let Err(error) = write(&printer, kind, &mut written, bytes) else {
         return Ok(false);
     };
-    Ok(error.kind() == ErrorKind::OutOfMemory && written.is_empty() && heap.has_refused())
+    Ok(error.kind() == ErrorKind::OutOfMemory && written.is_empty() && heap.has_failed())
 }
 
 #[test]
@@ -227,7 +227,7 @@ fn is_diagnosed(alloc: Global, count: u32) -> Result<bool, AllocError> {
     let bytes = many_integers(alloc, count)?;
     let mut whole = String::from_str(alloc, "69[")?;
     whole.push_str(repeated(alloc, "6Ai", count as usize, "]")?.as_str())?;
-    let memory = BoundedAllocator::new(alloc, 64);
+    let memory = BoundedAllocator::in_blocks(alloc, 64);
     let mut written = Vec::new(alloc);
     let mut pieces = Pieces::new(&mut written);
     let added = push_diag(&memory, &mut pieces, "4200", true, &bytes).is_ok();
@@ -250,7 +250,7 @@ fn nested(alloc: Global, times: usize) -> Result<String, AllocError> {
 fn is_added(alloc: Global, text: &str) -> Result<bool, AllocError> {
     let none: LentTagMap = HashMap::new(alloc);
     let whole = read_back_counted(alloc, "4200", &none, Indentation::Bounded, text)?;
-    let memory = BoundedAllocator::new(alloc, 64);
+    let memory = BoundedAllocator::in_blocks(alloc, 64);
     let names: LentTagMap<&BoundedAllocator<Global>> = HashMap::new(&memory);
     let mut written = Vec::new(alloc);
     let mut pieces = Pieces::new(&mut written);

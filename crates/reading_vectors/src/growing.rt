@@ -5,7 +5,7 @@ use crate::reading::Reading;
 use crate::response::{RESPONSE, Response};
 use kmip_ttlv::error::{Error, ErrorKind};
 use kmip_ttlv::from_slice;
-use refusing_allocator::RefusingAllocator;
+use kmip_ttlv_memory::BoundedAllocator;
 use std::alloc::{Allocator, Global};
 use std::test::Fail;
 
@@ -33,10 +33,10 @@ fn a_response_that_is_read_grows(rt: HostRuntime) -> Result<(), Fail> {
     let ample = answer::<Response>(rt.alloc(), RESPONSE)?;
     let bytes = hex::decode(rt.alloc(), RESPONSE)?;
     for before in 0..1000u64 {
-        let heap = RefusingAllocator::new(rt.alloc(), before);
+        let heap = BoundedAllocator::failing_after(rt.alloc(), before);
         let read = from_slice::<Reading<Response, _>, _>(&heap, bytes.as_slice());
         let (is_whole, is_short) = outcome(read, ample.as_str());
-        if !heap.has_refused() {
+        if !heap.has_failed() {
             assert!(rt; is_whole, "at {before}");
             return Ok(());
         }
@@ -49,12 +49,12 @@ fn a_response_that_is_read_grows(rt: HostRuntime) -> Result<(), Fail> {
 fn refused_growths(alloc: Global, bytes: &[u8]) -> Result<Vec<u64>, Fail> {
     let mut refused = Vec::new(alloc);
     for before in 0..1000u64 {
-        let heap = RefusingAllocator::new(alloc, before);
+        let heap = BoundedAllocator::failing_after(alloc, before);
         let (_, is_short) = outcome(from_slice::<Reading<Single, _>, _>(&heap, bytes), "");
         if is_short {
             refused.push(before)?;
         }
-        if !heap.has_refused() {
+        if !heap.has_failed() {
             break;
         }
     }

@@ -10,7 +10,7 @@ use crate::selves::{Closed, Moment, Point, Whole, read_whole};
 use kmip_ttlv::error::{Error, ErrorKind};
 use kmip_ttlv::from_slice;
 use kmip_ttlv::reader::{ReadStructure, read_message};
-use refusing_allocator::RefusingAllocator;
+use kmip_ttlv_memory::BoundedAllocator;
 use std::alloc::{Allocator, Global};
 use std::test::Fail;
 
@@ -258,9 +258,9 @@ fn ending<A: Allocator>(found: Result<Whole<A>, Error<A>>) -> (bool, bool) {
 fn it_may_run_out_of_memory(rt: HostRuntime) -> Result<(), Fail> {
     let bytes = hex::decode(rt.alloc(), whole(rt.alloc())?.as_str())?;
     for before in 0..100u64 {
-        let heap = RefusingAllocator::new(rt.alloc(), before);
+        let heap = BoundedAllocator::failing_after(rt.alloc(), before);
         let (is_read, is_short) = ending(read_whole(&heap, bytes.as_slice()));
-        if !heap.has_refused() {
+        if !heap.has_failed() {
             assert!(rt; is_read, "at {before}");
             return Ok(());
         }

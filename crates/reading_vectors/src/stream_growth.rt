@@ -4,7 +4,7 @@
 use crate::stream_samples::{MESSAGE, Single, Wanted, is_kept, is_memory, is_wanted, slow};
 use kmip_ttlv::types::stream::MemorySource;
 use kmip_ttlv::{Config, from_reader};
-use refusing_allocator::{BoundedAllocator, RefusingAllocator};
+use kmip_ttlv_memory::BoundedAllocator;
 use std::alloc::Global;
 use std::io::ErrorKind;
 use std::test::Fail;
@@ -20,7 +20,7 @@ enum Outcome {
 // A message, where the growth after the first `before` is refused.
 fn with_refused_growth(alloc: Global, keeps: bool, before: u64) -> Result<Outcome, Fail> {
     let stream = hex::decode(alloc, MESSAGE)?;
-    let heap = RefusingAllocator::new(alloc, before);
+    let heap = BoundedAllocator::failing_after(alloc, before);
     let mut config = Config::new(&heap);
     if keeps {
         config = config.with_read_buf();
@@ -28,10 +28,10 @@ fn with_refused_growth(alloc: Global, keeps: bool, before: u64) -> Result<Outcom
     let mut reader = slow(stream.as_slice());
     let found = from_reader::<Single, _, _>(&heap, &mut reader, &mut config);
     let is_same = is_wanted(&found, Wanted::Number(3)) && reader.bytes.is_empty();
-    if config.has_buf() != keeps || !(is_same || heap.has_refused() && is_memory(&found)) {
+    if config.has_buf() != keeps || !(is_same || heap.has_failed() && is_memory(&found)) {
         return Ok(Outcome::Wrong);
     }
-    if heap.has_refused() {
+    if heap.has_failed() {
         Ok(Outcome::Refused)
     } else {
         Ok(Outcome::Ample)
@@ -59,18 +59,18 @@ fn second_after(alloc: Global, before: u64) -> Result<Outcome, Fail> {
     let one = hex::decode(alloc, MESSAGE)?;
     let mut two = hex::decode(alloc, MESSAGE)?;
     two.extend_from_slice(one.as_slice())?;
-    let heap = RefusingAllocator::new(alloc, before);
-    let ample = RefusingAllocator::new(alloc, 1_000_000);
+    let heap = BoundedAllocator::failing_after(alloc, before);
+    let ample = BoundedAllocator::failing_after(alloc, 1_000_000);
     let mut config = Config::new(&heap).with_read_buf();
     let mut reader = slow(two.as_slice());
     let first = from_reader::<Single, _, _>(&ample, &mut reader, &mut config);
-    if heap.has_refused() {
+    if heap.has_failed() {
         return Ok(Outcome::Refused);
     }
     let is_first = is_wanted(&first, Wanted::Number(3)) && is_kept(&config, one.as_slice());
     let second = from_reader::<Single, _, _>(&ample, &mut reader, &mut config);
     let is_second = is_wanted(&second, Wanted::Number(3)) && is_kept(&config, one.as_slice());
-    if is_first && is_second && reader.bytes.is_empty() && !heap.has_refused() {
+    if is_first && is_second && reader.bytes.is_empty() && !heap.has_failed() {
         Ok(Outcome::Ample)
     } else {
         Ok(Outcome::Wrong)
@@ -94,7 +94,7 @@ fn a_second_message_takes_no_growth(rt: HostRuntime) -> Result<(), Fail> {
 // only a first piece is asked for.
 fn is_taken_by_pieces(alloc: Global) -> Result<bool, Fail> {
     let stream = hex::decode(alloc, "AAAAAA01FFFFFFFF")?;
-    let heap = BoundedAllocator::new(alloc, 8 + 65_536);
+    let heap = BoundedAllocator::in_blocks(alloc, 8 + 65_536);
     let mut config = Config::new(&heap).with_read_buf();
     let mut source = MemorySource(stream.as_slice());
     let found = from_reader::<Single, _, _>(&heap, &mut source, &mut config);

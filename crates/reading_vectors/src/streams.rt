@@ -6,7 +6,7 @@ use crate::reading::Reading;
 use crate::response::{RESPONSE, Response};
 use kmip_ttlv::error::{Error, ErrorKind};
 use kmip_ttlv::{Config, from_reader};
-use refusing_allocator::RefusingAllocator;
+use kmip_ttlv_memory::BoundedAllocator;
 use std::alloc::{Allocator, Global};
 use std::io;
 use std::io::Read;
@@ -87,14 +87,14 @@ fn is_right_or_short(
     text: &str,
     before: u64,
 ) -> Option<bool> {
-    let heap = RefusingAllocator::new(alloc, before);
+    let heap = BoundedAllocator::failing_after(alloc, before);
     let mut reader = SlowReader {
         bytes,
         before: u64::MAX,
         kind: io::ErrorKind::Other,
     };
     let found = read_by(&heap, &mut reader, keeps, text);
-    if heap.has_refused() {
+    if heap.has_failed() {
         Some(found == Outcome::Whole || found == Outcome::OutOfMemory)
     } else if found == Outcome::Whole {
         None

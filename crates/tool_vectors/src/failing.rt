@@ -2,7 +2,7 @@
 
 use crate::runs::{HIDDEN_LINES, Outcome, VERSION, VERSION_LINES, back_with, of, run_with};
 use kmip_ttlv_names::{standard_names, standard_values};
-use refusing_allocator::RefusingAllocator;
+use kmip_ttlv_memory::BoundedAllocator;
 use std::alloc::{AllocError, Global};
 use std::io;
 use std::io::{ErrorKind, Read, Write};
@@ -62,20 +62,20 @@ fn answer_of(outcome: &Outcome, text: &str, refused: bool, before: u64) -> Answe
 
 // What a run comes to where one growth is refused. The names may be refused before it begins.
 fn one_answer(alloc: Global, task: Task<'_>, text: &str, before: u64) -> Answer {
-    let heap = RefusingAllocator::new(alloc, before);
+    let heap = BoundedAllocator::failing_after(alloc, before);
     match run_with(&heap, alloc, task, Encoding::Detected, VERSION.as_bytes()) {
-        Ok(outcome) => answer_of(&outcome, text, heap.has_refused(), before),
-        Err(AllocError) if heap.has_refused() => Answer::Refused,
+        Ok(outcome) => answer_of(&outcome, text, heap.has_failed(), before),
+        Err(AllocError) if heap.has_failed() => Answer::Refused,
         Err(AllocError) => Answer::Wrong(before),
     }
 }
 
 fn one_back(alloc: Global, before: u64) -> Answer {
-    let heap = RefusingAllocator::new(alloc, before);
+    let heap = BoundedAllocator::failing_after(alloc, before);
     let text = "Tag: Protocol Version (0x420069), Type: Structure (0x01), Data:\n";
     match back_with(&heap, alloc, "4200", b"69[]") {
-        Ok(outcome) => answer_of(&outcome, text, heap.has_refused(), before),
-        Err(AllocError) if heap.has_refused() => Answer::Refused,
+        Ok(outcome) => answer_of(&outcome, text, heap.has_failed(), before),
+        Err(AllocError) if heap.has_failed() => Answer::Refused,
         Err(AllocError) => Answer::Wrong(before),
     }
 }

@@ -2,7 +2,7 @@
 
 use crate::runs::{Outcome, VERSION, VERSION_LINES, back_with, of, repeated, run_with};
 use kmip_ttlv_names::{standard_names, standard_values};
-use refusing_allocator::{BoundedAllocator, RefusingAllocator};
+use kmip_ttlv_memory::BoundedAllocator;
 use std::alloc::{AllocError, Global};
 use std::io;
 use std::io::{ErrorKind, Write};
@@ -58,7 +58,7 @@ fn long_inputs(rt: HostRuntime) {
 fn prints_within(alloc: Global, times: u64, most: usize) -> Result<bool, AllocError> {
     let input = repeated(alloc, VERSION, times)?;
     let whole = repeated(alloc, VERSION_LINES, times)?;
-    let heap = BoundedAllocator::new(alloc, most);
+    let heap = BoundedAllocator::in_blocks(alloc, most);
     let outcome = run_with(&heap, alloc, SHOW, Encoding::Detected, input.as_bytes())?;
     Ok(most < whole.len() && outcome.is(0, whole.as_str(), ""))
 }
@@ -73,7 +73,7 @@ fn reads_nested_within(alloc: Global, times: u64, most: usize) -> Result<bool, A
     let mut input = repeated(alloc, "420069[", times)?;
     let closes = repeated(alloc, "]", times)?;
     input.push_str(closes.as_str())?;
-    let heap = BoundedAllocator::new(alloc, most);
+    let heap = BoundedAllocator::in_blocks(alloc, most);
     let outcome = back_with(&heap, alloc, "", input.as_bytes())?;
     Ok(most < outcome.output.len() && outcome.status == 0 && outcome.errors.is_empty())
 }
@@ -99,7 +99,7 @@ fn growths(alloc: Global, encoding: Encoding, input: &str) -> Result<u64, AllocE
         encoding,
     };
     for before in 0..100u64 {
-        let heap = RefusingAllocator::new(alloc, before);
+        let heap = BoundedAllocator::failing_after(alloc, before);
         let memory = Memory {
             input: &heap,
             rest: alloc,
@@ -108,7 +108,7 @@ fn growths(alloc: Global, encoding: Encoding, input: &str) -> Result<u64, AllocE
         let mut output = Vec::new(alloc);
         let mut errors = Vec::new(alloc);
         run(memory, &job, &names, &mut input, &mut output, &mut errors);
-        if !heap.has_refused() {
+        if !heap.has_failed() {
             return Ok(before);
         }
     }
@@ -149,7 +149,7 @@ fn nested(alloc: Global, depth: u32) -> Result<String, AllocError> {
 // The status of checking structures so deep, where no block above so many bytes is to be had but for the input.
 fn nested_status(alloc: Global, depth: u32, most: usize) -> Result<u8, AllocError> {
     let text = nested(alloc, depth)?;
-    let small = BoundedAllocator::new(alloc, most);
+    let small = BoundedAllocator::in_blocks(alloc, most);
     let (Ok(tags), Ok(values)) = (standard_names(&small), standard_values(&small)) else {
         return Err(AllocError);
     };
@@ -178,7 +178,7 @@ fn nesting_is_bounded_by_memory(rt: HostRuntime) {
 
 // How much of the text is there where this growth is refused; none where another text is, or another line.
 fn begun(alloc: Global, input: &str, text: &str, before: u64) -> Option<usize> {
-    let heap = RefusingAllocator::new(alloc, before);
+    let heap = BoundedAllocator::failing_after(alloc, before);
     match run_with(&heap, alloc, SHOW, Encoding::Detected, input.as_bytes()) {
         Ok(outcome) if outcome.begins(3, text, "capture: out of memory\n") => {
             Some(outcome.output.len())

@@ -6,7 +6,7 @@
 
 use either::Either;
 use kmip_ttlv_names::{STANDARD_TAGS, standard_values, tag_names};
-use refusing_allocator::BoundedAllocator;
+use kmip_ttlv_memory::BoundedAllocator;
 use std::alloc::{AllocError, Allocator, Global};
 use std::fs::File;
 use std::io::{IsTerminal, Stderr, Stdin};
@@ -138,7 +138,7 @@ fn run_all(rt: &HostRuntime, request: &Request<'_>) -> u8 {
         Ok(table) => table,
         Err(status) => return status,
     };
-    let small = BoundedAllocator::new(rt.alloc(), MOST);
+    let small = BoundedAllocator::in_blocks(rt.alloc(), MOST);
     let memory = Memory {
         input: rt.alloc(),
         rest: &small,

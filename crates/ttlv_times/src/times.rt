@@ -5,7 +5,7 @@ use kmip_ttlv::items::find_fault;
 use kmip_ttlv::{Config, PrettyPrinter, from_reader, from_slice};
 use reading_vectors::parts::Part;
 use reading_vectors::run::Run;
-use refusing_allocator::BoundedAllocator;
+use kmip_ttlv_memory::BoundedAllocator;
 use std::alloc::Global;
 use std::io::{self, Eprint};
 use std::time::{Clock, Instant};
@@ -133,7 +133,7 @@ pub fn taking_by_copies<P: Part, R: Clock + Eprint + AllocGlobal>(
     rt: &R,
     bytes: &[u8],
 ) -> io::Result<u128> {
-    let memory = BoundedAllocator::new(rt.alloc(), usize::MAX);
+    let memory = BoundedAllocator::in_blocks(rt.alloc(), usize::MAX);
     let mut least = u128::MAX;
     for _ in 0..ROUNDS {
         let mut reader = bytes;

@@ -10,7 +10,7 @@ use crate::message::Every;
 use crate::numbers::{Many, Named, OptionalNumbers, Reasons};
 use kmip_ttlv::error::ErrorKind;
 use kmip_ttlv::from_slice;
-use refusing_allocator::RefusingAllocator;
+use kmip_ttlv_memory::BoundedAllocator;
 use std::alloc::{Allocator, Global};
 use std::test::Fail;
 
@@ -284,11 +284,11 @@ enum Outcome {
 // Reads where the growth after the first `before` is refused.
 fn with_refused_growth(alloc: Global, before: u64) -> Result<Outcome, Fail> {
     let bytes = joined(alloc, &ALL)?;
-    let heap = RefusingAllocator::new(alloc, before);
+    let heap = BoundedAllocator::failing_after(alloc, before);
     let read: kmip_ttlv::error::Result<Every<_>, _> = from_slice(&heap, bytes.as_slice());
     match &read {
-        Ok(every) if is_whole(every) && !heap.has_refused() => Ok(Outcome::Ample),
-        Err(e) if matches!(e.kind(), ErrorKind::OutOfMemory) && heap.has_refused() => {
+        Ok(every) if is_whole(every) && !heap.has_failed() => Ok(Outcome::Ample),
+        Err(e) if matches!(e.kind(), ErrorKind::OutOfMemory) && heap.has_failed() => {
             Ok(Outcome::Refused)
         }
         _ => Ok(Outcome::Wrong),

@@ -8,7 +8,7 @@ use kmip_ttlv::error::{Error, ErrorKind, MalformedTtlvError};
 use kmip_ttlv::ser::TtlvSerializer;
 use kmip_ttlv::shape::{Data, Serialize};
 use kmip_ttlv::{error, to_vec, to_writer};
-use refusing_allocator::RefusingAllocator;
+use kmip_ttlv_memory::BoundedAllocator;
 use std::alloc::{AllocError, Allocator, Global};
 use std::io;
 use std::io::Write;
@@ -121,7 +121,7 @@ enum Call {
 }
 
 // What `to_vec` answers.
-fn to_vec_answer(memory: &RefusingAllocator<Global>, expected: &[u8]) -> Answer {
+fn to_vec_answer(memory: &BoundedAllocator<Global>, expected: &[u8]) -> Answer {
     match &to_vec(memory, &REQUEST) {
         Ok(bytes) => answer_if(bytes.as_slice() == expected, Answer::Whole),
         Err(error) => answer_if(is_memory(error), Answer::OutOfMemory),
@@ -129,7 +129,7 @@ fn to_vec_answer(memory: &RefusingAllocator<Global>, expected: &[u8]) -> Answer 
 }
 
 // What `to_writer` answers. A writer is given nothing where memory is wanting.
-fn to_writer_answer(heap: Global, memory: &RefusingAllocator<Global>, expected: &[u8]) -> Answer {
+fn to_writer_answer(heap: Global, memory: &BoundedAllocator<Global>, expected: &[u8]) -> Answer {
     let mut writer = Vec::new(heap);
     match &to_writer(memory, &REQUEST, &mut writer) {
         Ok(()) => answer_if(writer.as_slice() == expected, Answer::Whole),
@@ -144,7 +144,7 @@ fn stays_closed<A: Allocator + Copy>(mut serializer: TtlvSerializer<A>, request:
 
 // What a serializer answers.
 fn serializer_answer(
-    memory: &RefusingAllocator<Global>,
+    memory: &BoundedAllocator<Global>,
     request: &Data,
     expected: &[u8],
 ) -> Answer {
@@ -164,13 +164,13 @@ fn serializer_answer(
 // each of its growths in turn.
 fn grows(heap: Global, call: Call, request: &Data, expected: &[u8]) -> bool {
     for before in 0..200u64 {
-        let memory = RefusingAllocator::new(heap, before);
+        let memory = BoundedAllocator::failing_after(heap, before);
         let answer = match call {
             Call::ToVec => to_vec_answer(&memory, expected),
             Call::ToWriter => to_writer_answer(heap, &memory, expected),
             Call::Serialize => serializer_answer(&memory, request, expected),
         };
-        if !memory.has_refused() {
+        if !memory.has_failed() {
             return answer == Answer::Whole;
         }
         if answer == Answer::Other {
@@ -318,16 +318,16 @@ fn a_writer_that_takes_nothing(rt: HostRuntime) -> Result<(), Fail> {
 }
 
 // Whether a new serializer with this memory gives bytes or runs out of it; none on any other error.
-fn is_serialized(heap: &RefusingAllocator<Global>, data: &Data) -> Option<bool> {
+fn is_serialized(heap: &BoundedAllocator<Global>, data: &Data) -> Option<bool> {
     let mut serializer = TtlvSerializer::new(heap);
     match &serializer.serialize(data) {
         Ok(()) => {}
-        Err(error) if is_memory(error) && heap.has_refused() => return Some(false),
+        Err(error) if is_memory(error) && heap.has_failed() => return Some(false),
         Err(_) => return None,
     }
     match &serializer.into_vec() {
         Ok(_) => Some(true),
-        Err(error) if is_memory(error) && heap.has_refused() => Some(false),
+        Err(error) if is_memory(error) && heap.has_failed() => Some(false),
         Err(_) => None,
     }
 }
@@ -335,7 +335,7 @@ fn is_serialized(heap: &RefusingAllocator<Global>, data: &Data) -> Option<bool> 
 // How many growths a new serializer asks for; none on an error other than out of memory.
 fn growths_of(alloc: Global, data: &Data) -> Option<u64> {
     for before in 0..100u64 {
-        let heap = RefusingAllocator::new(alloc, before);
+        let heap = BoundedAllocator::failing_after(alloc, before);
         if is_serialized(&heap, data)? {
             return Some(before);
         }

@@ -5,7 +5,7 @@ use crate::request::CreateRequest;
 use kmip_ttlv::error::ErrorKind;
 use kmip_ttlv::shape::{Data, Serialize};
 use kmip_ttlv::{to_vec, to_writer};
-use refusing_allocator::BoundedAllocator;
+use kmip_ttlv_memory::BoundedAllocator;
 use std::alloc::{AllocError, Global};
 use std::io;
 use std::io::Write;
@@ -155,7 +155,7 @@ fn a_writer_that_fails_has_a_beginning(rt: HostRuntime) -> Result<(), Fail> {
 #[test]
 fn a_message_needs_no_memory_of_its_size(rt: HostRuntime) -> Result<(), Fail> {
     let data = attributes(rt.alloc(), 1_000)?;
-    let memory = BoundedAllocator::new(rt.alloc(), 20_000);
+    let memory = BoundedAllocator::in_blocks(rt.alloc(), 20_000);
     assert!(rt; to_vec(&memory, &data).is_err());
     let mut writer = Vec::new(rt.alloc());
     assert!(rt; to_writer(&memory, &data, &mut writer).is_ok());

@@ -5,11 +5,11 @@ use crate::samples::{
     bytes_are_cloned, is_failure, is_whole_place, number_is_cloned, text_is_cloned, whole_place,
 };
 use kmip_ttlv_base::error::{ErrorKind, SerdeError};
+use kmip_ttlv_memory::BoundedAllocator;
 use kmip_ttlv_types::stream::append_bytes;
 use kmip_ttlv_types::{
     Error, SerializableTtlvType, TtlvBigInteger, TtlvByteString, TtlvTag, TtlvTextString,
 };
-use refusing_allocator::{BoundedAllocator, RefusingAllocator};
 use std::alloc::{AllocError, Allocator, Global};
 use std::io;
 use std::test::Fail;
@@ -90,21 +90,21 @@ fn reading<T: SerializableTtlvType>(alloc: T::Alloc, leaf: &[u8]) -> Result<T, A
     }
 }
 
-fn text_answer(memory: &RefusingAllocator<Global>, leaf: &[u8]) -> Answer {
+fn text_answer(memory: &BoundedAllocator<Global>, leaf: &[u8]) -> Answer {
     match &reading::<TtlvTextString<_>>(memory, leaf) {
         Ok(text) => ample_if(text.as_bytes() == content_of(leaf)),
         Err(answer) => *answer,
     }
 }
 
-fn bytes_answer(memory: &RefusingAllocator<Global>, leaf: &[u8]) -> Answer {
+fn bytes_answer(memory: &BoundedAllocator<Global>, leaf: &[u8]) -> Answer {
     match &reading::<TtlvByteString<_>>(memory, leaf) {
         Ok(bytes) => ample_if(bytes.as_slice() == content_of(leaf)),
         Err(answer) => *answer,
     }
 }
 
-fn number_answer(memory: &RefusingAllocator<Global>, leaf: &[u8]) -> Answer {
+fn number_answer(memory: &BoundedAllocator<Global>, leaf: &[u8]) -> Answer {
     match &reading::<TtlvBigInteger<_>>(memory, leaf) {
         Ok(number) => ample_if(number.as_slice() == content_of(leaf)),
         Err(answer) => *answer,
@@ -112,7 +112,7 @@ fn number_answer(memory: &RefusingAllocator<Global>, leaf: &[u8]) -> Answer {
 }
 
 // Appends all bytes of the leaf to two others.
-fn append_answer(memory: &RefusingAllocator<Global>, leaf: &[u8]) -> Answer {
+fn append_answer(memory: &BoundedAllocator<Global>, leaf: &[u8]) -> Answer {
     let Ok(mut bytes) = Vec::from_slice(memory, b"\x01\x02") else {
         return Answer::OutOfMemory;
     };
@@ -124,7 +124,7 @@ fn append_answer(memory: &RefusingAllocator<Global>, leaf: &[u8]) -> Answer {
     }
 }
 
-fn name_answer(memory: &RefusingAllocator<Global>) -> Answer {
+fn name_answer(memory: &BoundedAllocator<Global>) -> Answer {
     match &TtlvTag::from_str(memory, "no tag") {
         Err(Error::InvalidTtlvTag(text)) => ample_if(text.as_str() == "no tag"),
         Err(Error::OutOfMemory) => Answer::OutOfMemory,
@@ -133,7 +133,7 @@ fn name_answer(memory: &RefusingAllocator<Global>) -> Answer {
 }
 
 // The kind of a low-level refusal of a name.
-fn kind_answer(heap: Global, memory: &RefusingAllocator<Global>) -> Answer {
+fn kind_answer(heap: Global, memory: &BoundedAllocator<Global>) -> Answer {
     let Ok(name) = String::from_str(heap, "no tag") else {
         return Answer::Other;
     };
@@ -154,13 +154,13 @@ fn answer_of(is_wanted: Result<bool, AllocError>) -> Answer {
 }
 
 // Makes a place with two parents, and says whether a clone of it is the same.
-fn place_is_cloned(memory: &RefusingAllocator<Global>) -> Result<bool, AllocError> {
+fn place_is_cloned(memory: &BoundedAllocator<Global>) -> Result<bool, AllocError> {
     let place = whole_place(memory)?;
     let copy = place.clone()?;
     Ok(is_whole_place(&copy))
 }
 
-fn answer_to(heap: Global, memory: &RefusingAllocator<Global>, call: Call, leaf: &[u8]) -> Answer {
+fn answer_to(heap: Global, memory: &BoundedAllocator<Global>, call: Call, leaf: &[u8]) -> Answer {
     match call {
         Call::ReadText => text_answer(memory, leaf),
         Call::ReadBytes => bytes_answer(memory, leaf),
@@ -179,9 +179,9 @@ fn answer_to(heap: Global, memory: &RefusingAllocator<Global>, call: Call, leaf:
 // answers as with ample memory where none is.
 fn growths_of(heap: Global, call: Call, leaf: &[u8]) -> Option<u64> {
     for before in 0..100u64 {
-        let memory = RefusingAllocator::new(heap, before);
+        let memory = BoundedAllocator::failing_after(heap, before);
         let answer = answer_to(heap, &memory, call, leaf);
-        if !memory.has_refused() {
+        if !memory.has_failed() {
             return if answer == Answer::Ample {
                 Some(before)
             } else {
@@ -225,8 +225,8 @@ fn ends_early<A: Allocator>(alloc: A, call: Call) -> bool {
 
 // Whether such a length takes no more than one growth.
 fn takes_one_piece(heap: Global, call: Call) -> bool {
-    let memory = RefusingAllocator::new(heap, 1);
-    ends_early(&memory, call) && !memory.has_refused()
+    let memory = BoundedAllocator::failing_after(heap, 1);
+    ends_early(&memory, call) && !memory.has_failed()
 }
 
 #[test]
@@ -254,7 +254,7 @@ fn wants_memory<A: Allocator>(alloc: A, call: Call, leaf: &[u8]) -> bool {
 
 // Whether a block of 65,536 bytes is enough for such a length, and not for this leaf.
 fn takes_pieces(heap: Global, call: Call, leaf: &[u8]) -> bool {
-    let memory = BoundedAllocator::new(heap, 65_536);
+    let memory = BoundedAllocator::in_blocks(heap, 65_536);
     ends_early(&memory, call) && wants_memory(&memory, call, leaf)
 }
 

@@ -1,6 +1,6 @@
-//! The allocators on which the tests of refused growths rest.
+//! The allocator on which the tests of failing growths rest, and its limits.
 
-use refusing_allocator::{BoundedAllocator, RefusingAllocator};
+use kmip_ttlv_memory::BoundedAllocator;
 use std::alloc::{AllocError, Allocator, Global};
 use std::test::Fail;
 
@@ -16,14 +16,14 @@ fn grow<A: Allocator + Copy>(alloc: A) -> Result<usize, AllocError> {
 
 // Whether, of the growths, the one after so many is refused and no other.
 fn one_is_refused(alloc: Global, before: u64) -> bool {
-    let heap = RefusingAllocator::new(alloc, before);
-    grow(&heap).is_err() && heap.has_refused() && grow(&heap).ok() == Some(4)
+    let heap = BoundedAllocator::failing_after(alloc, before);
+    grow(&heap).is_err() && heap.has_failed() && grow(&heap).ok() == Some(4)
 }
 
 // Whether none of the growths is refused where so many are allowed.
 fn none_is_refused(alloc: Global, before: u64) -> bool {
-    let heap = RefusingAllocator::new(alloc, before);
-    grow(&heap).ok() == Some(4) && !heap.has_refused()
+    let heap = BoundedAllocator::failing_after(alloc, before);
+    grow(&heap).ok() == Some(4) && !heap.has_failed()
 }
 
 #[test]
@@ -47,14 +47,14 @@ fn takes_ten<A: Allocator>(bytes: &mut Vec<u8, A>) -> bool {
 
 // Whether ten bytes fit where requests are bounded by ten, and no more.
 fn ten_bytes_fit(alloc: Global) -> Option<bool> {
-    let heap = BoundedAllocator::new(alloc, 10);
+    let heap = BoundedAllocator::in_blocks(alloc, 10);
     let mut bytes = Vec::with_capacity(&heap, 10).ok()?;
     Some(takes_ten(&mut bytes) && bytes.push(10).is_err() && bytes.len() == 10)
 }
 
 // Whether room for so many values is refused where requests are bounded by ten bytes.
 fn room_is_refused<T: Drop>(alloc: Global, len: usize) -> bool {
-    let heap = BoundedAllocator::new(alloc, 10);
+    let heap = BoundedAllocator::in_blocks(alloc, 10);
     let room: Result<Vec<T, _>, AllocError> = Vec::with_capacity(&heap, len);
     room.is_err()
 }
@@ -64,5 +64,33 @@ fn large_requests_are_refused(rt: HostRuntime) -> Result<(), Fail> {
     assert!(rt; ten_bytes_fit(rt.alloc()) == Some(true));
     assert!(rt; room_is_refused::<u8>(rt.alloc(), 11));
     assert!(rt; room_is_refused::<u64>(rt.alloc(), 2));
+    Ok(())
+}
+
+// Whether two vectors of six bytes fit into a budget of twelve, a byte more does not, and what one gives back
+// can be taken again.
+fn budget_holds(alloc: Global) -> Option<bool> {
+    let memory = BoundedAllocator::new(alloc, 12);
+    let first: Vec<u8, _> = Vec::with_capacity(&memory, 6).ok()?;
+    let second: Vec<u8, _> = Vec::with_capacity(&memory, 6).ok()?;
+    let is_spent = memory.left() == 0 && !memory.has_failed() && fails(&memory, 1);
+    drop(first);
+    let is_back = memory.left() == 6
+        && memory.has_failed()
+        && !fails(&memory, 6)
+        && fails(&memory, 7);
+    drop(second);
+    Some(is_spent && is_back && memory.left() == 12)
+}
+
+// Whether room for so many bytes can't be had.
+fn fails<A: Allocator>(alloc: A, len: usize) -> bool {
+    let room: Result<Vec<u8, A>, AllocError> = Vec::with_capacity(alloc, len);
+    room.is_err()
+}
+
+#[test]
+fn a_budget_is_of_all_blocks(rt: HostRuntime) -> Result<(), Fail> {
+    assert!(rt; budget_holds(rt.alloc()) == Some(true));
     Ok(())
 }

@@ -1,4 +1,4 @@
--- It refuses if this is the turn, and else answers what the inner allocator answers. Assumes `Logic`.
+-- It fails beyond a limit, and else returns what the inner allocator returns. Assumes `Logic`.
 use Rattle.std.proofs.Common.{◌≡◌, ℕ, ◌+◌, ◌^◌, ◌<◌, true, false, List, [], ◌∷◌, Ok, Err, refl, w64, Bor}
 use seplogic.Ra.Ura.{Ura}
 use mir.Syntax.{Ty, Args, Fn, a_type, dnil, dcons}
@@ -37,14 +37,14 @@ use denote.RawPtr.{block_ptr}
 use denote.Builtin.{usize, RefOf}
 use denote.Triple.Call.{calls_at}
 use Rattle.std.proofs.alloc.Calls.{Al, α, seen, Answer, answer_val, Answer-typed, Answer-Ok, Answer-err, takes_key, Takes, at_takes, Answered, Takes-goes, Takes-gives, answers}
-use Rattle.refusing_allocator.proofs.Turns.{Turn, at_turn, Turn-goes, Turn-gives}
-use Rattle.refusing_allocator.proofs.is_turn.Symbol as c_sym
-use Rattle.refusing_allocator.proofs.is_turn.Met as c_met
-use Rattle.refusing_allocator.specs.contracts.RefusingAllocator as wrapper
-use Rattle.refusing_allocator.specs.contracts.RefusingAllocatorAllocator.allocate as F
-use Rattle.refusing_allocator.specs.contracts.RefusingAllocatorAllocator.allocate.Key as key
-use Rattle.refusing_allocator.proofs.RefusingAllocatorAllocator.allocate.Statement as stated
-use Rattle.refusing_allocator.proofs.RefusingAllocatorAllocator.allocate.Code as code
+use Rattle.kmip_ttlv_memory.proofs.LimitCalls.{Beyond, at_beyond, Beyond-goes, Beyond-gives}
+use Rattle.kmip_ttlv_memory.proofs.is_beyond.Symbol as c_sym
+use Rattle.kmip_ttlv_memory.proofs.is_beyond.Met as c_met
+use Rattle.kmip_ttlv_memory.specs.contracts.BoundedAllocator as wrapper
+use Rattle.kmip_ttlv_memory.specs.contracts.BoundedAllocatorAllocator.allocate as F
+use Rattle.kmip_ttlv_memory.specs.contracts.BoundedAllocatorAllocator.allocate.Key as key
+use Rattle.kmip_ttlv_memory.proofs.BoundedAllocatorAllocator.allocate.Statement as stated
+use Rattle.kmip_ttlv_memory.proofs.BoundedAllocatorAllocator.allocate.Code as code
 
 module _ (Z : Al) where
   abbrev args : Args
@@ -62,7 +62,7 @@ module _ (Z : Al) where
   abbrev stayed : Stays ended.signature.params ended.kept
   stayed = (stay_dropped self yes, (stay_dropped (plain (λ _. usize)) yes, (stay_dropped (plain (λ _. usize)) yes, tt)))
 
-module _ (Z : Al) {M : Type 1} {𝓤 : Ura M} (𝓛 : Logic 𝓤) (at_mem : Memory → SProp 𝓤) (run : Routine → Fun 𝓤) (𝓣 : Tables 𝓤 𝓛.H) (tk : Triple 𝓤 (𝓣.C (takes_key Z)) (Takes Z 𝓛 at_mem run)) (kn : Triple 𝓤 (𝓣.C c_sym.name) (Turn 𝓛 at_mem run)) where
+module _ (Z : Al) {M : Type 1} {𝓤 : Ura M} (𝓛 : Logic 𝓤) (at_mem : Memory → SProp 𝓤) (run : Routine → Fun 𝓤) (𝓣 : Tables 𝓤 𝓛.H) (tk : Triple 𝓤 (𝓣.C (takes_key Z)) (Takes Z 𝓛 at_mem run)) (kn : Triple 𝓤 (𝓣.C c_sym.name) (Beyond 𝓛 at_mem run)) where
   open 𝓛 use {H}
 
   abbrev held : Clauses 𝓤 (ended Z)
@@ -91,9 +91,9 @@ module _ (Z : Al) {M : Type 1} {𝓤 : Ura M} (𝓛 : Logic 𝓤) (at_mem : Memo
         enter ! 𝓣.C 𝓣.Λ (here Z) vs _ $ alloc_all ! (λ l. pass_all ! refl ((tt, tt), ((tt, record { fits = fn }), ((tt, record { fits = fa }), tt))) $
         let En : Env 𝓤 H = env (here Z).locals l in
         sets ! (addr ! (through ! refl (fld ! refl (stop !)))) refl (tt, tt) $
-        use2 𝓛 (raw ((Turn 𝓛 at_mem run).pre (at_turn 𝓛 at_mem run κ₁ q₁ c))) (Turn-goes 𝓛 at_mem run κ₁ q₁ c) $
-        calls_at ! (fm_of 𝓤 H 𝓛.laws 𝓣) (Turn 𝓛 at_mem run) kn (at_turn 𝓛 at_mem run κ₁ q₁ c) (and_then ! (get ! refl) (no_more !)) (λ u.
-        use1 𝓛 (later (some (λ (t : Bool). given (u ≡ vbool t) (‵ (flft κ₁ q₁))))) (Turn-gives 𝓛 at_mem run κ₁ q₁ c u) $ await ! tt $ pick ! (λ t. learn ! (λ eu. lands_as ! eu refl (tt, tt) $ move ! (1 ∷ []) $
+        use2 𝓛 (raw ((Beyond 𝓛 at_mem run).pre (at_beyond 𝓛 at_mem run κ₁ q₁ c r.now.limits n))) (Beyond-goes 𝓛 at_mem run κ₁ q₁ c r.now.limits n fn) $
+        calls_at ! (fm_of 𝓤 H 𝓛.laws 𝓣) (Beyond 𝓛 at_mem run) kn (at_beyond 𝓛 at_mem run κ₁ q₁ c r.now.limits n) (and_then ! (get ! refl) (and_then ! (get ! refl) (no_more !))) (λ u.
+        use1 𝓛 (later (some (λ (t : Bool). given (u ≡ vbool t) (‵ (flft κ₁ q₁))))) (Beyond-gives 𝓛 at_mem run κ₁ q₁ c r.now.limits n u) $ await ! tt $ pick ! (λ t. learn ! (λ eu. lands_as ! eu refl (tt, tt) $ move ! (1 ∷ []) $
         -- [what is seen of the inner handle; the two tokens]
         first ! $ branches ! (get ! refl)
         (λ yes. sets ! (agg ! (no_more !)) refl (tt, tt) $
@@ -128,4 +128,4 @@ allocate_spec 𝓤 𝓛 𝓜 𝓡 wired Y L g d d' met _ =
     entered 𝓤 𝓛.H (triple_of 𝓛 (F.signature Y) (F.spec Y g d d' 𝓛 𝓜.mem 𝓡.returns)) 𝓣.C 𝓣.Λ (key.name (args Z)) (here Z) (code.unfolded 𝓤 𝓛.H 𝓜 𝓡 wired (Y, tt) d d')
     (walk_Meets 𝓛 (ended Z) (stayed Z) (Goes-dropped 𝓛 2 (self Z) yes (λ κs x f. refl), (Goes-dropped 𝓛 2 (plain (λ _. usize)) yes (λ κs x f. refl), (Goes-dropped 𝓛 2 (plain (λ _. usize)) yes (λ κs x f. refl), tt))) c (WpFn 𝓤 𝓛.H 𝓣.C 𝓣.Λ (here Z)) (WpFn-mono 𝓤 𝓛.H 𝓛.laws 𝓣 (here Z))
     (walked 𝓛 (ended Z) (stayed Z) c (WpFn 𝓤 𝓛.H 𝓣.C 𝓣.Λ (here Z)) (λ κs. (shr_vals, (uint_vals w64, (uint_vals w64, tt)))) (λ κs. ((λ r vs s. s.0), (uint_Tells w64, (uint_Tells w64, tt))))
-    (λ κs qs bounds a τ are. walk Z 𝓛 𝓜.mem 𝓡.returns 𝓣 (met.allocate d') (cited 𝓤 𝓛.H _ 𝓜 𝓡 𝓡.env c_sym.name (𝓡.env c_sym.name) refl (c_met.met 𝓤 𝓛 𝓜 𝓡 (code.calls-refusing_allocator::is_turn 𝓡.env wired))) κs.0 κs.1.0 qs.0 qs.1.0 bounds.0 a.0 a.1.0 a.1.1.0 τ are.1.0.1 are.1.1.0.1)))
+    (λ κs qs bounds a τ are. walk Z 𝓛 𝓜.mem 𝓡.returns 𝓣 (met.allocate d') (cited 𝓤 𝓛.H _ 𝓜 𝓡 𝓡.env c_sym.name (𝓡.env c_sym.name) refl (c_met.met 𝓤 𝓛 𝓜 𝓡 (code.calls-kmip_ttlv_memory::is_beyond 𝓡.env wired))) κs.0 κs.1.0 qs.0 qs.1.0 bounds.0 a.0 a.1.0 a.1.1.0 τ are.1.0.1 are.1.1.0.1)))

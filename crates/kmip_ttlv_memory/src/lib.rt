@@ -1,0 +1,127 @@
+//! An allocator with limits: on all that is held at one time, on each block, and, for tests, on one growth.
+//!
+//! That it is an allocator is proved. When it fails is shown by tests alone: the counts lie in cells, and no
+//! contract says what a cell holds, nor when an allocator fails.
+#![tactic(auto)]
+
+use std::alloc::{AllocError, Allocator};
+use std::cell::Cell;
+
+/// Passes each call on to another allocator, but fails beyond its limits. Lend it as `&allocator`, which is an
+/// allocator itself. A call that runs on it returns out of memory where a limit is reached, and the values that
+/// it made so far give their memory back.
+///
+/// ```
+/// let memory = BoundedAllocator::new(rt.alloc(), 1_048_576);
+/// let message: Request<_> = from_slice(&memory, bytes)?;
+/// ```
+pub struct BoundedAllocator<B: Allocator> {
+    inner: B,
+    limits: Limits,
+}
+
+// What is left, and what happened so far.
+struct Limits {
+    // The bytes of the budget that are left.
+    left: Cell<usize>,
+    // The bytes of the largest block.
+    largest: usize,
+    // How many growths come before the one that fails; below zero it wraps round.
+    before: Cell<u64>,
+    // Whether one failed.
+    has_failed: Cell<bool>,
+}
+
+impl<B: Allocator> BoundedAllocator<B> {
+    /// Takes memory from `inner`, at most `budget` bytes at one time. What is given back can be taken again. A
+    /// vector that grows holds its old block and its new one for a moment.
+    pub fn new(inner: B, budget: usize) -> BoundedAllocator<B> {
+        BoundedAllocator::with(inner, budget, usize::MAX, u64::MAX)
+    }
+
+    /// Takes memory from `inner`, in blocks of at most `largest` bytes each.
+    pub fn in_blocks(inner: B, largest: usize) -> BoundedAllocator<B> {
+        BoundedAllocator::with(inner, usize::MAX, largest, u64::MAX)
+    }
+
+    /// For tests: takes memory from `inner`, and fails once, at the growth behind the first `before`. A growth is
+    /// each request for a block: the first of a vector, and each larger one. A test counts `before` upwards from 0
+    /// and ends where nothing has failed: then it has seen its call fail at each of its growths in turn.
+    pub fn failing_after(inner: B, before: u64) -> BoundedAllocator<B> {
+        BoundedAllocator::with(inner, usize::MAX, usize::MAX, before)
+    }
+
+    fn with(inner: B, budget: usize, largest: usize, before: u64) -> BoundedAllocator<B> {
+        let limits = Limits {
+            left: Cell::new(budget),
+            largest,
+            before: Cell::new(before),
+            has_failed: Cell::new(false),
+        };
+        BoundedAllocator { inner, limits }
+    }
+
+    /// Whether a request failed by a limit so far.
+    pub fn has_failed(&self) -> bool {
+        self.limits.has_failed.get()
+    }
+
+    /// How many bytes of the budget are left.
+    pub fn left(&self) -> usize {
+        self.limits.left.get()
+    }
+}
+
+impl<B: Allocator> Drop for BoundedAllocator<B> {
+    fn drop(self) {
+        let Self {
+            inner: _,
+            limits: _,
+        } = self;
+    }
+}
+
+impl Drop for Limits {
+    fn drop(self) {
+        let Self {
+            left: _,
+            largest: _,
+            before: _,
+            has_failed: _,
+        } = self;
+    }
+}
+
+// Whether a block of this size is beyond a limit. If not, it is counted.
+fn is_beyond(limits: &Limits, size: usize) -> bool {
+    let before = limits.before.get();
+    limits.before.set(before.wrapping_sub(1));
+    let left = limits.left.get();
+    if before == 0 || size > limits.largest || size > left {
+        limits.has_failed.set(true);
+        return true;
+    }
+    limits.left.set(left - size);
+    false
+}
+
+// Counts a block that is given back, and so one that `inner` didn't have.
+fn give_back(limits: &Limits, size: usize) {
+    limits.left.set(limits.left.get().saturating_add(size));
+}
+
+unsafe impl<B: Allocator> Allocator for BoundedAllocator<B> {
+    ghost dealloc_token = { λ heap ty ptr. B.dealloc_token heap.inner ty ptr };
+
+    fn allocate(&self, size: usize, align: usize) -> Result<*mut u8, AllocError> {
+        if is_beyond(&self.limits, size) {
+            return Err(AllocError);
+        }
+        self.inner.allocate(size, align)
+    }
+
+    unsafe fn deallocate(&self, ptr: *mut u8, size: usize, align: usize) {
+        give_back(&self.limits, size);
+        self.inner.deallocate(ptr, size, align);
+    }
+}
