@@ -40,7 +40,7 @@ impl Serialize for Pair {
     }
 }
 
-impl<A: Allocator> Deserialize<A> for Pair {
+impl<A: Allocator + Copy> Deserialize<A> for Pair {
     ghost form = { pair_form };
 
     ghost is_value = { λ v p. v ≡ read_pair p.first p.second };

@@ -12,8 +12,9 @@
 #![tactic(auto)]
 
 pub mod de;
+pub mod shape;
 
-pub use kmip_ttlv_base::{error, parts, shape, types, visit};
+pub use kmip_ttlv_base::{error, parts, types, visit};
 pub use kmip_ttlv_de::from_slice;
 pub use kmip_ttlv_items as items;
 pub use kmip_ttlv_laws as laws;

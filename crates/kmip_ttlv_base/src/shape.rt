@@ -1,10 +1,8 @@
-//! What a user's type says of itself: the data that it is written as, and the shape that it is
-//! read by.
+//! What users' types are made of: the data of a value, the shape that a type is read by, and the trait of
+//! types that are written. The trait of types that are read is in `kmip_ttlv_de`.
 
 ghost use Rattle.std.specs.Prelude.{◌≡◌, IfOk, OnOk, OnErr};
 ghost use Rattle.kmip_ttlv_base.specs.Values.{Value, view};
-ghost use Rattle.kmip_ttlv_base.specs.Forms.{Form, form_of};
-ghost use Rattle.kmip_ttlv_base.specs.Gives.{Gives};
 ghost use Rattle.kmip_ttlv_base.specs.Visits.{Tells};
 
 use crate::build::data_of;
@@ -176,23 +174,4 @@ pub trait Serialize {
     {
         data_of(alloc, self)
     }
-}
-
-/// A type whose values are read.
-pub trait Deserialize<A: Allocator>: Sized + Drop {
-    // The shape that the type is read by.
-    ghost form: { Form };
-
-    // Whether this is the value for data that the shape gives.
-    ghost is_value: { Value → Self → Type 0 };
-
-    /// The shape that the type is read by.
-    fn shape(alloc: A) -> Result<Shape<A>, AllocError>
-        ensures { IfOk result (λ s. form_of s ≡ form) };
-
-    /// The value for data that the shape gives. Texts and bytes may be moved out of the data: nothing is said of
-    /// what is left in it. An AllocError where memory is refused.
-    fn from_data(alloc: A, value: &mut Data<A>) -> Result<Self, AllocError>
-        requires { Gives form (view value.old) }
-        ensures { IfOk result (λ v. is_value (view value.old) v) };
 }

@@ -1,6 +1,7 @@
 //! Reading values from TTLV bytes by the shape of their type.
 //!
-//! `from_slice` is the entry. What a shape reads is defined in specs/: `Outcomes` says as one total
+//! `from_slice` is the entry. It calls `Deserialize::read`, which goes by the shape unless a type has a `read`
+//! of its own, as types that read themselves have. What a shape reads is defined in specs/: `Outcomes` says as one total
 //! function which value comes, or which error and where; `Reads` has one rule for each way to read
 //! from a list of items, and `Begins` says that bytes begin with an item from which a form reads a
 //! value. The two agree (`read_by_rules`).
@@ -20,6 +21,7 @@ ghost use Rattle.kmip_ttlv_reader.specs.ReadResults.{IsReadAs, ErrorStands, earl
 ghost use Rattle.kmip_ttlv_reader.specs.Wholes.{BeginsWhole};
 ghost use Rattle.kmip_ttlv_reader.specs.ReadLaws.{AreBytes, Stands};
 
+mod deserialize;
 mod field_tags;
 mod number;
 mod read;
@@ -29,10 +31,9 @@ mod rows;
 mod rules;
 mod variant;
 
-use crate::root::read_root;
+pub use crate::deserialize::Deserialize;
 pub use crate::rows::small_messages;
 use kmip_ttlv_base::error::Result;
-use kmip_ttlv_base::shape::Deserialize;
 use std::alloc::Allocator;
 
 /// The value with which the bytes begin: one Structure, padding included, by the shape of `T`
@@ -76,16 +77,7 @@ pub fn from_slice<T: Deserialize<A>, A: Allocator + Copy>(alloc: A, bytes: &[u8]
     // A Structure that is split into items at every depth never ends too early.
     ensures whole { IfErr result (λ e. BeginsWhole bytes.now → sort_of e ≡ early_end → ⊥) }
 {
-    read_as(alloc, bytes)
-}
-
-// The same, by the first clause.
-fn read_as<T: Deserialize<A>, A: Allocator + Copy>(alloc: A, bytes: &[u8]) -> Result<T, A>
-    ensures { IsReadAs T.is_value (root_outcome T.form bytes.now) result }
-{
-    let shape = T::shape(alloc)?;
-    let mut data = read_root(alloc, &shape, bytes)?;
-    Ok(T::from_data(alloc, &mut data)?)
+    T::read(alloc, bytes)
 }
 
 /// What a form reads by its rules, that comes of the bytes, and nothing else.

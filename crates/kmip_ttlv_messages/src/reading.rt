@@ -12,7 +12,8 @@ ghost use Rattle.kmip_ttlv_base.specs.Gives.{Gives, EachGives, FieldsGive};
 ghost use Rattle.kmip_ttlv_messages.specs.MessageParts.{left, by_bits, HasNext, fields_from, form_at, name_of, HasPart, IsStruct, IsEnd, IsOption, IsOptional, inside, optional, sequence, EachIs};
 
 use crate::leaves;
-use kmip_ttlv_base::shape::{Data, Deserialize};
+use kmip_ttlv_base::shape::Data;
+use kmip_ttlv_de::Deserialize;
 use std::alloc::{AllocError, Allocator};
 use std::mem;
 use std::vec::IntoIter;
@@ -441,7 +442,10 @@ pub fn constant<T: Readable, A: Allocator>(
 }
 
 // The value for data of its form, which is used up.
-fn made<U: Deserialize<A>, A: Allocator>(alloc: A, mut value: Data<A>) -> Result<U, AllocError>
+fn made<U: Deserialize<A>, A: Allocator + Copy>(
+    alloc: A,
+    mut value: Data<A>,
+) -> Result<U, AllocError>
     requires { Gives U.form (view value) }
     ensures { IfOk result (λ x. U.is_value (view value) x) }
 {
@@ -449,7 +453,7 @@ fn made<U: Deserialize<A>, A: Allocator>(alloc: A, mut value: Data<A>) -> Result
 }
 
 /// A value of another type. An AllocError where memory for it is refused.
-pub fn nested<T: Readable, U: Readable + Deserialize<A>, A: Allocator>(
+pub fn nested<T: Readable, U: Readable + Deserialize<A>, A: Allocator + Copy>(
     alloc: A,
     parts: &mut RemainingParts<A>,
     at: usize,
@@ -466,7 +470,7 @@ pub fn nested<T: Readable, U: Readable + Deserialize<A>, A: Allocator>(
 }
 
 /// A value of another type, where it is there. An AllocError where memory for it is refused.
-pub fn optional<T: Readable, U: Readable + Deserialize<A>, A: Allocator>(
+pub fn optional<T: Readable, U: Readable + Deserialize<A>, A: Allocator + Copy>(
     alloc: A,
     parts: &mut RemainingParts<A>,
     at: usize,

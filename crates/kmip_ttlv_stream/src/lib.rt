@@ -15,8 +15,7 @@ use crate::config::Buffer;
 pub use crate::config::Config;
 use crate::take::take_message;
 use kmip_ttlv_base::error::Result;
-use kmip_ttlv_base::shape::Deserialize;
-use kmip_ttlv_de::from_slice;
+use kmip_ttlv_de::{Deserialize, from_slice};
 use kmip_ttlv_types::stream::Source;
 use std::alloc::Allocator;
 

@@ -1,5 +1,5 @@
 -- Types that read themselves: their forms and the values that they stand for.
-use Rattle.std.specs.Prelude.{codes, false, string_bytes}
+use Rattle.std.specs.Prelude.{codes, true, false, string_bytes}
 use Rattle.kmip_ttlv.specs.Values.{Value, Values, no_values, value, newtype_value, i32_value, i64_value, text_value, struct_value, seq_value}
 use Rattle.kmip_ttlv.specs.Forms.{Form, struct, Fields, field, no_fields, newtype, option, seq, int32, int64, text}
 use Rattle.kmip_ttlv.specs.Spots.{optional_value, values_by}
@@ -15,8 +15,14 @@ number_fields = field (codes "0xBBBBBB") (newtype (codes "Transparent:0xBBBBBB")
 abbrev pub point_values : Point → Values
 point_values x = value (newtype_value (codes "Transparent:0xBBBBBB") (i32_value x.number)) no_values
 
+abbrev pub closed_form : Form
+closed_form = struct (codes "0xAAAAAA") number_fields true
+
 abbrev pub closed_values : Closed → Values
 closed_values x = value (newtype_value (codes "Transparent:0xBBBBBB") (i32_value x.number)) no_values
+
+abbrev pub closed_value : Closed → Value
+closed_value x = struct_value (codes "0xAAAAAA") (closed_values x)
 
 -- a Long Integer or a Date-Time under 0xBBBBBB
 abbrev pub moment_values : Moment → Values

@@ -8,8 +8,9 @@ use crate::parts::{
 use crate::reading::Reading;
 use crate::selves::{Closed, Moment, Point, Whole, read_whole};
 use kmip_ttlv::error::{Error, ErrorKind};
-use kmip_ttlv::from_slice;
 use kmip_ttlv::reader::{ReadStructure, read_message};
+use kmip_ttlv::shape::Deserialize;
+use kmip_ttlv::{Config, from_reader, from_slice};
 use kmip_ttlv_memory::BoundedAllocator;
 use std::alloc::{Allocator, Global};
 use std::test::Fail;
@@ -267,4 +268,51 @@ fn it_may_run_out_of_memory(rt: HostRuntime) -> Result<(), Fail> {
         assert!(rt; is_short, "at {before}");
     }
     Err(Fail::new("it grows without end"))
+}
+
+// A message, and one with an error: what the shape of this form, and a type that reads itself, return of them.
+const CALLS: [(&str, &str); 2] = [
+    ("AAAAAA0100000010BBBBBB02000000040000000300000000", "read"),
+    (
+        "AAAAAA0100000010CCCCCC02000000040000000300000000",
+        "SerdeError(UnexpectedTag { expected: 0xBBBBBB, actual: 0xCCCCCC }); pos: 12 bytes, parent tags: 0xAAAAAA, tag: 0xCCCCCC, type: Integer (0x02)",
+    ),
+];
+
+fn from_bytes<T: Deserialize<Global>>(alloc: Global, bytes: &[u8]) -> Result<String, Fail> {
+    let found: Result<T, Error> = from_slice(alloc, bytes);
+    error_of(alloc, &found)
+}
+
+fn from_stream<T: Deserialize<Global>>(alloc: Global, bytes: &[u8]) -> Result<String, Fail> {
+    let mut reader = bytes;
+    let found: Result<T, Error> = from_reader(alloc, &mut reader, &mut Config::new(alloc));
+    error_of(alloc, &found)
+}
+
+fn check_calls<T: Deserialize<Global>>(alloc: Global) -> Result<(), Fail> {
+    for row in CALLS {
+        let bytes = hex::decode(alloc, row.0)?;
+        let found = from_bytes::<T>(alloc, bytes.as_slice())?;
+        let streamed = from_stream::<T>(alloc, bytes.as_slice())?;
+        if found.as_str() != row.1 || streamed.as_str() != row.1 {
+            return Err(Fail::new(format_args!("{found}, from a stream {streamed}")));
+        }
+    }
+    Ok(())
+}
+
+#[test]
+fn calls_return_what_the_shape_does(rt: HostRuntime) -> Result<(), Fail> {
+    check_calls::<Closed>(rt.alloc())?;
+    check_calls::<Reading<ClosedShape>>(rt.alloc())
+}
+
+#[test]
+fn no_shape_is_made_of_a_type_that_reads_itself(rt: HostRuntime) -> Result<(), Fail> {
+    let bytes = hex::decode(rt.alloc(), CALLS[0].0)?;
+    let heap = BoundedAllocator::failing_after(rt.alloc(), 0);
+    let found: Result<Closed, Error<_>> = from_slice(&heap, bytes.as_slice());
+    assert!(rt; matches!(found, Ok(closed) if closed.number == 3));
+    Ok(())
 }

@@ -6,8 +6,8 @@ ghost use Rattle.kmip_ttlv_base.specs.Gives.{IsI32};
 ghost use Rattle.reading_vectors.specs.StreamSamples.{single_form, read_single};
 
 use kmip_ttlv::Config;
+use kmip_ttlv::shape::{Data, Deserialize, FieldShape, Shape};
 use kmip_ttlv_base::error::{Error, ErrorKind, ErrorLocation, MalformedTtlvError, SerdeError};
-use kmip_ttlv_base::shape::{Data, Deserialize, FieldShape, Shape};
 use kmip_ttlv_base::types::{ByteOffset, TtlvType};
 use std::alloc::{AllocError, Allocator};
 use std::io;
@@ -22,7 +22,7 @@ pub struct Single {
     pub number: i32,
 }
 
-impl<A: Allocator> Deserialize<A> for Single {
+impl<A: Allocator + Copy> Deserialize<A> for Single {
     ghost form = { single_form };
 
     ghost is_value = { λ v s. v ≡ read_single s.number };

@@ -28,7 +28,7 @@ impl Serialize for Single {
     }
 }
 
-impl<A: Allocator> Deserialize<A> for Single {
+impl<A: Allocator + Copy> Deserialize<A> for Single {
     ghost form = { single_form };
 
     ghost is_value = { λ v s. v ≡ read_single s.number };
