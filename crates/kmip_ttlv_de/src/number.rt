@@ -1,24 +1,23 @@
 //! Enums that are read by a number: the text that names a variant.
 
-ghost use Rattle.std.specs.Prelude.{◌≡◌, ◌+◌, ◌<◌, ◌≤◌, ◌++◌, length, true, IfOk, IfSome, option_map, string_bytes};
+ghost use Rattle.std.specs.Prelude.{◌≡◌, ◌+◌, ◌≤◌, length, IfOk, IfSome, option_map};
 ghost use Rattle.kmip_ttlv_base.specs.Values.{view};
 ghost use Rattle.kmip_ttlv_base.specs.Forms.{variants_of, content_of};
-ghost use Rattle.kmip_ttlv_reader.specs.Keeps.{Keep};
 ghost use Rattle.kmip_ttlv_reader.specs.Reads.{is_number_type, first_named};
 ghost use Rattle.kmip_ttlv_reader.specs.Outcomes.{number_outcome, unit_wanted, named_content};
-ghost use Rattle.kmip_ttlv_reader.specs.Results.{IsRead, IsStep, fault_by};
+ghost use Rattle.kmip_ttlv_reader.specs.Results.{IsRead, IsStep, IsFailureOf};
 
 use kmip_ttlv_base::error::MalformedTtlvError;
 use kmip_ttlv_base::shape::{Data, VariantContent, VariantShape};
 use kmip_ttlv_base::types::{FieldType, TtlvType};
-use kmip_ttlv_reader::failure::{Cause, Failure, FaultAt, Step, at_item, in_struct};
+use kmip_ttlv_reader::failure::{Cause, Failure, Step, at_item, in_struct};
 use kmip_ttlv_reader::head::{
     content_there, inside, length_there, length_wanted, tag_at, type_wanted,
 };
 use kmip_ttlv_reader::keep::KeptTexts;
 use kmip_ttlv_reader::number_text::number_text;
 use kmip_ttlv_reader::scope::Scope;
-use std::alloc::{AllocError, Allocator};
+use std::alloc::Allocator;
 use std::str;
 
 // The first variant of this name.
@@ -54,9 +53,9 @@ fn named_content<A: Allocator + Copy>(
     pos: usize,
     typ: TtlvType,
     actual: FieldType,
-) -> Result<Box<FaultAt<A>, A>, AllocError>
+) -> Failure<A>
     requires there { pos + 4 ≤ length bytes.now }
-    ensures { IfOk result (λ f. fault_by f.value ≡ named_content bytes.now pos typ actual) }
+    ensures { IsFailureOf (named_content bytes.now pos typ actual) result }
 {
     let cause = Cause::Malformed(MalformedTtlvError::UnexpectedTtlvField {
         expected: FieldType::Tag,
@@ -66,6 +65,7 @@ fn named_content<A: Allocator + Copy>(
 }
 
 // The name of the unit variant that a number's text names.
+#[tactic(auto, using(kmip_ttlv_reader::proofs::Steps::fault_is))]
 #[inline(always)]
 fn named_unit<A: Allocator + Copy>(
     scope: &Scope<'_, A>,
@@ -80,22 +80,17 @@ fn named_unit<A: Allocator + Copy>(
     ensures name { IfOk result (λ name. name.now ≡ text.now) }
 {
     let Some(variant) = first_named(text, variants) else {
-        return Err(Failure::Fault(in_struct(
-            scope.alloc,
-            pos + 16,
-            scope.owner,
-            "unknown variant",
-        )?));
+        return Err(in_struct(scope.alloc, pos + 16, scope.owner, "unknown variant"));
     };
     match variant.content {
         VariantContent::Unit => Ok(variant.name),
         VariantContent::Newtype(_) => {
             let actual = FieldType::LengthAndValue;
-            Err(Failure::Fault(named_content(scope.alloc, scope.bytes, pos, typ, actual)?))
+            Err(named_content(scope.alloc, scope.bytes, pos, typ, actual))
         }
         VariantContent::Tuple(_) => {
             let actual = FieldType::Length;
-            Err(Failure::Fault(named_content(scope.alloc, scope.bytes, pos, typ, actual)?))
+            Err(named_content(scope.alloc, scope.bytes, pos, typ, actual))
         }
     }
 }

@@ -1,21 +1,21 @@
 //! Reading by a shape: one cycle of functions. Each returns the outcome of its form, or runs out of memory.
 
-ghost use Rattle.std.specs.Prelude.{◌≡◌, ◌≢◌, ℕ, suc, ◌+◌, Bool, true, false, ◌<◌, ◌≤◌, List, [], length, IfOk};
-ghost use Rattle.kmip_ttlv_base.specs.Values.{view, views, struct_value, seq_value};
-ghost use Rattle.kmip_ttlv_base.specs.Forms.{Form, Fields, form_of, forms_of, fields_of, variants_of, content_of};
-ghost use Rattle.kmip_ttlv_reader.specs.Keeps.{Keep};
+ghost use Rattle.std.specs.Prelude.{◌≡◌, ◌+◌, ◌≤◌, length, IfOk};
+ghost use Rattle.kmip_ttlv_base.specs.Values.{view, views};
+ghost use Rattle.kmip_ttlv_base.specs.Forms.{form_of, forms_of, fields_of, variants_of, content_of};
 ghost use Rattle.kmip_ttlv_reader.specs.Reads.{is_option, is_struct};
 ghost use Rattle.kmip_ttlv_reader.specs.Outcomes.{outcome, fields_outcome, field_outcome, seq_outcome, struct_outcome};
 ghost use Rattle.kmip_ttlv_reader.specs.Outcomes.{all_outcome, enum_outcome, variant_outcome, content_outcome};
 ghost use Rattle.kmip_ttlv_reader.specs.Outcomes.{tuple_outcome, forms_outcome, part_outcome};
-ghost use Rattle.kmip_ttlv_reader.specs.Results.{IsRead, IsStep};
+ghost use Rattle.kmip_ttlv_reader.specs.Results.{IsRead};
 
 use crate::number::read_number;
 use crate::rest::read_rest;
 use crate::variant::{chosen, chosen_unit};
 use kmip_ttlv_base::shape::{Data, FieldShape, Shape, VariantContent, VariantShape};
 use kmip_ttlv_base::types::TtlvType;
-use kmip_ttlv_reader::failure::{Failure, Step, in_struct, within};
+use kmip_ttlv_reader::cursor::missing_field;
+use kmip_ttlv_reader::failure::{Step, in_struct, within};
 use kmip_ttlv_reader::head::{
     goes_on, has_tag, inside, length_there, opened, structure_wanted, tag_at, tag_wanted,
     type_there,
@@ -182,7 +182,7 @@ fn read_fields<'b, A: Allocator + Copy>(
 
 /// One field: a struct goes by its own name, any other by the field's, and an option may be left out.
 #[cycle(reader)]
-#[tactic(auto, unfolding(kmip_ttlv_reader::specs::Outcomes::field_outcome), using(kmip_ttlv_reader::proofs::Steps::failure_then))]
+#[tactic(auto, unfolding(kmip_ttlv_reader::specs::Outcomes::field_outcome), using(kmip_ttlv_reader::proofs::Steps::failing))]
 #[inline(always)]
 fn read_field<'b, A: Allocator + Copy>(
     scope: &Scope<'b, A>,
@@ -202,12 +202,7 @@ fn read_field<'b, A: Allocator + Copy>(
         if is_option(shape) {
             return Ok((Data::None, pos));
         }
-        return Err(Failure::Fault(in_struct(
-            scope.alloc,
-            scope.end,
-            scope.owner,
-            "missing field",
-        )?));
+        return Err(missing_field(scope));
     }
     if is_struct(shape) {
         return read_shape(scope, shape, pos, kept);
@@ -275,7 +270,7 @@ fn read_enum<'b, A: Allocator + Copy>(
 
 /// What a variant contains that a rule chose.
 #[cycle(reader)]
-#[tactic(auto, unfolding(kmip_ttlv_reader::specs::Outcomes::content_outcome), using(kmip_ttlv_reader::proofs::Steps::failure_then))]
+#[tactic(auto, unfolding(kmip_ttlv_reader::specs::Outcomes::content_outcome), using(kmip_ttlv_reader::proofs::Steps::failing))]
 fn read_variant<'b, A: Allocator + Copy>(
     scope: &Scope<'b, A>,
     name: &'static str,
@@ -292,10 +287,7 @@ fn read_variant<'b, A: Allocator + Copy>(
 {
     let variant = shape.name;
     match &shape.content {
-        VariantContent::Unit => {
-            let fault = chosen_unit(scope.alloc, scope.bytes, pos, typ)?;
-            Err(Failure::Fault(fault))
-        }
+        VariantContent::Unit => { Err(chosen_unit(scope.alloc, scope.bytes, pos, typ)) }
         VariantContent::Newtype(inner) => {
             let (data, next) = read_shape(scope, inner, pos, kept)?;
             let inner = Box::new(scope.alloc, data)?;
@@ -320,7 +312,7 @@ fn read_variant<'b, A: Allocator + Copy>(
 
 /// A structure whose items the shapes use up.
 #[cycle(reader)]
-#[tactic(auto, unfolding(kmip_ttlv_reader::specs::Outcomes::tuple_outcome), using(kmip_ttlv_reader::proofs::Steps::failure_then))]
+#[tactic(auto, unfolding(kmip_ttlv_reader::specs::Outcomes::tuple_outcome), using(kmip_ttlv_reader::proofs::Steps::failing))]
 fn read_tuple<'b, A: Allocator + Copy>(
     scope: &Scope<'b, A>,
     shapes: &[Shape<A>],
@@ -345,7 +337,7 @@ fn read_tuple<'b, A: Allocator + Copy>(
     };
     let (values, next) = read_parts(&content, shapes, pos + 8, kept)?;
     if next < stop {
-        return Err(Failure::Fault(in_struct(scope.alloc, next, scope.owner, "too many items")?));
+        return Err(in_struct(scope.alloc, next, scope.owner, "too many items"));
     }
     inside(scope.alloc, scope.bytes, pos, scope.end, typ, stop)?;
     Ok((values, stop))
@@ -378,7 +370,7 @@ fn read_parts<'b, A: Allocator + Copy>(
 
 /// One item of a tuple, which must be there.
 #[cycle(reader)]
-#[tactic(auto, unfolding(kmip_ttlv_reader::specs::Outcomes::part_outcome), using(kmip_ttlv_reader::proofs::Steps::failure_then))]
+#[tactic(auto, unfolding(kmip_ttlv_reader::specs::Outcomes::part_outcome), using(kmip_ttlv_reader::proofs::Steps::failing))]
 #[inline(always)]
 fn read_part<'b, A: Allocator + Copy>(
     scope: &Scope<'b, A>,
@@ -394,8 +386,7 @@ fn read_part<'b, A: Allocator + Copy>(
     ensures further { IfOk result (λ r. (pos ≤ r.1) × (r.1 ≤ scope.now.end) × (r.1 ≤ length scope.now.bytes.now)) }
 {
     if pos == scope.end {
-        let fault = in_struct(scope.alloc, scope.end, scope.owner, "too few items")?;
-        return Err(Failure::Fault(fault));
+        return Err(in_struct(scope.alloc, scope.end, scope.owner, "too few items"));
     }
     read_shape(scope, shape, pos, kept)
 }

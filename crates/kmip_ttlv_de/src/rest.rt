@@ -1,6 +1,6 @@
 //! What follows the fields of a struct, up to the structure's end.
 
-ghost use Rattle.std.specs.Prelude.{◌≡◌, ◌≢◌, ℕ, suc, ◌+◌, ◌<◌, ◌≤◌, length, IfOk};
+ghost use Rattle.std.specs.Prelude.{◌≡◌, suc, ◌+◌, ◌≤◌, length, IfOk};
 ghost use Rattle.kmip_ttlv_base.specs.Forms.{fields_of};
 ghost use Rattle.kmip_ttlv_reader.specs.Reads.{has_fields};
 ghost use Rattle.kmip_ttlv_de.specs.FieldTags.{HasTagsOf};
@@ -10,7 +10,7 @@ ghost use Rattle.kmip_ttlv_reader.specs.Results.{IsStep};
 use crate::field_tags::{is_field, tags_of};
 use kmip_ttlv_base::error::SerdeError;
 use kmip_ttlv_base::shape::FieldShape;
-use kmip_ttlv_reader::failure::{Cause, Failure, Step, at_item, in_struct};
+use kmip_ttlv_reader::failure::{Cause, Step, at_item, in_struct};
 use kmip_ttlv_reader::head::{inside, item_end, tag_at, type_there};
 use kmip_ttlv_reader::scope::Scope;
 use std::alloc::Allocator;
@@ -59,7 +59,7 @@ fn read_others<A: Allocator + Copy>(
 }
 
 /// An item behind the fields, which is ignored.
-#[tactic(auto, unfolding(kmip_ttlv_reader::specs::Outcomes::ignored), using(kmip_ttlv_reader::proofs::Steps::failure_then))]
+#[tactic(auto, unfolding(kmip_ttlv_reader::specs::Outcomes::ignored), using(kmip_ttlv_reader::proofs::Steps::failing))]
 fn read_ignored<A: Allocator + Copy>(
     scope: &Scope<'_, A>,
     fields: &[FieldShape<A>],
@@ -75,18 +75,13 @@ fn read_ignored<A: Allocator + Copy>(
     let typ = type_there(scope.alloc, scope.bytes, pos)?;
     if !has_fields(fields) {
         let cause = Cause::Mismatch(SerdeError::MissingIdentifier);
-        return Err(Failure::Fault(at_item(scope.alloc, scope.bytes, pos, 4, typ, cause)?));
+        return Err(at_item(scope.alloc, scope.bytes, pos, 4, typ, cause));
     }
     if is_field(tags, tag_at(scope.bytes, pos)) {
-        return Err(Failure::Fault(in_struct(
-            scope.alloc,
-            pos + 4,
-            scope.owner,
-            "duplicate field",
-        )?));
+        return Err(in_struct(scope.alloc, pos + 4, scope.owner, "duplicate field"));
     }
     if deny {
-        return Err(Failure::Fault(in_struct(scope.alloc, pos + 4, scope.owner, "unknown field")?));
+        return Err(in_struct(scope.alloc, pos + 4, scope.owner, "unknown field"));
     }
     let next = item_end(scope.alloc, scope.bytes, pos, typ)?;
     inside(scope.alloc, scope.bytes, pos, scope.end, typ, next)?;

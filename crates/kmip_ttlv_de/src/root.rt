@@ -1,24 +1,24 @@
 //! Whole messages.
 
-ghost use Rattle.std.specs.Prelude.{◌≡◌, ◌+◌, ◌<◌, ◌≤◌, [], length, IfOk, Some, None};
 ghost use Rattle.kmip_ttlv_types.specs.Names.{tag_of};
 ghost use Rattle.kmip_ttlv_base.specs.Values.{view, views};
 ghost use Rattle.kmip_ttlv_base.specs.Forms.{form_of, fields_of};
 ghost use Rattle.kmip_ttlv_reader.specs.Outcomes.{root_outcome, first_outcome, fields_outcome, named_first};
-ghost use Rattle.kmip_ttlv_reader.specs.Results.{IsStep, IsFailure, IsOutcome};
+ghost use Rattle.kmip_ttlv_reader.specs.Results.{IsStep, IsOutcome};
 
 use crate::read::read_content;
 use kmip_ttlv_base::error::{MalformedTtlvError, Result, SerdeError};
 use kmip_ttlv_base::shape::{Data, FieldShape, Shape};
 use kmip_ttlv_base::types::{FieldType, TtlvTag};
 use kmip_ttlv_reader::errors::error;
-use kmip_ttlv_reader::failure::{Cause, Failure, Step, at_first, within};
+use kmip_ttlv_reader::failure::{Cause, Step, at_first, within};
 use kmip_ttlv_reader::head::{opened, tag_at};
 use kmip_ttlv_reader::keep::KeptTexts;
 use kmip_ttlv_reader::scope::Scope;
 use std::alloc::Allocator;
 
 // The name of the message's struct is a tag.
+#[tactic(auto, using(kmip_ttlv_reader::proofs::Steps::fault_is))]
 fn named_first<A: Allocator + Copy>(alloc: A, name: &str) -> Step<(), A>
     ensures { IsStep (λ _. tt) (named_first name.now (tag_of name.now)) result }
 {
@@ -26,7 +26,7 @@ fn named_first<A: Allocator + Copy>(alloc: A, name: &str) -> Step<(), A>
         Some(_) => Ok(()),
         None => {
             let cause = Cause::Mismatch(SerdeError::InvalidTag(String::from_str(alloc, name)?));
-            Err(Failure::Fault(at_first(alloc, cause)?))
+            Err(at_first(alloc, cause))
         }
     }
 }
@@ -60,7 +60,7 @@ fn read_first<A: Allocator + Copy>(
 }
 
 // What a whole message is read as.
-#[tactic(auto, unfolding(kmip_ttlv_reader::specs::Outcomes::root_outcome), using(kmip_ttlv_reader::proofs::Steps::failure_then))]
+#[tactic(auto, unfolding(kmip_ttlv_reader::specs::Outcomes::root_outcome), using(kmip_ttlv_reader::proofs::Steps::failing))]
 fn read_message<A: Allocator + Copy>(alloc: A, shape: &Shape<A>, bytes: &[u8]) -> Step<Data<A>, A>
     ensures step { IsStep view (root_outcome (form_of shape.now) bytes.now) result }
 {
@@ -85,7 +85,7 @@ fn read_message<A: Allocator + Copy>(alloc: A, shape: &Shape<A>, bytes: &[u8]) -
         Shape::Seq(_) | Shape::Enum { .. } => {
             let words = String::from_str(alloc, "no struct")?;
             let cause = Cause::Mismatch(SerdeError::Other(words));
-            Err(Failure::Fault(at_first(alloc, cause)?))
+            Err(at_first(alloc, cause))
         }
         Shape::I32
         | Shape::I64
@@ -99,7 +99,7 @@ fn read_message<A: Allocator + Copy>(alloc: A, shape: &Shape<A>, bytes: &[u8]) -
                 expected: FieldType::Tag,
                 actual: FieldType::LengthAndValue,
             });
-            Err(Failure::Fault(at_first(alloc, cause)?))
+            Err(at_first(alloc, cause))
         }
     }
 }

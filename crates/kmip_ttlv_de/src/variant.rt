@@ -3,23 +3,39 @@
 ghost use Rattle.std.specs.Prelude.{◌≡◌, ◌+◌, ◌<◌, ◌≤◌, length, IfOk, IfSome};
 ghost use Rattle.kmip_ttlv_types.specs.declared.field.FieldType.TheVariants.{Length, Tag};
 ghost use Rattle.kmip_ttlv_base.specs.declared.error.MalformedTtlvError.TheVariants as malformeds;
-ghost use Rattle.kmip_ttlv_base.specs.Errors.{malformed, mismatch};
+ghost use Rattle.kmip_ttlv_base.specs.Errors.{malformed, mismatch, view_of_serde};
 ghost use Rattle.kmip_ttlv_base.specs.Forms.{variants_of};
 ghost use Rattle.kmip_ttlv_de.specs.Verdicts.{mismatch_of};
 ghost use Rattle.kmip_ttlv_reader.specs.Rules.{choice};
 ghost use Rattle.kmip_ttlv_reader.specs.Outcomes.{picked};
 ghost use Rattle.kmip_ttlv_reader.specs.ReadFaults.{at_item};
-ghost use Rattle.kmip_ttlv_reader.specs.Results.{IsStep, fault_by};
+ghost use Rattle.kmip_ttlv_reader.specs.Results.{IsStep, IsFailureOf};
 
 use crate::rules::{RuleError, choose};
 use kmip_ttlv_base::error::{MalformedTtlvError, SerdeError};
 use kmip_ttlv_base::shape::VariantShape;
 use kmip_ttlv_base::types::{FieldType, TtlvType};
-use kmip_ttlv_reader::failure::{Cause, Failure, FaultAt, Step, at_item};
+use kmip_ttlv_reader::failure::{Cause, Failure, Step, at_item};
 use kmip_ttlv_reader::keep::KeptTexts;
 use std::alloc::{AllocError, Allocator};
 
 // What is wrong with a rule.
+fn wrong_rule<'n, A: Allocator>(alloc: A, rule: RuleError<'n>) -> Result<SerdeError<A>, AllocError>
+    ensures { IfOk result (λ e. view_of_serde e ≡ mismatch_of rule.entry) }
+{
+    match rule {
+        RuleError::InvalidVariantMatcherSyntax(name) => {
+            let name = String::from_str(alloc, name)?;
+            Ok(SerdeError::InvalidVariantMatcherSyntax(name))
+        }
+        RuleError::InvalidTag(name) => {
+            let name = String::from_str(alloc, name)?;
+            Ok(SerdeError::InvalidTag(name))
+        }
+    }
+}
+
+// A rule that can't be tested.
 #[cold]
 fn bad_rule<'n, A: Allocator + Copy>(
     alloc: A,
@@ -27,25 +43,18 @@ fn bad_rule<'n, A: Allocator + Copy>(
     pos: usize,
     typ: TtlvType,
     rule: RuleError<'n>,
-) -> Result<Box<FaultAt<A>, A>, AllocError>
+) -> Failure<A>
     requires there { pos + 4 ≤ length bytes.now }
-    ensures { IfOk result (λ f. fault_by f.value ≡ at_item bytes.now pos 4 typ (mismatch (mismatch_of rule.entry))) }
+    ensures { IsFailureOf (at_item bytes.now pos 4 typ (mismatch (mismatch_of rule.entry))) result }
 {
-    match rule {
-        RuleError::InvalidVariantMatcherSyntax(name) => {
-            let name = String::from_str(alloc, name)?;
-            let cause = Cause::Mismatch(SerdeError::InvalidVariantMatcherSyntax(name));
-            at_item(alloc, bytes, pos, 4, typ, cause)
-        }
-        RuleError::InvalidTag(name) => {
-            let name = String::from_str(alloc, name)?;
-            let cause = Cause::Mismatch(SerdeError::InvalidTag(name));
-            at_item(alloc, bytes, pos, 4, typ, cause)
-        }
+    match wrong_rule(alloc, rule) {
+        Ok(wrong) => at_item(alloc, bytes, pos, 4, typ, Cause::Mismatch(wrong)),
+        Err(_) => Failure::OutOfMemory,
     }
 }
 
 /// The index of the variant that a rule chooses at an item of this type, if one does.
+#[tactic(auto, using(kmip_ttlv_reader::proofs::Steps::fault_is))]
 #[inline(always)]
 pub fn chosen<'b, A: Allocator + Copy>(
     alloc: A,
@@ -62,7 +71,7 @@ pub fn chosen<'b, A: Allocator + Copy>(
     match choose(variants, kept, typ) {
         Ok(Some(i)) => Ok(Some(i)),
         Ok(None) => Ok(None),
-        Err(rule) => Err(Failure::Fault(bad_rule(alloc, bytes, pos, typ, rule)?)),
+        Err(rule) => Err(bad_rule(alloc, bytes, pos, typ, rule)),
     }
 }
 
@@ -73,10 +82,9 @@ pub fn chosen_unit<A: Allocator + Copy>(
     bytes: &[u8],
     pos: usize,
     typ: TtlvType,
-) -> Result<Box<FaultAt<A>, A>, AllocError>
+) -> Failure<A>
     requires there { pos + 4 ≤ length bytes.now }
-    ensures { IfOk result (λ f. fault_by f.value
-        ≡ at_item bytes.now pos 4 typ (malformed (malformeds.UnexpectedTtlvField Length Tag))) }
+    ensures { IsFailureOf (at_item bytes.now pos 4 typ (malformed (malformeds.UnexpectedTtlvField Length Tag))) result }
 {
     let cause = Cause::Malformed(MalformedTtlvError::UnexpectedTtlvField {
         expected: FieldType::Length,

@@ -1,6 +1,6 @@
 -- The items of a sequence, read one after the other as values of a type.
-use Rattle.std.proofs.Common.{◌≡◌, ℕ, suc, List, [], ◌∷◌, ◌++◌, refl, ap, sym, ◌∙◌, true, false, map}
-use Rattle.kmip_ttlv_base.specs.Values.{Value, Values, no_values, value, values_of}
+use Rattle.std.proofs.Common.{◌≡◌, ℕ, suc, List, [], ◌∷◌, ◌++◌, refl, ap, sym, true, false, map}
+use Rattle.kmip_ttlv_base.specs.Values.{Value, Values, value, values_of}
 use Rattle.kmip_ttlv_reader.specs.declared.failure.Failure.{Failure}
 use Rattle.kmip_ttlv_reader.specs.Keeps.{Keep}
 use Rattle.kmip_ttlv_reader.specs.Steps.{Outcome, gives, ends_early, fails, Read, reads, Reader, ◌>>=◌}

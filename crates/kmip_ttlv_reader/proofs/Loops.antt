@@ -1,8 +1,8 @@
 -- What the loops of readers keep: what was read stands before what is still to be read.
-use Rattle.std.proofs.Common.{◌≡◌, ℕ, zero, suc, Some, ◌+◌, ◌-◌, ◌<◌, ◌≤◌, List, [], ◌∷◌, ◌++◌, length, drop, get_or, refl, ap, sym, ◌∙◌, true, false, Bool, nat_lt, arith}
+use Rattle.std.proofs.Common.{◌≡◌, ℕ, zero, suc, Some, ◌+◌, ◌-◌, ◌<◌, ◌≤◌, List, [], ◌∷◌, ◌++◌, length, drop, get_or, refl, ap, sym, ◌∙◌, true, false, Bool, nat_lt, codes, arith}
 use Rattle.kmip_ttlv_base.specs.declared.shape.FieldShape.{FieldShape}
 use Rattle.kmip_ttlv_base.specs.declared.shape.Shape.{Shape}
-use Rattle.std.proofs.lemmas.Bool.{le-ltb}
+use Rattle.std.proofs.lemmas.Bool.{lt-ltb, le-ltb}
 use Rattle.kmip_ttlv_types.specs.declared.typ.TtlvType.{TtlvType}
 use Rattle.kmip_ttlv_base.specs.declared.shape.VariantShape.{VariantShape}
 use Rattle.kmip_ttlv_base.specs.declared.shape.Data.{Data}
@@ -13,9 +13,10 @@ use Rattle.kmip_ttlv_reader.specs.Keeps.{Keep}
 use Rattle.kmip_ttlv_reader.specs.Steps.{Outcome, gives, ends_early, fails, Read, reads, Reader, ◌>>=◌, mapped}
 use Rattle.kmip_ttlv_reader.specs.Outcomes.{outcome, fields_outcome, field_outcome, run_outcome, goes_on, forms_outcome, part_outcome, rest_outcome, ignored, struct_outcome, first_outcome, root_outcome, enum_outcome, variant_outcome, content_outcome, type_there, picked, tuple_outcome, structure_wanted, length_there, inside}
 use Rattle.kmip_ttlv_reader.specs.Rules.{choice}
-use Rattle.kmip_ttlv_reader.specs.Results.{IsFailure}
+use Rattle.kmip_ttlv_reader.specs.ReadFaults.{in_struct}
+use Rattle.kmip_ttlv_reader.specs.Results.{IsFailure, IsFailureOf}
 use Rattle.kmip_ttlv_reader.proofs.Front.{fields_at, forms_at}
-use Rattle.kmip_ttlv_reader.proofs.Steps.{failure_then}
+use Rattle.kmip_ttlv_reader.proofs.Steps.{failure_then, fault_is}
 
 abbrev pub join : Values → Values → Values
 join no_values ws = ws
@@ -213,6 +214,32 @@ unfolding tuple_outcome
 tuple_fails t read vs b o k k' p e n q r s l h past f =
     let none : nat_lt q (p + 8 + n) ≡ false = le-ltb _ _ past in
     rw (s, l, h, none) (failure_then (inside b p e t (p + 8 + n)) _ r f)
+
+-- a tuple with an item too many
+pub tuple_surplus : {C : Type 0} (t : TtlvType) (read : Reader Values) (vs : Values) (b : List ℕ) (o : ℕ) (k k' : List Keep) (p e n q : ℕ) (r : Failure C)
+    → structure_wanted b p t ≡ gives tt
+    → length_there b p ≡ gives n
+    → read b o k (p + 8) (p + 8 + n) ≡ reads vs k' q
+    → q < p + 8 + n
+    → IsFailureOf (in_struct q o (codes "too many items")) r
+    → IsFailure (tuple_outcome t read b o k p e) r
+unfolding tuple_outcome
+tuple_surplus t read vs b o k k' p e n q r s l h before f =
+    let more : nat_lt q (p + 8 + n) ≡ true = lt-ltb _ _ before in
+    fault_is (tuple_outcome t read b o k p e) (in_struct q o (codes "too many items")) r f (rw (s, l, h, more) refl)
+
+-- a tuple whose items are used up, and that goes no further than the structure around it
+pub tuple_done : (t : TtlvType) (read : Reader Values) (vs : Values) (b : List ℕ) (o : ℕ) (k k' : List Keep) (p e n q : ℕ)
+    → structure_wanted b p t ≡ gives tt
+    → length_there b p ≡ gives n
+    → read b o k (p + 8) (p + 8 + n) ≡ reads vs k' q
+    → p + 8 + n ≤ q
+    → inside b p e t (p + 8 + n) ≡ gives tt
+    → tuple_outcome t read b o k p e ≡ reads vs k' (p + 8 + n)
+unfolding tuple_outcome
+tuple_done t read vs b o k k' p e n q s l h past i =
+    let none : nat_lt q (p + 8 + n) ≡ false = le-ltb _ _ past in
+    rw (s, l, h, none, i) refl
 
 -- a tuple that a rule chose
 pub content_is : (name vname : List ℕ) (ss : Forms) (t : TtlvType) (b : List ℕ) (o : ℕ) (k : List Keep) (p e : ℕ) → content_outcome name vname (tuple ss) t b o k p e ≡ mapped (tuple_variant_value name vname) (tuple_outcome t (forms_outcome ss) b o k p e)

@@ -29,6 +29,12 @@ IsFailure o failures.OutOfMemory = Unit {0}
 IsFailure o failures.EarlyEnd = o ≡ ends_early
 IsFailure o (failures.Fault f) = o ≡ fails (fault_by f.value)
 
+-- the failure is that fault, or memory ran out
+abbrev pub IsFailureOf : {A : Type 0} → Fault → Failure A → Type 0
+IsFailureOf x failures.OutOfMemory = Unit {0}
+IsFailureOf x failures.EarlyEnd = ⊥
+IsFailureOf x (failures.Fault f) = fault_by f.value ≡ x
+
 -- the result is that outcome, or memory ran out
 abbrev pub IsStep : {X V A : Type 0} → (X → V) → Outcome V → Result X (Failure A) → Type 0
 IsStep view o (Ok x) = o ≡ gives (view x)

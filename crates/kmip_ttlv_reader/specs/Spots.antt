@@ -67,10 +67,6 @@ abbrev pub fields_in : Value → Values
 fields_in (struct_value name vs) = vs
 fields_in _ = no_values
 
--- a structure of this tag ends here, where a field is wanted
-abbrev pub missing_field : ℕ → ℕ → Outcome (Read Value)
-missing_field owner end = fails (in_struct end owner (codes "missing field"))
-
 -- a field that may not be absent is there: an item of this tag
 abbrev pub field_there : ℕ → List ℕ → (owner pos end : ℕ) → Outcome (Unit {0})
 field_there tag b o p e =

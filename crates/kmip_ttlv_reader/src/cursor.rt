@@ -1,16 +1,16 @@
 //! A cursor: how far reading has come in a structure. A type that reads itself takes its fields by the calls here,
 //! one for each, in their order. Each call reads as the form of such a field is read (specs/Outcomes).
 
-ghost use Rattle.std.specs.Prelude.{◌≡◌, ◌≢◌, ℕ, suc, ◌+◌, ◌<◌, ◌≤◌, ◌^◌, false, length, [], IfOk};
+ghost use Rattle.std.specs.Prelude.{◌≡◌, ◌+◌, ◌≤◌, length, codes, [], IfOk};
 ghost use Rattle.kmip_ttlv_types.specs.Digits.{tag_text};
 ghost use Rattle.kmip_ttlv_base.specs.Values.{newtype_value};
-ghost use Rattle.kmip_ttlv_base.specs.Forms.{newtype, option};
-ghost use Rattle.kmip_ttlv_reader.specs.Keeps.{Keep};
+ghost use Rattle.kmip_ttlv_base.specs.Forms.{option};
 ghost use Rattle.kmip_ttlv_reader.specs.LeafForms.{form_of_leaf};
 ghost use Rattle.kmip_ttlv_reader.specs.Reads.{has_tag};
 ghost use Rattle.kmip_ttlv_reader.specs.Outcomes.{outcome, field_outcome, tag_wanted};
-ghost use Rattle.kmip_ttlv_reader.specs.Results.{IsRead, IsStep, IsFailure};
-ghost use Rattle.kmip_ttlv_reader.specs.Spots.{Spot, IsWithin, IsReadTo, at, wrapper_name, wrapped_leaf, optional_value, missing_field, field_there};
+ghost use Rattle.kmip_ttlv_reader.specs.Results.{IsRead, IsStep, IsFailureOf};
+ghost use Rattle.kmip_ttlv_reader.specs.ReadFaults.{in_struct};
+ghost use Rattle.kmip_ttlv_reader.specs.Spots.{Spot, IsWithin, IsReadTo, at, wrapper_name, wrapped_leaf, optional_value, field_there};
 
 use crate::failure::{Cause, Failure, Step, at_item, in_struct};
 use crate::head::{tag_at, type_there};
@@ -46,7 +46,7 @@ pub fn is_tag(tag: u32, found: TtlvTag) -> bool
 }
 
 /// The item's tag is this one.
-#[tactic(auto, unfolding(crate::specs::Outcomes::tag_wanted))]
+#[tactic(auto, unfolding(crate::specs::Outcomes::tag_wanted), using(crate::proofs::Steps::fault_is))]
 #[inline(always)]
 pub fn tag_is<A: Allocator + Copy>(
     alloc: A,
@@ -65,7 +65,7 @@ pub fn tag_is<A: Allocator + Copy>(
                     expected,
                     actual: tag_at(bytes, pos),
                 });
-                return Err(Failure::Fault(at_item(alloc, bytes, pos, 4, typ, cause)?));
+                return Err(at_item(alloc, bytes, pos, 4, typ, cause));
             }
             Ok(())
         }
@@ -76,24 +76,20 @@ pub fn tag_is<A: Allocator + Copy>(
 /// The structure ends where a field is wanted.
 #[cold]
 pub fn missing_field<A: Allocator + Copy>(scope: &Scope<'_, A>) -> Failure<A>
-    ensures { IsFailure (missing_field scope.now.owner scope.now.end) result }
+    ensures { IsFailureOf (in_struct scope.now.end scope.now.owner (codes "missing field")) result }
 {
-    match in_struct(scope.alloc, scope.end, scope.owner, "missing field") {
-        Ok(fault) => Failure::Fault(fault),
-        Err(_) => Failure::OutOfMemory,
-    }
+    in_struct(scope.alloc, scope.end, scope.owner, "missing field")
 }
 
 /// A field that may not be absent is there: an item of this tag.
-#[tactic(auto, using(crate::proofs::Steps::failure_then))]
+#[tactic(auto, using(crate::proofs::Steps::failing))]
 #[inline(always)]
 pub fn field_there<A: Allocator + Copy>(scope: &Scope<'_, A>, tag: u32, pos: usize) -> Step<(), A>
     requires inside { pos ≤ length scope.now.bytes.now }
     ensures step { IsStep (λ u. tt) (field_there tag scope.now.bytes.now scope.now.owner pos scope.now.end) result }
 {
     if pos == scope.end {
-        let fault = in_struct(scope.alloc, scope.end, scope.owner, "missing field")?;
-        return Err(Failure::Fault(fault));
+        return Err(missing_field(scope));
     }
     let typ = type_there(scope.alloc, scope.bytes, pos)?;
     if !is_tag(tag, tag_at(scope.bytes, pos)) {

@@ -1,6 +1,6 @@
 //! The errors that failures are, as callers see them.
 
-ghost use Rattle.std.specs.Prelude.{◌≡◌, ◌⊎◌, [], reverse, Some, None};
+ghost use Rattle.std.specs.Prelude.{◌≡◌, ◌⊎◌, reverse};
 ghost use Rattle.kmip_ttlv_base.specs.Errors.{view_of_kind, IsMemory, tags_of};
 ghost use Rattle.kmip_ttlv_base.specs.Values.{Value};
 ghost use Rattle.kmip_ttlv_reader.specs.Steps.{Outcome};

@@ -1,11 +1,10 @@
 //! Why reading stops, and where, as the readers hand it on.
 
-ghost use Rattle.std.specs.Prelude.{◌≡◌, ℕ, ◌+◌, ◌<◌, ◌≤◌, ◌^◌, [], length, Some, None, IfOk};
-ghost use Rattle.kmip_ttlv_base.specs.Errors.{view_of_kind, view_of_location};
+ghost use Rattle.std.specs.Prelude.{◌≡◌, ◌+◌, ◌<◌, ◌≤◌, ◌^◌, [], length, Some};
 ghost use Rattle.kmip_ttlv_base.specs.Values.{Values};
 ghost use Rattle.kmip_ttlv_reader.specs.Steps.{Outcome, Read, within};
 ghost use Rattle.kmip_ttlv_reader.specs.ReadFaults.{at_first, at_item, in_struct, bad_code, overflow};
-ghost use Rattle.kmip_ttlv_reader.specs.Results.{IsFailure, kind_by, fault_by};
+ghost use Rattle.kmip_ttlv_reader.specs.Results.{IsFailure, IsFailureOf, kind_by};
 
 use kmip_ttlv_base::error::{MalformedTtlvError, SerdeError};
 use kmip_ttlv_base::types::places::tag_at;
@@ -77,11 +76,11 @@ fn make_fault<A: Allocator + Copy>(
     offset: usize,
     tag: Option<TtlvTag>,
     typ: Option<TtlvType>,
-) -> Result<Box<FaultAt<A>, A>, AllocError>
-    ensures { IfOk result (λ f. fault_by f.value ≡ record {
+) -> Failure<A>
+    ensures { IsFailureOf record {
       why = kind_by cause;
       place = record { offset = Some offset; parents = []; tag = tag; typ = typ };
-    }) }
+    } result }
 {
     let fault = FaultAt {
         cause,
@@ -90,16 +89,16 @@ fn make_fault<A: Allocator + Copy>(
         typ,
         around: Vec::new(alloc),
     };
-    Ok(Box::new(alloc, fault)?)
+    match Box::new(alloc, fault) {
+        Ok(fault) => Failure::Fault(fault),
+        Err(_) => Failure::OutOfMemory,
+    }
 }
 
 /// At the first byte, where nothing was read.
 #[cold]
-pub fn at_first<A: Allocator + Copy>(
-    alloc: A,
-    cause: Cause<A>,
-) -> Result<Box<FaultAt<A>, A>, AllocError>
-    ensures { IfOk result (λ f. fault_by f.value ≡ at_first (kind_by cause)) }
+pub fn at_first<A: Allocator + Copy>(alloc: A, cause: Cause<A>) -> Failure<A>
+    ensures { IsFailureOf (at_first (kind_by cause)) result }
 {
     make_fault(alloc, cause, 0, None, None)
 }
@@ -113,10 +112,10 @@ pub fn at_item<A: Allocator + Copy>(
     after: usize,
     typ: TtlvType,
     cause: Cause<A>,
-) -> Result<Box<FaultAt<A>, A>, AllocError>
+) -> Failure<A>
     requires there { pos + 4 ≤ length bytes.now }
     requires fits { after < 2 ^ 33 }
-    ensures { IfOk result (λ f. fault_by f.value ≡ at_item bytes.now pos after typ (kind_by cause)) }
+    ensures { IsFailureOf (at_item bytes.now pos after typ (kind_by cause)) result }
 {
     let tag = tag_at(bytes, pos);
     make_fault(alloc, cause, pos + after, Some(tag), Some(typ))
@@ -124,13 +123,9 @@ pub fn at_item<A: Allocator + Copy>(
 
 /// The code of no type.
 #[cold]
-pub fn bad_code<A: Allocator + Copy>(
-    alloc: A,
-    bytes: &[u8],
-    pos: usize,
-) -> Result<Box<FaultAt<A>, A>, AllocError>
+pub fn bad_code<A: Allocator + Copy>(alloc: A, bytes: &[u8], pos: usize) -> Failure<A>
     requires there { pos + 4 ≤ length bytes.now }
-    ensures { IfOk result (λ f. fault_by f.value ≡ bad_code bytes.now pos) }
+    ensures { IsFailureOf (bad_code bytes.now pos) result }
 {
     let cause = Cause::Malformed(MalformedTtlvError::InvalidType(bytes[pos + 3]));
     make_fault(alloc, cause, pos + 3, Some(tag_at(bytes, pos)), None)
@@ -145,9 +140,9 @@ pub fn overflow<A: Allocator + Copy>(
     end: usize,
     typ: TtlvType,
     next: usize,
-) -> Result<Box<FaultAt<A>, A>, AllocError>
+) -> Failure<A>
     requires there { pos + 4 ≤ length bytes.now }
-    ensures { IfOk result (λ f. fault_by f.value ≡ overflow bytes.now pos end typ next) }
+    ensures { IsFailureOf (overflow bytes.now pos end typ next) result }
 {
     let cause = Cause::Malformed(MalformedTtlvError::Overflow {
         field_end: ByteOffset(end as u64),
@@ -162,11 +157,16 @@ pub fn in_struct<A: Allocator + Copy>(
     offset: usize,
     tag: TtlvTag,
     words: &str,
-) -> Result<Box<FaultAt<A>, A>, AllocError>
-    ensures { IfOk result (λ f. fault_by f.value ≡ in_struct offset tag words.now) }
+) -> Failure<A>
+    ensures { IsFailureOf (in_struct offset tag words.now) result }
 {
-    let cause = Cause::Mismatch(SerdeError::Other(String::from_str(alloc, words)?));
-    make_fault(alloc, cause, offset, Some(tag), Some(TtlvType::Structure))
+    match String::from_str(alloc, words) {
+        Ok(words) => {
+            let cause = Cause::Mismatch(SerdeError::Other(words));
+            make_fault(alloc, cause, offset, Some(tag), Some(TtlvType::Structure))
+        }
+        Err(_) => Failure::OutOfMemory,
+    }
 }
 
 /// The same failure, from within a structure of this tag.

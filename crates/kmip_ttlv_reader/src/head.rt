@@ -1,8 +1,7 @@
 //! The steps of reading an item: each is a step of the page.
 
-ghost use Rattle.std.specs.Prelude.{◌≡◌, ◌≢◌, ℕ, ◌+◌, ◌<◌, ◌≤◌, ◌^◌, length, take, drop, IfOk, Some, None, true, false};
-ghost use Rattle.kmip_ttlv_types.specs.ItemTypes.{code, is_structure};
-ghost use Rattle.kmip_ttlv_types.specs.Places.{tag_at, code_at, length_at, size};
+ghost use Rattle.std.specs.Prelude.{◌≡◌, ◌≢◌, ◌+◌, ◌<◌, ◌≤◌, ◌^◌, length, IfOk, true};
+ghost use Rattle.kmip_ttlv_types.specs.Places.{length_at, size};
 ghost use Rattle.kmip_ttlv_types.specs.Leaves.{is_valid};
 ghost use Rattle.kmip_ttlv_reader.specs.Outcomes.{type_there, tag_wanted, length_there, structure_wanted, inside, type_wanted};
 ghost use Rattle.kmip_ttlv_reader.specs.Outcomes.{content_there, opened, length_wanted, end_there, item_end, goes_on};
@@ -16,7 +15,7 @@ use kmip_ttlv_base::types::{TtlvTag, TtlvType, places};
 use std::alloc::Allocator;
 
 /// The type at a place.
-#[tactic(auto, unfolding(crate::specs::Outcomes::type_there))]
+#[tactic(auto, unfolding(crate::specs::Outcomes::type_there), using(crate::proofs::Steps::fault_is))]
 #[inline(always)]
 pub fn type_there<A: Allocator + Copy>(alloc: A, bytes: &[u8], pos: usize) -> Step<TtlvType, A>
     requires inside { pos ≤ length bytes.now }
@@ -28,12 +27,12 @@ pub fn type_there<A: Allocator + Copy>(alloc: A, bytes: &[u8], pos: usize) -> St
     }
     match places::type_at(bytes, pos) {
         Some(typ) => Ok(typ),
-        None => Err(Failure::Fault(bad_code(alloc, bytes, pos)?)),
+        None => Err(bad_code(alloc, bytes, pos)),
     }
 }
 
 /// The item's tag is the one that the name is.
-#[tactic(auto, unfolding(crate::specs::Outcomes::tag_wanted))]
+#[tactic(auto, unfolding(crate::specs::Outcomes::tag_wanted), using(crate::proofs::Steps::fault_is))]
 #[inline(always)]
 pub fn tag_wanted<A: Allocator + Copy>(
     alloc: A,
@@ -52,14 +51,14 @@ pub fn tag_wanted<A: Allocator + Copy>(
                     expected: tag,
                     actual: tag_at(bytes, pos),
                 });
-                return Err(Failure::Fault(at_item(alloc, bytes, pos, 4, typ, cause)?));
+                return Err(at_item(alloc, bytes, pos, 4, typ, cause));
             }
             Ok(())
         }
         None => {
             let name = String::from_str(alloc, name)?;
             let cause = Cause::Mismatch(SerdeError::InvalidTag(name));
-            Err(Failure::Fault(at_item(alloc, bytes, pos, 4, typ, cause)?))
+            Err(at_item(alloc, bytes, pos, 4, typ, cause))
         }
     }
 }
@@ -79,7 +78,7 @@ pub fn length_there<A: Allocator + Copy>(bytes: &[u8], pos: usize) -> Step<u32, 
 }
 
 /// The item is a Structure.
-#[tactic(auto, unfolding(crate::specs::Outcomes::structure_wanted))]
+#[tactic(auto, unfolding(crate::specs::Outcomes::structure_wanted), using(crate::proofs::Steps::fault_is))]
 #[inline(always)]
 pub fn structure_wanted<A: Allocator + Copy>(
     alloc: A,
@@ -95,13 +94,13 @@ pub fn structure_wanted<A: Allocator + Copy>(
             expected: TtlvType::Structure,
             actual: typ,
         });
-        return Err(Failure::Fault(at_item(alloc, bytes, pos, 4, typ, cause)?));
+        return Err(at_item(alloc, bytes, pos, 4, typ, cause));
     }
     Ok(())
 }
 
 /// The item goes no further than the structure around it.
-#[tactic(auto, unfolding(crate::specs::Outcomes::inside))]
+#[tactic(auto, unfolding(crate::specs::Outcomes::inside), using(crate::proofs::Steps::fault_is))]
 #[inline(always)]
 pub fn inside<A: Allocator + Copy>(
     alloc: A,
@@ -116,13 +115,13 @@ pub fn inside<A: Allocator + Copy>(
     ensures before { IfOk result (λ u. next ≤ end) }
 {
     if end < next {
-        return Err(Failure::Fault(overflow(alloc, bytes, pos, end, typ, next)?));
+        return Err(overflow(alloc, bytes, pos, end, typ, next));
     }
     Ok(())
 }
 
 /// A leaf of a type that the shape takes.
-#[tactic(auto, unfolding(crate::specs::Outcomes::type_wanted))]
+#[tactic(auto, unfolding(crate::specs::Outcomes::type_wanted), using(crate::proofs::Steps::fault_is))]
 #[inline(always)]
 pub fn type_wanted<A: Allocator + Copy>(
     alloc: A,
@@ -141,12 +140,13 @@ pub fn type_wanted<A: Allocator + Copy>(
             expected: wanted,
             actual: typ,
         });
-        return Err(Failure::Fault(at_item(alloc, bytes, pos, 4, typ, cause)?));
+        return Err(at_item(alloc, bytes, pos, 4, typ, cause));
     }
     Ok(())
 }
 
 /// The length is the one of the type, if that is fixed.
+#[tactic(auto, using(crate::proofs::Steps::fault_is))]
 #[inline(always)]
 pub fn length_wanted<A: Allocator + Copy>(
     alloc: A,
@@ -168,14 +168,14 @@ pub fn length_wanted<A: Allocator + Copy>(
                 actual: n,
                 typ,
             });
-            return Err(Failure::Fault(at_item(alloc, bytes, pos, after, typ, cause)?));
+            return Err(at_item(alloc, bytes, pos, after, typ, cause));
         }
     }
     Ok(())
 }
 
 /// The content of a leaf, and the place behind its padding.
-#[tactic(auto, unfolding(crate::specs::Outcomes::content_there), using(crate::proofs::Steps::failure_then))]
+#[tactic(auto, unfolding(crate::specs::Outcomes::content_there), using(crate::proofs::Steps::failing))]
 #[inline(always)]
 pub fn content_there<A: Allocator + Copy>(
     alloc: A,
@@ -196,7 +196,7 @@ pub fn content_there<A: Allocator + Copy>(
     let content = places::content_at(bytes, pos, n);
     if !places::is_valid(typ, content) {
         let cause = Cause::Malformed(MalformedTtlvError::InvalidValue { typ });
-        return Err(Failure::Fault(at_item(alloc, bytes, pos, 8 + n as usize, typ, cause)?));
+        return Err(at_item(alloc, bytes, pos, 8 + n as usize, typ, cause));
     }
     let next = end_there(bytes, pos, typ, n)?;
     Ok((content, next))

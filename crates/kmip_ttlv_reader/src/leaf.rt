@@ -1,10 +1,8 @@
 //! Leaves: their content, and the values that are read from it, as data or as a type's own.
 
-ghost use Rattle.std.specs.Prelude.{◌≡◌, ◌+◌, ◌<◌, ◌≤◌, length, true, false, IfOk};
-ghost use Rattle.kmip_ttlv_types.specs.Items.{Raw};
+ghost use Rattle.std.specs.Prelude.{◌≡◌, ◌+◌, ◌≤◌, length, true, IfOk};
 ghost use Rattle.kmip_ttlv_types.specs.Leaves.{is_valid};
 ghost use Rattle.kmip_ttlv_base.specs.Values.{Value, view};
-ghost use Rattle.kmip_ttlv_reader.specs.Keeps.{Keep};
 ghost use Rattle.kmip_ttlv_reader.specs.Reads.{takes, leaf_value, with_leaf};
 ghost use Rattle.kmip_ttlv_reader.specs.Outcomes.{leaf_outcome, first_type};
 ghost use Rattle.kmip_ttlv_reader.specs.Results.{IsRead};

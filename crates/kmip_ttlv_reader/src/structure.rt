@@ -14,7 +14,7 @@ ghost use Rattle.kmip_ttlv_base.specs.Forms.{option, seq};
 
 use crate::cursor::{Cursor, field_there, is_tag, missing_field, tag_is};
 use crate::errors::error;
-use crate::failure::{Cause, Failure, Step, at_item, in_struct, within};
+use crate::failure::{Cause, Step, at_item, in_struct, within};
 use crate::fields::{Field, FieldList};
 use crate::head::{goes_on, inside, item_end, length_there, structure_wanted, tag_at, type_there};
 use crate::scope::Scope;
@@ -67,7 +67,7 @@ fn opened<A: Allocator + Copy>(alloc: A, tag: u32, bytes: &[u8], pos: usize) -> 
 }
 
 // An item behind the fields, which is ignored.
-#[tactic(auto, unfolding(crate::specs::Outcomes::ignored), using(crate::proofs::Steps::failure_then))]
+#[tactic(auto, unfolding(crate::specs::Outcomes::ignored), using(crate::proofs::Steps::failing))]
 fn read_ignored<'b, T: ReadStructure<A>, A: Allocator + Copy>(
     scope: &Scope<'b, A>,
     pos: usize,
@@ -79,18 +79,13 @@ fn read_ignored<'b, T: ReadStructure<A>, A: Allocator + Copy>(
     let typ = type_there(scope.alloc, scope.bytes, pos)?;
     if !T::Fields::has_fields() {
         let cause = Cause::Mismatch(SerdeError::MissingIdentifier);
-        return Err(Failure::Fault(at_item(scope.alloc, scope.bytes, pos, 4, typ, cause)?));
+        return Err(at_item(scope.alloc, scope.bytes, pos, 4, typ, cause));
     }
     if T::Fields::is_field(tag_at(scope.bytes, pos)) {
-        return Err(Failure::Fault(in_struct(
-            scope.alloc,
-            pos + 4,
-            scope.owner,
-            "duplicate field",
-        )?));
+        return Err(in_struct(scope.alloc, pos + 4, scope.owner, "duplicate field"));
     }
     if T::DENIES_UNKNOWN {
-        return Err(Failure::Fault(in_struct(scope.alloc, pos + 4, scope.owner, "unknown field")?));
+        return Err(in_struct(scope.alloc, pos + 4, scope.owner, "unknown field"));
     }
     let next = item_end(scope.alloc, scope.bytes, pos, typ)?;
     inside(scope.alloc, scope.bytes, pos, scope.end, typ, next)?;
@@ -264,7 +259,7 @@ impl<T: ReadStructure<A>, A: Allocator + Copy> Field<A> for Nested<T> {
         is_tag(T::TAG, tag)
     }
 
-    #[tactic(auto, unfolding(crate::specs::Outcomes::field_outcome), using(crate::proofs::Steps::failure_then))]
+    #[tactic(auto, unfolding(crate::specs::Outcomes::field_outcome), using(crate::proofs::Steps::fault_is))]
     #[inline(always)]
     fn read<'b>(scope: &Scope<'b, A>, cursor: &mut Cursor<'b, A>) -> Step<T, A> {
         if cursor.pos() == scope.end {

@@ -11,7 +11,7 @@ use Rattle.kmip_ttlv_base.specs.Values.{seq_value, struct_value, tuple_variant_v
 use Rattle.kmip_ttlv_base.proofs.Views.{view-Seq, view-Struct, view-TupleVariant}
 use Rattle.kmip_ttlv_base.proofs.Shapes.{form_of-Struct, form_of-Enum, content_of-Tuple}
 use Rattle.kmip_ttlv_reader.proofs.Steps.{failure_then}
-use Rattle.kmip_ttlv_reader.proofs.Loops.{with_front, front_none, fields_step, fields_fails, fields_done, run_step, run_fails, run_stops, run_done, more_steps, struct_is, parts_step, parts_fails, parts_done, enum_is, enum_chosen, tuple_fails, content_is}
+use Rattle.kmip_ttlv_reader.proofs.Loops.{with_front, front_none, fields_step, fields_fails, fields_done, run_step, run_fails, run_stops, run_done, more_steps, struct_is, parts_step, parts_fails, parts_done, enum_is, enum_chosen, tuple_fails, tuple_surplus, tuple_done, content_is}
 
 pub read_fields-loop-field-init : goal.read_fields-loop-field-init
 read_fields-loop-field-init g t c =
@@ -121,6 +121,14 @@ pub read_tuple-returns-in_err-inside-clause-read : goal.read_tuple-returns-in_er
 read_tuple-returns-in_err-inside-clause-read g t c =
     let p = err_from_is_err_and c.from_residual-in_err-inside.result c.from_residual-in_err-inside.ensures.1 in
     rw (p.1, p.2) (tuple_fails c.args.typ (forms_outcome (forms_of c.args.shapes.now)) (views c.in_ok-values.values.items) c.args.scope.now.bytes.now c.args.scope.now.owner c.args.kept.now c.read_parts.new.kept c.args.pos c.args.scope.now.end c.in_ok-n.n c.in_ok-values.next c.in_err-inside.field-0.0 c.in_ok-structure_wanted.ensures.step c.in_ok-n.ensures.step c.in_ok-values.ensures.read c.if-next-stop.false c.in_err-inside.ensures.step)
+
+pub read_tuple-returns-then-next-stop-clause-read : goal.read_tuple-returns-then-next-stop-clause-read
+read_tuple-returns-then-next-stop-clause-read g t c =
+    tuple_surplus c.args.typ (forms_outcome (forms_of c.args.shapes.now)) (views c.in_ok-values.values.items) c.args.scope.now.bytes.now c.args.scope.now.owner c.args.kept.now c.read_parts.new.kept c.args.pos c.args.scope.now.end c.in_ok-n.n c.in_ok-values.next c.in_struct.result c.in_ok-structure_wanted.ensures.step c.in_ok-n.ensures.step c.in_ok-values.ensures.read c.if-next-stop.true c.in_struct.ensures
+
+pub read_tuple-returns-clause-read : goal.read_tuple-returns-clause-read
+read_tuple-returns-clause-read g t c =
+    tuple_done c.args.typ (forms_outcome (forms_of c.args.shapes.now)) (views c.in_ok-values.values.items) c.args.scope.now.bytes.now c.args.scope.now.owner c.args.kept.now c.read_parts.new.kept c.args.pos c.args.scope.now.end c.in_ok-n.n c.in_ok-values.next c.in_ok-structure_wanted.ensures.step c.in_ok-n.ensures.step c.in_ok-values.ensures.read c.if-next-stop.false c.in_ok-inside.ensures.step
 
 pub read_variant-returns-in_err-fields-in-Tuple-clause-read : goal.read_variant-returns-in_err-fields-in-Tuple-clause-read
 read_variant-returns-in_err-fields-in-Tuple-clause-read g t c =

@@ -1,6 +1,4 @@
 use Rattle.kmip_ttlv_base.specs.Values.{newtype_value}
-use Rattle.kmip_ttlv_reader.specs.LeafForms.{form_of_leaf}
-use Rattle.kmip_ttlv_reader.specs.Outcomes.{leaf_outcome}
 use Rattle.kmip_ttlv_reader.specs.Spots.{wrapper_name}
 use Rattle.kmip_ttlv_reader.proofs.LeafLemmas.{wrapped_is}
 use Rattle.kmip_ttlv_reader.proofs.Mapped.{mapped_read}

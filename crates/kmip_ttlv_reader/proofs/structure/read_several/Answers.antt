@@ -1,4 +1,4 @@
-use Rattle.std.proofs.Common.{◌≡◌, suc, ◌+◌, ◌-◌, length, ◌∷◌, ◌++◌, [], ap, sym, ◌∙◌, arith, refl}
+use Rattle.std.proofs.Common.{◌≡◌, suc, ◌+◌, ◌-◌, length, ◌∷◌, ◌++◌, [], ap, ◌∙◌, arith, refl}
 use Rattle.std.proofs.lemmas.Result.{err_from_is_err_and}
 use Rattle.kmip_ttlv_reader.specs.Steps.{gives}
 use Rattle.kmip_ttlv_reader.specs.Outcomes.{outcome, run_outcome, seq_outcome}
