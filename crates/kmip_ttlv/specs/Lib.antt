@@ -35,6 +35,8 @@ pub use Rattle.kmip_ttlv_reader.specs.Outcomes
 pub use Rattle.kmip_ttlv_reader.specs.ReadResults
 pub use Rattle.kmip_ttlv_reader.specs.LeafForms
 pub use Rattle.kmip_ttlv_reader.specs.Spots
+pub use Rattle.kmip_ttlv_reader.specs.ListedRows
+pub use Rattle.kmip_ttlv_reader.specs.Chosen
 pub use Rattle.kmip_ttlv_stream.specs.Settings
 pub use Rattle.kmip_ttlv_stream.specs.StreamMessages
 pub use Rattle.kmip_ttlv_util.specs.Outlines

@@ -1,3 +1,2 @@
 pub mod FieldTags
-pub mod Verdicts
 pub mod ReadRows

@@ -28,7 +28,6 @@ mod read;
 mod rest;
 mod root;
 mod rows;
-mod rules;
 mod variant;
 
 pub use crate::deserialize::Deserialize;

@@ -15,6 +15,7 @@ use kmip_ttlv_reader::head::{
     content_there, inside, length_there, length_wanted, tag_at, type_wanted,
 };
 use kmip_ttlv_reader::keep::KeptTexts;
+use kmip_ttlv_reader::listed::is_number_type;
 use kmip_ttlv_reader::number_text::number_text;
 use kmip_ttlv_reader::scope::Scope;
 use std::alloc::Allocator;
@@ -36,13 +37,6 @@ fn first_named<'s, A: Allocator>(
         }
     }
     None
-}
-
-#[inline(always)]
-fn is_number_type(typ: TtlvType) -> bool
-    ensures { result ≡ is_number_type typ }
-{
-    typ == TtlvType::Integer || typ == TtlvType::Enumeration
 }
 
 // Content at a variant that a number names.

@@ -3,54 +3,41 @@
 ghost use Rattle.std.specs.Prelude.{◌≡◌, ◌+◌, ◌<◌, ◌≤◌, length, IfOk, IfSome};
 ghost use Rattle.kmip_ttlv_types.specs.declared.field.FieldType.TheVariants.{Length, Tag};
 ghost use Rattle.kmip_ttlv_base.specs.declared.error.MalformedTtlvError.TheVariants as malformeds;
-ghost use Rattle.kmip_ttlv_base.specs.Errors.{malformed, mismatch, view_of_serde};
+ghost use Rattle.kmip_ttlv_base.specs.Errors.{malformed};
 ghost use Rattle.kmip_ttlv_base.specs.Forms.{variants_of};
-ghost use Rattle.kmip_ttlv_de.specs.Verdicts.{mismatch_of};
+ghost use Rattle.kmip_ttlv_reader.specs.Verdicts.{choice_of};
 ghost use Rattle.kmip_ttlv_reader.specs.Rules.{choice};
 ghost use Rattle.kmip_ttlv_reader.specs.Outcomes.{picked};
 ghost use Rattle.kmip_ttlv_reader.specs.ReadFaults.{at_item};
 ghost use Rattle.kmip_ttlv_reader.specs.Results.{IsStep, IsFailureOf};
 
-use crate::rules::{RuleError, choose};
-use kmip_ttlv_base::error::{MalformedTtlvError, SerdeError};
+use kmip_ttlv_base::error::MalformedTtlvError;
 use kmip_ttlv_base::shape::VariantShape;
 use kmip_ttlv_base::types::{FieldType, TtlvType};
 use kmip_ttlv_reader::failure::{Cause, Failure, Step, at_item};
 use kmip_ttlv_reader::keep::KeptTexts;
-use std::alloc::{AllocError, Allocator};
+use kmip_ttlv_reader::rules::{RuleError, Verdict, bad_rule, rule};
+use std::alloc::Allocator;
 
-// What is wrong with a rule.
-fn wrong_rule<'n, A: Allocator>(alloc: A, rule: RuleError<'n>) -> Result<SerdeError<A>, AllocError>
-    ensures { IfOk result (λ e. view_of_serde e ≡ mismatch_of rule.entry) }
-{
-    match rule {
-        RuleError::InvalidVariantMatcherSyntax(name) => {
-            let name = String::from_str(alloc, name)?;
-            Ok(SerdeError::InvalidVariantMatcherSyntax(name))
-        }
-        RuleError::InvalidTag(name) => {
-            let name = String::from_str(alloc, name)?;
-            Ok(SerdeError::InvalidTag(name))
-        }
-    }
-}
-
-// A rule that can't be tested.
-#[cold]
-fn bad_rule<'n, A: Allocator + Copy>(
-    alloc: A,
-    bytes: &[u8],
-    pos: usize,
+// The index of the first variant whose rule holds, and none where no rule does: the item's number
+// chooses then. A rule that is refused before ends the search with its refusal.
+#[inline(always)]
+fn choose<'n, 'b, A: Allocator + Copy, B: Allocator>(
+    variants: &'n [VariantShape<B>],
+    kept: &'n KeptTexts<'b, A>,
     typ: TtlvType,
-    rule: RuleError<'n>,
-) -> Failure<A>
-    requires there { pos + 4 ≤ length bytes.now }
-    ensures { IsFailureOf (at_item bytes.now pos 4 typ (mismatch (mismatch_of rule.entry))) result }
+) -> Result<Option<usize>, RuleError<'n>>
+    ensures choice { choice_of result ≡ choice (variants_of variants.now) kept.now typ }
+    ensures inside { IfOk result (λ o. IfSome o (λ i. i < length variants.now)) }
 {
-    match wrong_rule(alloc, rule) {
-        Ok(wrong) => at_item(alloc, bytes, pos, 4, typ, Cause::Mismatch(wrong)),
-        Err(_) => Failure::OutOfMemory,
+    for (i, variant) in variants.iter().enumerate() {
+        match rule(variant.name, kept, typ) {
+            Verdict::Holds => return Ok(Some(i)),
+            Verdict::Refused(error) => return Err(error),
+            Verdict::NoRule | Verdict::Fails => {}
+        }
     }
+    Ok(None)
 }
 
 /// The index of the variant that a rule chooses at an item of this type, if one does.

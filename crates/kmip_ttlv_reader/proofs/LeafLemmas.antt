@@ -22,7 +22,7 @@ no_struct leaves.BigInteger = refl
 no_struct leaves.U32 = refl
 
 -- what the form of a leaf reads
-leaf_is : (l : Leaf) (b : List ℕ) (o : ℕ) (k : List Keep) (p e : ℕ) → outcome (form_of_leaf l) b o k p e ≡ leaf_outcome (form_of_leaf l) b o k p e
+pub leaf_is : (l : Leaf) (b : List ℕ) (o : ℕ) (k : List Keep) (p e : ℕ) → outcome (form_of_leaf l) b o k p e ≡ leaf_outcome (form_of_leaf l) b o k p e
 unfolding outcome
 leaf_is leaves.I32 b o k p e = refl
 leaf_is leaves.I64 b o k p e = refl

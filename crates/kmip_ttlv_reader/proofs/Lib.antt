@@ -15,3 +15,6 @@ pub mod Mapped
 pub mod LeafLemmas
 pub mod Items
 pub mod Structures
+pub mod TableLemmas
+pub mod Cuts
+pub mod ChosenLemmas

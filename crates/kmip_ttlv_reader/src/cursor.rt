@@ -4,18 +4,20 @@
 ghost use Rattle.std.specs.Prelude.{◌≡◌, ◌+◌, ◌≤◌, length, codes, [], IfOk};
 ghost use Rattle.kmip_ttlv_types.specs.Digits.{tag_text};
 ghost use Rattle.kmip_ttlv_base.specs.Values.{newtype_value};
-ghost use Rattle.kmip_ttlv_base.specs.Forms.{option};
+ghost use Rattle.kmip_ttlv_base.specs.Forms.{option, enum, newtype};
 ghost use Rattle.kmip_ttlv_reader.specs.LeafForms.{form_of_leaf};
 ghost use Rattle.kmip_ttlv_reader.specs.Reads.{has_tag};
 ghost use Rattle.kmip_ttlv_reader.specs.Outcomes.{outcome, field_outcome, tag_wanted};
 ghost use Rattle.kmip_ttlv_reader.specs.Results.{IsRead, IsStep, IsFailureOf};
 ghost use Rattle.kmip_ttlv_reader.specs.ReadFaults.{in_struct};
 ghost use Rattle.kmip_ttlv_reader.specs.Spots.{Spot, IsWithin, IsReadTo, at, wrapper_name, wrapped_leaf, optional_value, field_there};
+ghost use Rattle.kmip_ttlv_reader.specs.ListedRows.{AreListed};
 
 use crate::failure::{Cause, Failure, Step, at_item, in_struct};
 use crate::head::{tag_at, type_there};
 use crate::keep::KeptTexts;
 use crate::leaf::{LeafValue, read_leaf_as};
+use crate::listed::{Listed, read_listed};
 use crate::scope::Scope;
 use kmip_ttlv_base::error::SerdeError;
 use kmip_ttlv_base::types::{TtlvTag, TtlvType};
@@ -114,6 +116,21 @@ fn read_wrapped<'b, K: LeafValue<A>, A: Allocator + Copy>(
     read_leaf_as(scope, pos, kept)
 }
 
+// A leaf, as its form has it.
+#[inline(always)]
+fn read_bare<'b, K: LeafValue<A>, A: Allocator + Copy>(
+    scope: &Scope<'b, A>,
+    pos: usize,
+    kept: &mut KeptTexts<'b, A>,
+) -> Step<(K, usize), A>
+    requires inside { pos ≤ length scope.now.bytes.now }
+    ensures read { IsRead K.value kept.new
+        (outcome (form_of_leaf K.leaf) scope.now.bytes.now scope.now.owner kept.old pos scope.now.end) result }
+    ensures further { IfOk result (λ r. (pos + 8 ≤ r.1) × (r.1 ≤ scope.now.end) × (r.1 ≤ length scope.now.bytes.now)) }
+{
+    read_leaf_as(scope, pos, kept)
+}
+
 // A field that is a leaf within its wrapper.
 #[tactic(auto, unfolding(crate::specs::Outcomes::field_outcome), using(crate::proofs::Steps::failure_then))]
 #[inline(always)]
@@ -186,6 +203,14 @@ impl<'b, A: Allocator + Copy> Cursor<'b, A> {
         self.pos
     }
 
+    /// The texts that were kept.
+    #[inline(always)]
+    pub fn kept_texts(&self) -> &KeptTexts<'b, A>
+        ensures { result.now ≡ self.now.kept }
+    {
+        &self.kept
+    }
+
     /// Goes to another place.
     #[inline(always)]
     pub fn go_to(&mut self, pos: usize)
@@ -222,6 +247,51 @@ impl<'b, A: Allocator + Copy> Cursor<'b, A> {
         ensures within { IfOk result (λ _. IsWithin scope.now self.new) }
     {
         let (value, next) = read_optional_leaf(scope, tag, self.pos, &mut self.kept)?;
+        self.pos = next;
+        Ok(value)
+    }
+
+    /// The next item, a leaf within the wrapper of this tag, whatever the item's own tag.
+    #[inline(always)]
+    pub fn wrapped_leaf<K: LeafValue<A>>(&mut self, scope: &Scope<'b, A>, tag: u32) -> Step<K, A>
+        requires within { IsWithin scope.now self.old }
+        ensures read { IsReadTo (λ x. newtype_value (wrapper_name tag) (K.value x)) self.new
+            (at (outcome (wrapped_leaf tag (form_of_leaf K.leaf))) scope.now self.old) result }
+        ensures within { IfOk result (λ _. IsWithin scope.now self.new) }
+        ensures further { IfOk result (λ _. self.old.pos + 8 ≤ self.new.pos) }
+    {
+        let (value, next) = read_wrapped(scope, tag, self.pos, &mut self.kept)?;
+        self.pos = next;
+        Ok(value)
+    }
+
+    /// The next item, a leaf.
+    #[inline(always)]
+    pub fn bare_leaf<K: LeafValue<A>>(&mut self, scope: &Scope<'b, A>) -> Step<K, A>
+        requires within { IsWithin scope.now self.old }
+        ensures read { IsReadTo K.value self.new (at (outcome (form_of_leaf K.leaf)) scope.now self.old) result }
+        ensures within { IfOk result (λ _. IsWithin scope.now self.new) }
+        ensures further { IfOk result (λ _. self.old.pos + 8 ≤ self.new.pos) }
+    {
+        let (value, next) = read_bare(scope, self.pos, &mut self.kept)?;
+        self.pos = next;
+        Ok(value)
+    }
+
+    /// The next item, an Enumeration of listed numbers: the value that its number names in the table.
+    #[inline(always)]
+    pub fn listed<T: Listed>(
+        &mut self,
+        scope: &Scope<'b, A>,
+        table: &[(&'static str, T)],
+    ) -> Step<T, A>
+        requires within { IsWithin scope.now self.old }
+        requires listed { AreListed T.own T.value T.variants table.now }
+        ensures read { IsReadTo T.value self.new (at (outcome (enum T.own T.variants)) scope.now self.old) result }
+        ensures within { IfOk result (λ _. IsWithin scope.now self.new) }
+        ensures further { IfOk result (λ _. self.old.pos + 8 ≤ self.new.pos) }
+    {
+        let (value, next) = read_listed(scope, table, self.pos, &mut self.kept)?;
         self.pos = next;
         Ok(value)
     }

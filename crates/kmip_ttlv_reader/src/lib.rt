@@ -10,16 +10,22 @@
 //! bytes begin with an item from which a form reads a value.
 #![tactic(auto)]
 
+pub mod choice;
 pub mod cursor;
+pub mod element;
 pub mod errors;
 pub mod failure;
 pub mod fields;
 pub mod head;
 pub mod history;
+pub mod item;
 pub mod keep;
 pub mod leaf;
+pub mod listed;
 pub mod number_text;
 pub mod reader;
+pub mod rules;
 pub mod scope;
+pub mod sequence;
 pub mod structure;
 pub mod values;

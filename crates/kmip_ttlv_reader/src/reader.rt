@@ -4,10 +4,17 @@
 //! a kind that is a type (`Leaf`, `OptionalLeaf`, `Nested`, `OptionalNested`, `Several`), and says what value
 //! they make. The fields are pairs of the first and the others, up to `()`. `read_message` reads it.
 
+pub use crate::choice::{Choice, OneOf, Rule, Variant, VariantList, read_choice};
 pub use crate::cursor::Cursor;
+pub use crate::element::{BareLeaf, Element, ItemElement, LeafElement, StructureElement};
 pub use crate::failure::{Cause, Failure, FaultAt, Step};
 pub use crate::fields::{Field, FieldList, Leaf, OptionalLeaf};
+pub use crate::item::{Item, OptionalItem, OptionalSeveralItems, ReadItem, SeveralItems};
 pub use crate::leaf::{Leaf as LeafShape, LeafValue};
+pub use crate::listed::Listed;
 pub use crate::scope::Scope;
-pub use crate::structure::{Nested, OptionalNested, ReadStructure, Several, read_message};
+pub use crate::sequence::{
+    OptionalOf, OptionalSeveral, OptionalSeveralLeaves, Sequence, Several, SeveralLeaves, SeveralOf,
+};
+pub use crate::structure::{Nested, OptionalNested, ReadStructure, read_message};
 pub use crate::values::{BigInteger, Interval};

@@ -3,20 +3,20 @@
 
 ghost use Rattle.std.specs.Prelude.{◌≡◌, ℕ, suc, ◌+◌, ◌<◌, ◌≤◌, ◌^◌, true, length, [], IfOk, IfErr};
 ghost use Rattle.kmip_ttlv_types.specs.Digits.{tag_text};
-ghost use Rattle.kmip_ttlv_base.specs.Values.{Value, seq_value};
+ghost use Rattle.kmip_ttlv_base.specs.Values.{Value};
 ghost use Rattle.kmip_ttlv_reader.specs.Reads.{has_fields, names_tag, Begins};
-ghost use Rattle.kmip_ttlv_reader.specs.Outcomes.{outcome, field_outcome, seq_outcome, opened, ignored, rest_outcome, all_outcome, struct_outcome, fields_outcome, first_outcome, root_outcome};
+ghost use Rattle.kmip_ttlv_reader.specs.Outcomes.{outcome, field_outcome, opened, ignored, rest_outcome, all_outcome, struct_outcome, fields_outcome, first_outcome, root_outcome};
 ghost use Rattle.kmip_ttlv_reader.specs.Results.{IsStep};
 ghost use Rattle.kmip_ttlv_reader.specs.ReadResults.{IsReadAs, ErrorStands, early_end, sort_of};
 ghost use Rattle.kmip_ttlv_reader.specs.Wholes.{BeginsWhole};
-ghost use Rattle.kmip_ttlv_reader.specs.Spots.{IsWithin, IsReadTo, at, structure_form, structure_value, optional_value, values_by};
-ghost use Rattle.kmip_ttlv_base.specs.Forms.{option, seq};
+ghost use Rattle.kmip_ttlv_reader.specs.Spots.{IsWithin, IsReadTo, at, structure_form, structure_value, optional_value};
+ghost use Rattle.kmip_ttlv_base.specs.Forms.{option};
 
-use crate::cursor::{Cursor, field_there, is_tag, missing_field, tag_is};
+use crate::cursor::{Cursor, is_tag, missing_field, tag_is};
 use crate::errors::error;
 use crate::failure::{Cause, Step, at_item, in_struct, within};
 use crate::fields::{Field, FieldList};
-use crate::head::{goes_on, inside, item_end, length_there, structure_wanted, tag_at, type_there};
+use crate::head::{inside, item_end, length_there, structure_wanted, tag_at, type_there};
 use crate::scope::Scope;
 use kmip_ttlv_base::error::{Result, SerdeError};
 use kmip_ttlv_base::types::{TtlvTag, TtlvType};
@@ -227,7 +227,7 @@ pub fn read_message<T: ReadStructure<A>, A: Allocator + Copy>(
 
 // A structure within another, as its form has it.
 #[inline(always)]
-fn read_form<'b, T: ReadStructure<A>, A: Allocator + Copy>(
+pub(crate) fn read_form<'b, T: ReadStructure<A>, A: Allocator + Copy>(
     scope: &Scope<'b, A>,
     cursor: &mut Cursor<'b, A>,
 ) -> Step<T, A>
@@ -299,84 +299,5 @@ impl<T: ReadStructure<A>, A: Allocator + Copy> Field<A> for OptionalNested<T> {
             return Ok(None);
         }
         Ok(Some(read_form(scope, cursor)?))
-    }
-}
-
-// Structures of one type, one after the other: at least one.
-#[tactic(auto, using(crate::proofs::Steps::failure_then))]
-fn read_several<'b, T: ReadStructure<A>, A: Allocator + Copy>(
-    scope: &Scope<'b, A>,
-    cursor: &mut Cursor<'b, A>,
-) -> Step<Vec<T, A>, A>
-    requires within { IsWithin scope.now cursor.old }
-    ensures read { IsReadTo (λ xs. values_by (structure_value T.TAG T.values) xs.items) cursor.new
-        (at (seq_outcome (outcome (structure_form T.TAG T.Fields.fields T.DENIES_UNKNOWN))) scope.now cursor.old) result }
-    ensures within { IfOk result (λ _. IsWithin scope.now cursor.new) }
-{
-    let first = cursor.pos();
-    let mut values = Vec::new(scope.alloc);
-    let value = read_form(scope, cursor)?;
-    values.push(value)?;
-    while goes_on(scope.alloc, scope.bytes, first, cursor.pos(), scope.end)? {
-        let value = read_form(scope, cursor)?;
-        values.push(value)?;
-    }
-    Ok(values)
-}
-
-// The same, as the form of a sequence has them.
-#[inline(always)]
-fn read_sequence<'b, T: ReadStructure<A>, A: Allocator + Copy>(
-    scope: &Scope<'b, A>,
-    cursor: &mut Cursor<'b, A>,
-) -> Step<Vec<T, A>, A>
-    requires within { IsWithin scope.now cursor.old }
-    ensures read { IsReadTo (λ xs. seq_value (values_by (structure_value T.TAG T.values) xs.items)) cursor.new
-        (at (outcome (seq (structure_form T.TAG T.Fields.fields T.DENIES_UNKNOWN))) scope.now cursor.old) result }
-    ensures within { IfOk result (λ _. IsWithin scope.now cursor.new) }
-{
-    read_several(scope, cursor)
-}
-
-/// A field that is a sequence of structures, of the tag that their type says: at least one.
-#[derive(Drop)]
-pub struct Several<T> {
-    kind: PhantomData<T>,
-}
-
-impl<T: ReadStructure<A>, A: Allocator + Copy> Field<A> for Several<T> {
-    type Read = Vec<T, A>;
-
-    ghost name = { tag_text T.TAG };
-
-    ghost form = { seq (structure_form T.TAG T.Fields.fields T.DENIES_UNKNOWN) };
-
-    ghost stands_for = { λ xs. seq_value (values_by (structure_value T.TAG T.values) xs.items) };
-
-    fn has_tag(tag: TtlvTag) -> bool {
-        is_tag(T::TAG, tag)
-    }
-
-    #[inline(always)]
-    fn read<'b>(scope: &Scope<'b, A>, cursor: &mut Cursor<'b, A>) -> Step<Vec<T, A>, A> {
-        read_several_field(scope, cursor)
-    }
-}
-
-// A field that is a sequence of structures.
-#[inline(always)]
-fn read_several_field<'b, T: ReadStructure<A>, A: Allocator + Copy>(
-    scope: &Scope<'b, A>,
-    cursor: &mut Cursor<'b, A>,
-) -> Step<Vec<T, A>, A>
-    requires within { IsWithin scope.now cursor.old }
-    ensures read { IsReadTo (λ xs. seq_value (values_by (structure_value T.TAG T.values) xs.items)) cursor.new
-        (at (field_outcome (tag_text T.TAG) (seq (structure_form T.TAG T.Fields.fields T.DENIES_UNKNOWN))
-        (outcome (seq (structure_form T.TAG T.Fields.fields T.DENIES_UNKNOWN)))) scope.now cursor.old) result }
-    ensures within { IfOk result (λ _. IsWithin scope.now cursor.new) }
-{
-    match field_there(scope, T::TAG, cursor.pos()) {
-        Ok(()) => read_sequence(scope, cursor),
-        Err(failure) => Err(failure),
     }
 }

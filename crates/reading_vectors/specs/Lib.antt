@@ -1,3 +1,5 @@
 pub mod ManyFields
 pub mod StreamSamples
 pub mod Selves
+pub mod SelvesItems
+pub mod SelvesChoices

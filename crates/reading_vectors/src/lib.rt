@@ -34,6 +34,8 @@ mod roots;
 pub mod run;
 pub mod selves;
 #[cfg(test)]
+mod selves_kinds;
+#[cfg(test)]
 mod selves_rows;
 #[cfg(test)]
 mod stream_faults;

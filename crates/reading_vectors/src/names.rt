@@ -6,7 +6,7 @@ ghost use Rattle.reading_vectors.specs.declared.names.TheConstants.{NAMES};
 use crate::parts::Name;
 
 // Each name, at its place.
-const NAMES: [&str; 55] = [
+const NAMES: [&str; 56] = [
     "0xAAAAAA", // 0
     "0xBBBBBB", // 1
     "0xCCCCCC", // 2
@@ -62,6 +62,7 @@ const NAMES: [&str; 55] = [
     "if type==Boolean", // 52
     "if type==ByteString", // 53
     "if type==DateTime", // 54
+    "if 0xCCCCCC>=0x2", // 55
 ];
 
 // The text at this place, or none behind the last.
@@ -249,3 +250,6 @@ pub type IfBytes = Listed<53>;
 
 /// A rule: the type is DateTime.
 pub type IfDateTime = Listed<54>;
+
+/// A rule: the number that a text is, is at least two.
+pub type IfTextAtLeastTwo = Listed<55>;

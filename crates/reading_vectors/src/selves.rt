@@ -1,16 +1,21 @@
 //! Types that read themselves, with each kind of field, and what is read of them. One of them has a shape too,
 //! and reads itself where `from_slice` or `from_reader` is called.
 
-ghost use Rattle.std.specs.Prelude.{◌≡◌, true, false};
+ghost use Rattle.std.specs.Prelude.{◌≡◌, true, false, refl, codes};
 ghost use Rattle.kmip_ttlv.specs.Outcomes.{root_outcome};
 ghost use Rattle.kmip_ttlv.specs.ReadResults.{IsReadAs};
 ghost use Rattle.reading_vectors.specs.Selves.{point_values, moment_values, whole_form, whole_values, whole_value, closed_form, closed_values, closed_value};
+ghost use Rattle.reading_vectors.specs.SelvesItems.{mark_form, mark_value, lists_form, lists_values, lists_value, maybes_form, maybes_values, maybes_value};
+ghost use Rattle.reading_vectors.specs.SelvesChoices.{order_form, order_variants, order_value, detail_form, detail_value, task_form, task_values, task_value};
 
 use kmip_ttlv::error::Error;
 use kmip_ttlv::messages::reading::Readable;
 use kmip_ttlv::messages::{reading, shapes};
 use kmip_ttlv::reader::{
-    Leaf, Nested, OptionalLeaf, OptionalNested, ReadStructure, Several, read_message,
+    BareLeaf, Choice, Cursor, Item, ItemElement, Leaf, LeafElement, Listed, Nested, OneOf,
+    OptionalItem, OptionalLeaf, OptionalNested, OptionalSeveral, OptionalSeveralItems,
+    OptionalSeveralLeaves, ReadItem, ReadStructure, Rule, Scope, Several, SeveralItems,
+    SeveralLeaves, Step, StructureElement, Variant, read_choice, read_message,
 };
 use kmip_ttlv::shape::{Data, Deserialize, Shape};
 use std::alloc::{AllocError, Allocator, Global};
@@ -180,6 +185,299 @@ impl<A: Allocator + Copy> ReadStructure<A> for Whole<A> {
 #[tactic(auto, unfolding(kmip_ttlv_types::specs::Digits::six_digits))]
 pub fn read_whole<A: Allocator + Copy>(alloc: A, bytes: &[u8]) -> Result<Whole<A>, Error<A>>
     ensures { IsReadAs (λ v x. v ≡ whole_value x) (root_outcome whole_form bytes.now) result }
+{
+    read_message(alloc, bytes)
+}
+
+/// A number as an item of its own.
+#[derive(Clone, Copy, Debug, PartialEq, Eq)]
+pub struct Mark {
+    pub number: i32,
+}
+
+impl<A: Allocator + Copy> ReadItem<A> for Mark {
+    ghost form = { mark_form };
+
+    ghost value = { mark_value };
+
+    ghost plain = { (refl, refl) };
+
+    #[tactic(auto, unfolding(kmip_ttlv_types::specs::Digits::six_digits))]
+    fn read_item<'b>(scope: &Scope<'b, A>, cursor: &mut Cursor<'b, A>) -> Step<Mark, A> {
+        let number = cursor.wrapped_leaf(scope, 0xBBBBBB)?;
+        Ok(Mark { number })
+    }
+}
+
+/// A structure with items and sequences.
+#[derive(Drop)]
+#[derive_where(Debug, PartialEq)]
+pub struct Lists<A: Allocator = Global> {
+    pub mark: Mark,
+    pub other: Option<Mark>,
+    pub marks: Vec<Mark, A>,
+    pub texts: Vec<String<A>, A>,
+}
+
+impl<A: Allocator + Copy> ReadStructure<A> for Lists<A> {
+    ghost TAG = { 11184810 };
+
+    ghost DENIES_UNKNOWN = { false };
+
+    ghost values = { lists_values };
+
+    type Fields = (
+        Item<Mark, 0xBBBBBB>,
+        (
+            OptionalItem<Mark, 0xCCCCCC>,
+            (
+                SeveralItems<Mark, 0xBBBBBB>,
+                (SeveralLeaves<String<A>, 0xCCCCCC>, ()),
+            ),
+        ),
+    );
+
+    const TAG: u32 = 0xAAAAAA;
+
+    const DENIES_UNKNOWN: bool = false;
+
+    #[tactic(auto, unfolding(kmip_ttlv_types::specs::Digits::six_digits))]
+    fn from_fields(
+        fields: (
+            Mark,
+            (Option<Mark>, (Vec<Mark, A>, (Vec<String<A>, A>, ()))),
+        ),
+    ) -> Lists<A> {
+        let (mark, (other, (marks, (texts, ())))) = fields;
+        Lists {
+            mark,
+            other,
+            marks,
+            texts,
+        }
+    }
+}
+
+/// A message that is such a structure: what its form reads.
+#[tactic(auto, unfolding(kmip_ttlv_types::specs::Digits::six_digits))]
+pub fn read_lists<A: Allocator + Copy>(alloc: A, bytes: &[u8]) -> Result<Lists<A>, Error<A>>
+    ensures { IsReadAs (λ v x. v ≡ lists_value x) (root_outcome lists_form bytes.now) result }
+{
+    read_message(alloc, bytes)
+}
+
+/// A structure with sequences that may be absent.
+#[derive(Drop)]
+#[derive_where(Debug, PartialEq)]
+pub struct Maybes<A: Allocator = Global> {
+    pub marks: Option<Vec<Mark, A>>,
+    pub texts: Option<Vec<String<A>, A>>,
+    pub points: Option<Vec<Point, A>>,
+}
+
+impl<A: Allocator + Copy> ReadStructure<A> for Maybes<A> {
+    ghost TAG = { 11184810 };
+
+    ghost DENIES_UNKNOWN = { false };
+
+    ghost values = { maybes_values };
+
+    type Fields = (
+        OptionalSeveralItems<Mark, 0xBBBBBB>,
+        (
+            OptionalSeveralLeaves<String<A>, 0xCCCCCC>,
+            (OptionalSeveral<Point>, ()),
+        ),
+    );
+
+    const TAG: u32 = 0xAAAAAA;
+
+    const DENIES_UNKNOWN: bool = false;
+
+    #[tactic(auto, unfolding(kmip_ttlv_types::specs::Digits::six_digits))]
+    fn from_fields(
+        fields: (
+            Option<Vec<Mark, A>>,
+            (Option<Vec<String<A>, A>>, (Option<Vec<Point, A>>, ())),
+        ),
+    ) -> Maybes<A> {
+        let (marks, (texts, (points, ()))) = fields;
+        Maybes {
+            marks,
+            texts,
+            points,
+        }
+    }
+}
+
+/// A message that is such a structure: what its form reads.
+#[tactic(auto, unfolding(kmip_ttlv_types::specs::Digits::six_digits))]
+pub fn read_maybes<A: Allocator + Copy>(alloc: A, bytes: &[u8]) -> Result<Maybes<A>, Error<A>>
+    ensures { IsReadAs (λ v x. v ≡ maybes_value x) (root_outcome maybes_form bytes.now) result }
+{
+    read_message(alloc, bytes)
+}
+
+/// An Enumeration of two numbers.
+#[derive(Clone, Copy, Debug, PartialEq, Eq)]
+pub enum Order {
+    One,
+    Seven,
+}
+
+// Each number, and what it stands for.
+const ORDER: [(&str, Order); 2] = [("0x00000001", Order::One), ("0x00000007", Order::Seven)];
+
+impl Listed for Order {
+    ghost own = { codes "0xBBBBBB" };
+
+    ghost variants = { order_variants };
+
+    ghost value = { order_value };
+}
+
+impl<A: Allocator + Copy> ReadItem<A> for Order {
+    ghost form = { order_form };
+
+    ghost value = { order_value };
+
+    ghost plain = { (refl, refl) };
+
+    fn read_item<'b>(scope: &Scope<'b, A>, cursor: &mut Cursor<'b, A>) -> Step<Order, A> {
+        cursor.listed(scope, &ORDER)
+    }
+}
+
+/// The order is one.
+pub struct IfOne;
+
+impl Rule for IfOne {
+    ghost condition = { codes "0xBBBBBB==0x00000001" };
+
+    fn name() -> &'static str {
+        "if 0xBBBBBB==0x00000001"
+    }
+}
+
+/// The type is TextString.
+pub struct IfText;
+
+impl Rule for IfText {
+    ghost condition = { codes "type==TextString" };
+
+    fn name() -> &'static str {
+        "if type==TextString"
+    }
+}
+
+/// The number of a text is at least two.
+pub struct IfAtLeastTwo;
+
+impl Rule for IfAtLeastTwo {
+    ghost condition = { codes "0xCCCCCC>=0x2" };
+
+    fn name() -> &'static str {
+        "if 0xCCCCCC>=0x2"
+    }
+}
+
+/// The type is Integer.
+pub struct IfInteger;
+
+impl Rule for IfInteger {
+    ghost condition = { codes "type==Integer" };
+
+    fn name() -> &'static str {
+        "if type==Integer"
+    }
+}
+
+/// What an order, a text or its own type chooses.
+#[derive(Drop)]
+#[derive_where(Debug, PartialEq)]
+pub enum Detail<A: Allocator = Global> {
+    Point(Point),
+    Text(String<A>),
+    Mark(Mark),
+    Number(u32),
+}
+
+impl<A: Allocator + Copy> Choice<A> for Detail<A> {
+    type Variants = (
+        Variant<IfOne, StructureElement<Point>>,
+        (
+            Variant<IfText, LeafElement<String<A>, 0xCCCCCC>>,
+            (
+                Variant<IfInteger, ItemElement<Mark>>,
+                Variant<IfAtLeastTwo, BareLeaf<u32>>,
+            ),
+        ),
+    );
+
+    ghost own = { codes "detail" };
+}
+
+impl<A: Allocator + Copy> ReadItem<A> for Detail<A> {
+    ghost form = { detail_form };
+
+    ghost value = { detail_value };
+
+    ghost plain = { (refl, refl) };
+
+    #[tactic(auto, unfolding(kmip_ttlv_types::specs::Digits::six_digits))]
+    fn read_item<'b>(scope: &Scope<'b, A>, cursor: &mut Cursor<'b, A>) -> Step<Detail<A>, A> {
+        match read_choice::<Self, A>(scope, cursor)? {
+            OneOf::First(point) => Ok(Detail::Point(point)),
+            OneOf::Other(OneOf::First(text)) => Ok(Detail::Text(text)),
+            OneOf::Other(OneOf::Other(OneOf::First(mark))) => Ok(Detail::Mark(mark)),
+            OneOf::Other(OneOf::Other(OneOf::Other(number))) => Ok(Detail::Number(number)),
+        }
+    }
+}
+
+/// A structure with an Enumeration and a choice.
+#[derive(Drop)]
+#[derive_where(Debug, PartialEq)]
+pub struct Task<A: Allocator = Global> {
+    pub order: Order,
+    pub text: Option<String<A>>,
+    pub detail: Detail<A>,
+}
+
+impl<A: Allocator + Copy> ReadStructure<A> for Task<A> {
+    ghost TAG = { 11184810 };
+
+    ghost DENIES_UNKNOWN = { false };
+
+    ghost values = { task_values };
+
+    type Fields = (
+        Item<Order, 0xBBBBBB>,
+        (
+            OptionalLeaf<String<A>, 0xCCCCCC>,
+            (Item<Detail<A>, 0xDDDDDD>, ()),
+        ),
+    );
+
+    const TAG: u32 = 0xAAAAAA;
+
+    const DENIES_UNKNOWN: bool = false;
+
+    #[tactic(auto, unfolding(kmip_ttlv_types::specs::Digits::six_digits))]
+    fn from_fields(fields: (Order, (Option<String<A>>, (Detail<A>, ())))) -> Task<A> {
+        let (order, (text, (detail, ()))) = fields;
+        Task {
+            order,
+            text,
+            detail,
+        }
+    }
+}
+
+/// A message that is such a structure: what its form reads.
+#[tactic(auto, unfolding(kmip_ttlv_types::specs::Digits::six_digits))]
+pub fn read_task<A: Allocator + Copy>(alloc: A, bytes: &[u8]) -> Result<Task<A>, Error<A>>
+    ensures { IsReadAs (λ v x. v ≡ task_value x) (root_outcome task_form bytes.now) result }
 {
     read_message(alloc, bytes)
 }

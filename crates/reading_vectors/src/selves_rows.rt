@@ -16,7 +16,7 @@ use std::alloc::{Allocator, Global};
 use std::test::Fail;
 
 // Shapes of the same forms, without the wrappers around leaves.
-type PointShape = Structure<TagD, OneField<TagB, Number>>;
+pub type PointShape = Structure<TagD, OneField<TagB, Number>>;
 
 type MomentShape = Structure<TagE, OneField<TagB, LongNumber>>;
 
@@ -39,11 +39,11 @@ type WholeShape = Structure<
     >,
 >;
 
-const NUMBER: &str = "BBBBBB02000000040000000700000000";
+pub const NUMBER: &str = "BBBBBB02000000040000000700000000";
 
-const TEXT: &str = "CCCCCC07000000016100000000000000";
+pub const TEXT: &str = "CCCCCC07000000016100000000000000";
 
-const POINT: &str = "DDDDDD0100000010BBBBBB02000000040000000300000000";
+pub const POINT: &str = "DDDDDD0100000010BBBBBB02000000040000000300000000";
 
 const MOMENT: &str = "EEEEEE0100000010BBBBBB0300000008FFFFFFFFFFFFFFFE";
 
@@ -70,7 +70,10 @@ fn read_text<T: ReadStructure<Global>>(alloc: Global, text: &str) -> Result<Stri
     error_of(alloc, &found)
 }
 
-fn check_rows<T: ReadStructure<Global>>(alloc: Global, rows: &[(&str, &str)]) -> Result<(), Fail> {
+pub fn check_rows<T: ReadStructure<Global>>(
+    alloc: Global,
+    rows: &[(&str, &str)],
+) -> Result<(), Fail> {
     for row in rows {
         let (message, wanted) = *row;
         let found = read_text::<T>(alloc, message)?;
@@ -214,7 +217,10 @@ fn agree<T: ReadStructure<Global>, P: Part>(alloc: Global, bytes: &[u8]) -> Resu
 }
 
 // The same of each beginning of a message, and of it with each byte changed in several ways.
-fn agree_nearby<T: ReadStructure<Global>, P: Part>(alloc: Global, text: &str) -> Result<(), Fail> {
+pub fn agree_nearby<T: ReadStructure<Global>, P: Part>(
+    alloc: Global,
+    text: &str,
+) -> Result<(), Fail> {
     let mut bytes = hex::decode(alloc, text)?;
     for end in 0..=bytes.len() {
         agree::<T, P>(alloc, &bytes[..end])?;

@@ -1,0 +1,225 @@
+//! Rules in the names of variants: `if TAG==TEXT`, `if type==TYPE`, `if TAG>=NUMBER` and
+//! `if TAG in [TEXT, ..]` say of the texts that were read, or of an item's type, whether a variant
+//! is read. No rule takes memory: an error borrows the text that it names.
+
+ghost use Rattle.std.specs.Prelude.{◌≡◌, ◌+◌, ◌≤◌, length, IfOk, option_map};
+ghost use Rattle.std.specs.Option.{option_copied};
+ghost use Rattle.kmip_ttlv_base.specs.Errors.{mismatch, view_of_serde};
+ghost use Rattle.kmip_ttlv_reader.specs.ReadFaults.{at_item};
+ghost use Rattle.kmip_ttlv_reader.specs.Results.{IsFailureOf};
+ghost use Rattle.kmip_ttlv_reader.specs.Rules.{rule, type_name, sides, in_brackets, equal, at_least, member, says};
+ghost use Rattle.kmip_ttlv_reader.specs.Verdicts.{verdict_of, mismatch_of};
+
+use crate::failure::{Cause, Failure, at_item};
+use crate::keep::KeptTexts;
+use kmip_ttlv_base::error::SerdeError;
+use kmip_ttlv_base::types::{TtlvTag, TtlvType, number};
+use std::alloc::{AllocError, Allocator};
+
+/// Why a rule is refused.
+#[derive(Clone, Copy)]
+pub enum RuleError<'n> {
+    /// The whole name of a variant that begins as a rule and has no operator.
+    InvalidVariantMatcherSyntax(&'n str),
+    /// A text that is no tag, or no number, where the rule needs one.
+    InvalidTag(&'n str),
+}
+
+/// What a variant's name says of the texts that were read and of an item's type.
+#[derive(Clone, Copy)]
+pub enum Verdict<'n> {
+    /// The name is no rule.
+    NoRule,
+    /// The rule holds: its variant is read.
+    Holds,
+    /// The rule doesn't hold.
+    Fails,
+    /// The name is no rule that can be tested: reading ends.
+    Refused(RuleError<'n>),
+}
+
+/// What the name of a variant says of the kept texts, of which the last one under a tag counts,
+/// and of an item's type.
+///
+/// A name that begins with `if ` is a rule. The rest is cut at its first `==`; without one at its
+/// first `>=`; without one at its first `in`; both sides are trimmed.
+///
+/// - `type==NAME` holds for the type of that name.
+/// - `TAG==TEXT` holds where the text kept under the tag is that one; not where there is no such
+///   tag.
+/// - `TAG>=NUMBER` holds where the text kept under the tag is a number and at least the other.
+/// - `TAG in [TEXT, ..]` holds where the text kept under the tag is one of those between the
+///   commas, each trimmed; not where the brackets are missing.
+///
+/// A rule without operator is refused with the whole name. `>=`, and `in` with brackets, are
+/// refused with the first side where it is no tag; `>=` where a text is kept, with that text or
+/// else the second side, where it is no number.
+#[tactic(auto, unfolding(crate::specs::Rules::rule))]
+#[inline(always)]
+pub fn rule<'n, 'b, A: Allocator + Copy>(
+    name: &'n str,
+    kept: &'n KeptTexts<'b, A>,
+    typ: TtlvType,
+) -> Verdict<'n>
+    ensures { verdict_of result ≡ rule name.now kept.now typ }
+{
+    let Some(body) = name.strip_prefix("if ") else {
+        return Verdict::NoRule;
+    };
+    if let Some((left, right)) = sides("==", body) {
+        return equal(left, right, kept, typ);
+    }
+    if let Some((left, right)) = sides(">=", body) {
+        return at_least(left, right, kept);
+    }
+    match sides("in", body) {
+        Some((left, right)) => member(left, right, kept),
+        None => Verdict::Refused(RuleError::InvalidVariantMatcherSyntax(name)),
+    }
+}
+
+// The verdict of a rule that is not refused.
+#[inline(always)]
+fn told<'n>(answer: bool) -> Verdict<'n>
+    ensures { verdict_of result ≡ says answer }
+{
+    if answer {
+        Verdict::Holds
+    } else {
+        Verdict::Fails
+    }
+}
+
+// Both sides of the first place where the operator stands, trimmed.
+fn sides<'n>(operator: &str, body: &'n str) -> Option<(&'n str, &'n str)>
+    ensures { option_map (λ x. (x.0.now, x.1.now)) result ≡ sides operator.now body.now }
+{
+    let (left, right) = body.split_once(operator)?;
+    Some((left.trim(), right.trim()))
+}
+
+// The name by which a rule asks for a type.
+fn type_name(typ: TtlvType) -> &'static str
+    ensures { result.now ≡ type_name typ }
+{
+    match typ {
+        TtlvType::Structure => "Structure",
+        TtlvType::Integer => "Integer",
+        TtlvType::LongInteger => "LongInteger",
+        TtlvType::BigInteger => "BigInteger",
+        TtlvType::Enumeration => "Enumeration",
+        TtlvType::Boolean => "Boolean",
+        TtlvType::TextString => "TextString",
+        TtlvType::ByteString => "ByteString",
+        TtlvType::DateTime => "DateTime",
+        TtlvType::Interval => "Interval",
+    }
+}
+
+// `==`
+#[tactic(auto, unfolding(crate::specs::Rules::equal))]
+fn equal<'n, 'b, A: Allocator + Copy>(
+    left: &str,
+    right: &str,
+    kept: &KeptTexts<'b, A>,
+    typ: TtlvType,
+) -> Verdict<'n>
+    ensures { verdict_of result ≡ equal kept.now typ left.now right.now }
+{
+    if left == "type" {
+        return told(right == type_name(typ));
+    }
+    let Some(tag) = TtlvTag::from_name(left) else {
+        return Verdict::Fails;
+    };
+    let Some(text) = kept.last(tag) else {
+        return Verdict::Fails;
+    };
+    told(text == right)
+}
+
+// `>=`
+#[tactic(auto, unfolding(crate::specs::Rules::at_least))]
+fn at_least<'n, 'b, A: Allocator + Copy>(
+    left: &'n str,
+    right: &'n str,
+    kept: &'n KeptTexts<'b, A>,
+) -> Verdict<'n>
+    ensures { verdict_of result ≡ at_least kept.now left.now right.now }
+{
+    let Some(tag) = TtlvTag::from_name(left) else {
+        return Verdict::Refused(RuleError::InvalidTag(left));
+    };
+    let Some((text, seen)) = kept.last_with_number(tag) else {
+        return Verdict::Fails;
+    };
+    let Some(seen) = seen else {
+        return Verdict::Refused(RuleError::InvalidTag(text));
+    };
+    let Some(wanted) = number(right) else {
+        return Verdict::Refused(RuleError::InvalidTag(right));
+    };
+    told(seen >= wanted)
+}
+
+// `in`
+#[tactic(auto, unfolding(crate::specs::Rules::member))]
+fn member<'n, 'b, A: Allocator + Copy>(
+    left: &'n str,
+    right: &str,
+    kept: &KeptTexts<'b, A>,
+) -> Verdict<'n>
+    ensures { verdict_of result ≡ member kept.now left.now right.now }
+{
+    let Some(all) = in_brackets(right) else {
+        return Verdict::Fails;
+    };
+    let Some(tag) = TtlvTag::from_name(left) else {
+        return Verdict::Refused(RuleError::InvalidTag(left));
+    };
+    let Some(text) = kept.last(tag) else {
+        return Verdict::Fails;
+    };
+    told(all.split(',').any(|one| one.trim() == text))
+}
+
+// What stands between a bracket at the start and a later one at the end.
+fn in_brackets(text: &str) -> Option<&str>
+    ensures { option_copied result ≡ in_brackets text.now }
+{
+    text.strip_prefix("[")?.strip_suffix("]")
+}
+
+// What is wrong with a rule.
+fn wrong_rule<'n, A: Allocator>(alloc: A, rule: RuleError<'n>) -> Result<SerdeError<A>, AllocError>
+    ensures { IfOk result (λ e. view_of_serde e ≡ mismatch_of rule.entry) }
+{
+    match rule {
+        RuleError::InvalidVariantMatcherSyntax(name) => {
+            let name = String::from_str(alloc, name)?;
+            Ok(SerdeError::InvalidVariantMatcherSyntax(name))
+        }
+        RuleError::InvalidTag(name) => {
+            let name = String::from_str(alloc, name)?;
+            Ok(SerdeError::InvalidTag(name))
+        }
+    }
+}
+
+/// A rule that can't be tested.
+#[cold]
+pub fn bad_rule<'n, A: Allocator + Copy>(
+    alloc: A,
+    bytes: &[u8],
+    pos: usize,
+    typ: TtlvType,
+    rule: RuleError<'n>,
+) -> Failure<A>
+    requires there { pos + 4 ≤ length bytes.now }
+    ensures { IsFailureOf (at_item bytes.now pos 4 typ (mismatch (mismatch_of rule.entry))) result }
+{
+    match wrong_rule(alloc, rule) {
+        Ok(wrong) => at_item(alloc, bytes, pos, 4, typ, Cause::Mismatch(wrong)),
+        Err(_) => Failure::OutOfMemory,
+    }
+}

@@ -1,0 +1,338 @@
+//! What bytes are read as by types that read themselves with items, sequences, an Enumeration and a choice, and with which errors: in
+//! rows, and for bytes that are cut or changed as the shape of the same form reads them.
+
+use crate::names::{
+    IfInteger, IfOne, IfText, IfTextAtLeastTwo, One, Seven, TagA, TagB, TagC, TagD,
+};
+use crate::parts::{
+    AnyNumber, Choice, Content, Field, Maybe, NoContent, Number, OneField, Sequence, Structure,
+    Text, TwoVariants, Variant,
+};
+use crate::selves::{
+    Detail, Lists, Mark, Maybes, Order, Point, Task, read_lists, read_maybes, read_task,
+};
+use crate::selves_rows::{NUMBER, POINT, PointShape, TEXT, agree_nearby, check_rows};
+use kmip_ttlv::error::{Error, ErrorKind};
+use kmip_ttlv_memory::BoundedAllocator;
+use std::alloc::{Allocator, Global};
+use std::test::Fail;
+
+// Shapes of the same forms, without the wrappers around leaves.
+type ListsShape = Structure<
+    TagA,
+    Field<
+        TagB,
+        Number,
+        Field<TagC, Maybe<Number>, Field<TagB, Sequence<Number>, OneField<TagC, Sequence<Text>>>>,
+    >,
+>;
+
+type MaybesShape = Structure<
+    TagA,
+    Field<
+        TagB,
+        Maybe<Sequence<Number>>,
+        Field<TagC, Maybe<Sequence<Text>>, OneField<TagD, Maybe<Sequence<PointShape>>>>,
+    >,
+>;
+
+type OrderShape = Choice<TagB, TwoVariants<One, NoContent, Seven, NoContent>>;
+
+type DetailShape = Choice<
+    TagD,
+    Variant<
+        IfOne,
+        Content<PointShape>,
+        Variant<
+            IfText,
+            Content<Text>,
+            TwoVariants<IfInteger, Content<Number>, IfTextAtLeastTwo, Content<AnyNumber>>,
+        >,
+    >,
+>;
+
+type TaskShape = Structure<
+    TagA,
+    Field<TagB, OrderShape, Field<TagC, Maybe<Text>, OneField<TagD, DetailShape>>>,
+>;
+
+const OTHER: &str = "CCCCCC02000000040000000300000000";
+
+const ONE: &str = "BBBBBB05000000040000000100000000";
+
+const SEVEN: &str = "BBBBBB05000000040000000700000000";
+
+const THREE: &str = "CCCCCC07000000033078330000000000";
+
+// Messages of each kind, with and without what may be absent.
+fn lists(alloc: Global) -> Result<String, Fail> {
+    Ok(format!(in alloc; "AAAAAA0100000060{NUMBER}{OTHER}{NUMBER}{NUMBER}{TEXT}{TEXT}")?)
+}
+
+fn shortest(alloc: Global) -> Result<String, Fail> {
+    Ok(format!(in alloc; "AAAAAA0100000030{NUMBER}{NUMBER}{TEXT}")?)
+}
+
+fn maybes(alloc: Global) -> Result<String, Fail> {
+    Ok(format!(in alloc; "AAAAAA0100000060{NUMBER}{TEXT}{TEXT}{POINT}{POINT}")?)
+}
+
+fn task_of_point(alloc: Global) -> Result<String, Fail> {
+    Ok(format!(in alloc; "AAAAAA0100000028{ONE}{POINT}")?)
+}
+
+fn task_of_number(alloc: Global) -> Result<String, Fail> {
+    Ok(format!(in alloc; "AAAAAA0100000030{SEVEN}{THREE}DDDDDD05000000040000000900000000")?)
+}
+
+fn task_of_text(alloc: Global) -> Result<String, Fail> {
+    Ok(format!(in alloc; "AAAAAA0100000020{SEVEN}DDDDDD07000000016100000000000000")?)
+}
+
+fn task_of_mark(alloc: Global) -> Result<String, Fail> {
+    Ok(format!(in alloc; "AAAAAA0100000030{SEVEN}{TEXT}DDDDDD02000000040000000300000000")?)
+}
+
+#[test]
+fn lists_are_read(rt: HostRuntime) -> Result<(), Fail> {
+    let bytes = hex::decode(rt.alloc(), lists(rt.alloc())?.as_str())?;
+    let mut marks = Vec::new(rt.alloc());
+    marks.push(Mark { number: 7 })?;
+    marks.push(Mark { number: 7 })?;
+    let mut texts = Vec::new(rt.alloc());
+    texts.push(String::from_str(rt.alloc(), "a")?)?;
+    texts.push(String::from_str(rt.alloc(), "a")?)?;
+    let wanted = Lists {
+        mark: Mark { number: 7 },
+        other: Some(Mark { number: 3 }),
+        marks,
+        texts,
+    };
+    match read_lists(rt.alloc(), bytes.as_slice()) {
+        Ok(found) => assert!(rt; found == wanted),
+        Err(_) => return Err(Fail::new("it is not read")),
+    }
+    Ok(())
+}
+
+#[test]
+fn optional_lists_are_read(rt: HostRuntime) -> Result<(), Fail> {
+    let bytes = hex::decode(rt.alloc(), maybes(rt.alloc())?.as_str())?;
+    let mut marks = Vec::new(rt.alloc());
+    marks.push(Mark { number: 7 })?;
+    let mut texts = Vec::new(rt.alloc());
+    texts.push(String::from_str(rt.alloc(), "a")?)?;
+    texts.push(String::from_str(rt.alloc(), "a")?)?;
+    let mut points = Vec::new(rt.alloc());
+    points.push(Point { number: 3 })?;
+    points.push(Point { number: 3 })?;
+    let wanted = Maybes {
+        marks: Some(marks),
+        texts: Some(texts),
+        points: Some(points),
+    };
+    match read_maybes(rt.alloc(), bytes.as_slice()) {
+        Ok(found) => assert!(rt; found == wanted),
+        Err(_) => return Err(Fail::new("it is not read")),
+    }
+    Ok(())
+}
+
+// Whether the message is read as this task.
+fn is_task(alloc: Global, text: String, wanted: Task) -> Result<bool, Fail> {
+    let bytes = hex::decode(alloc, text.as_str())?;
+    match read_task(alloc, bytes.as_slice()) {
+        Ok(found) => Ok(found == wanted),
+        Err(_) => Ok(false),
+    }
+}
+
+#[test]
+fn choices_are_read(rt: HostRuntime) -> Result<(), Fail> {
+    let heap = rt.alloc();
+    let point = Task {
+        order: Order::One,
+        text: None,
+        detail: Detail::Point(Point { number: 3 }),
+    };
+    assert!(rt; is_task(heap, task_of_point(heap)?, point)?);
+    let number = Task {
+        order: Order::Seven,
+        text: Some(String::from_str(heap, "0x3")?),
+        detail: Detail::Number(9),
+    };
+    assert!(rt; is_task(heap, task_of_number(heap)?, number)?);
+    Ok(())
+}
+
+#[test]
+fn choices_by_type_are_read(rt: HostRuntime) -> Result<(), Fail> {
+    let heap = rt.alloc();
+    let text = Task {
+        order: Order::Seven,
+        text: None,
+        detail: Detail::Text(String::from_str(heap, "a")?),
+    };
+    assert!(rt; is_task(heap, task_of_text(heap)?, text)?);
+    let mark = Task {
+        order: Order::Seven,
+        text: Some(String::from_str(heap, "a")?),
+        detail: Detail::Mark(Mark { number: 3 }),
+    };
+    assert!(rt; is_task(heap, task_of_mark(heap)?, mark)?);
+    Ok(())
+}
+
+// Items and sequences of them.
+const LISTS: [(&str, &str); 7] = [
+    (
+        "AAAAAA0100000000",
+        "SerdeError(Other(\"missing field\")); pos: 8 bytes, parent tags: 0xAAAAAA, tag: 0xAAAAAA, type: Structure (0x01)",
+    ),
+    (
+        "AAAAAA0100000010CCCCCC02",
+        "SerdeError(UnexpectedTag { expected: 0xBBBBBB, actual: 0xCCCCCC }); pos: 12 bytes, parent tags: 0xAAAAAA, tag: 0xCCCCCC, type: Integer (0x02)",
+    ),
+    (
+        "AAAAAA0100000010BBBBBB03",
+        "SerdeError(UnexpectedType { expected: Integer, actual: LongInteger }); pos: 12 bytes, parent tags: 0xAAAAAA, tag: 0xBBBBBB, type: LongInteger (0x03)",
+    ),
+    (
+        "AAAAAA0100000010BBBBBB02000000040000000700000000",
+        "SerdeError(Other(\"missing field\")); pos: 24 bytes, parent tags: 0xAAAAAA, tag: 0xAAAAAA, type: Structure (0x01)",
+    ),
+    (
+        "AAAAAA0100000020BBBBBB02000000040000000700000000CCCCCC03",
+        "SerdeError(UnexpectedType { expected: Integer, actual: LongInteger }); pos: 28 bytes, parent tags: 0xAAAAAA, tag: 0xCCCCCC, type: LongInteger (0x03)",
+    ),
+    (
+        "AAAAAA0100000030BBBBBB02000000040000000700000000BBBBBB02000000040000000700000000BBBBBB03",
+        "SerdeError(UnexpectedTag { expected: 0xCCCCCC, actual: 0xBBBBBB }); pos: 44 bytes, parent tags: 0xAAAAAA, tag: 0xBBBBBB, type: LongInteger (0x03)",
+    ),
+    (
+        "AAAAAA0100000030BBBBBB02000000040000000700000000BBBBBB02000000040000000700000000BBBBBB0200000008",
+        "MalformedTtlv(InvalidLength { expected: 4, actual: 8, typ: Integer }); pos: 48 bytes, parent tags: 0xAAAAAA, tag: 0xBBBBBB, type: Integer (0x02)",
+    ),
+];
+
+// Sequences that may be absent.
+const MAYBES: [(&str, &str); 4] = [
+    ("AAAAAA0100000000", "read"),
+    (
+        "AAAAAA0100000010BBBBBB03",
+        "SerdeError(UnexpectedType { expected: Integer, actual: LongInteger }); pos: 12 bytes, parent tags: 0xAAAAAA, tag: 0xBBBBBB, type: LongInteger (0x03)",
+    ),
+    (
+        "AAAAAA0100000018DDDDDD0100000010BBBBBB03",
+        "SerdeError(UnexpectedType { expected: Integer, actual: LongInteger }); pos: 20 bytes, parent tags: 0xAAAAAA > 0xDDDDDD, tag: 0xBBBBBB, type: LongInteger (0x03)",
+    ),
+    (
+        "AAAAAA0100000020CCCCCC07000000016100000000000000BBBBBB02",
+        "SerdeError(Other(\"duplicate field\")); pos: 28 bytes, parent tags: 0xAAAAAA, tag: 0xAAAAAA, type: Structure (0x01)",
+    ),
+];
+
+// An Enumeration of listed numbers.
+const NUMBERS: [(&str, &str); 5] = [
+    (
+        "AAAAAA0100000010BBBBBB07",
+        "SerdeError(UnexpectedType { expected: Enumeration, actual: TextString }); pos: 12 bytes, parent tags: 0xAAAAAA, tag: 0xBBBBBB, type: TextString (0x07)",
+    ),
+    (
+        "AAAAAA0100000010BBBBBB0500000008",
+        "MalformedTtlv(InvalidLength { expected: 4, actual: 8, typ: Enumeration }); pos: 12 bytes, parent tags: 0xAAAAAA, tag: 0xBBBBBB, type: Enumeration (0x05)",
+    ),
+    (
+        "AAAAAA0100000010BBBBBB05000000040000000200000000",
+        "SerdeError(Other(\"unknown variant\")); pos: 24 bytes, parent tags: 0xAAAAAA, tag: 0xAAAAAA, type: Structure (0x01)",
+    ),
+    (
+        "AAAAAA0100000004BBBBBB05000000040000000200000000",
+        "SerdeError(Other(\"unknown variant\")); pos: 24 bytes, parent tags: 0xAAAAAA, tag: 0xAAAAAA, type: Structure (0x01)",
+    ),
+    (
+        "AAAAAA0100000004BBBBBB05000000040000000100000000",
+        "MalformedTtlv(Overflow { field_end: ByteOffset(12) }); pos: 24 bytes, parent tags: 0xAAAAAA, tag: 0xBBBBBB, type: Enumeration (0x05)",
+    ),
+];
+
+// A choice: what its variants want, no rule that holds, and a rule that can't be tested.
+const CHOICES: [(&str, &str); 4] = [
+    (
+        "AAAAAA0100000020BBBBBB05000000040000000100000000DDDDDD02",
+        "MalformedTtlv(UnexpectedType { expected: Structure, actual: Integer }); pos: 28 bytes, parent tags: 0xAAAAAA, tag: 0xDDDDDD, type: Integer (0x02)",
+    ),
+    (
+        "AAAAAA0100000020BBBBBB05000000040000000700000000DDDDDD03",
+        "SerdeError(UnexpectedType { expected: Enumeration, actual: LongInteger }); pos: 28 bytes, parent tags: 0xAAAAAA, tag: 0xDDDDDD, type: LongInteger (0x03)",
+    ),
+    (
+        "AAAAAA0100000020BBBBBB05000000040000000700000000DDDDDD05000000040000000700000000",
+        "SerdeError(Other(\"unknown variant\")); pos: 40 bytes, parent tags: 0xAAAAAA, tag: 0xAAAAAA, type: Structure (0x01)",
+    ),
+    (
+        "AAAAAA0100000030BBBBBB05000000040000000700000000CCCCCC07000000017A00000000000000DDDDDD05",
+        "SerdeError(InvalidTag(\"z\")); pos: 44 bytes, parent tags: 0xAAAAAA, tag: 0xDDDDDD, type: Enumeration (0x05)",
+    ),
+];
+
+#[test]
+fn errors_have_their_places(rt: HostRuntime) -> Result<(), Fail> {
+    check_rows::<Lists>(rt.alloc(), &LISTS)?;
+    check_rows::<Maybes>(rt.alloc(), &MAYBES)?;
+    check_rows::<Task>(rt.alloc(), &NUMBERS)?;
+    check_rows::<Task>(rt.alloc(), &CHOICES)
+}
+
+#[test]
+fn lists_are_read_as_the_shape_does(rt: HostRuntime) -> Result<(), Fail> {
+    agree_nearby::<Lists, ListsShape>(rt.alloc(), lists(rt.alloc())?.as_str())?;
+    agree_nearby::<Lists, ListsShape>(rt.alloc(), shortest(rt.alloc())?.as_str())?;
+    agree_nearby::<Maybes, MaybesShape>(rt.alloc(), maybes(rt.alloc())?.as_str())
+}
+
+#[test]
+fn choices_are_read_as_the_shape_does(rt: HostRuntime) -> Result<(), Fail> {
+    agree_nearby::<Task, TaskShape>(rt.alloc(), task_of_point(rt.alloc())?.as_str())?;
+    agree_nearby::<Task, TaskShape>(rt.alloc(), task_of_number(rt.alloc())?.as_str())?;
+    agree_nearby::<Task, TaskShape>(rt.alloc(), task_of_text(rt.alloc())?.as_str())?;
+    agree_nearby::<Task, TaskShape>(rt.alloc(), task_of_mark(rt.alloc())?.as_str())
+}
+
+// Whether a message was read, and whether memory ran out.
+fn ending<T: Drop, A: Allocator>(found: Result<T, Error<A>>) -> (bool, bool) {
+    match found {
+        Ok(_) => (true, false),
+        Err(error) => (false, matches!(error.kind(), ErrorKind::OutOfMemory)),
+    }
+}
+
+// Fails unless reading these messages runs out of memory at each growth that is refused.
+fn grows(alloc: Global, lists: &[u8], task: &[u8]) -> Result<(), Fail> {
+    for before in 0..100u64 {
+        let heap = BoundedAllocator::failing_after(alloc, before);
+        let (is_read, is_short) = ending(read_lists(&heap, lists));
+        let (is_task, lacks) = ending(read_task(&heap, task));
+        if !heap.has_failed() {
+            if is_read && is_task {
+                return Ok(());
+            }
+            return Err(Fail::new(format_args!("at {before}")));
+        }
+        if !is_short && !lacks {
+            return Err(Fail::new(format_args!("at {before}")));
+        }
+    }
+    Err(Fail::new("it grows without end"))
+}
+
+#[test]
+fn it_may_run_out_of_memory(rt: HostRuntime) -> Result<(), Fail> {
+    let lists = hex::decode(rt.alloc(), lists(rt.alloc())?.as_str())?;
+    let number = hex::decode(rt.alloc(), task_of_number(rt.alloc())?.as_str())?;
+    let maybes = hex::decode(rt.alloc(), maybes(rt.alloc())?.as_str())?;
+    match read_maybes(rt.alloc(), maybes.as_slice()) {
+        Ok(_) => grows(rt.alloc(), lists.as_slice(), number.as_slice()),
+        Err(_) => Err(Fail::new("it is not read")),
+    }
+}
