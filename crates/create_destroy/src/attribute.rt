@@ -1,9 +1,11 @@
 // Written by codegen from types.table: change that, and run codegen/codegen.
 //! Attributes of a key, and the template that has them (KMIP 1.0, sections 2.1.1 and 2.1.8).
 
-ghost use Rattle.std.specs.Prelude.{◌≡◌, OnErr, OnOk};
+ghost use Rattle.std.specs.Prelude.{◌≡◌, refl, OnErr, OnOk, codes, false};
+ghost use Rattle.kmip_ttlv.specs.Forms.{enum, no_variants, unit, variant};
 ghost use Rattle.kmip_ttlv.specs.Gives.{IsI32};
-ghost use Rattle.kmip_ttlv.specs.Values.{i32_value, view};
+ghost use Rattle.kmip_ttlv.specs.Spots.{fields_in, struct_fields};
+ghost use Rattle.kmip_ttlv.specs.Values.{i32_value, unit_variant_value, view};
 ghost use Rattle.kmip_ttlv.specs.Visits.{Tells, leaf_value};
 ghost use Rattle.create_destroy.specs.Attributes.{attribute_value_form, written_attribute_value, read_attribute_value, attribute_value_content, attribute_form, written_attribute, read_attribute, template_form, written_template, read_template};
 
@@ -11,6 +13,7 @@ use kmip_ttlv::messages::reading::Readable;
 use kmip_ttlv::messages::{choices, reading, shapes, writing};
 use kmip_ttlv::shape::{Data, Deserialize, Serialize, Shape};
 use kmip_ttlv::visit::{Leaf, Visitor};
+use kmip_ttlv::{error, reader};
 use std::alloc::{AllocError, Allocator, Global};
 
 /// What an attribute says.
@@ -106,6 +109,83 @@ impl<A: Allocator + Copy> Deserialize<A> for AttributeValue {
     }
 }
 
+/// The rule that chooses `AttributeValue::Aes`.
+pub struct AttributeValueAesRule;
+
+impl reader::Rule for AttributeValueAesRule {
+    ghost condition = { codes "0x42000A==Cryptographic Algorithm" };
+
+    fn name() -> &'static str {
+        "if 0x42000A==Cryptographic Algorithm"
+    }
+}
+
+/// What is in `AttributeValue::Aes`.
+#[derive(Clone, Copy, Debug, PartialEq, Eq)]
+pub struct AttributeValueAes;
+
+impl reader::Listed for AttributeValueAes {
+    ghost own = { codes "algorithm" };
+
+    ghost variants = { variant (codes "0x00000003") unit no_variants };
+
+    ghost value = { λ _. unit_variant_value (codes "algorithm") (codes "0x00000003") };
+}
+
+impl<A: Allocator + Copy> reader::ReadItem<A> for AttributeValueAes {
+    ghost form = { enum (codes "algorithm") (variant (codes "0x00000003") unit no_variants) };
+
+    ghost value = { λ _. unit_variant_value (codes "algorithm") (codes "0x00000003") };
+
+    ghost plain = { (refl, refl) };
+
+    fn read_item<'b>(
+        scope: &reader::Scope<'b, A>,
+        cursor: &mut reader::Cursor<'b, A>,
+    ) -> reader::Step<Self, A> {
+        cursor.listed(scope, &[("0x00000003", AttributeValueAes)])
+    }
+}
+
+/// The rule that chooses `AttributeValue::Integer`.
+pub struct AttributeValueIntegerRule;
+
+impl reader::Rule for AttributeValueIntegerRule {
+    ghost condition = { codes "0x42000A in [Cryptographic Length, Cryptographic Usage Mask]" };
+
+    fn name() -> &'static str {
+        "if 0x42000A in [Cryptographic Length, Cryptographic Usage Mask]"
+    }
+}
+
+impl<A: Allocator + Copy> reader::Choice<A> for AttributeValue {
+    ghost own = { codes "value" };
+
+    type Variants = (
+        reader::Variant<AttributeValueAesRule, reader::ItemElement<AttributeValueAes>>,
+        reader::Variant<AttributeValueIntegerRule, reader::BareLeaf<i32>>,
+    );
+}
+
+impl<A: Allocator + Copy> reader::ReadItem<A> for AttributeValue {
+    ghost form = { attribute_value_form };
+
+    ghost value = { read_attribute_value };
+
+    ghost plain = { (refl, refl) };
+
+    #[tactic(auto, unfolding(kmip_ttlv_types::specs::Digits::six_digits, crate::specs::Attributes::read_attribute_value))]
+    fn read_item<'b>(
+        scope: &reader::Scope<'b, A>,
+        cursor: &mut reader::Cursor<'b, A>,
+    ) -> reader::Step<Self, A> {
+        match reader::read_choice::<Self, A>(scope, cursor)? {
+            reader::OneOf::First(_) => Ok(AttributeValue::Aes),
+            reader::OneOf::Other(held) => Ok(AttributeValue::Integer(held)),
+        }
+    }
+}
+
 /// What is known of a key, by its name.
 #[derive(Drop)]
 #[derive_where(Debug, PartialEq)]
@@ -153,6 +233,54 @@ impl<A: Allocator + Copy> Deserialize<A> for Attribute<A> {
         let name = reading::text_string::<Self, A>(&mut parts, 0, "Transparent:0x42000A");
         let value = reading::nested::<Self, AttributeValue, A>(alloc, &mut parts, 1)?;
         Ok(Attribute { name, value })
+    }
+
+    #[tactic(auto, unfolding(kmip_ttlv_types::specs::Digits::six_digits, crate::specs::Attributes::read_attribute))]
+    fn read(alloc: A, bytes: &[u8]) -> Result<Self, error::Error<A>> {
+        reader::read_message(alloc, bytes)
+    }
+}
+
+impl<A: Allocator + Copy> reader::ReadStructure<A> for Attribute<A> {
+    ghost TAG = { 0x420008 };
+
+    ghost DENIES_UNKNOWN = { false };
+
+    ghost values = { λ x. fields_in (read_attribute x) };
+
+    type Fields = (
+        reader::Leaf<String<A>, 0x42000A>,
+        (reader::Item<AttributeValue, 0x42000B>, ()),
+    );
+
+    const TAG: u32 = 0x420008;
+
+    const DENIES_UNKNOWN: bool = false;
+
+    #[tactic(auto, unfolding(kmip_ttlv_types::specs::Digits::six_digits, crate::specs::Attributes::read_attribute))]
+    fn from_fields(fields: (String<A>, (AttributeValue, ()))) -> Self {
+        let (name, (value, ())) = fields;
+        Attribute { name, value }
+    }
+}
+
+impl<A: Allocator + Copy> reader::ReadNested<A> for Attribute<A> {
+    ghost TAG = { 0x420008 };
+
+    ghost fields = { struct_fields attribute_form };
+
+    ghost denies_unknown = { false };
+
+    ghost values = { λ x. fields_in (read_attribute x) };
+
+    const TAG: u32 = 0x420008;
+
+    #[tactic(auto, unfolding(kmip_ttlv_types::specs::Digits::six_digits, crate::specs::Attributes::read_attribute))]
+    fn read_nested<'b>(
+        scope: &reader::Scope<'b, A>,
+        cursor: &mut reader::Cursor<'b, A>,
+    ) -> reader::Step<Self, A> {
+        reader::read_form(scope, cursor)
     }
 }
 
@@ -203,5 +331,50 @@ impl<A: Allocator + Copy> Deserialize<A> for Template<A> {
         let mut parts = reading::parts::<Self, A>(value);
         let attributes = reading::sequence::<Self, Attribute<A>, A>(alloc, &mut parts, 0)?;
         Ok(Template { attributes })
+    }
+
+    #[tactic(auto, unfolding(kmip_ttlv_types::specs::Digits::six_digits, crate::specs::Attributes::read_template))]
+    fn read(alloc: A, bytes: &[u8]) -> Result<Self, error::Error<A>> {
+        reader::read_message(alloc, bytes)
+    }
+}
+
+impl<A: Allocator + Copy> reader::ReadStructure<A> for Template<A> {
+    ghost TAG = { 0x420091 };
+
+    ghost DENIES_UNKNOWN = { false };
+
+    ghost values = { λ x. fields_in (read_template x) };
+
+    type Fields = (reader::Several<Attribute<A>>, ());
+
+    const TAG: u32 = 0x420091;
+
+    const DENIES_UNKNOWN: bool = false;
+
+    #[tactic(auto, unfolding(kmip_ttlv_types::specs::Digits::six_digits, crate::specs::Attributes::read_template, crate::specs::Attributes::read_attribute))]
+    fn from_fields(fields: (Vec<Attribute<A>, A>, ())) -> Self {
+        let (attributes, ()) = fields;
+        Template { attributes }
+    }
+}
+
+impl<A: Allocator + Copy> reader::ReadNested<A> for Template<A> {
+    ghost TAG = { 0x420091 };
+
+    ghost fields = { struct_fields template_form };
+
+    ghost denies_unknown = { false };
+
+    ghost values = { λ x. fields_in (read_template x) };
+
+    const TAG: u32 = 0x420091;
+
+    #[tactic(auto, unfolding(kmip_ttlv_types::specs::Digits::six_digits, crate::specs::Attributes::read_template))]
+    fn read_nested<'b>(
+        scope: &reader::Scope<'b, A>,
+        cursor: &mut reader::Cursor<'b, A>,
+    ) -> reader::Step<Self, A> {
+        reader::read_form(scope, cursor)
     }
 }

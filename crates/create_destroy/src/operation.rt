@@ -1,11 +1,12 @@
 // Written by codegen from types.table: change that, and run codegen/codegen.
 //! What an item asks for.
 
-ghost use Rattle.std.specs.Prelude.{◌≡◌};
-ghost use Rattle.create_destroy.specs.Operations.{operation_form, operation_value, operation_number};
+ghost use Rattle.std.specs.Prelude.{◌≡◌, refl, codes};
+ghost use Rattle.create_destroy.specs.Operations.{operation_form, operation_value, operation_number, operation_variants};
 
 use kmip_ttlv::messages::reading::Readable;
 use kmip_ttlv::messages::{choices, shapes, writing};
+use kmip_ttlv::reader;
 use kmip_ttlv::shape::{Data, Deserialize, Serialize, Shape};
 use kmip_ttlv::visit::Visitor;
 use std::alloc::{AllocError, Allocator};
@@ -65,5 +66,29 @@ impl<A: Allocator + Copy> Deserialize<A> for Operation {
     #[tactic(auto, unfolding(crate::specs::Operations::operation_value))]
     fn from_data(_alloc: A, value: &mut Data<A>) -> Result<Self, AllocError> {
         Ok(choices::unit::<Self, A>(value, &OPERATION))
+    }
+}
+
+impl reader::Listed for Operation {
+    ghost own = { codes "0x42005C" };
+
+    ghost variants = { operation_variants };
+
+    ghost value = { operation_value };
+}
+
+impl<A: Allocator + Copy> reader::ReadItem<A> for Operation {
+    ghost form = { operation_form };
+
+    ghost value = { operation_value };
+
+    ghost plain = { (refl, refl) };
+
+    #[tactic(auto, unfolding(kmip_ttlv_types::specs::Digits::six_digits, crate::specs::Operations::operation_value))]
+    fn read_item<'b>(
+        scope: &reader::Scope<'b, A>,
+        cursor: &mut reader::Cursor<'b, A>,
+    ) -> reader::Step<Self, A> {
+        cursor.listed(scope, &OPERATION)
     }
 }

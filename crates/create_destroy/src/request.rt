@@ -1,8 +1,10 @@
 // Written by codegen from types.table: change that, and run codegen/codegen.
 //! Requests to create and destroy symmetric keys.
 
-ghost use Rattle.std.specs.Prelude.{◌≡◌, OnErr, OnOk, codes, string_bytes};
-ghost use Rattle.kmip_ttlv.specs.Values.{newtype_value, text_value};
+ghost use Rattle.std.specs.Prelude.{◌≡◌, refl, OnErr, OnOk, codes, false, string_bytes};
+ghost use Rattle.kmip_ttlv.specs.Forms.{enum, no_variants, unit, variant};
+ghost use Rattle.kmip_ttlv.specs.Spots.{fields_in, struct_fields};
+ghost use Rattle.kmip_ttlv.specs.Values.{newtype_value, text_value, unit_variant_value};
 ghost use Rattle.kmip_ttlv.specs.Visits.{Tells};
 ghost use Rattle.get_messages.specs.Headers.{request_header_value};
 ghost use Rattle.create_destroy.specs.Requests.{create_payload_form, written_create_payload, read_create_payload, destroy_payload_form, written_destroy_payload, read_destroy_payload, request_payload_form, written_request_payload, read_request_payload, request_item_form, written_request_item, read_request_item, request_form, written_request, read_request, request_header};
@@ -14,6 +16,7 @@ use kmip_ttlv::messages::reading::Readable;
 use kmip_ttlv::messages::{choices, reading, shapes, writing};
 use kmip_ttlv::shape::{Data, Deserialize, Serialize, Shape};
 use kmip_ttlv::visit::Visitor;
+use kmip_ttlv::{error, reader};
 use std::alloc::{AllocError, Allocator, Global};
 
 /// The payload that asks for a key, as it is read.
@@ -66,6 +69,81 @@ impl<A: Allocator + Copy> Deserialize<A> for CreatePayload<A> {
         reading::constant::<Self, A>(&mut parts, 0, "0x420057", "0x00000002");
         let template = reading::nested::<Self, Template<A>, A>(alloc, &mut parts, 1)?;
         Ok(CreatePayload { template })
+    }
+
+    #[tactic(auto, unfolding(kmip_ttlv_types::specs::Digits::six_digits, crate::specs::Requests::read_create_payload))]
+    fn read(alloc: A, bytes: &[u8]) -> Result<Self, error::Error<A>> {
+        reader::read_message(alloc, bytes)
+    }
+}
+
+impl<A: Allocator + Copy> reader::ReadStructure<A> for CreatePayload<A> {
+    ghost TAG = { 0x420079 };
+
+    ghost DENIES_UNKNOWN = { false };
+
+    ghost values = { λ x. fields_in (read_create_payload x) };
+
+    type Fields = (
+        reader::Item<CreatePayloadObjectType, 0x420057>,
+        (reader::Nested<Template<A>>, ()),
+    );
+
+    const TAG: u32 = 0x420079;
+
+    const DENIES_UNKNOWN: bool = false;
+
+    #[tactic(auto, unfolding(kmip_ttlv_types::specs::Digits::six_digits, crate::specs::Requests::read_create_payload, crate::specs::Attributes::read_template))]
+    fn from_fields(fields: (CreatePayloadObjectType, (Template<A>, ()))) -> Self {
+        let (_, (template, ())) = fields;
+        CreatePayload { template }
+    }
+}
+
+impl<A: Allocator + Copy> reader::ReadNested<A> for CreatePayload<A> {
+    ghost TAG = { 0x420079 };
+
+    ghost fields = { struct_fields create_payload_form };
+
+    ghost denies_unknown = { false };
+
+    ghost values = { λ x. fields_in (read_create_payload x) };
+
+    const TAG: u32 = 0x420079;
+
+    #[tactic(auto, unfolding(kmip_ttlv_types::specs::Digits::six_digits, crate::specs::Requests::read_create_payload))]
+    fn read_nested<'b>(
+        scope: &reader::Scope<'b, A>,
+        cursor: &mut reader::Cursor<'b, A>,
+    ) -> reader::Step<Self, A> {
+        reader::read_form(scope, cursor)
+    }
+}
+
+/// What `object_type` of a `CreatePayload` always is.
+#[derive(Clone, Copy, Debug, PartialEq, Eq)]
+pub struct CreatePayloadObjectType;
+
+impl reader::Listed for CreatePayloadObjectType {
+    ghost own = { codes "0x420057" };
+
+    ghost variants = { variant (codes "0x00000002") unit no_variants };
+
+    ghost value = { λ _. unit_variant_value (codes "0x420057") (codes "0x00000002") };
+}
+
+impl<A: Allocator + Copy> reader::ReadItem<A> for CreatePayloadObjectType {
+    ghost form = { enum (codes "0x420057") (variant (codes "0x00000002") unit no_variants) };
+
+    ghost value = { λ _. unit_variant_value (codes "0x420057") (codes "0x00000002") };
+
+    ghost plain = { (refl, refl) };
+
+    fn read_item<'b>(
+        scope: &reader::Scope<'b, A>,
+        cursor: &mut reader::Cursor<'b, A>,
+    ) -> reader::Step<Self, A> {
+        cursor.listed(scope, &[("0x00000002", CreatePayloadObjectType)])
     }
 }
 
@@ -132,6 +210,51 @@ impl<A: Allocator + Copy> Deserialize<A> for DestroyPayload<A> {
             "Transparent:0x420094",
         );
         Ok(DestroyPayload { unique_identifier })
+    }
+
+    #[tactic(auto, unfolding(kmip_ttlv_types::specs::Digits::six_digits, crate::specs::Requests::read_destroy_payload))]
+    fn read(alloc: A, bytes: &[u8]) -> Result<Self, error::Error<A>> {
+        reader::read_message(alloc, bytes)
+    }
+}
+
+impl<A: Allocator + Copy> reader::ReadStructure<A> for DestroyPayload<A> {
+    ghost TAG = { 0x420079 };
+
+    ghost DENIES_UNKNOWN = { false };
+
+    ghost values = { λ x. fields_in (read_destroy_payload x) };
+
+    type Fields = (reader::Leaf<String<A>, 0x420094>, ());
+
+    const TAG: u32 = 0x420079;
+
+    const DENIES_UNKNOWN: bool = false;
+
+    #[tactic(auto, unfolding(kmip_ttlv_types::specs::Digits::six_digits, crate::specs::Requests::read_destroy_payload))]
+    fn from_fields(fields: (String<A>, ())) -> Self {
+        let (unique_identifier, ()) = fields;
+        DestroyPayload { unique_identifier }
+    }
+}
+
+impl<A: Allocator + Copy> reader::ReadNested<A> for DestroyPayload<A> {
+    ghost TAG = { 0x420079 };
+
+    ghost fields = { struct_fields destroy_payload_form };
+
+    ghost denies_unknown = { false };
+
+    ghost values = { λ x. fields_in (read_destroy_payload x) };
+
+    const TAG: u32 = 0x420079;
+
+    #[tactic(auto, unfolding(kmip_ttlv_types::specs::Digits::six_digits, crate::specs::Requests::read_destroy_payload))]
+    fn read_nested<'b>(
+        scope: &reader::Scope<'b, A>,
+        cursor: &mut reader::Cursor<'b, A>,
+    ) -> reader::Step<Self, A> {
+        reader::read_form(scope, cursor)
     }
 }
 
@@ -202,6 +325,56 @@ impl<A: Allocator + Copy> Deserialize<A> for RequestPayload<A> {
     }
 }
 
+/// The rule that chooses `RequestPayload::Create`.
+pub struct RequestPayloadCreateRule;
+
+impl reader::Rule for RequestPayloadCreateRule {
+    ghost condition = { codes "0x42005C==0x00000001" };
+
+    fn name() -> &'static str {
+        "if 0x42005C==0x00000001"
+    }
+}
+
+/// The rule that chooses `RequestPayload::Destroy`.
+pub struct RequestPayloadDestroyRule;
+
+impl reader::Rule for RequestPayloadDestroyRule {
+    ghost condition = { codes "0x42005C==0x00000014" };
+
+    fn name() -> &'static str {
+        "if 0x42005C==0x00000014"
+    }
+}
+
+impl<A: Allocator + Copy> reader::Choice<A> for RequestPayload<A> {
+    ghost own = { codes "payload" };
+
+    type Variants = (
+        reader::Variant<RequestPayloadCreateRule, reader::StructureElement<CreatePayload<A>>>,
+        reader::Variant<RequestPayloadDestroyRule, reader::StructureElement<DestroyPayload<A>>>,
+    );
+}
+
+impl<A: Allocator + Copy> reader::ReadItem<A> for RequestPayload<A> {
+    ghost form = { request_payload_form };
+
+    ghost value = { read_request_payload };
+
+    ghost plain = { (refl, refl) };
+
+    #[tactic(auto, unfolding(kmip_ttlv_types::specs::Digits::six_digits, crate::specs::Requests::read_request_payload, crate::specs::Requests::read_create_payload, crate::specs::Requests::read_destroy_payload))]
+    fn read_item<'b>(
+        scope: &reader::Scope<'b, A>,
+        cursor: &mut reader::Cursor<'b, A>,
+    ) -> reader::Step<Self, A> {
+        match reader::read_choice::<Self, A>(scope, cursor)? {
+            reader::OneOf::First(held) => Ok(RequestPayload::Create(held.template.attributes)),
+            reader::OneOf::Other(held) => Ok(RequestPayload::Destroy(held.unique_identifier)),
+        }
+    }
+}
+
 /// One thing that is asked for.
 #[derive(Drop)]
 #[derive_where(Debug, PartialEq)]
@@ -249,6 +422,54 @@ impl<A: Allocator + Copy> Deserialize<A> for RequestItem<A> {
         let operation = reading::nested::<Self, Operation, A>(alloc, &mut parts, 0)?;
         let payload = reading::nested::<Self, RequestPayload<A>, A>(alloc, &mut parts, 1)?;
         Ok(RequestItem { operation, payload })
+    }
+
+    #[tactic(auto, unfolding(kmip_ttlv_types::specs::Digits::six_digits, crate::specs::Requests::read_request_item))]
+    fn read(alloc: A, bytes: &[u8]) -> Result<Self, error::Error<A>> {
+        reader::read_message(alloc, bytes)
+    }
+}
+
+impl<A: Allocator + Copy> reader::ReadStructure<A> for RequestItem<A> {
+    ghost TAG = { 0x42000F };
+
+    ghost DENIES_UNKNOWN = { false };
+
+    ghost values = { λ x. fields_in (read_request_item x) };
+
+    type Fields = (
+        reader::Item<Operation, 0x42005C>,
+        (reader::Item<RequestPayload<A>, 0x420079>, ()),
+    );
+
+    const TAG: u32 = 0x42000F;
+
+    const DENIES_UNKNOWN: bool = false;
+
+    #[tactic(auto, unfolding(kmip_ttlv_types::specs::Digits::six_digits, crate::specs::Requests::read_request_item))]
+    fn from_fields(fields: (Operation, (RequestPayload<A>, ()))) -> Self {
+        let (operation, (payload, ())) = fields;
+        RequestItem { operation, payload }
+    }
+}
+
+impl<A: Allocator + Copy> reader::ReadNested<A> for RequestItem<A> {
+    ghost TAG = { 0x42000F };
+
+    ghost fields = { struct_fields request_item_form };
+
+    ghost denies_unknown = { false };
+
+    ghost values = { λ x. fields_in (read_request_item x) };
+
+    const TAG: u32 = 0x42000F;
+
+    #[tactic(auto, unfolding(kmip_ttlv_types::specs::Digits::six_digits, crate::specs::Requests::read_request_item))]
+    fn read_nested<'b>(
+        scope: &reader::Scope<'b, A>,
+        cursor: &mut reader::Cursor<'b, A>,
+    ) -> reader::Step<Self, A> {
+        reader::read_form(scope, cursor)
     }
 }
 
@@ -340,5 +561,53 @@ impl<A: Allocator + Copy> Deserialize<A> for Request<A> {
         let header = reading::nested::<Self, RequestHeader, A>(alloc, &mut parts, 0)?;
         let items = reading::sequence::<Self, RequestItem<A>, A>(alloc, &mut parts, 1)?;
         Ok(Request::with_header(header, items))
+    }
+
+    #[tactic(auto, unfolding(kmip_ttlv_types::specs::Digits::six_digits, crate::specs::Requests::read_request))]
+    fn read(alloc: A, bytes: &[u8]) -> Result<Self, error::Error<A>> {
+        reader::read_message(alloc, bytes)
+    }
+}
+
+impl<A: Allocator + Copy> reader::ReadStructure<A> for Request<A> {
+    ghost TAG = { 0x420078 };
+
+    ghost DENIES_UNKNOWN = { false };
+
+    ghost values = { λ x. fields_in (read_request x) };
+
+    type Fields = (
+        reader::Nested<RequestHeader>,
+        (reader::Several<RequestItem<A>>, ()),
+    );
+
+    const TAG: u32 = 0x420078;
+
+    const DENIES_UNKNOWN: bool = false;
+
+    #[tactic(auto, unfolding(kmip_ttlv_types::specs::Digits::six_digits, crate::specs::Requests::read_request, get_messages::specs::Headers::request_header_value, crate::specs::Requests::read_request_item))]
+    fn from_fields(fields: (RequestHeader, (Vec<RequestItem<A>, A>, ()))) -> Self {
+        let (header, (items, ())) = fields;
+        Request::with_header(header, items)
+    }
+}
+
+impl<A: Allocator + Copy> reader::ReadNested<A> for Request<A> {
+    ghost TAG = { 0x420078 };
+
+    ghost fields = { struct_fields request_form };
+
+    ghost denies_unknown = { false };
+
+    ghost values = { λ x. fields_in (read_request x) };
+
+    const TAG: u32 = 0x420078;
+
+    #[tactic(auto, unfolding(kmip_ttlv_types::specs::Digits::six_digits, crate::specs::Requests::read_request))]
+    fn read_nested<'b>(
+        scope: &reader::Scope<'b, A>,
+        cursor: &mut reader::Cursor<'b, A>,
+    ) -> reader::Step<Self, A> {
+        reader::read_form(scope, cursor)
     }
 }

@@ -1,9 +1,11 @@
 // Written by codegen from types.table: change that, and run codegen/codegen.
 //! Responses on symmetric keys that were created or destroyed.
 
-ghost use Rattle.std.specs.Prelude.{◌≡◌, OnErr, OnOk, codes, string_bytes};
+ghost use Rattle.std.specs.Prelude.{◌≡◌, refl, OnErr, OnOk, codes, false, string_bytes};
+ghost use Rattle.kmip_ttlv.specs.Forms.{enum, no_variants, unit, variant};
 ghost use Rattle.kmip_ttlv.specs.MessageParts.{written_date};
-ghost use Rattle.kmip_ttlv.specs.Values.{newtype_value, text_value};
+ghost use Rattle.kmip_ttlv.specs.Spots.{fields_in, struct_fields};
+ghost use Rattle.kmip_ttlv.specs.Values.{newtype_value, text_value, unit_variant_value};
 ghost use Rattle.kmip_ttlv.specs.Visits.{Tells};
 ghost use Rattle.get_messages.specs.Headers.{response_header_value};
 ghost use Rattle.create_destroy.specs.Responses.{created_form, created_value, destroyed_form, destroyed_value, response_payload_form, written_response_payload, read_response_payload, response_item_form, written_response_item, read_response_item, response_form, written_response, read_response, response_header};
@@ -14,6 +16,7 @@ use kmip_ttlv::messages::reading::Readable;
 use kmip_ttlv::messages::{choices, reading, shapes, writing};
 use kmip_ttlv::shape::{Data, Deserialize, Serialize, Shape};
 use kmip_ttlv::visit::Visitor;
+use kmip_ttlv::{error, reader};
 use std::alloc::{AllocError, Allocator, Global};
 
 /// The payload on a key that was made, as it is read.
@@ -83,6 +86,81 @@ impl<A: Allocator + Copy> Deserialize<A> for Created<A> {
         );
         Ok(Created { unique_identifier })
     }
+
+    #[tactic(auto, unfolding(kmip_ttlv_types::specs::Digits::six_digits, crate::specs::Responses::created_value))]
+    fn read(alloc: A, bytes: &[u8]) -> Result<Self, error::Error<A>> {
+        reader::read_message(alloc, bytes)
+    }
+}
+
+impl<A: Allocator + Copy> reader::ReadStructure<A> for Created<A> {
+    ghost TAG = { 0x42007C };
+
+    ghost DENIES_UNKNOWN = { false };
+
+    ghost values = { λ x. fields_in (created_value x) };
+
+    type Fields = (
+        reader::Item<CreatedObjectType, 0x420057>,
+        (reader::Leaf<String<A>, 0x420094>, ()),
+    );
+
+    const TAG: u32 = 0x42007C;
+
+    const DENIES_UNKNOWN: bool = false;
+
+    #[tactic(auto, unfolding(kmip_ttlv_types::specs::Digits::six_digits, crate::specs::Responses::created_value))]
+    fn from_fields(fields: (CreatedObjectType, (String<A>, ()))) -> Self {
+        let (_, (unique_identifier, ())) = fields;
+        Created { unique_identifier }
+    }
+}
+
+impl<A: Allocator + Copy> reader::ReadNested<A> for Created<A> {
+    ghost TAG = { 0x42007C };
+
+    ghost fields = { struct_fields created_form };
+
+    ghost denies_unknown = { false };
+
+    ghost values = { λ x. fields_in (created_value x) };
+
+    const TAG: u32 = 0x42007C;
+
+    #[tactic(auto, unfolding(kmip_ttlv_types::specs::Digits::six_digits, crate::specs::Responses::created_value))]
+    fn read_nested<'b>(
+        scope: &reader::Scope<'b, A>,
+        cursor: &mut reader::Cursor<'b, A>,
+    ) -> reader::Step<Self, A> {
+        reader::read_form(scope, cursor)
+    }
+}
+
+/// What `object_type` of a `Created` always is.
+#[derive(Clone, Copy, Debug, PartialEq, Eq)]
+pub struct CreatedObjectType;
+
+impl reader::Listed for CreatedObjectType {
+    ghost own = { codes "0x420057" };
+
+    ghost variants = { variant (codes "0x00000002") unit no_variants };
+
+    ghost value = { λ _. unit_variant_value (codes "0x420057") (codes "0x00000002") };
+}
+
+impl<A: Allocator + Copy> reader::ReadItem<A> for CreatedObjectType {
+    ghost form = { enum (codes "0x420057") (variant (codes "0x00000002") unit no_variants) };
+
+    ghost value = { λ _. unit_variant_value (codes "0x420057") (codes "0x00000002") };
+
+    ghost plain = { (refl, refl) };
+
+    fn read_item<'b>(
+        scope: &reader::Scope<'b, A>,
+        cursor: &mut reader::Cursor<'b, A>,
+    ) -> reader::Step<Self, A> {
+        cursor.listed(scope, &[("0x00000002", CreatedObjectType)])
+    }
 }
 
 /// The payload on a key that was destroyed, as it is read.
@@ -148,6 +226,51 @@ impl<A: Allocator + Copy> Deserialize<A> for Destroyed<A> {
             "Transparent:0x420094",
         );
         Ok(Destroyed { unique_identifier })
+    }
+
+    #[tactic(auto, unfolding(kmip_ttlv_types::specs::Digits::six_digits, crate::specs::Responses::destroyed_value))]
+    fn read(alloc: A, bytes: &[u8]) -> Result<Self, error::Error<A>> {
+        reader::read_message(alloc, bytes)
+    }
+}
+
+impl<A: Allocator + Copy> reader::ReadStructure<A> for Destroyed<A> {
+    ghost TAG = { 0x42007C };
+
+    ghost DENIES_UNKNOWN = { false };
+
+    ghost values = { λ x. fields_in (destroyed_value x) };
+
+    type Fields = (reader::Leaf<String<A>, 0x420094>, ());
+
+    const TAG: u32 = 0x42007C;
+
+    const DENIES_UNKNOWN: bool = false;
+
+    #[tactic(auto, unfolding(kmip_ttlv_types::specs::Digits::six_digits, crate::specs::Responses::destroyed_value))]
+    fn from_fields(fields: (String<A>, ())) -> Self {
+        let (unique_identifier, ()) = fields;
+        Destroyed { unique_identifier }
+    }
+}
+
+impl<A: Allocator + Copy> reader::ReadNested<A> for Destroyed<A> {
+    ghost TAG = { 0x42007C };
+
+    ghost fields = { struct_fields destroyed_form };
+
+    ghost denies_unknown = { false };
+
+    ghost values = { λ x. fields_in (destroyed_value x) };
+
+    const TAG: u32 = 0x42007C;
+
+    #[tactic(auto, unfolding(kmip_ttlv_types::specs::Digits::six_digits, crate::specs::Responses::destroyed_value))]
+    fn read_nested<'b>(
+        scope: &reader::Scope<'b, A>,
+        cursor: &mut reader::Cursor<'b, A>,
+    ) -> reader::Step<Self, A> {
+        reader::read_form(scope, cursor)
     }
 }
 
@@ -218,6 +341,56 @@ impl<A: Allocator + Copy> Deserialize<A> for ResponsePayload<A> {
     }
 }
 
+/// The rule that chooses `ResponsePayload::Create`.
+pub struct ResponsePayloadCreateRule;
+
+impl reader::Rule for ResponsePayloadCreateRule {
+    ghost condition = { codes "0x42005C==0x00000001" };
+
+    fn name() -> &'static str {
+        "if 0x42005C==0x00000001"
+    }
+}
+
+/// The rule that chooses `ResponsePayload::Destroy`.
+pub struct ResponsePayloadDestroyRule;
+
+impl reader::Rule for ResponsePayloadDestroyRule {
+    ghost condition = { codes "0x42005C==0x00000014" };
+
+    fn name() -> &'static str {
+        "if 0x42005C==0x00000014"
+    }
+}
+
+impl<A: Allocator + Copy> reader::Choice<A> for ResponsePayload<A> {
+    ghost own = { codes "payload" };
+
+    type Variants = (
+        reader::Variant<ResponsePayloadCreateRule, reader::StructureElement<Created<A>>>,
+        reader::Variant<ResponsePayloadDestroyRule, reader::StructureElement<Destroyed<A>>>,
+    );
+}
+
+impl<A: Allocator + Copy> reader::ReadItem<A> for ResponsePayload<A> {
+    ghost form = { response_payload_form };
+
+    ghost value = { read_response_payload };
+
+    ghost plain = { (refl, refl) };
+
+    #[tactic(auto, unfolding(kmip_ttlv_types::specs::Digits::six_digits, crate::specs::Responses::read_response_payload, crate::specs::Responses::created_value, crate::specs::Responses::destroyed_value))]
+    fn read_item<'b>(
+        scope: &reader::Scope<'b, A>,
+        cursor: &mut reader::Cursor<'b, A>,
+    ) -> reader::Step<Self, A> {
+        match reader::read_choice::<Self, A>(scope, cursor)? {
+            reader::OneOf::First(held) => Ok(ResponsePayload::Create(held.unique_identifier)),
+            reader::OneOf::Other(held) => Ok(ResponsePayload::Destroy(held.unique_identifier)),
+        }
+    }
+}
+
 /// One thing that was done.
 #[derive(Drop)]
 #[derive_where(Debug, PartialEq)]
@@ -268,6 +441,89 @@ impl<A: Allocator + Copy> Deserialize<A> for ResponseItem<A> {
         reading::constant::<Self, A>(&mut parts, 1, "0x42007F", "0x00000000");
         let payload = reading::nested::<Self, ResponsePayload<A>, A>(alloc, &mut parts, 2)?;
         Ok(ResponseItem { operation, payload })
+    }
+
+    #[tactic(auto, unfolding(kmip_ttlv_types::specs::Digits::six_digits, crate::specs::Responses::read_response_item))]
+    fn read(alloc: A, bytes: &[u8]) -> Result<Self, error::Error<A>> {
+        reader::read_message(alloc, bytes)
+    }
+}
+
+impl<A: Allocator + Copy> reader::ReadStructure<A> for ResponseItem<A> {
+    ghost TAG = { 0x42000F };
+
+    ghost DENIES_UNKNOWN = { false };
+
+    ghost values = { λ x. fields_in (read_response_item x) };
+
+    type Fields = (
+        reader::Item<Operation, 0x42005C>,
+        (
+            reader::Item<ResponseItemResultStatus, 0x42007F>,
+            (reader::Item<ResponsePayload<A>, 0x42007C>, ()),
+        ),
+    );
+
+    const TAG: u32 = 0x42000F;
+
+    const DENIES_UNKNOWN: bool = false;
+
+    #[tactic(auto, unfolding(kmip_ttlv_types::specs::Digits::six_digits, crate::specs::Responses::read_response_item))]
+    fn from_fields(
+        fields: (
+            Operation,
+            (ResponseItemResultStatus, (ResponsePayload<A>, ())),
+        ),
+    ) -> Self {
+        let (operation, (_, (payload, ()))) = fields;
+        ResponseItem { operation, payload }
+    }
+}
+
+impl<A: Allocator + Copy> reader::ReadNested<A> for ResponseItem<A> {
+    ghost TAG = { 0x42000F };
+
+    ghost fields = { struct_fields response_item_form };
+
+    ghost denies_unknown = { false };
+
+    ghost values = { λ x. fields_in (read_response_item x) };
+
+    const TAG: u32 = 0x42000F;
+
+    #[tactic(auto, unfolding(kmip_ttlv_types::specs::Digits::six_digits, crate::specs::Responses::read_response_item))]
+    fn read_nested<'b>(
+        scope: &reader::Scope<'b, A>,
+        cursor: &mut reader::Cursor<'b, A>,
+    ) -> reader::Step<Self, A> {
+        reader::read_form(scope, cursor)
+    }
+}
+
+/// What `result_status` of a `ResponseItem` always is.
+#[derive(Clone, Copy, Debug, PartialEq, Eq)]
+pub struct ResponseItemResultStatus;
+
+impl reader::Listed for ResponseItemResultStatus {
+    ghost own = { codes "0x42007F" };
+
+    ghost variants = { variant (codes "0x00000000") unit no_variants };
+
+    ghost value = { λ _. unit_variant_value (codes "0x42007F") (codes "0x00000000") };
+}
+
+impl<A: Allocator + Copy> reader::ReadItem<A> for ResponseItemResultStatus {
+    ghost form = { enum (codes "0x42007F") (variant (codes "0x00000000") unit no_variants) };
+
+    ghost value = { λ _. unit_variant_value (codes "0x42007F") (codes "0x00000000") };
+
+    ghost plain = { (refl, refl) };
+
+    fn read_item<'b>(
+        scope: &reader::Scope<'b, A>,
+        cursor: &mut reader::Cursor<'b, A>,
+    ) -> reader::Step<Self, A> {
+        cursor.listed(scope, &[("0x00000000", ResponseItemResultStatus)])
     }
 }
 
@@ -363,5 +619,53 @@ impl<A: Allocator + Copy> Deserialize<A> for Response<A> {
         let header = reading::nested::<Self, ResponseHeader, A>(alloc, &mut parts, 0)?;
         let items = reading::sequence::<Self, ResponseItem<A>, A>(alloc, &mut parts, 1)?;
         Ok(Response::with_header(header, items))
+    }
+
+    #[tactic(auto, unfolding(kmip_ttlv_types::specs::Digits::six_digits, crate::specs::Responses::read_response))]
+    fn read(alloc: A, bytes: &[u8]) -> Result<Self, error::Error<A>> {
+        reader::read_message(alloc, bytes)
+    }
+}
+
+impl<A: Allocator + Copy> reader::ReadStructure<A> for Response<A> {
+    ghost TAG = { 0x42007B };
+
+    ghost DENIES_UNKNOWN = { false };
+
+    ghost values = { λ x. fields_in (read_response x) };
+
+    type Fields = (
+        reader::Nested<ResponseHeader>,
+        (reader::Several<ResponseItem<A>>, ()),
+    );
+
+    const TAG: u32 = 0x42007B;
+
+    const DENIES_UNKNOWN: bool = false;
+
+    #[tactic(auto, unfolding(kmip_ttlv_types::specs::Digits::six_digits, crate::specs::Responses::read_response, get_messages::specs::Headers::response_header_value, crate::specs::Responses::read_response_item))]
+    fn from_fields(fields: (ResponseHeader, (Vec<ResponseItem<A>, A>, ()))) -> Self {
+        let (header, (items, ())) = fields;
+        Response::with_header(header, items)
+    }
+}
+
+impl<A: Allocator + Copy> reader::ReadNested<A> for Response<A> {
+    ghost TAG = { 0x42007B };
+
+    ghost fields = { struct_fields response_form };
+
+    ghost denies_unknown = { false };
+
+    ghost values = { λ x. fields_in (read_response x) };
+
+    const TAG: u32 = 0x42007B;
+
+    #[tactic(auto, unfolding(kmip_ttlv_types::specs::Digits::six_digits, crate::specs::Responses::read_response))]
+    fn read_nested<'b>(
+        scope: &reader::Scope<'b, A>,
+        cursor: &mut reader::Cursor<'b, A>,
+    ) -> reader::Step<Self, A> {
+        reader::read_form(scope, cursor)
     }
 }

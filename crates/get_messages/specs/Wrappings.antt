@@ -1,7 +1,7 @@
 -- Written by codegen from types.table: change that, and run codegen/codegen.
 -- Forms and values of the types in `wrapping`.
-use Rattle.kmip_ttlv.specs.Forms.{Form, enum, field, newtype, no_fields, no_variants, octets, option, struct, text}
-use Rattle.kmip_ttlv.specs.Forms.{unit, variant}
+use Rattle.kmip_ttlv.specs.Forms.{Form, Variants, enum, field, newtype, no_fields, no_variants, octets, option, struct}
+use Rattle.kmip_ttlv.specs.Forms.{text, unit, variant}
 use Rattle.kmip_ttlv.specs.MessageParts.{optional}
 use Rattle.kmip_ttlv.specs.Values.{Value, bytes_value, newtype_value, no_values, struct_value, text_value}
 use Rattle.kmip_ttlv.specs.Values.{unit_variant_value, value}
@@ -23,15 +23,18 @@ use Rattle.get_messages.specs.declared.wrapping.EncryptionKeyInformation.{Encryp
 use Rattle.get_messages.specs.declared.wrapping.MacSignatureKeyInformation.{MacSignatureKeyInformation}
 use Rattle.get_messages.specs.declared.wrapping.KeyWrappingData.{KeyWrappingData}
 
--- the form of a `WrappingMethod`
-abbrev pub wrapping_method_form : Form
-wrapping_method_form =
-    enum (codes "0x42009E") (
+-- the numbers of a `WrappingMethod`
+abbrev pub wrapping_method_variants : Variants
+wrapping_method_variants =
     variant (codes "0x00000001") unit (
     variant (codes "0x00000002") unit (
     variant (codes "0x00000003") unit (
     variant (codes "0x00000004") unit (
-    variant (codes "0x00000005") unit no_variants)))))
+    variant (codes "0x00000005") unit no_variants))))
+
+-- the form of a `WrappingMethod`
+abbrev pub wrapping_method_form : Form
+wrapping_method_form = enum (codes "0x42009E") wrapping_method_variants
 
 -- the number of a `WrappingMethod`
 abbrev pub wrapping_method_number : WrappingMethod → List ℕ
@@ -45,10 +48,9 @@ wrapping_method_number wrapping_method.Tr31 = codes "0x00000005"
 unfoldable pub wrapping_method_value : WrappingMethod → Value
 wrapping_method_value x = unit_variant_value (codes "0x42009E") (wrapping_method_number x)
 
--- the form of a `BlockCipherMode`
-abbrev pub block_cipher_mode_form : Form
-block_cipher_mode_form =
-    enum (codes "0x420011") (
+-- the numbers of a `BlockCipherMode`
+abbrev pub block_cipher_mode_variants : Variants
+block_cipher_mode_variants =
     variant (codes "0x00000001") unit (
     variant (codes "0x00000002") unit (
     variant (codes "0x00000003") unit (
@@ -65,7 +67,11 @@ block_cipher_mode_form =
     variant (codes "0x0000000E") unit (
     variant (codes "0x0000000F") unit (
     variant (codes "0x00000010") unit (
-    variant (codes "0x00000011") unit no_variants)))))))))))))))))
+    variant (codes "0x00000011") unit no_variants))))))))))))))))
+
+-- the form of a `BlockCipherMode`
+abbrev pub block_cipher_mode_form : Form
+block_cipher_mode_form = enum (codes "0x420011") block_cipher_mode_variants
 
 -- the number of a `BlockCipherMode`
 abbrev pub block_cipher_mode_number : BlockCipherMode → List ℕ
@@ -91,10 +97,9 @@ block_cipher_mode_number block_cipher_mode.X9102Akw2 = codes "0x00000011"
 unfoldable pub block_cipher_mode_value : BlockCipherMode → Value
 block_cipher_mode_value x = unit_variant_value (codes "0x420011") (block_cipher_mode_number x)
 
--- the form of a `PaddingMethod`
-abbrev pub padding_method_form : Form
-padding_method_form =
-    enum (codes "0x42005F") (
+-- the numbers of a `PaddingMethod`
+abbrev pub padding_method_variants : Variants
+padding_method_variants =
     variant (codes "0x00000001") unit (
     variant (codes "0x00000002") unit (
     variant (codes "0x00000003") unit (
@@ -104,7 +109,11 @@ padding_method_form =
     variant (codes "0x00000007") unit (
     variant (codes "0x00000008") unit (
     variant (codes "0x00000009") unit (
-    variant (codes "0x0000000A") unit no_variants))))))))))
+    variant (codes "0x0000000A") unit no_variants)))))))))
+
+-- the form of a `PaddingMethod`
+abbrev pub padding_method_form : Form
+padding_method_form = enum (codes "0x42005F") padding_method_variants
 
 -- the number of a `PaddingMethod`
 abbrev pub padding_method_number : PaddingMethod → List ℕ
@@ -123,10 +132,9 @@ padding_method_number padding_method.Pss = codes "0x0000000A"
 unfoldable pub padding_method_value : PaddingMethod → Value
 padding_method_value x = unit_variant_value (codes "0x42005F") (padding_method_number x)
 
--- the form of a `HashingAlgorithm`
-abbrev pub hashing_algorithm_form : Form
-hashing_algorithm_form =
-    enum (codes "0x420038") (
+-- the numbers of a `HashingAlgorithm`
+abbrev pub hashing_algorithm_variants : Variants
+hashing_algorithm_variants =
     variant (codes "0x00000001") unit (
     variant (codes "0x00000002") unit (
     variant (codes "0x00000003") unit (
@@ -134,7 +142,11 @@ hashing_algorithm_form =
     variant (codes "0x00000005") unit (
     variant (codes "0x00000006") unit (
     variant (codes "0x00000007") unit (
-    variant (codes "0x00000008") unit no_variants))))))))
+    variant (codes "0x00000008") unit no_variants)))))))
+
+-- the form of a `HashingAlgorithm`
+abbrev pub hashing_algorithm_form : Form
+hashing_algorithm_form = enum (codes "0x420038") hashing_algorithm_variants
 
 -- the number of a `HashingAlgorithm`
 abbrev pub hashing_algorithm_number : HashingAlgorithm → List ℕ
@@ -151,10 +163,9 @@ hashing_algorithm_number hashing_algorithm.Sha512 = codes "0x00000008"
 unfoldable pub hashing_algorithm_value : HashingAlgorithm → Value
 hashing_algorithm_value x = unit_variant_value (codes "0x420038") (hashing_algorithm_number x)
 
--- the form of a `RoleType`
-abbrev pub role_type_form : Form
-role_type_form =
-    enum (codes "0x420083") (
+-- the numbers of a `RoleType`
+abbrev pub role_type_variants : Variants
+role_type_variants =
     variant (codes "0x00000001") unit (
     variant (codes "0x00000002") unit (
     variant (codes "0x00000003") unit (
@@ -175,7 +186,11 @@ role_type_form =
     variant (codes "0x00000012") unit (
     variant (codes "0x00000013") unit (
     variant (codes "0x00000014") unit (
-    variant (codes "0x00000015") unit no_variants)))))))))))))))))))))
+    variant (codes "0x00000015") unit no_variants))))))))))))))))))))
+
+-- the form of a `RoleType`
+abbrev pub role_type_form : Form
+role_type_form = enum (codes "0x420083") role_type_variants
 
 -- the number of a `RoleType`
 abbrev pub role_type_number : RoleType → List ℕ

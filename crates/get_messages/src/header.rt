@@ -1,14 +1,16 @@
 // Written by codegen from types.table: change that, and run codegen/codegen.
 //! What requests and responses begin with (KMIP 1.0, sections 6.1, 6.4 and 6.5).
 
-ghost use Rattle.std.specs.Prelude.{◌≡◌};
+ghost use Rattle.std.specs.Prelude.{◌≡◌, false};
 ghost use Rattle.kmip_ttlv.specs.MessageParts.{read_date, written_date};
+ghost use Rattle.kmip_ttlv.specs.Spots.{fields_in, struct_fields};
 ghost use Rattle.get_messages.specs.Headers.{protocol_version_form, protocol_version_value, request_header_form, request_header_value, response_header_form, response_header_value};
 
 use kmip_ttlv::messages::reading::Readable;
 use kmip_ttlv::messages::{reading, shapes, writing};
 use kmip_ttlv::shape::{Data, Deserialize, Serialize, Shape};
 use kmip_ttlv::visit::Visitor;
+use kmip_ttlv::{error, reader};
 use std::alloc::{AllocError, Allocator};
 
 /// The version of the protocol (KMIP 1.0, section 6.1).
@@ -57,6 +59,54 @@ impl<A: Allocator + Copy> Deserialize<A> for ProtocolVersion {
         let major = reading::integer::<Self, A>(&mut parts, 0, "Transparent:0x42006A");
         let minor = reading::integer::<Self, A>(&mut parts, 1, "Transparent:0x42006B");
         Ok(ProtocolVersion { major, minor })
+    }
+
+    #[tactic(auto, unfolding(kmip_ttlv_types::specs::Digits::six_digits, crate::specs::Headers::protocol_version_value))]
+    fn read(alloc: A, bytes: &[u8]) -> Result<Self, error::Error<A>> {
+        reader::read_message(alloc, bytes)
+    }
+}
+
+impl<A: Allocator + Copy> reader::ReadStructure<A> for ProtocolVersion {
+    ghost TAG = { 0x420069 };
+
+    ghost DENIES_UNKNOWN = { false };
+
+    ghost values = { λ x. fields_in (protocol_version_value x) };
+
+    type Fields = (
+        reader::Leaf<i32, 0x42006A>,
+        (reader::Leaf<i32, 0x42006B>, ()),
+    );
+
+    const TAG: u32 = 0x420069;
+
+    const DENIES_UNKNOWN: bool = false;
+
+    #[tactic(auto, unfolding(kmip_ttlv_types::specs::Digits::six_digits, crate::specs::Headers::protocol_version_value))]
+    fn from_fields(fields: (i32, (i32, ()))) -> Self {
+        let (major, (minor, ())) = fields;
+        ProtocolVersion { major, minor }
+    }
+}
+
+impl<A: Allocator + Copy> reader::ReadNested<A> for ProtocolVersion {
+    ghost TAG = { 0x420069 };
+
+    ghost fields = { struct_fields protocol_version_form };
+
+    ghost denies_unknown = { false };
+
+    ghost values = { λ x. fields_in (protocol_version_value x) };
+
+    const TAG: u32 = 0x420069;
+
+    #[tactic(auto, unfolding(kmip_ttlv_types::specs::Digits::six_digits, crate::specs::Headers::protocol_version_value))]
+    fn read_nested<'b>(
+        scope: &reader::Scope<'b, A>,
+        cursor: &mut reader::Cursor<'b, A>,
+    ) -> reader::Step<Self, A> {
+        reader::read_form(scope, cursor)
     }
 }
 
@@ -109,6 +159,57 @@ impl<A: Allocator + Copy> Deserialize<A> for RequestHeader {
             version,
             batch_count,
         })
+    }
+
+    #[tactic(auto, unfolding(kmip_ttlv_types::specs::Digits::six_digits, crate::specs::Headers::request_header_value))]
+    fn read(alloc: A, bytes: &[u8]) -> Result<Self, error::Error<A>> {
+        reader::read_message(alloc, bytes)
+    }
+}
+
+impl<A: Allocator + Copy> reader::ReadStructure<A> for RequestHeader {
+    ghost TAG = { 0x420077 };
+
+    ghost DENIES_UNKNOWN = { false };
+
+    ghost values = { λ x. fields_in (request_header_value x) };
+
+    type Fields = (
+        reader::Nested<ProtocolVersion>,
+        (reader::Leaf<i32, 0x42000D>, ()),
+    );
+
+    const TAG: u32 = 0x420077;
+
+    const DENIES_UNKNOWN: bool = false;
+
+    #[tactic(auto, unfolding(kmip_ttlv_types::specs::Digits::six_digits, crate::specs::Headers::request_header_value, crate::specs::Headers::protocol_version_value))]
+    fn from_fields(fields: (ProtocolVersion, (i32, ()))) -> Self {
+        let (version, (batch_count, ())) = fields;
+        RequestHeader {
+            version,
+            batch_count,
+        }
+    }
+}
+
+impl<A: Allocator + Copy> reader::ReadNested<A> for RequestHeader {
+    ghost TAG = { 0x420077 };
+
+    ghost fields = { struct_fields request_header_form };
+
+    ghost denies_unknown = { false };
+
+    ghost values = { λ x. fields_in (request_header_value x) };
+
+    const TAG: u32 = 0x420077;
+
+    #[tactic(auto, unfolding(kmip_ttlv_types::specs::Digits::six_digits, crate::specs::Headers::request_header_value))]
+    fn read_nested<'b>(
+        scope: &reader::Scope<'b, A>,
+        cursor: &mut reader::Cursor<'b, A>,
+    ) -> reader::Step<Self, A> {
+        reader::read_form(scope, cursor)
     }
 }
 
@@ -167,5 +268,60 @@ impl<A: Allocator + Copy> Deserialize<A> for ResponseHeader {
             time_stamp,
             batch_count,
         })
+    }
+
+    #[tactic(auto, unfolding(kmip_ttlv_types::specs::Digits::six_digits, crate::specs::Headers::response_header_value))]
+    fn read(alloc: A, bytes: &[u8]) -> Result<Self, error::Error<A>> {
+        reader::read_message(alloc, bytes)
+    }
+}
+
+impl<A: Allocator + Copy> reader::ReadStructure<A> for ResponseHeader {
+    ghost TAG = { 0x42007A };
+
+    ghost DENIES_UNKNOWN = { false };
+
+    ghost values = { λ x. fields_in (response_header_value read_date x) };
+
+    type Fields = (
+        reader::Nested<ProtocolVersion>,
+        (
+            reader::Leaf<i64, 0x420092>,
+            (reader::Leaf<i32, 0x42000D>, ()),
+        ),
+    );
+
+    const TAG: u32 = 0x42007A;
+
+    const DENIES_UNKNOWN: bool = false;
+
+    #[tactic(auto, unfolding(kmip_ttlv_types::specs::Digits::six_digits, crate::specs::Headers::response_header_value, crate::specs::Headers::protocol_version_value))]
+    fn from_fields(fields: (ProtocolVersion, (i64, (i32, ())))) -> Self {
+        let (version, (time_stamp, (batch_count, ()))) = fields;
+        ResponseHeader {
+            version,
+            time_stamp,
+            batch_count,
+        }
+    }
+}
+
+impl<A: Allocator + Copy> reader::ReadNested<A> for ResponseHeader {
+    ghost TAG = { 0x42007A };
+
+    ghost fields = { struct_fields response_header_form };
+
+    ghost denies_unknown = { false };
+
+    ghost values = { λ x. fields_in (response_header_value read_date x) };
+
+    const TAG: u32 = 0x42007A;
+
+    #[tactic(auto, unfolding(kmip_ttlv_types::specs::Digits::six_digits, crate::specs::Headers::response_header_value))]
+    fn read_nested<'b>(
+        scope: &reader::Scope<'b, A>,
+        cursor: &mut reader::Cursor<'b, A>,
+    ) -> reader::Step<Self, A> {
+        reader::read_form(scope, cursor)
     }
 }

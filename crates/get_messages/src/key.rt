@@ -1,7 +1,10 @@
 // Written by codegen from types.table: change that, and run codegen/codegen.
 //! A symmetric key as an object (KMIP 1.0, sections 2.1.3, 2.1.4 and 2.2.2).
 
-ghost use Rattle.std.specs.Prelude.{◌≡◌};
+ghost use Rattle.std.specs.Prelude.{◌≡◌, refl, codes, false, true};
+ghost use Rattle.kmip_ttlv.specs.Forms.{enum, no_variants, unit, variant};
+ghost use Rattle.kmip_ttlv.specs.Spots.{fields_in, struct_fields};
+ghost use Rattle.kmip_ttlv.specs.Values.{unit_variant_value};
 ghost use Rattle.get_messages.specs.Keys.{key_value_form, key_value_value, key_length_form, key_length_value, key_block_form, written_key_block, read_key_block, symmetric_key_form, written_symmetric_key, read_symmetric_key};
 
 use crate::wrapping::KeyWrappingData;
@@ -9,6 +12,7 @@ use kmip_ttlv::messages::reading::Readable;
 use kmip_ttlv::messages::{leaves, reading, shapes, writing};
 use kmip_ttlv::shape::{Data, Deserialize, Serialize, Shape};
 use kmip_ttlv::visit::Visitor;
+use kmip_ttlv::{error, reader};
 use std::alloc::{AllocError, Allocator, Global};
 use std::mem;
 
@@ -59,6 +63,51 @@ impl<A: Allocator + Copy> Deserialize<A> for KeyValue<A> {
         let key_material = reading::byte_string::<Self, A>(&mut parts, 0, "Transparent:0x420043");
         Ok(KeyValue { key_material })
     }
+
+    #[tactic(auto, unfolding(kmip_ttlv_types::specs::Digits::six_digits, crate::specs::Keys::key_value_value))]
+    fn read(alloc: A, bytes: &[u8]) -> Result<Self, error::Error<A>> {
+        reader::read_message(alloc, bytes)
+    }
+}
+
+impl<A: Allocator + Copy> reader::ReadStructure<A> for KeyValue<A> {
+    ghost TAG = { 0x420045 };
+
+    ghost DENIES_UNKNOWN = { false };
+
+    ghost values = { λ x. fields_in (key_value_value x) };
+
+    type Fields = (reader::Leaf<Vec<u8, A>, 0x420043>, ());
+
+    const TAG: u32 = 0x420045;
+
+    const DENIES_UNKNOWN: bool = false;
+
+    #[tactic(auto, unfolding(kmip_ttlv_types::specs::Digits::six_digits, crate::specs::Keys::key_value_value))]
+    fn from_fields(fields: (Vec<u8, A>, ())) -> Self {
+        let (key_material, ()) = fields;
+        KeyValue { key_material }
+    }
+}
+
+impl<A: Allocator + Copy> reader::ReadNested<A> for KeyValue<A> {
+    ghost TAG = { 0x420045 };
+
+    ghost fields = { struct_fields key_value_form };
+
+    ghost denies_unknown = { false };
+
+    ghost values = { λ x. fields_in (key_value_value x) };
+
+    const TAG: u32 = 0x420045;
+
+    #[tactic(auto, unfolding(kmip_ttlv_types::specs::Digits::six_digits, crate::specs::Keys::key_value_value))]
+    fn read_nested<'b>(
+        scope: &reader::Scope<'b, A>,
+        cursor: &mut reader::Cursor<'b, A>,
+    ) -> reader::Step<Self, A> {
+        reader::read_form(scope, cursor)
+    }
 }
 
 /// The length of a key, in bits.
@@ -96,6 +145,23 @@ impl<A: Allocator + Copy> Deserialize<A> for KeyLength {
     fn from_data(_alloc: A, value: &mut Data<A>) -> Result<Self, AllocError> {
         let value = mem::replace(value, Data::None);
         let bits = leaves::integer(value, "Transparent:0x42002A");
+        Ok(KeyLength { bits })
+    }
+}
+
+impl<A: Allocator + Copy> reader::ReadItem<A> for KeyLength {
+    ghost form = { key_length_form };
+
+    ghost value = { key_length_value };
+
+    ghost plain = { (refl, refl) };
+
+    #[tactic(auto, unfolding(kmip_ttlv_types::specs::Digits::six_digits))]
+    fn read_item<'b>(
+        scope: &reader::Scope<'b, A>,
+        cursor: &mut reader::Cursor<'b, A>,
+    ) -> reader::Step<Self, A> {
+        let bits = cursor.wrapped_leaf(scope, 0x42002A)?;
         Ok(KeyLength { bits })
     }
 }
@@ -166,6 +232,126 @@ impl<A: Allocator + Copy> Deserialize<A> for KeyBlock<A> {
             key_wrapping_data,
         })
     }
+
+    #[tactic(auto, unfolding(kmip_ttlv_types::specs::Digits::six_digits, crate::specs::Keys::read_key_block))]
+    fn read(alloc: A, bytes: &[u8]) -> Result<Self, error::Error<A>> {
+        reader::read_message(alloc, bytes)
+    }
+}
+
+impl<A: Allocator + Copy> reader::ReadStructure<A> for KeyBlock<A> {
+    ghost TAG = { 0x420040 };
+
+    ghost DENIES_UNKNOWN = { true };
+
+    ghost values = { λ x. fields_in (read_key_block x) };
+
+    type Fields = reader::Four<
+        reader::Item<KeyBlockKeyFormatType, 0x420042>,
+        reader::Nested<KeyValue<A>>,
+        reader::Item<KeyBlockCryptographicAlgorithm, 0x420028>,
+        reader::Item<KeyLength, 0x42002A>,
+        (reader::OptionalNested<KeyWrappingData<A>>, ()),
+    >;
+
+    const TAG: u32 = 0x420040;
+
+    const DENIES_UNKNOWN: bool = true;
+
+    #[tactic(auto, unfolding(kmip_ttlv_types::specs::Digits::six_digits, crate::specs::Keys::read_key_block, crate::specs::Keys::key_value_value, crate::specs::Wrappings::read_key_wrapping_data))]
+    fn from_fields(
+        fields: (
+            KeyBlockKeyFormatType,
+            (
+                KeyValue<A>,
+                (
+                    KeyBlockCryptographicAlgorithm,
+                    (KeyLength, (Option<KeyWrappingData<A>>, ())),
+                ),
+            ),
+        ),
+    ) -> Self {
+        let (_, (key_value, (_, (cryptographic_length, (key_wrapping_data, ()))))) = fields;
+        KeyBlock {
+            key_value,
+            cryptographic_length,
+            key_wrapping_data,
+        }
+    }
+}
+
+impl<A: Allocator + Copy> reader::ReadNested<A> for KeyBlock<A> {
+    ghost TAG = { 0x420040 };
+
+    ghost fields = { struct_fields key_block_form };
+
+    ghost denies_unknown = { true };
+
+    ghost values = { λ x. fields_in (read_key_block x) };
+
+    const TAG: u32 = 0x420040;
+
+    #[tactic(auto, unfolding(kmip_ttlv_types::specs::Digits::six_digits, crate::specs::Keys::read_key_block))]
+    fn read_nested<'b>(
+        scope: &reader::Scope<'b, A>,
+        cursor: &mut reader::Cursor<'b, A>,
+    ) -> reader::Step<Self, A> {
+        reader::read_form(scope, cursor)
+    }
+}
+
+/// What `key_format_type` of a `KeyBlock` always is.
+#[derive(Clone, Copy, Debug, PartialEq, Eq)]
+pub struct KeyBlockKeyFormatType;
+
+impl reader::Listed for KeyBlockKeyFormatType {
+    ghost own = { codes "0x420042" };
+
+    ghost variants = { variant (codes "0x00000001") unit no_variants };
+
+    ghost value = { λ _. unit_variant_value (codes "0x420042") (codes "0x00000001") };
+}
+
+impl<A: Allocator + Copy> reader::ReadItem<A> for KeyBlockKeyFormatType {
+    ghost form = { enum (codes "0x420042") (variant (codes "0x00000001") unit no_variants) };
+
+    ghost value = { λ _. unit_variant_value (codes "0x420042") (codes "0x00000001") };
+
+    ghost plain = { (refl, refl) };
+
+    fn read_item<'b>(
+        scope: &reader::Scope<'b, A>,
+        cursor: &mut reader::Cursor<'b, A>,
+    ) -> reader::Step<Self, A> {
+        cursor.listed(scope, &[("0x00000001", KeyBlockKeyFormatType)])
+    }
+}
+
+/// What `cryptographic_algorithm` of a `KeyBlock` always is.
+#[derive(Clone, Copy, Debug, PartialEq, Eq)]
+pub struct KeyBlockCryptographicAlgorithm;
+
+impl reader::Listed for KeyBlockCryptographicAlgorithm {
+    ghost own = { codes "0x420028" };
+
+    ghost variants = { variant (codes "0x00000003") unit no_variants };
+
+    ghost value = { λ _. unit_variant_value (codes "0x420028") (codes "0x00000003") };
+}
+
+impl<A: Allocator + Copy> reader::ReadItem<A> for KeyBlockCryptographicAlgorithm {
+    ghost form = { enum (codes "0x420028") (variant (codes "0x00000003") unit no_variants) };
+
+    ghost value = { λ _. unit_variant_value (codes "0x420028") (codes "0x00000003") };
+
+    ghost plain = { (refl, refl) };
+
+    fn read_item<'b>(
+        scope: &reader::Scope<'b, A>,
+        cursor: &mut reader::Cursor<'b, A>,
+    ) -> reader::Step<Self, A> {
+        cursor.listed(scope, &[("0x00000003", KeyBlockCryptographicAlgorithm)])
+    }
 }
 
 /// A symmetric key.
@@ -210,5 +396,50 @@ impl<A: Allocator + Copy> Deserialize<A> for SymmetricKey<A> {
         let mut parts = reading::parts::<Self, A>(value);
         let key_block = reading::nested::<Self, KeyBlock<A>, A>(alloc, &mut parts, 0)?;
         Ok(SymmetricKey { key_block })
+    }
+
+    #[tactic(auto, unfolding(kmip_ttlv_types::specs::Digits::six_digits, crate::specs::Keys::read_symmetric_key))]
+    fn read(alloc: A, bytes: &[u8]) -> Result<Self, error::Error<A>> {
+        reader::read_message(alloc, bytes)
+    }
+}
+
+impl<A: Allocator + Copy> reader::ReadStructure<A> for SymmetricKey<A> {
+    ghost TAG = { 0x42008F };
+
+    ghost DENIES_UNKNOWN = { false };
+
+    ghost values = { λ x. fields_in (read_symmetric_key x) };
+
+    type Fields = (reader::Nested<KeyBlock<A>>, ());
+
+    const TAG: u32 = 0x42008F;
+
+    const DENIES_UNKNOWN: bool = false;
+
+    #[tactic(auto, unfolding(kmip_ttlv_types::specs::Digits::six_digits, crate::specs::Keys::read_symmetric_key, crate::specs::Keys::read_key_block))]
+    fn from_fields(fields: (KeyBlock<A>, ())) -> Self {
+        let (key_block, ()) = fields;
+        SymmetricKey { key_block }
+    }
+}
+
+impl<A: Allocator + Copy> reader::ReadNested<A> for SymmetricKey<A> {
+    ghost TAG = { 0x42008F };
+
+    ghost fields = { struct_fields symmetric_key_form };
+
+    ghost denies_unknown = { false };
+
+    ghost values = { λ x. fields_in (read_symmetric_key x) };
+
+    const TAG: u32 = 0x42008F;
+
+    #[tactic(auto, unfolding(kmip_ttlv_types::specs::Digits::six_digits, crate::specs::Keys::read_symmetric_key))]
+    fn read_nested<'b>(
+        scope: &reader::Scope<'b, A>,
+        cursor: &mut reader::Cursor<'b, A>,
+    ) -> reader::Step<Self, A> {
+        reader::read_form(scope, cursor)
     }
 }

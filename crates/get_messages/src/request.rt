@@ -1,7 +1,10 @@
 // Written by codegen from types.table: change that, and run codegen/codegen.
 //! The request to get an object (KMIP 1.0, section 4.11).
 
-ghost use Rattle.std.specs.Prelude.{◌≡◌};
+ghost use Rattle.std.specs.Prelude.{◌≡◌, refl, codes, false};
+ghost use Rattle.kmip_ttlv.specs.Forms.{enum, no_variants, unit, variant};
+ghost use Rattle.kmip_ttlv.specs.Spots.{fields_in, struct_fields};
+ghost use Rattle.kmip_ttlv.specs.Values.{unit_variant_value};
 ghost use Rattle.get_messages.specs.Requests.{get_request_payload_form, get_request_payload_value, get_request_item_form, get_request_item_value, get_request_form, get_request_value};
 
 use crate::header::RequestHeader;
@@ -9,6 +12,7 @@ use kmip_ttlv::messages::reading::Readable;
 use kmip_ttlv::messages::{reading, shapes, writing};
 use kmip_ttlv::shape::{Data, Deserialize, Serialize, Shape};
 use kmip_ttlv::visit::Visitor;
+use kmip_ttlv::{error, reader};
 use std::alloc::{AllocError, Allocator, Global};
 
 /// Which object is to be got.
@@ -62,6 +66,51 @@ impl<A: Allocator + Copy> Deserialize<A> for GetRequestPayload<A> {
         );
         Ok(GetRequestPayload { unique_identifier })
     }
+
+    #[tactic(auto, unfolding(kmip_ttlv_types::specs::Digits::six_digits, crate::specs::Requests::get_request_payload_value))]
+    fn read(alloc: A, bytes: &[u8]) -> Result<Self, error::Error<A>> {
+        reader::read_message(alloc, bytes)
+    }
+}
+
+impl<A: Allocator + Copy> reader::ReadStructure<A> for GetRequestPayload<A> {
+    ghost TAG = { 0x420079 };
+
+    ghost DENIES_UNKNOWN = { false };
+
+    ghost values = { λ x. fields_in (get_request_payload_value x) };
+
+    type Fields = (reader::Leaf<String<A>, 0x420094>, ());
+
+    const TAG: u32 = 0x420079;
+
+    const DENIES_UNKNOWN: bool = false;
+
+    #[tactic(auto, unfolding(kmip_ttlv_types::specs::Digits::six_digits, crate::specs::Requests::get_request_payload_value))]
+    fn from_fields(fields: (String<A>, ())) -> Self {
+        let (unique_identifier, ()) = fields;
+        GetRequestPayload { unique_identifier }
+    }
+}
+
+impl<A: Allocator + Copy> reader::ReadNested<A> for GetRequestPayload<A> {
+    ghost TAG = { 0x420079 };
+
+    ghost fields = { struct_fields get_request_payload_form };
+
+    ghost denies_unknown = { false };
+
+    ghost values = { λ x. fields_in (get_request_payload_value x) };
+
+    const TAG: u32 = 0x420079;
+
+    #[tactic(auto, unfolding(kmip_ttlv_types::specs::Digits::six_digits, crate::specs::Requests::get_request_payload_value))]
+    fn read_nested<'b>(
+        scope: &reader::Scope<'b, A>,
+        cursor: &mut reader::Cursor<'b, A>,
+    ) -> reader::Step<Self, A> {
+        reader::read_form(scope, cursor)
+    }
 }
 
 /// An item: get an object.
@@ -109,6 +158,81 @@ impl<A: Allocator + Copy> Deserialize<A> for GetRequestItem<A> {
         reading::constant::<Self, A>(&mut parts, 0, "0x42005C", "0x0000000A");
         let payload = reading::nested::<Self, GetRequestPayload<A>, A>(alloc, &mut parts, 1)?;
         Ok(GetRequestItem { payload })
+    }
+
+    #[tactic(auto, unfolding(kmip_ttlv_types::specs::Digits::six_digits, crate::specs::Requests::get_request_item_value))]
+    fn read(alloc: A, bytes: &[u8]) -> Result<Self, error::Error<A>> {
+        reader::read_message(alloc, bytes)
+    }
+}
+
+impl<A: Allocator + Copy> reader::ReadStructure<A> for GetRequestItem<A> {
+    ghost TAG = { 0x42000F };
+
+    ghost DENIES_UNKNOWN = { false };
+
+    ghost values = { λ x. fields_in (get_request_item_value x) };
+
+    type Fields = (
+        reader::Item<GetRequestItemOperation, 0x42005C>,
+        (reader::Nested<GetRequestPayload<A>>, ()),
+    );
+
+    const TAG: u32 = 0x42000F;
+
+    const DENIES_UNKNOWN: bool = false;
+
+    #[tactic(auto, unfolding(kmip_ttlv_types::specs::Digits::six_digits, crate::specs::Requests::get_request_item_value, crate::specs::Requests::get_request_payload_value))]
+    fn from_fields(fields: (GetRequestItemOperation, (GetRequestPayload<A>, ()))) -> Self {
+        let (_, (payload, ())) = fields;
+        GetRequestItem { payload }
+    }
+}
+
+impl<A: Allocator + Copy> reader::ReadNested<A> for GetRequestItem<A> {
+    ghost TAG = { 0x42000F };
+
+    ghost fields = { struct_fields get_request_item_form };
+
+    ghost denies_unknown = { false };
+
+    ghost values = { λ x. fields_in (get_request_item_value x) };
+
+    const TAG: u32 = 0x42000F;
+
+    #[tactic(auto, unfolding(kmip_ttlv_types::specs::Digits::six_digits, crate::specs::Requests::get_request_item_value))]
+    fn read_nested<'b>(
+        scope: &reader::Scope<'b, A>,
+        cursor: &mut reader::Cursor<'b, A>,
+    ) -> reader::Step<Self, A> {
+        reader::read_form(scope, cursor)
+    }
+}
+
+/// What `operation` of a `GetRequestItem` always is.
+#[derive(Clone, Copy, Debug, PartialEq, Eq)]
+pub struct GetRequestItemOperation;
+
+impl reader::Listed for GetRequestItemOperation {
+    ghost own = { codes "0x42005C" };
+
+    ghost variants = { variant (codes "0x0000000A") unit no_variants };
+
+    ghost value = { λ _. unit_variant_value (codes "0x42005C") (codes "0x0000000A") };
+}
+
+impl<A: Allocator + Copy> reader::ReadItem<A> for GetRequestItemOperation {
+    ghost form = { enum (codes "0x42005C") (variant (codes "0x0000000A") unit no_variants) };
+
+    ghost value = { λ _. unit_variant_value (codes "0x42005C") (codes "0x0000000A") };
+
+    ghost plain = { (refl, refl) };
+
+    fn read_item<'b>(
+        scope: &reader::Scope<'b, A>,
+        cursor: &mut reader::Cursor<'b, A>,
+    ) -> reader::Step<Self, A> {
+        cursor.listed(scope, &[("0x0000000A", GetRequestItemOperation)])
     }
 }
 
@@ -159,5 +283,53 @@ impl<A: Allocator + Copy> Deserialize<A> for GetRequest<A> {
         let header = reading::nested::<Self, RequestHeader, A>(alloc, &mut parts, 0)?;
         let item = reading::nested::<Self, GetRequestItem<A>, A>(alloc, &mut parts, 1)?;
         Ok(GetRequest { header, item })
+    }
+
+    #[tactic(auto, unfolding(kmip_ttlv_types::specs::Digits::six_digits, crate::specs::Requests::get_request_value))]
+    fn read(alloc: A, bytes: &[u8]) -> Result<Self, error::Error<A>> {
+        reader::read_message(alloc, bytes)
+    }
+}
+
+impl<A: Allocator + Copy> reader::ReadStructure<A> for GetRequest<A> {
+    ghost TAG = { 0x420078 };
+
+    ghost DENIES_UNKNOWN = { false };
+
+    ghost values = { λ x. fields_in (get_request_value x) };
+
+    type Fields = (
+        reader::Nested<RequestHeader>,
+        (reader::Nested<GetRequestItem<A>>, ()),
+    );
+
+    const TAG: u32 = 0x420078;
+
+    const DENIES_UNKNOWN: bool = false;
+
+    #[tactic(auto, unfolding(kmip_ttlv_types::specs::Digits::six_digits, crate::specs::Requests::get_request_value, crate::specs::Headers::request_header_value, crate::specs::Requests::get_request_item_value))]
+    fn from_fields(fields: (RequestHeader, (GetRequestItem<A>, ()))) -> Self {
+        let (header, (item, ())) = fields;
+        GetRequest { header, item }
+    }
+}
+
+impl<A: Allocator + Copy> reader::ReadNested<A> for GetRequest<A> {
+    ghost TAG = { 0x420078 };
+
+    ghost fields = { struct_fields get_request_form };
+
+    ghost denies_unknown = { false };
+
+    ghost values = { λ x. fields_in (get_request_value x) };
+
+    const TAG: u32 = 0x420078;
+
+    #[tactic(auto, unfolding(kmip_ttlv_types::specs::Digits::six_digits, crate::specs::Requests::get_request_value))]
+    fn read_nested<'b>(
+        scope: &reader::Scope<'b, A>,
+        cursor: &mut reader::Cursor<'b, A>,
+    ) -> reader::Step<Self, A> {
+        reader::read_form(scope, cursor)
     }
 }

@@ -1,7 +1,10 @@
 // Written by codegen from types.table: change that, and run codegen/codegen.
 //! The response with a symmetric key (KMIP 1.0, section 4.11).
 
-ghost use Rattle.std.specs.Prelude.{◌≡◌};
+ghost use Rattle.std.specs.Prelude.{◌≡◌, refl, codes, false};
+ghost use Rattle.kmip_ttlv.specs.Forms.{enum, no_variants, unit, variant};
+ghost use Rattle.kmip_ttlv.specs.Spots.{fields_in, struct_fields};
+ghost use Rattle.kmip_ttlv.specs.Values.{unit_variant_value};
 ghost use Rattle.get_messages.specs.Responses.{get_response_payload_form, written_get_response_payload, read_get_response_payload, get_response_item_form, written_get_response_item, read_get_response_item, get_response_form, written_get_response, read_get_response};
 
 use crate::header::ResponseHeader;
@@ -10,6 +13,7 @@ use kmip_ttlv::messages::reading::Readable;
 use kmip_ttlv::messages::{reading, shapes, writing};
 use kmip_ttlv::shape::{Data, Deserialize, Serialize, Shape};
 use kmip_ttlv::visit::Visitor;
+use kmip_ttlv::{error, reader};
 use std::alloc::{AllocError, Allocator, Global};
 
 /// The object that was got.
@@ -74,6 +78,92 @@ impl<A: Allocator + Copy> Deserialize<A> for GetResponsePayload<A> {
             symmetric_key,
         })
     }
+
+    #[tactic(auto, unfolding(kmip_ttlv_types::specs::Digits::six_digits, crate::specs::Responses::read_get_response_payload))]
+    fn read(alloc: A, bytes: &[u8]) -> Result<Self, error::Error<A>> {
+        reader::read_message(alloc, bytes)
+    }
+}
+
+impl<A: Allocator + Copy> reader::ReadStructure<A> for GetResponsePayload<A> {
+    ghost TAG = { 0x42007C };
+
+    ghost DENIES_UNKNOWN = { false };
+
+    ghost values = { λ x. fields_in (read_get_response_payload x) };
+
+    type Fields = (
+        reader::Item<GetResponsePayloadObjectType, 0x420057>,
+        (
+            reader::Leaf<String<A>, 0x420094>,
+            (reader::Nested<SymmetricKey<A>>, ()),
+        ),
+    );
+
+    const TAG: u32 = 0x42007C;
+
+    const DENIES_UNKNOWN: bool = false;
+
+    #[tactic(auto, unfolding(kmip_ttlv_types::specs::Digits::six_digits, crate::specs::Responses::read_get_response_payload, crate::specs::Keys::read_symmetric_key))]
+    fn from_fields(
+        fields: (
+            GetResponsePayloadObjectType,
+            (String<A>, (SymmetricKey<A>, ())),
+        ),
+    ) -> Self {
+        let (_, (unique_identifier, (symmetric_key, ()))) = fields;
+        GetResponsePayload {
+            unique_identifier,
+            symmetric_key,
+        }
+    }
+}
+
+impl<A: Allocator + Copy> reader::ReadNested<A> for GetResponsePayload<A> {
+    ghost TAG = { 0x42007C };
+
+    ghost fields = { struct_fields get_response_payload_form };
+
+    ghost denies_unknown = { false };
+
+    ghost values = { λ x. fields_in (read_get_response_payload x) };
+
+    const TAG: u32 = 0x42007C;
+
+    #[tactic(auto, unfolding(kmip_ttlv_types::specs::Digits::six_digits, crate::specs::Responses::read_get_response_payload))]
+    fn read_nested<'b>(
+        scope: &reader::Scope<'b, A>,
+        cursor: &mut reader::Cursor<'b, A>,
+    ) -> reader::Step<Self, A> {
+        reader::read_form(scope, cursor)
+    }
+}
+
+/// What `object_type` of a `GetResponsePayload` always is.
+#[derive(Clone, Copy, Debug, PartialEq, Eq)]
+pub struct GetResponsePayloadObjectType;
+
+impl reader::Listed for GetResponsePayloadObjectType {
+    ghost own = { codes "0x420057" };
+
+    ghost variants = { variant (codes "0x00000002") unit no_variants };
+
+    ghost value = { λ _. unit_variant_value (codes "0x420057") (codes "0x00000002") };
+}
+
+impl<A: Allocator + Copy> reader::ReadItem<A> for GetResponsePayloadObjectType {
+    ghost form = { enum (codes "0x420057") (variant (codes "0x00000002") unit no_variants) };
+
+    ghost value = { λ _. unit_variant_value (codes "0x420057") (codes "0x00000002") };
+
+    ghost plain = { (refl, refl) };
+
+    fn read_item<'b>(
+        scope: &reader::Scope<'b, A>,
+        cursor: &mut reader::Cursor<'b, A>,
+    ) -> reader::Step<Self, A> {
+        cursor.listed(scope, &[("0x00000002", GetResponsePayloadObjectType)])
+    }
 }
 
 /// An item: an object was got.
@@ -125,6 +215,116 @@ impl<A: Allocator + Copy> Deserialize<A> for GetResponseItem<A> {
         let payload = reading::nested::<Self, GetResponsePayload<A>, A>(alloc, &mut parts, 2)?;
         Ok(GetResponseItem { payload })
     }
+
+    #[tactic(auto, unfolding(kmip_ttlv_types::specs::Digits::six_digits, crate::specs::Responses::read_get_response_item))]
+    fn read(alloc: A, bytes: &[u8]) -> Result<Self, error::Error<A>> {
+        reader::read_message(alloc, bytes)
+    }
+}
+
+impl<A: Allocator + Copy> reader::ReadStructure<A> for GetResponseItem<A> {
+    ghost TAG = { 0x42000F };
+
+    ghost DENIES_UNKNOWN = { false };
+
+    ghost values = { λ x. fields_in (read_get_response_item x) };
+
+    type Fields = (
+        reader::Item<GetResponseItemOperation, 0x42005C>,
+        (
+            reader::Item<GetResponseItemResultStatus, 0x42007F>,
+            (reader::Nested<GetResponsePayload<A>>, ()),
+        ),
+    );
+
+    const TAG: u32 = 0x42000F;
+
+    const DENIES_UNKNOWN: bool = false;
+
+    #[tactic(auto, unfolding(kmip_ttlv_types::specs::Digits::six_digits, crate::specs::Responses::read_get_response_item, crate::specs::Responses::read_get_response_payload))]
+    fn from_fields(
+        fields: (
+            GetResponseItemOperation,
+            (GetResponseItemResultStatus, (GetResponsePayload<A>, ())),
+        ),
+    ) -> Self {
+        let (_, (_, (payload, ()))) = fields;
+        GetResponseItem { payload }
+    }
+}
+
+impl<A: Allocator + Copy> reader::ReadNested<A> for GetResponseItem<A> {
+    ghost TAG = { 0x42000F };
+
+    ghost fields = { struct_fields get_response_item_form };
+
+    ghost denies_unknown = { false };
+
+    ghost values = { λ x. fields_in (read_get_response_item x) };
+
+    const TAG: u32 = 0x42000F;
+
+    #[tactic(auto, unfolding(kmip_ttlv_types::specs::Digits::six_digits, crate::specs::Responses::read_get_response_item))]
+    fn read_nested<'b>(
+        scope: &reader::Scope<'b, A>,
+        cursor: &mut reader::Cursor<'b, A>,
+    ) -> reader::Step<Self, A> {
+        reader::read_form(scope, cursor)
+    }
+}
+
+/// What `operation` of a `GetResponseItem` always is.
+#[derive(Clone, Copy, Debug, PartialEq, Eq)]
+pub struct GetResponseItemOperation;
+
+impl reader::Listed for GetResponseItemOperation {
+    ghost own = { codes "0x42005C" };
+
+    ghost variants = { variant (codes "0x0000000A") unit no_variants };
+
+    ghost value = { λ _. unit_variant_value (codes "0x42005C") (codes "0x0000000A") };
+}
+
+impl<A: Allocator + Copy> reader::ReadItem<A> for GetResponseItemOperation {
+    ghost form = { enum (codes "0x42005C") (variant (codes "0x0000000A") unit no_variants) };
+
+    ghost value = { λ _. unit_variant_value (codes "0x42005C") (codes "0x0000000A") };
+
+    ghost plain = { (refl, refl) };
+
+    fn read_item<'b>(
+        scope: &reader::Scope<'b, A>,
+        cursor: &mut reader::Cursor<'b, A>,
+    ) -> reader::Step<Self, A> {
+        cursor.listed(scope, &[("0x0000000A", GetResponseItemOperation)])
+    }
+}
+
+/// What `result_status` of a `GetResponseItem` always is.
+#[derive(Clone, Copy, Debug, PartialEq, Eq)]
+pub struct GetResponseItemResultStatus;
+
+impl reader::Listed for GetResponseItemResultStatus {
+    ghost own = { codes "0x42007F" };
+
+    ghost variants = { variant (codes "0x00000000") unit no_variants };
+
+    ghost value = { λ _. unit_variant_value (codes "0x42007F") (codes "0x00000000") };
+}
+
+impl<A: Allocator + Copy> reader::ReadItem<A> for GetResponseItemResultStatus {
+    ghost form = { enum (codes "0x42007F") (variant (codes "0x00000000") unit no_variants) };
+
+    ghost value = { λ _. unit_variant_value (codes "0x42007F") (codes "0x00000000") };
+
+    ghost plain = { (refl, refl) };
+
+    fn read_item<'b>(
+        scope: &reader::Scope<'b, A>,
+        cursor: &mut reader::Cursor<'b, A>,
+    ) -> reader::Step<Self, A> {
+        cursor.listed(scope, &[("0x00000000", GetResponseItemResultStatus)])
+    }
 }
 
 /// A response of one item.
@@ -174,5 +374,53 @@ impl<A: Allocator + Copy> Deserialize<A> for GetResponse<A> {
         let header = reading::nested::<Self, ResponseHeader, A>(alloc, &mut parts, 0)?;
         let item = reading::nested::<Self, GetResponseItem<A>, A>(alloc, &mut parts, 1)?;
         Ok(GetResponse { header, item })
+    }
+
+    #[tactic(auto, unfolding(kmip_ttlv_types::specs::Digits::six_digits, crate::specs::Responses::read_get_response))]
+    fn read(alloc: A, bytes: &[u8]) -> Result<Self, error::Error<A>> {
+        reader::read_message(alloc, bytes)
+    }
+}
+
+impl<A: Allocator + Copy> reader::ReadStructure<A> for GetResponse<A> {
+    ghost TAG = { 0x42007B };
+
+    ghost DENIES_UNKNOWN = { false };
+
+    ghost values = { λ x. fields_in (read_get_response x) };
+
+    type Fields = (
+        reader::Nested<ResponseHeader>,
+        (reader::Nested<GetResponseItem<A>>, ()),
+    );
+
+    const TAG: u32 = 0x42007B;
+
+    const DENIES_UNKNOWN: bool = false;
+
+    #[tactic(auto, unfolding(kmip_ttlv_types::specs::Digits::six_digits, crate::specs::Responses::read_get_response, crate::specs::Headers::response_header_value, crate::specs::Responses::read_get_response_item))]
+    fn from_fields(fields: (ResponseHeader, (GetResponseItem<A>, ()))) -> Self {
+        let (header, (item, ())) = fields;
+        GetResponse { header, item }
+    }
+}
+
+impl<A: Allocator + Copy> reader::ReadNested<A> for GetResponse<A> {
+    ghost TAG = { 0x42007B };
+
+    ghost fields = { struct_fields get_response_form };
+
+    ghost denies_unknown = { false };
+
+    ghost values = { λ x. fields_in (read_get_response x) };
+
+    const TAG: u32 = 0x42007B;
+
+    #[tactic(auto, unfolding(kmip_ttlv_types::specs::Digits::six_digits, crate::specs::Responses::read_get_response))]
+    fn read_nested<'b>(
+        scope: &reader::Scope<'b, A>,
+        cursor: &mut reader::Cursor<'b, A>,
+    ) -> reader::Step<Self, A> {
+        reader::read_form(scope, cursor)
     }
 }

@@ -1,13 +1,15 @@
 // Written by codegen from types.table: change that, and run codegen/codegen.
 //! How a key is wrapped (KMIP 1.0, sections 2.1.5, 3.6 and 9.1.3.2).
 
-ghost use Rattle.std.specs.Prelude.{◌≡◌};
-ghost use Rattle.get_messages.specs.Wrappings.{wrapping_method_form, wrapping_method_value, wrapping_method_number, block_cipher_mode_form, block_cipher_mode_value, block_cipher_mode_number, padding_method_form, padding_method_value, padding_method_number, hashing_algorithm_form, hashing_algorithm_value, hashing_algorithm_number, role_type_form, role_type_value, role_type_number, cryptographic_parameters_form, written_cryptographic_parameters, read_cryptographic_parameters, encryption_key_information_form, written_encryption_key_information, read_encryption_key_information, mac_signature_key_information_form, written_mac_signature_key_information, read_mac_signature_key_information, key_wrapping_data_form, written_key_wrapping_data, read_key_wrapping_data};
+ghost use Rattle.std.specs.Prelude.{◌≡◌, refl, codes, true};
+ghost use Rattle.kmip_ttlv.specs.Spots.{fields_in, struct_fields};
+ghost use Rattle.get_messages.specs.Wrappings.{wrapping_method_form, wrapping_method_value, wrapping_method_number, wrapping_method_variants, block_cipher_mode_form, block_cipher_mode_value, block_cipher_mode_number, block_cipher_mode_variants, padding_method_form, padding_method_value, padding_method_number, padding_method_variants, hashing_algorithm_form, hashing_algorithm_value, hashing_algorithm_number, hashing_algorithm_variants, role_type_form, role_type_value, role_type_number, role_type_variants, cryptographic_parameters_form, written_cryptographic_parameters, read_cryptographic_parameters, encryption_key_information_form, written_encryption_key_information, read_encryption_key_information, mac_signature_key_information_form, written_mac_signature_key_information, read_mac_signature_key_information, key_wrapping_data_form, written_key_wrapping_data, read_key_wrapping_data};
 
 use kmip_ttlv::messages::reading::Readable;
 use kmip_ttlv::messages::{choices, reading, shapes, writing};
 use kmip_ttlv::shape::{Data, Deserialize, Serialize, Shape};
 use kmip_ttlv::visit::Visitor;
+use kmip_ttlv::{error, reader};
 use std::alloc::{AllocError, Allocator, Global};
 
 /// What was done to wrap a key.
@@ -77,6 +79,30 @@ impl<A: Allocator + Copy> Deserialize<A> for WrappingMethod {
     #[tactic(auto, unfolding(crate::specs::Wrappings::wrapping_method_value))]
     fn from_data(_alloc: A, value: &mut Data<A>) -> Result<Self, AllocError> {
         Ok(choices::unit::<Self, A>(value, &WRAPPING_METHOD))
+    }
+}
+
+impl reader::Listed for WrappingMethod {
+    ghost own = { codes "0x42009E" };
+
+    ghost variants = { wrapping_method_variants };
+
+    ghost value = { wrapping_method_value };
+}
+
+impl<A: Allocator + Copy> reader::ReadItem<A> for WrappingMethod {
+    ghost form = { wrapping_method_form };
+
+    ghost value = { wrapping_method_value };
+
+    ghost plain = { (refl, refl) };
+
+    #[tactic(auto, unfolding(kmip_ttlv_types::specs::Digits::six_digits, crate::specs::Wrappings::wrapping_method_value))]
+    fn read_item<'b>(
+        scope: &reader::Scope<'b, A>,
+        cursor: &mut reader::Cursor<'b, A>,
+    ) -> reader::Step<Self, A> {
+        cursor.listed(scope, &WRAPPING_METHOD)
     }
 }
 
@@ -198,6 +224,30 @@ impl<A: Allocator + Copy> Deserialize<A> for BlockCipherMode {
     }
 }
 
+impl reader::Listed for BlockCipherMode {
+    ghost own = { codes "0x420011" };
+
+    ghost variants = { block_cipher_mode_variants };
+
+    ghost value = { block_cipher_mode_value };
+}
+
+impl<A: Allocator + Copy> reader::ReadItem<A> for BlockCipherMode {
+    ghost form = { block_cipher_mode_form };
+
+    ghost value = { block_cipher_mode_value };
+
+    ghost plain = { (refl, refl) };
+
+    #[tactic(auto, unfolding(kmip_ttlv_types::specs::Digits::six_digits, crate::specs::Wrappings::block_cipher_mode_value))]
+    fn read_item<'b>(
+        scope: &reader::Scope<'b, A>,
+        cursor: &mut reader::Cursor<'b, A>,
+    ) -> reader::Step<Self, A> {
+        cursor.listed(scope, &BLOCK_CIPHER_MODE)
+    }
+}
+
 /// How content is filled up to whole blocks.
 #[derive(Clone, Copy, Debug, PartialEq, Eq)]
 pub enum PaddingMethod {
@@ -288,6 +338,30 @@ impl<A: Allocator + Copy> Deserialize<A> for PaddingMethod {
     }
 }
 
+impl reader::Listed for PaddingMethod {
+    ghost own = { codes "0x42005F" };
+
+    ghost variants = { padding_method_variants };
+
+    ghost value = { padding_method_value };
+}
+
+impl<A: Allocator + Copy> reader::ReadItem<A> for PaddingMethod {
+    ghost form = { padding_method_form };
+
+    ghost value = { padding_method_value };
+
+    ghost plain = { (refl, refl) };
+
+    #[tactic(auto, unfolding(kmip_ttlv_types::specs::Digits::six_digits, crate::specs::Wrappings::padding_method_value))]
+    fn read_item<'b>(
+        scope: &reader::Scope<'b, A>,
+        cursor: &mut reader::Cursor<'b, A>,
+    ) -> reader::Step<Self, A> {
+        cursor.listed(scope, &PADDING_METHOD)
+    }
+}
+
 /// What makes a hash.
 #[derive(Clone, Copy, Debug, PartialEq, Eq)]
 pub enum HashingAlgorithm {
@@ -367,6 +441,30 @@ impl<A: Allocator + Copy> Deserialize<A> for HashingAlgorithm {
     #[tactic(auto, unfolding(crate::specs::Wrappings::hashing_algorithm_value))]
     fn from_data(_alloc: A, value: &mut Data<A>) -> Result<Self, AllocError> {
         Ok(choices::unit::<Self, A>(value, &HASHING_ALGORITHM))
+    }
+}
+
+impl reader::Listed for HashingAlgorithm {
+    ghost own = { codes "0x420038" };
+
+    ghost variants = { hashing_algorithm_variants };
+
+    ghost value = { hashing_algorithm_value };
+}
+
+impl<A: Allocator + Copy> reader::ReadItem<A> for HashingAlgorithm {
+    ghost form = { hashing_algorithm_form };
+
+    ghost value = { hashing_algorithm_value };
+
+    ghost plain = { (refl, refl) };
+
+    #[tactic(auto, unfolding(kmip_ttlv_types::specs::Digits::six_digits, crate::specs::Wrappings::hashing_algorithm_value))]
+    fn read_item<'b>(
+        scope: &reader::Scope<'b, A>,
+        cursor: &mut reader::Cursor<'b, A>,
+    ) -> reader::Step<Self, A> {
+        cursor.listed(scope, &HASHING_ALGORITHM)
     }
 }
 
@@ -504,6 +602,30 @@ impl<A: Allocator + Copy> Deserialize<A> for RoleType {
     }
 }
 
+impl reader::Listed for RoleType {
+    ghost own = { codes "0x420083" };
+
+    ghost variants = { role_type_variants };
+
+    ghost value = { role_type_value };
+}
+
+impl<A: Allocator + Copy> reader::ReadItem<A> for RoleType {
+    ghost form = { role_type_form };
+
+    ghost value = { role_type_value };
+
+    ghost plain = { (refl, refl) };
+
+    #[tactic(auto, unfolding(kmip_ttlv_types::specs::Digits::six_digits, crate::specs::Wrappings::role_type_value))]
+    fn read_item<'b>(
+        scope: &reader::Scope<'b, A>,
+        cursor: &mut reader::Cursor<'b, A>,
+    ) -> reader::Step<Self, A> {
+        cursor.listed(scope, &ROLE_TYPE)
+    }
+}
+
 /// How a key is used.
 #[derive(Clone, Copy, Debug, PartialEq, Eq)]
 pub struct CryptographicParameters {
@@ -574,6 +696,70 @@ impl<A: Allocator + Copy> Deserialize<A> for CryptographicParameters {
             role_type,
         })
     }
+
+    #[tactic(auto, unfolding(kmip_ttlv_types::specs::Digits::six_digits, crate::specs::Wrappings::read_cryptographic_parameters))]
+    fn read(alloc: A, bytes: &[u8]) -> Result<Self, error::Error<A>> {
+        reader::read_message(alloc, bytes)
+    }
+}
+
+impl<A: Allocator + Copy> reader::ReadStructure<A> for CryptographicParameters {
+    ghost TAG = { 0x42002B };
+
+    ghost DENIES_UNKNOWN = { true };
+
+    ghost values = { λ x. fields_in (read_cryptographic_parameters x) };
+
+    type Fields = reader::Four<
+        reader::OptionalItem<BlockCipherMode, 0x420011>,
+        reader::OptionalItem<PaddingMethod, 0x42005F>,
+        reader::OptionalItem<HashingAlgorithm, 0x420038>,
+        reader::OptionalItem<RoleType, 0x420083>,
+        (),
+    >;
+
+    const TAG: u32 = 0x42002B;
+
+    const DENIES_UNKNOWN: bool = true;
+
+    #[tactic(auto, unfolding(kmip_ttlv_types::specs::Digits::six_digits, crate::specs::Wrappings::read_cryptographic_parameters))]
+    fn from_fields(
+        fields: (
+            Option<BlockCipherMode>,
+            (
+                Option<PaddingMethod>,
+                (Option<HashingAlgorithm>, (Option<RoleType>, ())),
+            ),
+        ),
+    ) -> Self {
+        let (block_cipher_mode, (padding_method, (hashing_algorithm, (role_type, ())))) = fields;
+        CryptographicParameters {
+            block_cipher_mode,
+            padding_method,
+            hashing_algorithm,
+            role_type,
+        }
+    }
+}
+
+impl<A: Allocator + Copy> reader::ReadNested<A> for CryptographicParameters {
+    ghost TAG = { 0x42002B };
+
+    ghost fields = { struct_fields cryptographic_parameters_form };
+
+    ghost denies_unknown = { true };
+
+    ghost values = { λ x. fields_in (read_cryptographic_parameters x) };
+
+    const TAG: u32 = 0x42002B;
+
+    #[tactic(auto, unfolding(kmip_ttlv_types::specs::Digits::six_digits, crate::specs::Wrappings::read_cryptographic_parameters))]
+    fn read_nested<'b>(
+        scope: &reader::Scope<'b, A>,
+        cursor: &mut reader::Cursor<'b, A>,
+    ) -> reader::Step<Self, A> {
+        reader::read_form(scope, cursor)
+    }
 }
 
 /// The key that encrypted.
@@ -638,6 +824,57 @@ impl<A: Allocator + Copy> Deserialize<A> for EncryptionKeyInformation<A> {
             cryptographic_parameters,
         })
     }
+
+    #[tactic(auto, unfolding(kmip_ttlv_types::specs::Digits::six_digits, crate::specs::Wrappings::read_encryption_key_information))]
+    fn read(alloc: A, bytes: &[u8]) -> Result<Self, error::Error<A>> {
+        reader::read_message(alloc, bytes)
+    }
+}
+
+impl<A: Allocator + Copy> reader::ReadStructure<A> for EncryptionKeyInformation<A> {
+    ghost TAG = { 0x420036 };
+
+    ghost DENIES_UNKNOWN = { true };
+
+    ghost values = { λ x. fields_in (read_encryption_key_information x) };
+
+    type Fields = (
+        reader::Leaf<String<A>, 0x420094>,
+        (reader::OptionalNested<CryptographicParameters>, ()),
+    );
+
+    const TAG: u32 = 0x420036;
+
+    const DENIES_UNKNOWN: bool = true;
+
+    #[tactic(auto, unfolding(kmip_ttlv_types::specs::Digits::six_digits, crate::specs::Wrappings::read_encryption_key_information, crate::specs::Wrappings::read_cryptographic_parameters))]
+    fn from_fields(fields: (String<A>, (Option<CryptographicParameters>, ()))) -> Self {
+        let (unique_identifier, (cryptographic_parameters, ())) = fields;
+        EncryptionKeyInformation {
+            unique_identifier,
+            cryptographic_parameters,
+        }
+    }
+}
+
+impl<A: Allocator + Copy> reader::ReadNested<A> for EncryptionKeyInformation<A> {
+    ghost TAG = { 0x420036 };
+
+    ghost fields = { struct_fields encryption_key_information_form };
+
+    ghost denies_unknown = { true };
+
+    ghost values = { λ x. fields_in (read_encryption_key_information x) };
+
+    const TAG: u32 = 0x420036;
+
+    #[tactic(auto, unfolding(kmip_ttlv_types::specs::Digits::six_digits, crate::specs::Wrappings::read_encryption_key_information))]
+    fn read_nested<'b>(
+        scope: &reader::Scope<'b, A>,
+        cursor: &mut reader::Cursor<'b, A>,
+    ) -> reader::Step<Self, A> {
+        reader::read_form(scope, cursor)
+    }
 }
 
 /// The key that made a MAC or a signature.
@@ -701,6 +938,57 @@ impl<A: Allocator + Copy> Deserialize<A> for MacSignatureKeyInformation<A> {
             unique_identifier,
             cryptographic_parameters,
         })
+    }
+
+    #[tactic(auto, unfolding(kmip_ttlv_types::specs::Digits::six_digits, crate::specs::Wrappings::read_mac_signature_key_information))]
+    fn read(alloc: A, bytes: &[u8]) -> Result<Self, error::Error<A>> {
+        reader::read_message(alloc, bytes)
+    }
+}
+
+impl<A: Allocator + Copy> reader::ReadStructure<A> for MacSignatureKeyInformation<A> {
+    ghost TAG = { 0x42004E };
+
+    ghost DENIES_UNKNOWN = { true };
+
+    ghost values = { λ x. fields_in (read_mac_signature_key_information x) };
+
+    type Fields = (
+        reader::Leaf<String<A>, 0x420094>,
+        (reader::OptionalNested<CryptographicParameters>, ()),
+    );
+
+    const TAG: u32 = 0x42004E;
+
+    const DENIES_UNKNOWN: bool = true;
+
+    #[tactic(auto, unfolding(kmip_ttlv_types::specs::Digits::six_digits, crate::specs::Wrappings::read_mac_signature_key_information, crate::specs::Wrappings::read_cryptographic_parameters))]
+    fn from_fields(fields: (String<A>, (Option<CryptographicParameters>, ()))) -> Self {
+        let (unique_identifier, (cryptographic_parameters, ())) = fields;
+        MacSignatureKeyInformation {
+            unique_identifier,
+            cryptographic_parameters,
+        }
+    }
+}
+
+impl<A: Allocator + Copy> reader::ReadNested<A> for MacSignatureKeyInformation<A> {
+    ghost TAG = { 0x42004E };
+
+    ghost fields = { struct_fields mac_signature_key_information_form };
+
+    ghost denies_unknown = { true };
+
+    ghost values = { λ x. fields_in (read_mac_signature_key_information x) };
+
+    const TAG: u32 = 0x42004E;
+
+    #[tactic(auto, unfolding(kmip_ttlv_types::specs::Digits::six_digits, crate::specs::Wrappings::read_mac_signature_key_information))]
+    fn read_nested<'b>(
+        scope: &reader::Scope<'b, A>,
+        cursor: &mut reader::Cursor<'b, A>,
+    ) -> reader::Step<Self, A> {
+        reader::read_form(scope, cursor)
     }
 }
 
@@ -790,5 +1078,79 @@ impl<A: Allocator + Copy> Deserialize<A> for KeyWrappingData<A> {
             mac_signature,
             iv_counter_nonce,
         })
+    }
+
+    #[tactic(auto, unfolding(kmip_ttlv_types::specs::Digits::six_digits, crate::specs::Wrappings::read_key_wrapping_data))]
+    fn read(alloc: A, bytes: &[u8]) -> Result<Self, error::Error<A>> {
+        reader::read_message(alloc, bytes)
+    }
+}
+
+impl<A: Allocator + Copy> reader::ReadStructure<A> for KeyWrappingData<A> {
+    ghost TAG = { 0x420046 };
+
+    ghost DENIES_UNKNOWN = { true };
+
+    ghost values = { λ x. fields_in (read_key_wrapping_data x) };
+
+    type Fields = reader::Four<
+        reader::Item<WrappingMethod, 0x42009E>,
+        reader::OptionalNested<EncryptionKeyInformation<A>>,
+        reader::OptionalNested<MacSignatureKeyInformation<A>>,
+        reader::OptionalLeaf<Vec<u8, A>, 0x42004D>,
+        (reader::OptionalLeaf<Vec<u8, A>, 0x42003D>, ()),
+    >;
+
+    const TAG: u32 = 0x420046;
+
+    const DENIES_UNKNOWN: bool = true;
+
+    #[tactic(auto, unfolding(kmip_ttlv_types::specs::Digits::six_digits, crate::specs::Wrappings::read_key_wrapping_data, crate::specs::Wrappings::read_encryption_key_information, crate::specs::Wrappings::read_mac_signature_key_information))]
+    fn from_fields(
+        fields: (
+            WrappingMethod,
+            (
+                Option<EncryptionKeyInformation<A>>,
+                (
+                    Option<MacSignatureKeyInformation<A>>,
+                    (Option<Vec<u8, A>>, (Option<Vec<u8, A>>, ())),
+                ),
+            ),
+        ),
+    ) -> Self {
+        let (
+            wrapping_method,
+            (
+                encryption_key_information,
+                (mac_signature_key_information, (mac_signature, (iv_counter_nonce, ()))),
+            ),
+        ) = fields;
+        KeyWrappingData {
+            wrapping_method,
+            encryption_key_information,
+            mac_signature_key_information,
+            mac_signature,
+            iv_counter_nonce,
+        }
+    }
+}
+
+impl<A: Allocator + Copy> reader::ReadNested<A> for KeyWrappingData<A> {
+    ghost TAG = { 0x420046 };
+
+    ghost fields = { struct_fields key_wrapping_data_form };
+
+    ghost denies_unknown = { true };
+
+    ghost values = { λ x. fields_in (read_key_wrapping_data x) };
+
+    const TAG: u32 = 0x420046;
+
+    #[tactic(auto, unfolding(kmip_ttlv_types::specs::Digits::six_digits, crate::specs::Wrappings::read_key_wrapping_data))]
+    fn read_nested<'b>(
+        scope: &reader::Scope<'b, A>,
+        cursor: &mut reader::Cursor<'b, A>,
+    ) -> reader::Step<Self, A> {
+        reader::read_form(scope, cursor)
     }
 }

@@ -12,7 +12,7 @@ use crate::failure::Step;
 use crate::item::ReadItem;
 use crate::leaf::LeafValue;
 use crate::scope::Scope;
-use crate::structure::{ReadStructure, read_form};
+use crate::structure::ReadNested;
 use std::alloc::Allocator;
 use std::marker::PhantomData;
 
@@ -44,16 +44,16 @@ pub struct StructureElement<T> {
     kind: PhantomData<T>,
 }
 
-impl<T: ReadStructure<A>, A: Allocator + Copy> Element<A> for StructureElement<T> {
+impl<T: ReadNested<A>, A: Allocator + Copy> Element<A> for StructureElement<T> {
     type Read = T;
 
-    ghost form = { structure_form T.TAG T.Fields.fields T.DENIES_UNKNOWN };
+    ghost form = { structure_form T.TAG T.fields T.denies_unknown };
 
     ghost value = { structure_value T.TAG T.values };
 
     #[inline(always)]
     fn read_one<'b>(scope: &Scope<'b, A>, cursor: &mut Cursor<'b, A>) -> Step<T, A> {
-        read_form(scope, cursor)
+        T::read_nested(scope, cursor)
     }
 }
 

@@ -124,6 +124,45 @@ impl<H: Field<A>, R: FieldList<A>, A: Allocator + Copy> FieldList<A> for (H, R) 
     }
 }
 
+/// Four fields, and others behind them: the same as pairs of them. In pairs alone each field more takes the prover twice as
+/// long, so a longer list has these.
+#[derive(Drop)]
+pub struct Four<F1, F2, F3, F4, R> {
+    kind: PhantomData<(F1, (F2, (F3, (F4, R))))>,
+}
+
+impl<
+    F1: Field<A>,
+    F2: Field<A>,
+    F3: Field<A>,
+    F4: Field<A>,
+    R: FieldList<A>,
+    A: Allocator + Copy,
+> FieldList<A> for Four<F1, F2, F3, F4, R> {
+    type Read = (F1::Read, (F2::Read, (F3::Read, (F4::Read, R::Read))));
+
+    ghost fields = { field F1.name F1.form (field F2.name F2.form (field F3.name F3.form (field F4.name F4.form R.fields))) };
+
+    ghost values = { λ x. value (F1.stands_for x.0) (value (F2.stands_for x.1.0) (value (F3.stands_for x.1.1.0)
+        (value (F4.stands_for x.1.1.1.0) (R.values x.1.1.1.1)))) };
+
+    fn has_fields() -> bool {
+        true
+    }
+
+    fn is_field(tag: TtlvTag) -> bool {
+        <(F1, (F2, (F3, (F4, R)))) as FieldList<A>>::is_field(tag)
+    }
+
+    #[inline(always)]
+    fn read<'b>(
+        scope: &Scope<'b, A>,
+        cursor: &mut Cursor<'b, A>,
+    ) -> Step<(F1::Read, (F2::Read, (F3::Read, (F4::Read, R::Read)))), A> {
+        <(F1, (F2, (F3, (F4, R)))) as FieldList<A>>::read(scope, cursor)
+    }
+}
+
 /// A leaf of this tag, within its wrapper.
 #[derive(Drop)]
 pub struct Leaf<K, const TAG: u32> {

@@ -8,7 +8,7 @@ pub use crate::choice::{Choice, OneOf, Rule, Variant, VariantList, read_choice};
 pub use crate::cursor::Cursor;
 pub use crate::element::{BareLeaf, Element, ItemElement, LeafElement, StructureElement};
 pub use crate::failure::{Cause, Failure, FaultAt, Step};
-pub use crate::fields::{Field, FieldList, Leaf, OptionalLeaf};
+pub use crate::fields::{Field, FieldList, Four, Leaf, OptionalLeaf};
 pub use crate::item::{Item, OptionalItem, OptionalSeveralItems, ReadItem, SeveralItems};
 pub use crate::leaf::{Leaf as LeafShape, LeafValue};
 pub use crate::listed::Listed;
@@ -16,5 +16,7 @@ pub use crate::scope::Scope;
 pub use crate::sequence::{
     OptionalOf, OptionalSeveral, OptionalSeveralLeaves, Sequence, Several, SeveralLeaves, SeveralOf,
 };
-pub use crate::structure::{Nested, OptionalNested, ReadStructure, read_message};
+pub use crate::structure::{
+    Nested, OptionalNested, ReadNested, ReadStructure, read_form, read_message,
+};
 pub use crate::values::{BigInteger, Interval};

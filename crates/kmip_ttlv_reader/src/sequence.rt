@@ -13,7 +13,7 @@ use crate::failure::Step;
 use crate::fields::Field;
 use crate::head::{goes_on, tag_at, type_there};
 use crate::scope::Scope;
-use crate::structure::ReadStructure;
+use crate::structure::ReadNested;
 use kmip_ttlv_base::types::TtlvTag;
 use std::alloc::Allocator;
 use std::marker::PhantomData;
@@ -178,12 +178,12 @@ pub struct Several<T> {
     kind: PhantomData<T>,
 }
 
-impl<T: ReadStructure<A>, A: Allocator + Copy> Field<A> for Several<T> {
+impl<T: ReadNested<A>, A: Allocator + Copy> Field<A> for Several<T> {
     type Read = Vec<T, A>;
 
     ghost name = { tag_text T.TAG };
 
-    ghost form = { seq (structure_form T.TAG T.Fields.fields T.DENIES_UNKNOWN) };
+    ghost form = { seq (structure_form T.TAG T.fields T.denies_unknown) };
 
     ghost stands_for = { λ xs. seq_value (values_by (structure_value T.TAG T.values) xs.items) };
 
@@ -203,12 +203,12 @@ pub struct OptionalSeveral<T> {
     kind: PhantomData<T>,
 }
 
-impl<T: ReadStructure<A>, A: Allocator + Copy> Field<A> for OptionalSeveral<T> {
+impl<T: ReadNested<A>, A: Allocator + Copy> Field<A> for OptionalSeveral<T> {
     type Read = Option<Vec<T, A>>;
 
     ghost name = { tag_text T.TAG };
 
-    ghost form = { option (seq (structure_form T.TAG T.Fields.fields T.DENIES_UNKNOWN)) };
+    ghost form = { option (seq (structure_form T.TAG T.fields T.denies_unknown)) };
 
     ghost stands_for = { optional_value (λ xs. seq_value (values_by (structure_value T.TAG T.values) xs.items)) };
 

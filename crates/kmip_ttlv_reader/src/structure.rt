@@ -51,6 +51,37 @@ pub trait ReadStructure<A: Allocator + Copy>: Sized + Drop {
         ensures { values result ≡ Self.Fields.values fields };
 }
 
+/// A type that stands for a structure, as a part of another: what its `ReadStructure` says, in names of its own. So what
+/// contains it is proved without a look at its fields.
+pub trait ReadNested<A: Allocator + Copy>: Sized + Drop {
+    ghost use Rattle.std.specs.Prelude.{ℕ, Bool};
+    ghost use Rattle.kmip_ttlv_base.specs.Values.{Values};
+    ghost use Rattle.kmip_ttlv_base.specs.Forms.{Fields};
+
+    // The structure's tag.
+    ghost TAG: { ℕ };
+
+    // The names and forms of the fields.
+    ghost fields: { Fields };
+
+    // Whether items that no field names are refused.
+    ghost denies_unknown: { Bool };
+
+    // The values of the fields.
+    ghost values: { Self → Values };
+
+    /// The structure's tag.
+    const TAG: u32;
+
+    /// The structure, header and all, from the cursor on: by `read_form`.
+    fn read_nested<'b>(scope: &Scope<'b, A>, cursor: &mut Cursor<'b, A>) -> Step<Self, A>
+        requires within { IsWithin scope.now cursor.old }
+        ensures read { IsReadTo (structure_value TAG values) cursor.new
+            (at (outcome (structure_form TAG fields denies_unknown)) scope.now cursor.old) result }
+        ensures within { IfOk result (λ _. IsWithin scope.now cursor.new) }
+        ensures further { IfOk result (λ _. cursor.old.pos + 8 ≤ cursor.new.pos) };
+}
+
 // Where the content of a structure of this tag ends.
 #[tactic(auto, unfolding(crate::specs::Outcomes::opened), using(crate::proofs::Steps::failure_then))]
 #[inline(always)]
@@ -225,9 +256,9 @@ pub fn read_message<T: ReadStructure<A>, A: Allocator + Copy>(
     read_root(alloc, bytes)
 }
 
-// A structure within another, as its form has it.
+/// A structure within another, as its form has it.
 #[inline(always)]
-pub(crate) fn read_form<'b, T: ReadStructure<A>, A: Allocator + Copy>(
+pub fn read_form<'b, T: ReadStructure<A>, A: Allocator + Copy>(
     scope: &Scope<'b, A>,
     cursor: &mut Cursor<'b, A>,
 ) -> Step<T, A>
@@ -246,12 +277,12 @@ pub struct Nested<T> {
     kind: PhantomData<T>,
 }
 
-impl<T: ReadStructure<A>, A: Allocator + Copy> Field<A> for Nested<T> {
+impl<T: ReadNested<A>, A: Allocator + Copy> Field<A> for Nested<T> {
     type Read = T;
 
     ghost name = { tag_text T.TAG };
 
-    ghost form = { structure_form T.TAG T.Fields.fields T.DENIES_UNKNOWN };
+    ghost form = { structure_form T.TAG T.fields T.denies_unknown };
 
     ghost stands_for = { structure_value T.TAG T.values };
 
@@ -265,7 +296,7 @@ impl<T: ReadStructure<A>, A: Allocator + Copy> Field<A> for Nested<T> {
         if cursor.pos() == scope.end {
             return Err(missing_field(scope));
         }
-        read_form(scope, cursor)
+        T::read_nested(scope, cursor)
     }
 }
 
@@ -275,12 +306,12 @@ pub struct OptionalNested<T> {
     kind: PhantomData<T>,
 }
 
-impl<T: ReadStructure<A>, A: Allocator + Copy> Field<A> for OptionalNested<T> {
+impl<T: ReadNested<A>, A: Allocator + Copy> Field<A> for OptionalNested<T> {
     type Read = Option<T>;
 
     ghost name = { tag_text T.TAG };
 
-    ghost form = { option (structure_form T.TAG T.Fields.fields T.DENIES_UNKNOWN) };
+    ghost form = { option (structure_form T.TAG T.fields T.denies_unknown) };
 
     ghost stands_for = { optional_value (structure_value T.TAG T.values) };
 
@@ -298,6 +329,6 @@ impl<T: ReadStructure<A>, A: Allocator + Copy> Field<A> for OptionalNested<T> {
         if !is_tag(T::TAG, tag_at(scope.bytes, cursor.pos())) {
             return Ok(None);
         }
-        Ok(Some(read_form(scope, cursor)?))
+        Ok(Some(T::read_nested(scope, cursor)?))
     }
 }

@@ -25,6 +25,9 @@ abbrev pub closed_value : Closed → Value
 closed_value x = struct_value (codes "0xAAAAAA") (closed_values x)
 
 -- a Long Integer or a Date-Time under 0xBBBBBB
+abbrev pub moment_fields : Fields
+moment_fields = field (codes "0xBBBBBB") (newtype (codes "Transparent:0xBBBBBB") int64) no_fields
+
 abbrev pub moment_values : Moment → Values
 moment_values x = value (newtype_value (codes "Transparent:0xBBBBBB") (i64_value x.seconds)) no_values
 

@@ -4,7 +4,7 @@
 ghost use Rattle.std.specs.Prelude.{◌≡◌, true, false, refl, codes};
 ghost use Rattle.kmip_ttlv.specs.Outcomes.{root_outcome};
 ghost use Rattle.kmip_ttlv.specs.ReadResults.{IsReadAs};
-ghost use Rattle.reading_vectors.specs.Selves.{point_values, moment_values, whole_form, whole_values, whole_value, closed_form, closed_values, closed_value};
+ghost use Rattle.reading_vectors.specs.Selves.{number_fields, point_values, moment_fields, moment_values, whole_form, whole_values, whole_value, closed_form, closed_values, closed_value};
 ghost use Rattle.reading_vectors.specs.SelvesItems.{mark_form, mark_value, lists_form, lists_values, lists_value, maybes_form, maybes_values, maybes_value};
 ghost use Rattle.reading_vectors.specs.SelvesChoices.{order_form, order_variants, order_value, detail_form, detail_value, task_form, task_values, task_value};
 
@@ -14,8 +14,8 @@ use kmip_ttlv::messages::{reading, shapes};
 use kmip_ttlv::reader::{
     BareLeaf, Choice, Cursor, Item, ItemElement, Leaf, LeafElement, Listed, Nested, OneOf,
     OptionalItem, OptionalLeaf, OptionalNested, OptionalSeveral, OptionalSeveralItems,
-    OptionalSeveralLeaves, ReadItem, ReadStructure, Rule, Scope, Several, SeveralItems,
-    SeveralLeaves, Step, StructureElement, Variant, read_choice, read_message,
+    OptionalSeveralLeaves, ReadItem, ReadNested, ReadStructure, Rule, Scope, Several, SeveralItems,
+    SeveralLeaves, Step, StructureElement, Variant, read_choice, read_form, read_message,
 };
 use kmip_ttlv::shape::{Data, Deserialize, Shape};
 use std::alloc::{AllocError, Allocator, Global};
@@ -46,6 +46,23 @@ impl<A: Allocator + Copy> ReadStructure<A> for Point {
     }
 }
 
+impl<A: Allocator + Copy> ReadNested<A> for Point {
+    ghost TAG = { 14540253 };
+
+    ghost fields = { number_fields };
+
+    ghost denies_unknown = { false };
+
+    ghost values = { point_values };
+
+    const TAG: u32 = 0xDDDDDD;
+
+    #[tactic(auto, unfolding(kmip_ttlv_types::specs::Digits::six_digits))]
+    fn read_nested<'b>(scope: &Scope<'b, A>, cursor: &mut Cursor<'b, A>) -> Step<Point, A> {
+        read_form(scope, cursor)
+    }
+}
+
 /// A structure of a Long Integer or a Date-Time.
 #[derive(Clone, Copy, Debug, PartialEq, Eq)]
 pub struct Moment {
@@ -69,6 +86,23 @@ impl<A: Allocator + Copy> ReadStructure<A> for Moment {
     fn from_fields(fields: (i64, ())) -> Moment {
         let (seconds, ()) = fields;
         Moment { seconds }
+    }
+}
+
+impl<A: Allocator + Copy> ReadNested<A> for Moment {
+    ghost TAG = { 15658734 };
+
+    ghost fields = { moment_fields };
+
+    ghost denies_unknown = { false };
+
+    ghost values = { moment_values };
+
+    const TAG: u32 = 0xEEEEEE;
+
+    #[tactic(auto, unfolding(kmip_ttlv_types::specs::Digits::six_digits))]
+    fn read_nested<'b>(scope: &Scope<'b, A>, cursor: &mut Cursor<'b, A>) -> Step<Moment, A> {
+        read_form(scope, cursor)
     }
 }
 

@@ -9,6 +9,8 @@
 #![tactic(auto)]
 
 #[cfg(test)]
+mod both_ways;
+#[cfg(test)]
 mod bytes;
 pub mod choice;
 pub mod data;

@@ -143,11 +143,7 @@ fn stays_closed<A: Allocator + Copy>(mut serializer: TtlvSerializer<A>, request:
 }
 
 // What a serializer answers.
-fn serializer_answer(
-    memory: &BoundedAllocator<Global>,
-    request: &Data,
-    expected: &[u8],
-) -> Answer {
+fn serializer_answer(memory: &BoundedAllocator<Global>, request: &Data, expected: &[u8]) -> Answer {
     let mut serializer = TtlvSerializer::new(memory);
     match &serializer.serialize(request) {
         Ok(()) => answer_if(gives(serializer, expected), Answer::Whole),

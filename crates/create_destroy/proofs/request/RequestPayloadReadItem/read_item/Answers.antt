@@ -1,0 +1,11 @@
+use Rattle.kmip_ttlv_types.specs.Digits as digits
+use Rattle.create_destroy.specs.Requests.{read_request_payload, read_create_payload, read_destroy_payload}
+use Rattle.create_destroy.proofs.request.RequestPayloadReadItem.read_item.Goals as goal
+
+pub returns-in-First-clause-read : goal.returns-in-First-clause-read
+unfolding digits.six_digits read_request_payload read_create_payload read_destroy_payload
+returns-in-First-clause-read g c = rw c.in-First.is at c.in_ok-held.ensures.read
+
+pub returns-in-Other-clause-read : goal.returns-in-Other-clause-read
+unfolding digits.six_digits read_request_payload read_create_payload read_destroy_payload
+returns-in-Other-clause-read g c = rw c.in-Other.is at c.in_ok-held.ensures.read
