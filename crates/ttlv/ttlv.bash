@@ -1,8 +1,8 @@
-# Completion of the command ttlv for bash.
+# Completion of the command ttlv for bash. Written by codegen/completions.
 _ttlv() {
     local word=${COMP_WORDS[COMP_CWORD]} before=${COMP_WORDS[COMP_CWORD - 1]} command= options=
     case $before in
-    --input) COMPREPLY=($(compgen -W 'raw hex base64' -- "$word")); return ;;
+    --input) COMPREPLY=($(compgen -W 'raw hex base64 base64url pem xxd hexdump od tcpdump' -- "$word")); return ;;
     --prefix) COMPREPLY=(); return ;;
     esac
     [ "$COMP_CWORD" -gt 1 ] && command=${COMP_WORDS[1]}
@@ -11,7 +11,8 @@ _ttlv() {
     show) options='--redact --raw --names --input --help' ;;
     diag) options='--prefix --closed --input --help' ;;
     undiag) options='--prefix --names --help' ;;
-    check | hex) options='--input --help' ;;
+    check) options='--input --help' ;;
+    hex) options='--input --help' ;;
     esac
     if [ -z "$command" ] || [[ $word == -* ]]; then
         COMPREPLY=($(compgen -W "$options" -- "$word"))

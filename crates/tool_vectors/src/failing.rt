@@ -1,8 +1,8 @@
 //! Runs where memory is refused, and where the input, the output or the errors fail.
 
 use crate::runs::{HIDDEN_LINES, Outcome, VERSION, VERSION_LINES, back_with, of, run_with};
-use kmip_ttlv_names::{standard_names, standard_values};
 use kmip_ttlv_memory::BoundedAllocator;
+use kmip_ttlv_names::{standard_names, standard_values};
 use std::alloc::{AllocError, Global};
 use std::io;
 use std::io::{ErrorKind, Read, Write};

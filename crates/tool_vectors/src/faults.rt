@@ -66,66 +66,140 @@ const MALFORMED: [Row; 8] = [
 ];
 
 // Input that stands for no bytes.
-const UNDECODED: [Row; 10] = [
+const UNDECODED: [Row; 22] = [
     (
         Encoding::Detected,
         "42x9",
         "",
-        "capture: byte 2: this is no digit of the encoding\n",
+        "capture: taken as hexadecimal: byte 2, 'x', is no digit (--input)\n",
     ),
     (
         Encoding::Detected,
         "42 0g",
         "",
-        "capture: byte 4: this is no digit of the encoding\n",
+        "capture: taken as hexadecimal: byte 4, 'g', is no digit (--input)\n",
     ),
     (
         Encoding::Detected,
         "42 0",
         "",
-        "capture: byte 4: digits are missing at the end, or too many are there\n",
+        "capture: taken as hexadecimal: byte 4: digits are missing at the end, or too many are there (--input)\n",
+    ),
+    (
+        Encoding::Detected,
+        "42 00\u{7f}",
+        "",
+        "capture: taken as hexadecimal: byte 5, 0x7F, is no digit (--input)\n",
+    ),
+    (
+        Encoding::Detected,
+        "42 00é",
+        "",
+        "capture: taken as hexadecimal: byte 5, 0xC3, is no digit (--input)\n",
+    ),
+    (
+        Encoding::Detected,
+        "\u{feff}42 |",
+        "",
+        "capture: taken as hexadecimal: byte 6, '|', is no digit (--input)\n",
     ),
     (
         Encoding::Hexadecimal,
         "QgBp",
         "",
-        "capture: byte 0: this is no digit of the encoding\n",
+        "capture: taken as hexadecimal: byte 0, 'Q', is no digit\n",
     ),
     (
         Encoding::Base64,
         "Qg*p",
         "",
-        "capture: byte 2: this is no digit of the encoding\n",
+        "capture: taken as base64: byte 2, '*', is no digit\n",
+    ),
+    (
+        Encoding::Base64,
+        "Qg-p",
+        "",
+        "capture: taken as base64: byte 2, '-', is no digit\n",
+    ),
+    (
+        Encoding::Base64Url,
+        "Qg+p",
+        "",
+        "capture: taken as base64url: byte 2, '+', is no digit\n",
     ),
     (
         Encoding::Detected,
         "QgBpA",
         "",
-        "capture: byte 5: digits are missing at the end, or too many are there\n",
+        "capture: taken as base64: byte 5: digits are missing at the end, or too many are there (--input)\n",
     ),
     (
         Encoding::Detected,
         "Qg==QgBp",
         "",
-        "capture: byte 8: digits are missing at the end, or too many are there\n",
+        "capture: taken as base64: byte 8: digits are missing at the end, or too many are there (--input)\n",
     ),
     (
         Encoding::Base64,
         "QgBpQgA=QgBpQgBp",
         "",
-        "capture: byte 16: digits are missing at the end, or too many are there\n",
+        "capture: taken as base64: byte 16: digits are missing at the end, or too many are there\n",
     ),
     (
         Encoding::Base64,
         "QgBpQgB=",
         "",
-        "capture: byte 8: digits are missing at the end, or too many are there\n",
+        "capture: taken as base64: byte 8: digits are missing at the end, or too many are there\n",
+    ),
+    (
+        Encoding::Base64,
+        "QgBpQgA",
+        "",
+        "capture: taken as base64: byte 7: digits are missing at the end, or too many are there\n",
     ),
     (
         Encoding::Hexadecimal,
         "42 00 69 0",
         "",
-        "capture: byte 10: digits are missing at the end, or too many are there\n",
+        "capture: taken as hexadecimal: byte 10: digits are missing at the end, or too many are there\n",
+    ),
+    (
+        Encoding::Detected,
+        "-----BEGIN KMIP-----\nQg|B",
+        "",
+        "capture: taken as armoured base64: byte 23, '|', is no digit (--input)\n",
+    ),
+    // Lines that hexdump left out.
+    (
+        Encoding::Detected,
+        "00000000  42 00 69 01 00 00 00 20  42 00 6a 02 00 00 00 04  |B.i.... B.j.....|\n*\n",
+        "",
+        "capture: taken as a hexadecimal dump: byte 79, '*', is no digit (--input)\n",
+    ),
+    // Numbers of two bytes, whose order is the machine's.
+    (
+        Encoding::Detected,
+        "0000000 0042 0169 0000 2000\n",
+        "",
+        "capture: taken as a hexadecimal dump: byte 10, '4', is no digit (--input)\n",
+    ),
+    (
+        Encoding::Detected,
+        "00000000: 4200 690\n",
+        "",
+        "capture: taken as a hexadecimal dump: byte 19: digits are missing at the end, or too many are there (--input)\n",
+    ),
+    (
+        Encoding::Detected,
+        "00000000: 4200  69|\nno offset",
+        "",
+        "capture: taken as a hexadecimal dump: byte 20, 'n', is no digit (--input)\n",
+    ),
+    (
+        Encoding::Packets,
+        "\t0x0000: 42|0",
+        "",
+        "capture: taken as a dump of packets: byte 11, '|', is no digit\n",
     ),
 ];
 

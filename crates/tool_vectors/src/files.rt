@@ -98,7 +98,7 @@ const ROWS: [Row; 10] = [
         &["failing", "text", "two"],
         2,
         "4200690100000000\n42006A0100000000\n",
-        "failing: it can't be read\ntext: byte 5: digits are missing at the end, or too many are there\n",
+        "failing: it can't be read\ntext: taken as base64: byte 5: digits are missing at the end, or too many are there (--input)\n",
     ),
     // The greatest counts, wherever it stands.
     (

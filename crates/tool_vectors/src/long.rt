@@ -1,8 +1,8 @@
 //! Long inputs, which are printed as they go: where memory is refused, or the output fails, a beginning is there.
 
 use crate::runs::{Outcome, VERSION, VERSION_LINES, back_with, of, repeated, run_with};
-use kmip_ttlv_names::{standard_names, standard_values};
 use kmip_ttlv_memory::BoundedAllocator;
+use kmip_ttlv_names::{standard_names, standard_values};
 use std::alloc::{AllocError, Global};
 use std::io;
 use std::io::{ErrorKind, Write};

@@ -7,7 +7,7 @@ use ttlv_words::request_of;
 // Words, what is asked, the file of names, and how many files are read.
 type Row = (&'static str, Asked<'static>, Option<&'static str>, usize);
 
-const ASKED: [Row; 11] = [
+const ASKED: [Row; 15] = [
     (
         "ttlv show",
         Asked::Print {
@@ -101,6 +101,42 @@ const ASKED: [Row; 11] = [
         },
         None,
         1,
+    ),
+    (
+        "ttlv check --input base64url",
+        Asked::Print {
+            task: Task::Check,
+            encoding: Encoding::Base64Url,
+        },
+        None,
+        0,
+    ),
+    (
+        "ttlv check --input pem",
+        Asked::Print {
+            task: Task::Check,
+            encoding: Encoding::Armoured,
+        },
+        None,
+        0,
+    ),
+    (
+        "ttlv check --input od",
+        Asked::Print {
+            task: Task::Check,
+            encoding: Encoding::Dump,
+        },
+        None,
+        0,
+    ),
+    (
+        "ttlv check --input tcpdump",
+        Asked::Print {
+            task: Task::Check,
+            encoding: Encoding::Packets,
+        },
+        None,
+        0,
     ),
     (
         "ttlv hex",

@@ -5,8 +5,8 @@
 #![tactic(auto)]
 
 use either::Either;
-use kmip_ttlv_names::{STANDARD_TAGS, standard_values, tag_names};
 use kmip_ttlv_memory::BoundedAllocator;
+use kmip_ttlv_names::{STANDARD_TAGS, standard_values, tag_names};
 use std::alloc::{AllocError, Allocator, Global};
 use std::fs::File;
 use std::io::{IsTerminal, Stderr, Stdin};

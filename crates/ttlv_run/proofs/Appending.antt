@@ -1,5 +1,5 @@
 -- Texts that are written one behind the other.
-use Rattle.std.proofs.Common.{ℕ, List, Option, Bool, true, false, length, sym, subst, take_all, le_refl}
+use Rattle.std.proofs.Common.{ℕ, List, Option, Result, Ok, Err, OnOk, OnErr, Bool, true, false, length, sym, subst, take_all, le_refl}
 use Rattle.std.specs.Io.KnownBytes.{Appends}
 use Rattle.kmip_ttlv_types.specs.Streams.{AppendsFront}
 use Rattle.ttlv_run.specs.Reasons.{Tells}
@@ -11,3 +11,8 @@ all_front old new text all = record { count = length text; within = le_refl _; a
 pub told_front : (goes : Bool) (old new : Option (List ℕ)) (text : List ℕ) → Tells goes old new text → AppendsFront old new text
 told_front true old new text h = all_front old new text h
 told_front false old new text h = h
+
+-- a text that was sent, to its end or not
+pub sent_front : {T E : Type 0} (r : Result T E) (old new : Option (List ℕ)) (text : List ℕ) → OnOk r (Appends old new text) → OnErr r (AppendsFront old new text) → AppendsFront old new text
+sent_front (Ok x) old new text all some = all_front old new text all
+sent_front (Err e) old new text all some = some

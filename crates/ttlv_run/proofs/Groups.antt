@@ -12,7 +12,7 @@ use Rattle.hex.specs.declared.error.FromHexError.{FromHexError}
 use Rattle.hex.proofs.HexLemmas.{decode_of-even}
 use Rattle.base64.specs.declared.decode.DecodeError.{DecodeError}
 use Rattle.base64.specs.Decode.{or_else, symbol_error, group_error, groups_error, groups_bytes, groups_before_last, lone_error, decode_outcome, decode_group}
-use Rattle.base64.specs.Engines.{standard}
+use Rattle.base64.specs.Engines.{standard, url_safe, url_safe_no_pad}
 use Rattle.base64.specs.declared.engine.general_purpose.GeneralPurpose.{GeneralPurpose}
 use Rattle.base64.specs.Tables.{is_inverse}
 use Rattle.base64.specs.GeneralPurpose.{decode_of, decoded_of, encode_of, IsBytes, IsDecodedInto, IsStrict, IsConsistent}
@@ -25,7 +25,7 @@ use Rattle.base64.proofs.Tables.{encode-decode_table, are_tables_inverse}
 use Rattle.ttlv_run.proofs.InPlace.{same_further}
 use Rattle.ttlv_run.specs.Inputs.{answer_of, decode_digits, width}
 use Rattle.ttlv_run.specs.declared.coding.Alphabet.{Alphabet}
-use Rattle.ttlv_run.specs.declared.coding.Alphabet.TheVariants.{HexadecimalDigits, Base64Digits}
+use Rattle.ttlv_run.specs.declared.coding.Alphabet.TheVariants.{HexadecimalDigits, Base64Digits, UrlDigits, BareUrlDigits}
 
 -- ---- hexadecimal
 
@@ -268,23 +268,24 @@ pub splits :
 splits HexadecimalDigits g rest two some part bytes are = hex_splits g rest two
 splits Base64Digits g rest four some part bytes are =
     by_group standard (refl, refl) refl g rest (decode_of standard g) refl four some part bytes (λ x ok. are x (ap answer_of ok))
+splits UrlDigits g rest four some part bytes are =
+    by_group url_safe (refl, refl) refl g rest (decode_of url_safe g) refl four some part bytes (λ x ok. are x (ap answer_of ok))
+splits BareUrlDigits g rest four some part bytes are =
+    by_group url_safe_no_pad (refl, refl) refl g rest (decode_of url_safe_no_pad g) refl four some part bytes (λ x ok. are x (ap answer_of ok))
 
--- base64 digits stand for no more bytes than they are
-pub base64_bytes : (g x : List ℕ) → IsBytes g → decode_digits Base64Digits g ≡ Some x → length x ≤ length g
-base64_bytes g x bytes is = no_more_bytes standard (refl, refl) refl g x bytes is
-
--- and so does what a call decodes
-pub decoded_within :
-    (g old new : List ℕ) (r : Result ℕ DecodeError)
-    → IsBytes g
-    → length old ≡ 3
-    → length new ≡ length old
-    → IfOk r (λ n. IsDecodedInto standard g n old new)
-    → IfSome (result_ok r) (λ n. (n ≤ 3) × (n ≤ length g))
-decoded_within g old new (Err e) bytes three same ok = tt
-decoded_within g old new (Ok n) bytes three same ok =
-    let most = base64_bytes g (take n new) bytes (ap answer_of ok.0) in
-    (omega (arith, three, ok.2), omega (arith, most, length-take-le n new (omega (arith, same, ok.2))))
+-- a call of base64 decodes a group to three bytes at most, and to no more than its digits are
+module _ (e : GeneralPurpose) (strict : IsStrict e) (consistent : IsConsistent e) where
+  pub decoded_within :
+      (g old new : List ℕ) (r : Result ℕ DecodeError)
+      → IsBytes g
+      → length old ≡ 3
+      → length new ≡ length old
+      → IfOk r (λ n. IsDecodedInto e g n old new)
+      → IfSome (result_ok r) (λ n. (n ≤ 3) × (n ≤ length g))
+  decoded_within g old new (Err f) bytes three same ok = tt
+  decoded_within g old new (Ok n) bytes three same ok =
+      let most = no_more_bytes e strict consistent g (take n new) bytes (ap answer_of ok.0) in
+      (omega (arith, three, ok.2), omega (arith, most, length-take-le n new (omega (arith, same, ok.2))))
 
 -- ---- in place
 

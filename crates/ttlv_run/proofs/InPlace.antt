@@ -1,10 +1,11 @@
 -- A text whose front is written over while it is read: what is still to be read is as it was.
-use Rattle.std.proofs.Common.{◌≡◌, ℕ, ◌+◌, ◌-◌, ◌<◌, ◌≤◌, true, false, List, [], ◌∷◌, ◌++◌, length, take, drop, set, refl, sym, ap, ◌∙◌, arith}
-use Rattle.std.specs.Prelude.{slice_index, ◌==◌, ◌&&◌, ◌||◌}
+use Rattle.std.proofs.Common.{◌≡◌, ℕ, suc, ◌+◌, ◌-◌, ◌<◌, ◌≤◌, List, [], ◌∷◌, ◌++◌, length, take, drop, set, refl, sym, ap, subst, ◌∙◌, arith, drop-cons}
+use Rattle.std.specs.Prelude.{slice_index}
 use Rattle.std.proofs.lemmas.List.{drop-drop, drop-set-lt, get_or-drop, length-set, take_more_set}
-use Rattle.ttlv_run.specs.declared.coding.Alphabet.{Alphabet}
-use Rattle.ttlv_run.specs.declared.coding.Alphabet.TheVariants.{HexadecimalDigits, Base64Digits}
-use Rattle.ttlv_run.specs.Inputs.{Kept, kept_digit, kept_mark, kept_between, is_mark, is_letter, is_between}
+use Rattle.ttlv_run.specs.declared.form.Form.{Form}
+use Rattle.ttlv_run.specs.declared.form.LinePart.{LinePart}
+use Rattle.ttlv_run.specs.declared.form.Step.TheVariants.{Counts, Skips, Wrong}
+use Rattle.ttlv_run.specs.Columns.{step, first_part, mark_length, body, ReadsText, begins, counts, skips, Stops}
 
 -- texts that are the same from a place on have the same bytes there
 same_index : (s t : List ℕ) (p i : ℕ) → drop p s ≡ drop p t → slice_index s (p + i) ≡ slice_index t (p + i)
@@ -21,53 +22,62 @@ same_further s t p q le same =
     let on : q ≡ p + (q - p) = omega (arith, le) in
     ap (λ (n : ℕ). drop n s) on ∙ sym (drop-drop (q - p) p s) ∙ ap (drop (q - p)) same ∙ drop-drop (q - p) p t ∙ ap (λ (n : ℕ). drop n t) (sym on)
 
-pub same_mark : (a : Alphabet) (s t : List ℕ) (p : ℕ) → drop p s ≡ drop p t → is_mark a s p ≡ is_mark a t p
-same_mark Base64Digits s t p same = refl
-same_mark HexadecimalDigits s t p same =
-    ap (λ (c : ℕ). c == 48 && (slice_index s (p + 1) == 120 || slice_index s (p + 1) == 88)) (same_here s t p same)
-    ∙ ap (λ (c : ℕ). slice_index t p == 48 && (c == 120 || c == 88)) (same_index s t p 1 same)
+-- what is left of a text at a place begins with the byte there, and the next byte is the next one
+left_at : (s t : List ℕ) (p : ℕ) → drop p s ≡ drop p t → p < length s → length s ≡ length t → drop p t ≡ slice_index s p ∷ drop (p + 1) t
+left_at s t p same lt len =
+    let on : suc p ≡ p + 1 = omega arith in
+    drop-cons t p 0 (omega (arith, lt, len)) ∙ ap (λ (n : ℕ). slice_index t p ∷ drop n t) on ∙ ap (λ (c : ℕ). c ∷ drop (p + 1) t) (sym (same_here s t p same))
 
--- what is kept of an old text in front of what is left of it
-abbrev pub Gathers : Alphabet → List ℕ → List ℕ → ℕ → ℕ → Type 0
-Gathers a old s at kept =
-    (at ≤ length s) × (kept ≤ at) × (length s ≡ length old) × (drop at s ≡ drop at old) × Kept a old at (take kept s)
+next_at : (s t : List ℕ) (p : ℕ) → drop p s ≡ drop p t → slice_index (drop (p + 1) t) 0 ≡ slice_index s (p + 1)
+next_at s t p same =
+    let on : p + 1 + 0 ≡ p + 1 = omega arith in
+    get_or-drop (p + 1) t 0 0 ∙ ap (slice_index t) on ∙ sym (same_index s t p 1 same)
 
-pub at_mark : (a : Alphabet) (old s : List ℕ) (at kept : ℕ) → Gathers a old s at kept → is_mark a s at ≡ true → at + 2 ≤ length s → Gathers a old s (at + 2) kept
-at_mark a old s at kept g mark fits =
-    (fits, omega (arith, g.1), g.2, same_further s old at (at + 2) (omega arith) g.3, kept_mark _ _ _ g.4 (sym (same_mark a s old at g.3) ∙ mark) refl)
+-- the digits of an old text, in front of what is left of it
+abbrev pub Gathers : Form → List ℕ → List ℕ → ℕ → ℕ → LinePart → Type 0
+Gathers form old s at kept part =
+    (at ≤ length s) × (kept ≤ at) × (length s ≡ length old) × (drop at s ≡ drop at old) × ReadsText form old (take kept s) part (drop at old)
 
-pub at_between :
-    (a : Alphabet) (old s : List ℕ) (at kept : ℕ)
-    → Gathers a old s at kept
-    → at < length s
-    → is_mark a s at ≡ false
-    → is_letter a (slice_index s at) ≡ false
-    → is_between (slice_index s at) ≡ true
-    → Gathers a old s (at + 1) kept
-at_between a old s at kept g inside no_mark no_letter between =
-    let here = same_here s old at g.3 in (
-      omega (arith, inside),
-      omega (arith, g.1),
-      g.2,
-      same_further s old at (at + 1) (omega arith) g.3,
-      kept_between _ _ _ g.4 (sym (same_mark a s old at g.3) ∙ no_mark) (ap (is_letter a) (sym here) ∙ no_letter) (ap is_between (sym here) ∙ between) refl,
-    )
+-- before anything is read
+pub starts : (form : Form) (s : List ℕ) (at : ℕ) (part : LinePart) → at ≡ mark_length s → part ≡ first_part form → at ≤ length s → Gathers form s s at 0 part
+starts form s at part at_is part_is le =
+    let first : ReadsText form s [] part (body s) = subst (λ (p : LinePart). ReadsText form s [] p (body s)) (sym part_is) begins in
+    (le, omega arith, refl, refl, subst (λ (n : ℕ). ReadsText form s [] part (drop n s)) (sym at_is) first)
 
-pub at_digit :
-    (a : Alphabet) (old s : List ℕ) (at kept : ℕ)
-    → Gathers a old s at kept
-    → at < length s
-    → is_mark a s at ≡ false
-    → is_letter a (slice_index s at) ≡ true
-    → Gathers a old (set s kept (slice_index s at)) (at + 1) (kept + 1)
-at_digit a old s at kept g inside no_mark letter =
-    let b : ℕ = slice_index s at in
-    let here : b ≡ slice_index old at = same_here s old at g.3 in
-    let len : length (set s kept b) ≡ length s = length-set s kept b in
-    let more : take (kept + 1) (set s kept b) ≡ take kept s ++ b ∷ [] = take_more_set s kept b (omega (arith, g.1, inside)) in (
-      omega (arith, inside, len),
-      omega (arith, g.1),
-      len ∙ g.2,
-      drop-set-lt (at + 1) s kept b (omega (arith, g.1)) ∙ same_further s old at (at + 1) (omega arith) g.3,
-      kept_digit _ _ _ _ g.4 (sym (same_mark a s old at g.3) ∙ no_mark) (ap (is_letter a) (sym here) ∙ letter) refl (more ∙ ap (λ (c : ℕ). take kept s ++ c ∷ []) here),
-    )
+module _ (form : Form) (old s : List ℕ) (at kept : ℕ) (part then_ : LinePart) (g : Gathers form old s at kept part) (inside : at < length s) where
+  reads_byte : ReadsText form old (take kept s) part (slice_index s at ∷ drop (at + 1) old)
+  reads_byte = subst (λ (r : List ℕ). ReadsText form old (take kept s) part r) (left_at s old at g.3 inside g.2) g.4
+
+  next_step : step form part (slice_index s at) (slice_index (drop (at + 1) old) 0) ≡ step form part (slice_index s at) (slice_index s (at + 1))
+  next_step = ap (step form part (slice_index s at)) (next_at s old at g.3)
+
+  pub at_skipped : step form part (slice_index s at) (slice_index s (at + 1)) ≡ Skips then_ → Gathers form old s (at + 1) kept then_
+  at_skipped is = (
+    omega (arith, inside),
+    omega (arith, g.1),
+    g.2,
+    same_further s old at (at + 1) (omega arith) g.3,
+    skips _ _ _ _ _ reads_byte (next_step ∙ is),
+  )
+
+  pub at_digit : step form part (slice_index s at) (slice_index s (at + 1)) ≡ Counts then_ → Gathers form old (set s kept (slice_index s at)) (at + 1) (kept + 1) then_
+  at_digit is =
+      let b : ℕ = slice_index s at in
+      let len : length (set s kept b) ≡ length s = length-set s kept b in
+      let more : take (kept + 1) (set s kept b) ≡ take kept s ++ b ∷ [] = take_more_set s kept b (omega (arith, g.1, inside)) in (
+        omega (arith, inside, len),
+        omega (arith, g.1),
+        len ∙ g.2,
+        drop-set-lt (at + 1) s kept b (omega (arith, g.1)) ∙ same_further s old at (at + 1) (omega arith) g.3,
+        counts _ _ _ _ _ _ reads_byte (next_step ∙ is) more,
+      )
+
+  pub at_wrong : step form part (slice_index s at) (slice_index s (at + 1)) ≡ Wrong → Stops form old at (slice_index s at)
+  at_wrong is = record {
+    digits = take kept s;
+    part = part;
+    rest = drop (at + 1) old;
+    reads = reads_byte;
+    is = sym (left_at s old at g.3 inside g.2);
+    wrong = next_step ∙ is;
+  }

@@ -2,10 +2,12 @@ pub mod Appending
 pub mod BackEnds
 pub mod Backs
 pub mod Completion
+pub mod DumpLines
 pub mod Good
 pub mod Groups
 pub mod Hexadecimal
 pub mod InPlace
+pub mod Packets
 pub mod Printing
 pub mod Sequences
 pub mod Told

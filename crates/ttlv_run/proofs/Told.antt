@@ -1,16 +1,17 @@
 -- What is told of an input, and why a run fails.
-use Rattle.std.proofs.Common.{◌≡◌, ◌≢◌, inl, inr, ℕ, suc, List, [], ◌∷◌, ◌++◌, Option, Result, Ok, Err, OnOk, OnErr, Bool, true, is_ok, length, take, sym, ap, refl, subst, ◌∙◌, ◌+◌, arith, codes, length-append}
+use Rattle.std.proofs.Common.{◌≡◌, ◌≢◌, inl, inr, ℕ, suc, List, [], ◌∷◌, ◌++◌, Option, Result, Ok, Err, OnOk, OnErr, Bool, true, is_ok, length, take, sym, ap, subst, ◌∙◌, ◌+◌, arith, codes, length-append}
 use Rattle.std.proofs.KnownBytes.{Appends-trans}
 use Rattle.std.specs.Io.KnownBytes.{Appends, Keeps}
 use Rattle.kmip_ttlv_types.specs.Streams.{AppendsFront}
-use Rattle.ttlv_run.specs.declared.job.Encoding.{Encoding}
-use Rattle.ttlv_run.specs.declared.job.Encoding.TheVariants.{Detected, Raw, Hexadecimal, Base64}
 use Rattle.ttlv_run.specs.declared.job.Job.{Job}
 use Rattle.ttlv_run.specs.declared.refusal.Refusal.{Refusal}
-use Rattle.ttlv_run.specs.declared.refusal.Refusal.TheVariants.{UnopenedInput, UnreadableInput, BadCharacter, WrongCount, NotUtf8, UnwritableOutput, ClosedPipe, RefusedMemory}
-use Rattle.ttlv_run.specs.Inputs.{TakesAll, IsNoneAs, encoding_of, IsUndecoded}
+use Rattle.ttlv_run.specs.declared.refusal.Refusal.TheVariants.{UnopenedInput, UnreadableInput, MisreadInput, NotUtf8, UnwritableOutput, ClosedPipe, RefusedMemory}
+use Rattle.ttlv_run.specs.Inputs.{TakesAll, IsUndecoded}
 use Rattle.ttlv_run.specs.declared.job.BackJob.{BackJob}
-use Rattle.ttlv_run.specs.Reasons.{IsOfPrinting, Tells, place_told, offset_told, words_of, refusal_line}
+use Rattle.std.specs.Fmt.{decimal}
+use Rattle.ttlv_run.specs.declared.misread.Misread.{Misread}
+use Rattle.ttlv_run.specs.Misreadings.{encoding_words, with_kind, line_end, misread_line}
+use Rattle.ttlv_run.specs.Reasons.{IsOfPrinting, Tells}
 use Rattle.ttlv_run.specs.Runs.{Streams, Unwritten, Fails, Responds, UnwrittenBack, FailsBack}
 use Rattle.ttlv_run.specs.Texts.{Names}
 
@@ -36,43 +37,14 @@ tells_more (Err e) goes said known mid new front text is says all some h =
     let before = subst (λ b. Tells b known mid front) is h in
     subst (λ b. Tells b known new (front ++ text)) (sym says) (front_more known mid new front text before some)
 
--- the parts of a line are the line
-line_of : (name : List ℕ) (why : Refusal) → why ≢ ClosedPipe → place_told name (offset_told why) ++ codes ": " ++ words_of why ++ codes "\n" ≡ refusal_line name why
-line_of name UnopenedInput ne = refl
-line_of name UnreadableInput ne = refl
-line_of name (BadCharacter at) ne = refl
-line_of name (WrongCount at) ne = refl
-line_of name NotUtf8 ne = refl
-line_of name UnwritableOutput ne = refl
-line_of name ClosedPipe ne = absurd (ne refl)
-line_of name RefusedMemory ne = refl
-
-pub line_is : (name : List ℕ) (why : Refusal) (at : Option ℕ) (words : List ℕ) → why ≢ ClosedPipe → at ≡ offset_told why → words ≡ words_of why → place_told name at ++ codes ": " ++ words ++ codes "\n" ≡ refusal_line name why
-line_is name why at words ne at_is words_are =
-    ap (λ o. place_told name o ++ codes ": " ++ words ++ codes "\n") at_is ∙ ap (λ w. place_told name (offset_told why) ++ codes ": " ++ w ++ codes "\n") words_are ∙ line_of name why ne
-
--- only decoding can fail where an input is decoded
-not_written : (e : Encoding) (s : List ℕ) → IsNoneAs e s UnwritableOutput → ⊥
-not_written Detected s h = h
-not_written Raw s h = h
-not_written Hexadecimal s h = h
-not_written Base64 s h = h
-
-not_closed : (e : Encoding) (s : List ℕ) → IsNoneAs e s ClosedPipe → ⊥
-not_closed Detected s h = h
-not_closed Raw s h = h
-not_closed Hexadecimal s h = h
-not_closed Base64 s h = h
-
 -- an input that was taken stands for no bytes, and the output stays as it was
 undecoded : (names : Names) (job : Job) (s : Streams) (why : Refusal) (input : List ℕ) → TakesAll s.input s.input_left input → IsUndecoded job.encoding input why → Keeps s.output s.output_now → Fails names job s why
 undecoded names job s UnopenedInput input taken none kept = (record { input = input; taken = taken; undecoded = none }, kept)
 undecoded names job s UnreadableInput input taken none kept = kept
-undecoded names job s (BadCharacter at) input taken none kept = (record { input = input; taken = taken; undecoded = none }, kept)
-undecoded names job s (WrongCount at) input taken none kept = (record { input = input; taken = taken; undecoded = none }, kept)
+undecoded names job s (MisreadInput m) input taken none kept = (record { input = input; taken = taken; undecoded = none }, kept)
 undecoded names job s NotUtf8 input taken none kept = (record { input = input; taken = taken; undecoded = none }, kept)
-undecoded names job s UnwritableOutput input taken none kept = absurd (not_written (encoding_of job.encoding input) input none)
-undecoded names job s ClosedPipe input taken none kept = absurd (not_closed (encoding_of job.encoding input) input none)
+undecoded names job s UnwritableOutput input taken none kept = absurd none
+undecoded names job s ClosedPipe input taken none kept = absurd none
 undecoded names job s RefusedMemory input taken none kept = inl kept
 
 -- the same, where this is answered
@@ -95,3 +67,15 @@ unwritten_back names job s why (inr (inr is)) h = subst (FailsBack names job s) 
 -- the same, where this is returned
 pub responds_unwritten : {T : Type 0} (text : T → List ℕ) (names : Names) (job : Job) (s : Streams) (why : Refusal) (r : Result (Option T) Refusal) → r ≡ Err why → IsOfPrinting why → Unwritten names job s → Responds text names job s r
 responds_unwritten {T} text names job s why r is of h = subst (λ (q : Result (Option T) Refusal). Responds text names job s q) (sym is) (unwritten names job s why of h)
+
+-- the parts of a line that says why an input stands for no bytes
+pub misread_is :
+    (name words digits end : List ℕ) (m : Misread)
+    → words ≡ encoding_words m.taken
+    → digits ≡ decimal m.offset
+    → end ≡ line_end m.guessed
+    → with_kind (name ++ codes ": taken as " ++ words ++ codes ": byte " ++ digits) m.kind ++ end ≡ misread_line name m
+misread_is name words digits end m w d e =
+    ap (λ (t : List ℕ). with_kind (name ++ codes ": taken as " ++ t ++ codes ": byte " ++ digits) m.kind ++ end) w
+    ∙ ap (λ (t : List ℕ). with_kind (name ++ codes ": taken as " ++ encoding_words m.taken ++ codes ": byte " ++ t) m.kind ++ end) d
+    ∙ ap (λ (t : List ℕ). with_kind (name ++ codes ": taken as " ++ encoding_words m.taken ++ codes ": byte " ++ decimal m.offset) m.kind ++ t) e

@@ -1,18 +1,25 @@
 -- What was taken from a reader, and the bytes of messages that an input stands for.
-use Rattle.std.specs.Prelude.{◌≡◌, ℕ, ◌+◌, ◌<◌, Bool, true, false, not, ◌==◌, ◌||◌, ◌&&◌, List, [], ◌∷◌, ◌++◌, length}
-use Rattle.std.specs.Prelude.{take, slice_index, nat_lt, Option, Some, None, Result, Ok, Err, if◌then◌else◌}
+use Rattle.std.specs.Prelude.{◌≡◌, ℕ, ◌+◌, ◌-◌, ◌<◌, Bool, true, false, not, ◌==◌, ◌||◌, ◌&&◌, List, [], ◌∷◌, ◌++◌, length}
+use Rattle.std.specs.Prelude.{slice_index, nat_lt, Option, Some, None, Result, Ok, Err, if◌then◌else◌}
 use Rattle.std.specs.Io.KnownBytes.{Consumes, IsAtEnd}
-use Rattle.hex.specs.Hex.{is_hex_digit}
 use Rattle.hex.specs.Hex as hex
-use Rattle.base64.specs.Engines.{standard}
+use Rattle.base64.specs.Engines.{standard, url_safe, url_safe_no_pad}
 use Rattle.base64.specs.GeneralPurpose as base64
 use Rattle.ttlv_run.specs.declared.job.Encoding.{Encoding}
-use Rattle.ttlv_run.specs.declared.job.Encoding.TheVariants.{Detected, Raw, Hexadecimal, Base64}
+use Rattle.ttlv_run.specs.declared.job.Encoding.TheVariants.{Detected, Raw, Hexadecimal, Base64, Base64Url, Armoured, Dump, Packets}
 use Rattle.ttlv_run.specs.declared.coding.Alphabet.{Alphabet}
-use Rattle.ttlv_run.specs.declared.coding.Alphabet.TheVariants.{HexadecimalDigits, Base64Digits}
+use Rattle.ttlv_run.specs.declared.coding.Alphabet.TheVariants.{HexadecimalDigits, Base64Digits, UrlDigits, BareUrlDigits}
+use Rattle.ttlv_run.specs.declared.coding.Undecoded.{Undecoded}
+use Rattle.ttlv_run.specs.declared.form.Form.{Form}
+use Rattle.ttlv_run.specs.declared.form.Form.TheVariants.{HexadecimalText, Base64Text, Base64UrlText, ArmouredText, DumpText, PacketText}
+use Rattle.ttlv_run.specs.declared.form.LinePart.{LinePart}
+use Rattle.ttlv_run.specs.declared.misread.Misread.{Misread}
+use Rattle.ttlv_run.specs.declared.misread.MisreadKind.{MisreadKind}
+use Rattle.ttlv_run.specs.declared.misread.MisreadKind.TheVariants.{NoDigit, WrongCount}
 use Rattle.ttlv_run.specs.declared.refusal.Refusal.{Refusal}
-use Rattle.ttlv_run.specs.declared.refusal.Refusal.TheVariants.{UnreadableInput, BadCharacter, WrongCount}
-use Rattle.ttlv_run.specs.declared.refusal.Refusal.TheVariants.{RefusedMemory}
+use Rattle.ttlv_run.specs.declared.refusal.Refusal.TheVariants.{UnreadableInput, MisreadInput, RefusedMemory}
+use Rattle.ttlv_run.specs.Columns.{ReadsText, Stops}
+use Rattle.ttlv_run.specs.Guesses.{encoding_found}
 
 -- all bytes that a reader had were taken
 pub record TakesAll (old new : Option (List ℕ)) (bytes : List ℕ) : Type 0 where
@@ -25,135 +32,119 @@ IsUnread UnreadableInput = Unit {0}
 IsUnread RefusedMemory = Unit {0}
 IsUnread _ = ⊥
 
--- white space, quotes, commas and colons, which may stand between digits
-abbrev pub is_between : ℕ → Bool
-is_between b = (nat_lt 8 b && nat_lt b 14) || b == 32 || b == 34 || b == 39 || b == 44 || b == 58
-
--- a byte from one to another
-abbrev pub in_range : ℕ → ℕ → ℕ → Bool
-in_range least most b = not (nat_lt b least) && not (nat_lt most b)
-
--- a digit of an alphabet; of base64, padding too
-abbrev pub is_letter : Alphabet → ℕ → Bool
-is_letter HexadecimalDigits b = in_range 48 57 b || in_range 65 70 b || in_range 97 102 b
-is_letter Base64Digits b =
-    in_range 48 57 b || in_range 65 90 b || in_range 97 122 b || b == 43 || b == 47 || b == 61
-
--- in hexadecimal, `0x` stands at a place
-abbrev pub is_mark : Alphabet → List ℕ → ℕ → Bool
-is_mark HexadecimalDigits s p =
-    slice_index s p == 48 && (slice_index s (p + 1) == 120 || slice_index s (p + 1) == 88)
-is_mark Base64Digits s p = false
-
--- the digits of a text up to a place, without what stands between them
-pub data Kept (a : Alphabet) (s : List ℕ) : ℕ → List ℕ → Type 0 where
-  kept_none : Kept a s 0 []
-  kept_mark : (p q : ℕ) (ds : List ℕ) → Kept a s p ds → is_mark a s p ≡ true → q ≡ p + 2 → Kept a s q ds
-  kept_digit :
-      (p q : ℕ) (ds es : List ℕ)
-      → Kept a s p ds
-      → is_mark a s p ≡ false
-      → is_letter a (slice_index s p) ≡ true
-      → q ≡ p + 1
-      → es ≡ ds ++ slice_index s p ∷ []
-      → Kept a s q es
-  kept_between :
-      (p q : ℕ) (ds : List ℕ)
-      → Kept a s p ds
-      → is_mark a s p ≡ false
-      → is_letter a (slice_index s p) ≡ false
-      → is_between (slice_index s p) ≡ true
-      → q ≡ p + 1
-      → Kept a s q ds
-
--- the first place of a text at which there is no digit, nor what stands between digits
-pub record Bad (a : Alphabet) (s : List ℕ) (p : ℕ) : Type 0 where
-  pub digits : List ℕ
-  pub before : Kept a s p digits
-  pub within : p < length s
-  pub no_mark : is_mark a s p ≡ false
-  pub no_digit : is_letter a (slice_index s p) ≡ false
-  pub not_between : is_between (slice_index s p) ≡ false
+-- the digits of a text
+pub record Kept (form : Form) (s digits : List ℕ) : Type 0 where
+  pub last : LinePart
+  pub reads : ReadsText form s digits last []
 
 -- why digits were not kept
-abbrev pub IsUnkept : Alphabet → List ℕ → Refusal → Type 0
-IsUnkept a s (BadCharacter p) = Bad a s p
-IsUnkept a s _ = ⊥
+abbrev pub IsNoDigit : Form → List ℕ → ℕ → MisreadKind → Type 0
+IsNoDigit form s place (NoDigit b) = Stops form s place b
+IsNoDigit form s place WrongCount = ⊥
+
+abbrev pub IsUnkept : Form → List ℕ → Undecoded → Type 0
+IsUnkept form s why = IsNoDigit form s why.offset why.kind
 
 -- the answer without its error
 abbrev pub answer_of : {T E : Type 0} → Result T E → Option T
 answer_of (Ok x) = Some x
 answer_of (Err e) = None
 
+-- digits end with padding
+abbrev pub has_padding : List ℕ → Bool
+has_padding ds = nat_lt 0 (length ds) && slice_index ds (length ds - 1) == 61
+
+-- base64url has padding or none
+abbrev pub url_alphabet : Bool → Alphabet
+url_alphabet padded = if padded then UrlDigits else BareUrlDigits
+
+-- the alphabet of the digits of a text
+abbrev pub alphabet_of : Form → Bool → Alphabet
+alphabet_of HexadecimalText padded = HexadecimalDigits
+alphabet_of Base64Text padded = Base64Digits
+alphabet_of Base64UrlText padded = url_alphabet padded
+alphabet_of ArmouredText padded = Base64Digits
+alphabet_of DumpText padded = HexadecimalDigits
+alphabet_of PacketText padded = HexadecimalDigits
+
 -- how many digits are a group
 abbrev pub width : Alphabet → ℕ
 width HexadecimalDigits = 2
 width Base64Digits = 4
+width UrlDigits = 4
+width BareUrlDigits = 4
 
 -- the bytes that digits are, if they are any
 abbrev pub decode_digits : Alphabet → List ℕ → Option (List ℕ)
 decode_digits HexadecimalDigits ds = answer_of (hex.decode_of ds)
 decode_digits Base64Digits ds = answer_of (base64.decode_of standard ds)
+decode_digits UrlDigits ds = answer_of (base64.decode_of url_safe ds)
+decode_digits BareUrlDigits ds = answer_of (base64.decode_of url_safe_no_pad ds)
+
+-- the bytes that digits of a text are
+abbrev pub decode_form : Form → List ℕ → Option (List ℕ)
+decode_form form ds = decode_digits (alphabet_of form (has_padding ds)) ds
 
 -- the bytes that a text is
-pub record Decodes (a : Alphabet) (s bytes : List ℕ) : Type 0 where
+pub record Decodes (form : Form) (s bytes : List ℕ) : Type 0 where
   pub digits : List ℕ
-  pub kept : Kept a s (length s) digits
-  pub are : decode_digits a digits ≡ Some bytes
+  pub kept : Kept form s digits
+  pub are : decode_form form digits ≡ Some bytes
 
 -- the digits of a text, all of which are known by its end, are no bytes
-pub record Miscounted (a : Alphabet) (s : List ℕ) (p : ℕ) : Type 0 where
+pub record Miscounted (form : Form) (s : List ℕ) (place : ℕ) : Type 0 where
   pub digits : List ℕ
-  pub kept : Kept a s (length s) digits
-  pub at_end : p ≡ length s
-  pub none : decode_digits a digits ≡ None
+  pub kept : Kept form s digits
+  pub at_end : place ≡ length s
+  pub none : decode_form form digits ≡ None
 
--- why a text is no bytes
-abbrev pub IsUndecodable : Alphabet → List ℕ → Refusal → Type 0
-IsUndecodable a s (BadCharacter p) = Bad a s p
-IsUndecodable a s (WrongCount p) = Miscounted a s p
-IsUndecodable a s _ = ⊥
+-- where and why a text is no bytes
+abbrev pub IsMisread : Form → List ℕ → ℕ → MisreadKind → Type 0
+IsMisread form s place (NoDigit b) = Stops form s place b
+IsMisread form s place WrongCount = Miscounted form s place
 
--- a byte that stands in no text
-abbrev pub is_control : ℕ → Bool
-is_control b = nat_lt b 9 || (nat_lt 13 b && nat_lt b 32)
+abbrev pub IsUndecodable : Form → List ℕ → Undecoded → Type 0
+IsUndecodable form s why = IsMisread form s why.offset why.kind
 
-abbrev pub has_control : List ℕ → Bool
-has_control [] = false
-has_control (b ∷ s) = is_control b || has_control s
+-- how digits stand in an input of an encoding
+abbrev pub form_of : Encoding → Option Form
+form_of Detected = None
+form_of Raw = None
+form_of Hexadecimal = Some HexadecimalText
+form_of Base64 = Some Base64Text
+form_of Base64Url = Some Base64UrlText
+form_of Armoured = Some ArmouredText
+form_of Dump = Some DumpText
+form_of Packets = Some PacketText
 
--- raw messages have such a byte among the first four, since the root's type has the code 1
-abbrev pub looks_raw : List ℕ → Bool
-looks_raw s = has_control (take 4 s)
-
--- the first byte that doesn't stand between digits is no hexadecimal digit
-abbrev pub starts_base64 : List ℕ → Bool
-starts_base64 [] = false
-starts_base64 (b ∷ s) = if is_between b then starts_base64 s else not (is_letter HexadecimalDigits b)
-
--- what an input looks like
-abbrev pub encoding_found : List ℕ → Encoding
-encoding_found s = if looks_raw s then Raw else if starts_base64 s then Base64 else Hexadecimal
-
--- the bytes of messages that an input of an encoding stands for
-abbrev pub StandsAs : Encoding → List ℕ → List ℕ → Type 0
-StandsAs Hexadecimal s bytes = Decodes HexadecimalDigits s bytes
-StandsAs Base64 s bytes = Decodes Base64Digits s bytes
-StandsAs _ s bytes = bytes ≡ s
-
--- and why it stands for none
-abbrev pub IsNoneAs : Encoding → List ℕ → Refusal → Type 0
-IsNoneAs Hexadecimal s why = IsUndecodable HexadecimalDigits s why
-IsNoneAs Base64 s why = IsUndecodable Base64Digits s why
-IsNoneAs _ s why = ⊥
+-- no encoding was named
+abbrev pub is_detected : Encoding → Bool
+is_detected Detected = true
+is_detected _ = false
 
 -- the encoding of an input: the one that was named, or else what the input looks like
 abbrev pub encoding_of : Encoding → List ℕ → Encoding
-encoding_of Detected s = encoding_found s
-encoding_of named s = named
+encoding_of named s = if is_detected named then encoding_found s else named
+
+-- the bytes of messages that an input stands for: those of its digits, or its own
+abbrev pub StandsIn : Option Form → List ℕ → List ℕ → Type 0
+StandsIn None s bytes = bytes ≡ s
+StandsIn (Some form) s bytes = Decodes form s bytes
 
 abbrev pub Stands : Encoding → List ℕ → List ℕ → Type 0
-Stands e s bytes = StandsAs (encoding_of e s) s bytes
+Stands e s bytes = StandsIn (form_of (encoding_of e s)) s bytes
+
+-- where and why it stands for none
+abbrev pub IsMisreadIn : Option Form → List ℕ → Misread → Type 0
+IsMisreadIn None s m = ⊥
+IsMisreadIn (Some form) s m = IsMisread form s m.offset m.kind
+
+-- and as what it was taken
+pub record Misreads (e : Encoding) (s : List ℕ) (m : Misread) : Type 0 where
+  pub taken : m.taken ≡ encoding_of e s
+  pub guessed : m.guessed ≡ is_detected e
+  pub misread : IsMisreadIn (form_of m.taken) s m
 
 abbrev pub IsUndecoded : Encoding → List ℕ → Refusal → Type 0
-IsUndecoded e s why = IsNoneAs (encoding_of e s) s why
+IsUndecoded e s (MisreadInput m) = Misreads e s m
+IsUndecoded e s _ = ⊥

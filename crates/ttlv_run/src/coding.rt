@@ -1,23 +1,26 @@
-//! The bytes of messages that an input stands for: as they are, or as hexadecimal or base64 text.
+//! The bytes of messages that an input stands for: as they are, or decoded from a text in the memory of that text.
 
 ghost use Rattle.std.specs.Prelude.{◌≡◌, ◌<◌, ◌≤◌, ◌+◌, ◌++◌, true, length, take, drop, Some, None, IfOk, IfErr, IfSome, IfNone};
 ghost use Rattle.base64.specs.GeneralPurpose.{IsBytes};
-ghost use Rattle.ttlv_run.specs.declared.coding.Alphabet.TheVariants.{HexadecimalDigits as TheHexadecimal};
-ghost use Rattle.ttlv_run.specs.Inputs.{TakesAll, IsUnread, is_between, is_letter, is_mark, Kept, IsUnkept, decode_digits};
-ghost use Rattle.ttlv_run.specs.Inputs.{width, Decodes, IsUndecodable, is_control, has_control, looks_raw, starts_base64};
-ghost use Rattle.ttlv_run.specs.Inputs.{encoding_found, Stands, IsUndecoded};
+ghost use Rattle.ttlv_run.specs.Inputs.{TakesAll, IsUnread, Kept, IsUnkept, has_padding, url_alphabet, alphabet_of, width, decode_digits};
+ghost use Rattle.ttlv_run.specs.Inputs.{Decodes, IsUndecodable, form_of, encoding_of, is_detected, Stands, IsUndecoded};
 
+use crate::form::{Form, Step, first_part, step_of};
+use crate::guess::{byte_at, encoding_found, mark_length};
 use crate::job::Encoding;
+use crate::misread::{Misread, MisreadKind};
 use crate::refusal::Refusal;
-use base64::engine::general_purpose::STANDARD;
+use base64::engine::general_purpose::{STANDARD, URL_SAFE, URL_SAFE_NO_PAD};
 use std::alloc::Allocator;
 use std::io::{ErrorKind, Read};
 
-/// The characters that bytes are written in.
+/// The digits that bytes are written in.
 #[derive(Clone, Copy, PartialEq, Eq)]
 pub enum Alphabet {
     HexadecimalDigits,
     Base64Digits,
+    UrlDigits,
+    BareUrlDigits,
 }
 
 /// All bytes of a reader.
@@ -33,68 +36,68 @@ pub fn read_all<A: Allocator, R: Read>(alloc: A, input: &mut R) -> Result<Vec<u8
     }
 }
 
-fn is_between(b: u8) -> bool
-    ensures { result ≡ is_between b }
-{
-    (8 < b && b < 14) || b == 32 || b == 34 || b == 39 || b == 44 || b == 58
-}
-
-fn is_hex_digit(b: u8) -> bool
-    ensures { result ≡ is_letter TheHexadecimal b }
-{
-    (48 <= b && b <= 57) || (65 <= b && b <= 70) || (97 <= b && b <= 102)
-}
-
-// Whether a byte is a digit, or, in base64, padding.
-fn is_letter(alphabet: Alphabet, b: u8) -> bool
-    ensures { result ≡ is_letter alphabet b }
-{
-    match alphabet {
-        Alphabet::HexadecimalDigits => is_hex_digit(b),
-        Alphabet::Base64Digits => (48 <= b && b <= 57)
-            || (65 <= b && b <= 90)
-            || (97 <= b && b <= 122)
-            || b == 43
-            || b == 47
-            || b == 61,
-    }
-}
-
-// Whether `0x` stands at a place, in hexadecimal.
-fn is_mark(alphabet: Alphabet, input: &[u8], at: usize) -> bool
-    requires { at < length input.now }
-    ensures is { result ≡ is_mark alphabet input.now at }
-    ensures within { result ≡ true → at + 2 ≤ length input.now }
-{
-    alphabet == Alphabet::HexadecimalDigits
-        && input[at] == 48
-        && input.len() - at > 1
-        && (input[at + 1] == 120 || input[at + 1] == 88)
+// Where and why a text stands for no bytes.
+#[derive(Clone, Copy, PartialEq, Eq)]
+pub struct Undecoded {
+    pub offset: usize,
+    pub kind: MisreadKind,
 }
 
 // Keeps the digits of a text, without what stands between them, in its front, and gives how many they are.
-fn keep_digits(alphabet: Alphabet, text: &mut [u8]) -> Result<usize, Refusal>
+fn keep_digits(form: Form, text: &mut [u8]) -> Result<usize, Undecoded>
     ensures within { IfOk result (λ n. n ≤ length text.new) }
-    ensures ok { IfOk result (λ n. Kept alphabet text.old (length text.old) (take n text.new)) }
-    ensures err { IfErr result (IsUnkept alphabet text.old) }
+    ensures ok { IfOk result (λ n. Kept form text.old (take n text.new)) }
+    ensures err { IfErr result (IsUnkept form text.old) }
 {
-    let mut at = 0;
+    let mut at = mark_length(text);
     let mut kept = 0;
+    let mut part = first_part(form);
     'characters: while at < text.len() {
-        if is_mark(alphabet, text, at) {
-            at += 2;
-            continue;
-        }
         let b = text[at];
-        if is_letter(alphabet, b) {
-            text[kept] = b;
-            kept += 1;
-        } else if !is_between(b) {
-            return Err(Refusal::BadCharacter(at));
+        match step_of(form, part, b, byte_at(text, at + 1)) {
+            Step::Counts(next) => {
+                text[kept] = b;
+                kept += 1;
+                part = next;
+            }
+            Step::Skips(next) => part = next,
+            Step::Wrong => {
+                return Err(Undecoded {
+                    offset: at,
+                    kind: MisreadKind::NoDigit(b),
+                });
+            }
         }
         at += 1;
     }
     Ok(kept)
+}
+
+// Whether digits end with padding.
+fn has_padding(digits: &[u8]) -> bool
+    ensures { result ≡ has_padding digits.now }
+{
+    digits.len() > 0 && digits[digits.len() - 1] == 61
+}
+
+fn url_alphabet(padded: bool) -> Alphabet
+    ensures { result ≡ url_alphabet padded }
+{
+    if padded {
+        return Alphabet::UrlDigits;
+    }
+    Alphabet::BareUrlDigits
+}
+
+// The alphabet of the digits of a text.
+fn alphabet_of(form: Form, padded: bool) -> Alphabet
+    ensures { result ≡ alphabet_of form padded }
+{
+    match form {
+        Form::HexadecimalText | Form::DumpText | Form::PacketText => Alphabet::HexadecimalDigits,
+        Form::Base64Text | Form::ArmouredText => Alphabet::Base64Digits,
+        Form::Base64UrlText => url_alphabet(padded),
+    }
 }
 
 // How many digits are a group.
@@ -103,7 +106,7 @@ fn width(alphabet: Alphabet) -> usize
 {
     match alphabet {
         Alphabet::HexadecimalDigits => 2,
-        Alphabet::Base64Digits => 4,
+        Alphabet::Base64Digits | Alphabet::UrlDigits | Alphabet::BareUrlDigits => 4,
     }
 }
 
@@ -124,6 +127,8 @@ fn decode_group(alphabet: Alphabet, group: &[u8], bytes: &mut [u8]) -> Option<us
             Some(count)
         }
         Alphabet::Base64Digits => STANDARD.decode_slice_unchecked(group, bytes).ok(),
+        Alphabet::UrlDigits => URL_SAFE.decode_slice_unchecked(group, bytes).ok(),
+        Alphabet::BareUrlDigits => URL_SAFE_NO_PAD.decode_slice_unchecked(group, bytes).ok(),
     }
 }
 
@@ -162,75 +167,70 @@ fn decode_digits(alphabet: Alphabet, digits: &mut [u8]) -> Option<usize>
 }
 
 // Puts the bytes that a text stands for into its front, and gives how many they are.
-fn decode_text(alphabet: Alphabet, text: &mut [u8]) -> Result<usize, Refusal>
+fn decode_text(form: Form, text: &mut [u8]) -> Result<usize, Undecoded>
     ensures within { IfOk result (λ n. n ≤ length text.new) }
-    ensures ok { IfOk result (λ n. Decodes alphabet text.old (take n text.new)) }
-    ensures err { IfErr result (IsUndecodable alphabet text.old) }
+    ensures ok { IfOk result (λ n. Decodes form text.old (take n text.new)) }
+    ensures err { IfErr result (IsUndecodable form text.old) }
 {
-    let kept = keep_digits(alphabet, text)?;
+    let kept = keep_digits(form, text)?;
+    let alphabet = alphabet_of(form, has_padding(&text[..kept]));
     match decode_digits(alphabet, &mut text[..kept]) {
         Some(count) => Ok(count),
-        None => Err(Refusal::WrongCount(text.len())),
+        None => Err(Undecoded {
+            offset: text.len(),
+            kind: MisreadKind::WrongCount,
+        }),
     }
 }
 
 // The bytes that a text stands for, in the memory of the text.
-fn decode<A: Allocator>(alphabet: Alphabet, mut text: Vec<u8, A>) -> Result<Vec<u8, A>, Refusal>
-    ensures ok { IfOk result (λ bytes. Decodes alphabet text.items bytes.items) }
-    ensures err { IfErr result (IsUndecodable alphabet text.items) }
+fn decode<A: Allocator>(form: Form, mut text: Vec<u8, A>) -> Result<Vec<u8, A>, Undecoded>
+    ensures ok { IfOk result (λ bytes. Decodes form text.items bytes.items) }
+    ensures err { IfErr result (IsUndecodable form text.items) }
 {
-    let count = decode_text(alphabet, text.as_mut_slice())?;
+    let count = decode_text(form, text.as_mut_slice())?;
     text.truncate(count);
     Ok(text)
 }
 
-fn is_control(b: u8) -> bool
-    ensures { result ≡ is_control b }
+// How digits stand in an input of an encoding; none where there are no digits.
+fn form_of(encoding: Encoding) -> Option<Form>
+    ensures { result ≡ form_of encoding }
 {
-    b < 9 || (13 < b && b < 32)
+    match encoding {
+        Encoding::Detected | Encoding::Raw => None,
+        Encoding::Hexadecimal => Some(Form::HexadecimalText),
+        Encoding::Base64 => Some(Form::Base64Text),
+        Encoding::Base64Url => Some(Form::Base64UrlText),
+        Encoding::Armoured => Some(Form::ArmouredText),
+        Encoding::Dump => Some(Form::DumpText),
+        Encoding::Packets => Some(Form::PacketText),
+    }
 }
 
-fn has_control(bytes: &[u8]) -> bool
-    ensures { result ≡ has_control bytes.now }
+fn is_detected(encoding: Encoding) -> bool
+    ensures { result ≡ is_detected encoding }
 {
-    for b in bytes {
-        if is_control(*b) {
-            return true;
-        }
+    match encoding {
+        Encoding::Detected => true,
+        Encoding::Raw
+        | Encoding::Hexadecimal
+        | Encoding::Base64
+        | Encoding::Base64Url
+        | Encoding::Armoured
+        | Encoding::Dump
+        | Encoding::Packets => false,
     }
-    false
 }
 
-// Whether an input is raw: its first four bytes hold one that stands in no text.
-fn looks_raw(input: &[u8]) -> bool
-    ensures { result ≡ looks_raw input.now }
+// The encoding of an input: the one that was named, or else what the input looks like.
+fn encoding_of(encoding: Encoding, input: &[u8]) -> Encoding
+    ensures { result ≡ encoding_of encoding input.now }
 {
-    has_control(&input[..input.len().min(4)])
-}
-
-// Whether the first byte that doesn't stand between digits is no hexadecimal digit.
-fn starts_base64(input: &[u8]) -> bool
-    ensures { result ≡ starts_base64 input.now }
-{
-    for b in input {
-        if !is_between(*b) {
-            return !is_hex_digit(*b);
-        }
+    if is_detected(encoding) {
+        return encoding_found(input);
     }
-    false
-}
-
-// What an input looks like.
-fn encoding_found(input: &[u8]) -> Encoding
-    ensures { result ≡ encoding_found input.now }
-{
-    if looks_raw(input) {
-        return Encoding::Raw;
-    }
-    if starts_base64(input) {
-        return Encoding::Base64;
-    }
-    Encoding::Hexadecimal
+    encoding
 }
 
 /// The bytes of messages that an input stands for, in the memory of the input.
@@ -238,13 +238,17 @@ pub fn bytes_of<A: Allocator>(encoding: Encoding, input: Vec<u8, A>) -> Result<V
     ensures ok { IfOk result (λ bytes. Stands encoding input.items bytes.items) }
     ensures err { IfErr result (IsUndecoded encoding input.items) }
 {
-    let encoding = match encoding {
-        Encoding::Detected => encoding_found(input.as_slice()),
-        _ => encoding,
+    let taken = encoding_of(encoding, input.as_slice());
+    let Some(form) = form_of(taken) else {
+        return Ok(input);
     };
-    match encoding {
-        Encoding::Hexadecimal => decode(Alphabet::HexadecimalDigits, input),
-        Encoding::Base64 => decode(Alphabet::Base64Digits, input),
-        _ => Ok(input),
+    match decode(form, input) {
+        Ok(bytes) => Ok(bytes),
+        Err(why) => Err(Refusal::MisreadInput(Misread {
+            taken,
+            guessed: is_detected(encoding),
+            offset: why.offset,
+            kind: why.kind,
+        })),
     }
 }

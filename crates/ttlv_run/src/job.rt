@@ -1,5 +1,8 @@
 //! What a run is to do, and the names that it prints.
 
+ghost use Rattle.std.specs.Prelude.{◌≡◌};
+ghost use Rattle.ttlv_run.specs.Misreadings.{encoding_words};
+
 use kmip_ttlv_util::LentTagMap;
 use std::alloc::{Allocator, Global};
 
@@ -36,12 +39,39 @@ pub enum Encoding {
     Detected,
     /// As they are.
     Raw,
-    /// Hexadecimal digits of either case. White space, colons, commas, quotes and `0x` stand between
-    /// them or not.
+    /// Hexadecimal digits of either case. White space, colons, dashes, commas, quotes, `0x` and `\x` may
+    /// stand between them.
     Hexadecimal,
-    /// Base64 with padding (RFC 4648, section 4). White space, colons, commas and quotes stand between
-    /// its characters or not.
+    /// Base64 with padding (RFC 4648, section 4). White space, colons, commas and quotes may stand between
+    /// its characters.
     Base64,
+    /// The same with `-` and `_` in place of `+` and `/`, and padding or none (RFC 4648, section 5).
+    Base64Url,
+    /// Base64 with padding in lines; a line that begins with a dash is left out.
+    Armoured,
+    /// Lines of `xxd`, of `hexdump -C` or of `od -A x -t x1`: an offset, digits, and the text that they are.
+    Dump,
+    /// Lines of `tcpdump -x` or `-X`: indented ones are an offset with `0x`, digits, and the text that they are;
+    /// others are left out.
+    Packets,
+}
+
+impl Encoding {
+    /// What it is called.
+    pub fn words(self) -> &'static str
+        ensures { result.now ≡ encoding_words self }
+    {
+        match self {
+            Encoding::Detected => "any encoding",
+            Encoding::Raw => "raw",
+            Encoding::Hexadecimal => "hexadecimal",
+            Encoding::Base64 => "base64",
+            Encoding::Base64Url => "base64url",
+            Encoding::Armoured => "armoured base64",
+            Encoding::Dump => "a hexadecimal dump",
+            Encoding::Packets => "a dump of packets",
+        }
+    }
 }
 
 /// What is to be done with each input.

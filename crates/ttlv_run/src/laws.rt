@@ -1,4 +1,4 @@
-//! Laws of the definitions that the run's contract cites, on a function without a body.
+//! Laws of the definitions that the run's contract cites, each on a function without a body.
 
 ghost use Rattle.std.specs.Prelude.{◌<◌, ◌≤◌, ◌++◌, ℕ, List, [], length};
 ghost use Rattle.std.specs.List.{flat_map};
@@ -7,6 +7,8 @@ ghost use Rattle.kmip_ttlv_items.specs.ItemWalks.{AreBytes, Meets};
 ghost use Rattle.ttlv_run.specs.declared.job.Task.{Task as ATask};
 ghost use Rattle.ttlv_run.specs.declared.job.Task.TheVariants.{Show as ToShow};
 ghost use Rattle.ttlv_run.specs.declared.job.Values.{Values as TheValues};
+ghost use Rattle.ttlv_run.specs.declared.form.Form.TheVariants.{DumpText};
+ghost use Rattle.ttlv_run.specs.DumpLines.{ColonLine, BareLine, CountsColumn};
 ghost use Rattle.ttlv_run.specs.Messages.{Whole, message_at, GoesOn};
 ghost use Rattle.ttlv_run.specs.Texts.{Names as TheNames, item_line};
 
@@ -22,4 +24,11 @@ pub fn each_input_is_printed()
         → Meets (message_at bytes p) q es xs
         → GoesOn names (ToShow values) bytes
         (front ++ flat_map (item_line names values (message_at bytes p)) xs) }
+{}
+
+/// Of a dump's line the digits of its hexadecimal column count, and neither those of its offset nor those of its
+/// column of characters: of a line of xxd, with a colon behind its offset, and of one of hexdump, without.
+pub fn a_dump_is_its_columns()
+    ensures xxd { (t column rest : List ℕ) → ColonLine t column rest → CountsColumn DumpText t column rest }
+    ensures hexdump { (t column rest : List ℕ) → BareLine t column rest → CountsColumn DumpText t column rest }
 {}

@@ -1,22 +1,20 @@
 //! Why a run ends with status 2 or 3.
 
 ghost use Rattle.std.specs.Prelude.{◌≡◌};
-ghost use Rattle.ttlv_run.specs.Reasons.{status_of, words_of, offset_told};
+ghost use Rattle.ttlv_run.specs.Reasons.{status_of, words_of};
 
+use crate::misread::Misread;
 use std::alloc::AllocError;
 
-/// Why a run ends with status 2 or 3. Offsets are in bytes from the input's first.
+/// Why a run ends with status 2 or 3.
 #[derive(Clone, Copy, Debug, PartialEq, Eq)]
 pub enum Refusal {
     /// The input can't be opened.
     UnopenedInput,
     /// The input can't be read.
     UnreadableInput,
-    /// The character at this offset is none of the encoding.
-    BadCharacter(usize),
-    /// The characters up to this offset, the input's end, are those of no bytes: one is missing, or
-    /// too many are there.
-    WrongCount(usize),
+    /// The input, taken as an encoding, stands for no bytes.
+    MisreadInput(Misread),
     /// The input is no UTF-8.
     NotUtf8,
     /// The output can't be written.
@@ -35,8 +33,7 @@ impl Refusal {
         match self {
             Refusal::UnopenedInput
             | Refusal::UnreadableInput
-            | Refusal::BadCharacter(_)
-            | Refusal::WrongCount(_)
+            | Refusal::MisreadInput(_)
             | Refusal::NotUtf8 => 2,
             Refusal::UnwritableOutput | Refusal::ClosedPipe | Refusal::RefusedMemory => 3,
         }
@@ -49,22 +46,11 @@ impl Refusal {
         match self {
             Refusal::UnopenedInput => "it can't be opened",
             Refusal::UnreadableInput => "it can't be read",
-            Refusal::BadCharacter(_) => "this is no digit of the encoding",
-            Refusal::WrongCount(_) => "digits are missing at the end, or too many are there",
+            Refusal::MisreadInput(_) => "it stands for no bytes",
             Refusal::NotUtf8 => "it is not UTF-8",
             Refusal::UnwritableOutput => "the output can't be written",
             Refusal::ClosedPipe => "",
             Refusal::RefusedMemory => "out of memory",
-        }
-    }
-
-    /// The offset that is told, where there is one.
-    pub fn offset(self) -> Option<usize>
-        ensures { result ≡ offset_told self }
-    {
-        match self {
-            Refusal::BadCharacter(at) | Refusal::WrongCount(at) => Some(at),
-            _ => None,
         }
     }
 }

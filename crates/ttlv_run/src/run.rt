@@ -1,6 +1,6 @@
 //! The whole run over one input, for any reader and any writers.
 
-ghost use Rattle.std.specs.Prelude.{◌≡◌, ◌≤◌, ◌⊎◌, ◌++◌, ℕ, List, Option, Some, None, IfOk, OnOk, OnErr, string_bytes};
+ghost use Rattle.std.specs.Prelude.{◌≡◌, ◌≤◌, ◌⊎◌, ◌++◌, ℕ, List, Option, Some, None, IfOk, OnOk, OnErr, string_bytes, codes};
 ghost use Rattle.std.specs.Io.KnownBytes.{Appends, Keeps};
 ghost use Rattle.kmip_ttlv_names.specs.NameTables.{lines_of};
 ghost use Rattle.kmip_ttlv_types.specs.Streams.{AppendsFront};
@@ -17,6 +17,7 @@ use crate::coding::{bytes_of, read_all};
 use crate::job::{BackJob, Job, Names, Task};
 use crate::memory::Memory;
 use crate::messages::{Place, fault_line, print_all};
+use crate::misread::tell_misread;
 use crate::refusal::Refusal;
 use itoa::Buffer;
 use kmip_ttlv_types::stream::Sink;
@@ -129,16 +130,16 @@ fn respond_back<A: Allocator + Copy, B: Allocator + Copy, R: Read, W: Write>(
     }
 }
 
-// Writes a text behind another, where that was written to its end; answers whether this was too.
-fn tell<E: Write>(errors: &mut E, goes: bool, text: &str) -> bool
+/// Writes a text behind another, where that was written to its end; answers whether this was too.
+pub(crate) fn tell<E: Write>(errors: &mut E, goes: bool, text: &str) -> bool
     ensures { (known : Option (List ℕ)) (front : List ℕ) → Tells goes known (E.contents errors.old) front
         → Tells result known (E.contents errors.new) (front ++ text.now) }
 {
     goes && errors.send(text.as_bytes()).is_ok()
 }
 
-// Writes what the input is called, and the offset in it, if one is told.
-fn tell_place<E: Write>(errors: &mut E, name: &str, offset: Option<usize>) -> bool
+/// Writes what the input is called, and the offset in it, if one is told.
+pub(crate) fn tell_place<E: Write>(errors: &mut E, name: &str, offset: Option<usize>) -> bool
     ensures { Tells result (E.contents errors.old) (E.contents errors.new) (place_told name.now offset) }
 {
     let goes = errors.send(name.as_bytes()).is_ok();
@@ -149,17 +150,30 @@ fn tell_place<E: Write>(errors: &mut E, name: &str, offset: Option<usize>) -> bo
     tell(errors, goes, Buffer::new().format(at))
 }
 
+// Writes the line that says something of an input, as far as it can be written.
+fn tell_words<E: Write>(errors: &mut E, name: &str, words: &str)
+    ensures { AppendsFront (E.contents errors.old) (E.contents errors.new)
+        (name.now ++ codes ": " ++ words.now ++ codes "\n") }
+{
+    let goes = tell_place(errors, name, None);
+    let goes = tell(errors, goes, ": ");
+    let goes = tell(errors, goes, words);
+    tell(errors, goes, "\n");
+}
+
 /// Writes the line of a refusal, as far as it can be written. It takes no memory.
 pub(crate) fn tell_refusal<E: Write>(errors: &mut E, name: &str, refusal: Refusal)
     ensures { AppendsFront (E.contents errors.old) (E.contents errors.new) (refusal_line name.now refusal) }
 {
-    if refusal == Refusal::ClosedPipe {
-        return;
+    match refusal {
+        Refusal::ClosedPipe => (),
+        Refusal::MisreadInput(misread) => tell_misread(errors, name, misread),
+        Refusal::UnopenedInput
+        | Refusal::UnreadableInput
+        | Refusal::NotUtf8
+        | Refusal::UnwritableOutput
+        | Refusal::RefusedMemory => tell_words(errors, name, refusal.words()),
     }
-    let goes = tell_place(errors, name, refusal.offset());
-    let goes = tell(errors, goes, ": ");
-    let goes = tell(errors, goes, refusal.words());
-    tell(errors, goes, "\n");
 }
 
 // Writes the line of a text that stops being a diagnostic, as far as it can be written. It takes no memory.

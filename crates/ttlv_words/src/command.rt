@@ -13,10 +13,23 @@ const EXAMPLES: &str = "Examples:
   ttlv undiag --prefix 4200      such lines, read back
   ttlv check *.bin               the first fault of each file, if there is one
   ttlv hex capture.b64           one line of hexadecimal digits for each message
+  xxd key.bin | ttlv show        a dump of xxd, hexdump -C, od -A x -t x1 or tcpdump -x
 
-Input is raw TTLV, hexadecimal or base64; messages stand one after the other.
+Input is raw TTLV, hexadecimal, base64, or a dump; messages stand one after the other.
 Statuses: 0 whole; 1 malformed; 2 usage, or input that can't be read or decoded;
 3 out of memory, or output that can't be written.";
+
+const ENCODINGS: [&str; 9] = [
+    "raw",
+    "hex",
+    "base64",
+    "base64url",
+    "pem",
+    "xxd",
+    "hexdump",
+    "od",
+    "tcpdump",
+];
 
 fn files<'w>(alloc: Global) -> Arg<'w> {
     Arg::new(alloc, "files")
@@ -30,8 +43,8 @@ fn input<'w>(alloc: Global) -> Arg<'w> {
     Arg::new(alloc, "input")
         .long("input")
         .value_name("ENCODING")
-        .value_parser(["raw", "hex", "base64"].as_slice())
-        .help("What the input is, where that is not to be found out")
+        .value_parser(ENCODINGS.as_slice())
+        .help("What the input is, in place of what it looks like")
 }
 
 fn prefix<'w>(alloc: Global) -> Arg<'w> {

@@ -21,6 +21,10 @@ fn encoding_of(matches: &ArgMatches<'_>) -> Encoding {
         Some("raw") => Encoding::Raw,
         Some("hex") => Encoding::Hexadecimal,
         Some("base64") => Encoding::Base64,
+        Some("base64url") => Encoding::Base64Url,
+        Some("pem") => Encoding::Armoured,
+        Some("xxd") | Some("hexdump") | Some("od") => Encoding::Dump,
+        Some("tcpdump") => Encoding::Packets,
         _ => Encoding::Detected,
     }
 }

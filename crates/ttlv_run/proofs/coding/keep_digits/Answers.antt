@@ -1,20 +1,20 @@
-use Rattle.std.proofs.Common.{◌∙◌, sym, refl, rules, arith}
-use Rattle.ttlv_run.specs.Inputs.{kept_none}
-use Rattle.ttlv_run.proofs.InPlace.{at_mark, at_between, at_digit}
+use Rattle.std.proofs.Common.{◌≡◌, ◌+◌, ◌∙◌, sym, ap}
+use Rattle.std.specs.Prelude.{slice_index}
+use Rattle.ttlv_run.specs.Columns.{step}
+use Rattle.ttlv_run.proofs.InPlace.{starts, at_digit, at_skipped}
 use Rattle.ttlv_run.proofs.coding.keep_digits.Goals as goal
-use Rattle.ttlv_run.proofs.coding.keep_digits.Goals.{then-is_letter, else-is_letter+else-not-is_between}
+use Rattle.ttlv_run.proofs.coding.keep_digits.Goals.{in-Counts, in-Skips}
 
 pub characters-init : goal.characters-init
-characters-init c = (omega arith, omega arith, refl, refl, kept_none)
-
-pub characters-preserved-then-is_mark : goal.characters-preserved-then-is_mark
-characters-preserved-then-is_mark c =
-    at_mark c.args.alphabet c.args.text.now c.characters.text c.characters.at c.characters.kept c.characters.invariant (sym c.is_mark.ensures.is ∙ c.if-is_mark.true) (c.is_mark.ensures.within c.if-is_mark.true)
+characters-init c =
+    starts c.args.form c.args.text.now c.mark_length-at.result c.first_part-part.result c.mark_length-at.ensures.is c.first_part-part.ensures c.mark_length-at.ensures.within
 
 pub characters-preserved : goal.characters-preserved
 characters-preserved c =
-    let no_mark = sym c.is_mark.ensures.is ∙ c.if-is_mark.false in
-    elim c.if-is_letter.branch [
-      | then-is_letter w ↦ rw (w.text-is, w.kept-is) (at_digit c.args.alphabet c.args.text.now c.characters.text c.characters.at c.characters.kept c.characters.invariant c.characters-test.true no_mark (sym c.is_letter.ensures ∙ w.if-is_letter.true))
-      | else-is_letter+else-not-is_between w ↦ rw (w.text-is, w.kept-is) (at_between c.args.alphabet c.args.text.now c.characters.text c.characters.at c.characters.kept c.characters.invariant c.characters-test.true no_mark (sym c.is_letter.ensures ∙ w.if-is_letter.false) (sym w.is_between.ensures ∙ search rules))
+    let next = ap (step c.args.form c.characters.part (slice_index c.characters.text c.characters.at)) (sym c.byte_at.ensures.is) in
+    elim c.match-step_of.branch [
+      | in-Counts w ↦ rw (w.text-is, w.kept-is, w.part-is)
+          (at_digit c.args.form c.args.text.now c.characters.text c.characters.at c.characters.kept c.characters.part w.in-Counts.next c.characters.invariant c.characters-test.true (next ∙ sym w.in-Counts.ensures))
+      | in-Skips w ↦ rw (w.text-is, w.kept-is, w.part-is)
+          (at_skipped c.args.form c.args.text.now c.characters.text c.characters.at c.characters.kept c.characters.part w.in-Skips.next c.characters.invariant c.characters-test.true (next ∙ sym w.in-Skips.ensures))
     ]

@@ -1,0 +1,73 @@
+-- What an input looks like: raw messages, or one of the texts that stand for some.
+use Rattle.std.specs.Prelude.{ℕ, ◌+◌, Bool, false, ◌==◌, ◌||◌, ◌&&◌, List, [], ◌∷◌, take, slice_index, nat_lt}
+use Rattle.std.specs.Prelude.{Option, Some, None, if◌then◌else◌}
+use Rattle.ttlv_run.specs.declared.job.Encoding.{Encoding}
+use Rattle.ttlv_run.specs.declared.job.Encoding.TheVariants.{Raw, Hexadecimal, Base64, Base64Url, Armoured, Dump, Packets}
+use Rattle.ttlv_run.specs.Columns.{is_between, is_hex_digit, body}
+
+-- a byte that stands in no text
+abbrev pub is_control : ℕ → Bool
+is_control b = nat_lt b 9 || (nat_lt 13 b && nat_lt b 32)
+
+abbrev pub has_control : List ℕ → Bool
+has_control [] = false
+has_control (b ∷ s) = is_control b || has_control s
+
+-- raw messages have such a byte among the first four, since the root's type has the code 1
+abbrev pub looks_raw : List ℕ → Bool
+looks_raw s = has_control (take 4 s)
+
+-- the first byte that doesn't stand between digits
+abbrev pub first_byte : List ℕ → Option ℕ
+first_byte [] = None
+first_byte (b ∷ s) = if is_between b then first_byte s else Some b
+
+-- how many zeros a text begins with
+abbrev pub zeros : List ℕ → ℕ
+zeros [] = 0
+zeros (b ∷ s) = if b == 48 then zeros s + 1 else 0
+
+-- a colon, a space or a tab
+abbrev pub ends_offset : ℕ → Bool
+ends_offset b = b == 58 || b == 32 || b == 9
+
+-- a dump begins with the offset zero, of six digits or more; no message does
+abbrev pub starts_dump : List ℕ → Bool
+starts_dump s = nat_lt 5 (zeros s) && ends_offset (slice_index s (zeros s))
+
+-- `0x0000:`, with which tcpdump begins a packet, stands at the beginning of a text
+abbrev pub starts_packet : List ℕ → Bool
+starts_packet s =
+    slice_index s 0 == 48 && (slice_index s 1 == 120 && (slice_index s 2 == 48 && (slice_index s 3 == 48
+    && (slice_index s 4 == 48 && (slice_index s 5 == 48 && slice_index s 6 == 58)))))
+
+-- or anywhere in it
+abbrev pub has_packet : List ℕ → Bool
+has_packet [] = false
+has_packet (b ∷ s) = starts_packet (b ∷ s) || has_packet s
+
+-- a digit of base64url that base64 doesn't have stands in a text
+abbrev pub has_url_digit : List ℕ → Bool
+has_url_digit [] = false
+has_url_digit (b ∷ s) = (b == 45 || b == 95) || has_url_digit s
+
+-- what a text is that is no dump: hexadecimal where it begins with a digit of it, or with a backslash; armoured where it
+-- begins with a dash; or else base64
+abbrev pub by_first_byte : List ℕ → ℕ → Encoding
+by_first_byte s b =
+    if is_hex_digit b || b == 92 then Hexadecimal
+    else if b == 45 then Armoured
+    else if has_url_digit s then Base64Url
+    else Base64
+
+abbrev pub by_first : List ℕ → Option ℕ → Encoding
+by_first s None = Hexadecimal
+by_first s (Some b) = by_first_byte s b
+
+-- what a text looks like
+abbrev pub text_found : List ℕ → Encoding
+text_found s = if has_packet s then Packets else if starts_dump s then Dump else by_first s (first_byte s)
+
+-- what an input looks like
+abbrev pub encoding_found : List ℕ → Encoding
+encoding_found s = if looks_raw s then Raw else text_found (body s)

@@ -1,0 +1,175 @@
+//! What an input is taken as, where its encoding isn't named: raw messages, or one of the texts that stand for some.
+
+ghost use Rattle.std.specs.Prelude.{◌≡◌, ◌<◌, ◌≤◌, length, slice_index};
+ghost use Rattle.ttlv_run.specs.Columns.{mark_length};
+ghost use Rattle.ttlv_run.specs.Guesses.{is_control, has_control, looks_raw, first_byte, zeros, ends_offset, starts_dump};
+ghost use Rattle.ttlv_run.specs.Guesses.{starts_packet, has_packet, has_url_digit, by_first_byte, text_found, encoding_found};
+
+use crate::form::{is_between, is_hex_digit};
+use crate::job::Encoding;
+
+fn is_control(b: u8) -> bool
+    ensures { result ≡ is_control b }
+{
+    b < 9 || (13 < b && b < 32)
+}
+
+fn has_control(bytes: &[u8]) -> bool
+    ensures { result ≡ has_control bytes.now }
+{
+    for b in bytes {
+        if is_control(*b) {
+            return true;
+        }
+    }
+    false
+}
+
+// Whether an input is raw: its first four bytes hold one that stands in no text.
+fn looks_raw(input: &[u8]) -> bool
+    ensures { result ≡ looks_raw input.now }
+{
+    has_control(&input[..input.len().min(4)])
+}
+
+// The first byte that doesn't stand between digits.
+fn first_byte(text: &[u8]) -> Option<u8>
+    ensures { result ≡ first_byte text.now }
+{
+    for b in text {
+        if !is_between(*b) {
+            return Some(*b);
+        }
+    }
+    None
+}
+
+// How many zeros a text begins with.
+fn zeros(text: &[u8]) -> usize
+    ensures is { result ≡ zeros text.now }
+    ensures within { result ≤ length text.now }
+{
+    let mut count = 0;
+    for b in text {
+        if *b != 48 {
+            return count;
+        }
+        count += 1;
+    }
+    count
+}
+
+fn ends_offset(b: u8) -> bool
+    ensures { result ≡ ends_offset b }
+{
+    b == 58 || b == 32 || b == 9
+}
+
+/// The byte of a text at a place; 0 behind its end.
+pub fn byte_at(text: &[u8], at: usize) -> u8
+    ensures is { result ≡ slice_index text.now at }
+    ensures inside { 0 < result → at < length text.now }
+{
+    if at < text.len() {
+        return text[at];
+    }
+    0
+}
+
+// Whether a text begins with the offset of a dump: zeros.
+fn starts_dump(text: &[u8]) -> bool
+    ensures { result ≡ starts_dump text.now }
+{
+    let count = zeros(text);
+    5 < count && ends_offset(byte_at(text, count))
+}
+
+// Whether a text begins with the first offset of a packet, as tcpdump prints it: `0x0000:`.
+fn starts_packet(text: &[u8]) -> bool
+    ensures { result ≡ starts_packet text.now }
+{
+    byte_at(text, 0) == 48
+        && byte_at(text, 1) == 120
+        && byte_at(text, 2) == 48
+        && byte_at(text, 3) == 48
+        && byte_at(text, 4) == 48
+        && byte_at(text, 5) == 48
+        && byte_at(text, 6) == 58
+}
+
+// Whether it stands anywhere in a text.
+fn has_packet(text: &[u8]) -> bool
+    ensures { result ≡ has_packet text.now }
+{
+    for i in 0..text.len() {
+        if starts_packet(&text[i..]) {
+            return true;
+        }
+    }
+    false
+}
+
+// Whether a digit of base64url that base64 doesn't have stands in a text.
+fn has_url_digit(text: &[u8]) -> bool
+    ensures { result ≡ has_url_digit text.now }
+{
+    for b in text {
+        if *b == 45 || *b == 95 {
+            return true;
+        }
+    }
+    false
+}
+
+// What a text is that is no dump, by its first byte.
+fn by_first_byte(text: &[u8], first: u8) -> Encoding
+    ensures { result ≡ by_first_byte text.now first }
+{
+    if is_hex_digit(first) || first == 92 {
+        return Encoding::Hexadecimal;
+    }
+    if first == 45 {
+        return Encoding::Armoured;
+    }
+    if has_url_digit(text) {
+        return Encoding::Base64Url;
+    }
+    Encoding::Base64
+}
+
+// What a text looks like.
+fn text_found(text: &[u8]) -> Encoding
+    ensures { result ≡ text_found text.now }
+{
+    if has_packet(text) {
+        return Encoding::Packets;
+    }
+    if starts_dump(text) {
+        return Encoding::Dump;
+    }
+    match first_byte(text) {
+        Some(first) => by_first_byte(text, first),
+        None => Encoding::Hexadecimal,
+    }
+}
+
+/// How long the mark is that a text of UTF-8 may begin with.
+pub fn mark_length(input: &[u8]) -> usize
+    ensures is { result ≡ mark_length input.now }
+    ensures within { result ≤ length input.now }
+{
+    if byte_at(input, 0) == 239 && byte_at(input, 1) == 187 && byte_at(input, 2) == 191 {
+        return 3;
+    }
+    0
+}
+
+/// What an input looks like.
+pub fn encoding_found(input: &[u8]) -> Encoding
+    ensures { result ≡ encoding_found input.now }
+{
+    if looks_raw(input) {
+        return Encoding::Raw;
+    }
+    text_found(&input[mark_length(input)..])
+}
