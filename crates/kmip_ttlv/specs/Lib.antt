@@ -70,5 +70,8 @@ pub use Rattle.kmip_ttlv_laws.specs.WorkedAgreements
 pub use Rattle.kmip_ttlv_items.specs.FoundItems
 pub use Rattle.kmip_ttlv_items.specs.ItemWalks
 pub use Rattle.kmip_ttlv_items.specs.Stepping
+pub use Rattle.kmip_ttlv_write.specs.GivenItems
+pub use Rattle.kmip_ttlv_write.specs.FlatWrites
+pub use Rattle.kmip_ttlv_write.specs.FlatLaws
 pub use Rattle.kmip_ttlv_names.specs.NameTables
 pub use Rattle.kmip_ttlv_names.specs.ValueNames

@@ -3,9 +3,9 @@
 //!
 //! This is the crate that users name. It has no code, and gives one path to the crates below it: `types`,
 //! `error`, the traits of a user's type in `shape`, `visit` and `parts`; encoding in `ser`, decoding in `de`
-//! and, for types that read themselves, in `reader`; printing in `util`, `items` and `names`; the parts of
-//! message types in `messages`; an allocator with limits in `memory`; and in `laws` what holds of encoding and
-//! decoding together.
+//! and, for types that read themselves, in `reader`; printing in `util` and `names`; flat items in `items` and
+//! `writing`; the parts of message types in `messages`; an allocator with limits in `memory`; and in `laws` what
+//! holds of encoding and decoding together.
 //!
 //! The lemmas by which a user's `from_data`, `shape` and `visit` are proved are in proofs/Views, proofs/Shapes
 //! and proofs/Visiting of `kmip_ttlv_base`.
@@ -27,3 +27,4 @@ pub use kmip_ttlv_ser::{to_vec, to_writer};
 pub use kmip_ttlv_stream::{Config, from_reader};
 pub use kmip_ttlv_util as util;
 pub use kmip_ttlv_util::PrettyPrinter;
+pub use kmip_ttlv_write as writing;

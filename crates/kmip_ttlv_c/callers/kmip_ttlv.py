@@ -1,4 +1,4 @@
-"""TTLV, the encoding of OASIS KMIP: messages printed, redacted, walked and checked.
+"""TTLV, the encoding of OASIS KMIP: messages printed, redacted, walked, checked, decoded and encoded.
 
 Copy this file beside libkmip_ttlv.so, or set KMIP_TTLV_LIBRARY to the path of the library.
 """
@@ -7,15 +7,15 @@ import os
 from collections import namedtuple
 from datetime import datetime, timedelta, timezone
 
-__all__ = ["check", "decode", "from_diag", "items", "to_diag", "to_text", "version"]
-__all__ += ["FAULTS", "Fault", "Item", "Node", "Malformed", "BadNames"]
+__all__ = ["check", "decode", "encode", "from_diag", "items", "to_diag", "to_text", "version", "write"]
+__all__ += ["FAULTS", "Fault", "Item", "Node", "BadItem", "Malformed", "BadNames"]
 
 _here = os.path.dirname(os.path.abspath(__file__))
 _library = ctypes.CDLL(os.environ.get("KMIP_TTLV_LIBRARY") or os.path.join(_here, "libkmip_ttlv.so"))
 
 OK, OUT_OF_MEMORY, NOT_UTF8, NO_ROOM, MALFORMED, BAD_NAMES = range(6)
 
-# What is wrong with a message, by the kind of its fault.
+# What is wrong with a message, or with an item that is to be written, by the kind of the fault.
 FAULTS = (
     "whole",
     "the bytes end within the root",
@@ -26,6 +26,10 @@ FAULTS = (
     "the item goes past the end of the structure around",
     "the content is no value of the type",
     "further bytes follow the root",
+    "no structure before it contains it",
+    "its tag is no number below 2^24",
+    "its value goes past the end of the bytes",
+    "with it a structure takes 2^32 bytes or more",
 )
 
 # offset: of the header, in bytes from the first; depth: the structures around; length: of the value, in bytes
@@ -42,6 +46,14 @@ class Malformed(ValueError):
     def __init__(self, fault, found):
         super().__init__(f"at byte {fault.offset}: {FAULTS[fault.kind]}")
         self.fault, self.items = fault, found
+
+
+class BadItem(ValueError):
+    """An item can't be written: `index` is its place in document order, 0 for the first, `why` what is wrong with it."""
+
+    def __init__(self, index, why, tag=None):
+        super().__init__(f"item {index}{'' if tag is None else f' (tag {tag!r})'}: {why}")
+        self.index, self.why = index, why
 
 
 class BadNames(ValueError):
@@ -61,6 +73,10 @@ class _Fault(ctypes.Structure):
     _fields_ = [("offset", ctypes.c_size_t), ("kind", ctypes.c_uint32)]
 
 
+class _BadItem(ctypes.Structure):
+    _fields_ = [("index", ctypes.c_size_t), ("kind", ctypes.c_uint32)]
+
+
 _size = ctypes.c_size_t
 _sizes = ctypes.POINTER(_size)
 _lent = [ctypes.c_char_p, _size]
@@ -78,6 +94,7 @@ _to_standard_text = _call("to_standard_text", _lent, ctypes.c_bool, _lent, _size
 _from_diag = _call("from_diag", _lent, _lent, _lent, _lent, _sizes, _sizes)
 _items = _call("items", _lent, ctypes.POINTER(_Item), _size, _sizes, ctypes.POINTER(_Fault))
 _check = _call("check", _lent, ctypes.POINTER(_Fault))
+_write = _call("write", ctypes.POINTER(_Item), _size, _lent, _lent, _sizes, ctypes.POINTER(_BadItem))
 _version = _call("version", _lent, _sizes)
 
 
@@ -191,6 +208,89 @@ def decode(message):
         if it.depth == 0:
             root = node
     return root
+
+
+def write(found, lent):
+    """The canonical bytes of a flat list of items, as `items` returns it, whose values lie in `lent`: write(items(m), m).
+
+    An item belongs to the last Structure before it of one depth less; `offset` and `length` of a Structure are ignored.
+    BadItem names the first item that can't be written.
+    """
+    found, limits = list(found), (1 << 64, 1 << 64, 1 << 32, 1 << 32, 1 << 32)
+    for index, it in enumerate(found):
+        if not all(0 <= number < limit for number, limit in zip(it, limits)):
+            raise BadItem(index, "a number of it is negative or too large")
+    listed, length, bad = (_Item * (len(found) + 1))(*map(tuple, found)), _size(), _BadItem()
+    room = len(lent) + 16 * len(found)
+    while True:
+        out = ctypes.create_string_buffer(room + 1)
+        status = _write(listed, len(found), lent, len(lent), out, room, ctypes.byref(length), ctypes.byref(bad))
+        if status == OK:
+            return out.raw[: length.value]
+        if status == MALFORMED:
+            raise BadItem(bad.index, FAULTS[bad.kind])
+        room = length.value
+
+
+def _signed(size):
+    return lambda value: value.to_bytes(size, "big", signed=True)
+
+
+def _big(value):
+    return value.to_bytes(8 * (value.bit_length() // 64 + 1), "big", signed=True)
+
+
+def _boolean(value):
+    if not isinstance(value, bool):
+        raise TypeError("its value is no bool")
+    return value.to_bytes(8, "big")
+
+
+def _seconds(value):
+    if isinstance(value, datetime):
+        value, rest = divmod(value - datetime(1970, 1, 1, tzinfo=timezone.utc), timedelta(seconds=1))
+        if rest:
+            raise ValueError("its value has a fraction of a second")
+    return value.to_bytes(8, "big", signed=True)
+
+
+# How a value becomes the content of a leaf, by the code of its type.
+_CONTENTS = {
+    2: _signed(4),
+    3: _signed(8),
+    4: _big,
+    5: lambda value: value.to_bytes(4, "big"),
+    6: _boolean,
+    7: lambda value: value.encode("utf-8"),
+    8: lambda value: bytes(memoryview(value)),
+    9: _seconds,
+    10: lambda value: value.to_bytes(4, "big"),
+}
+
+
+def encode(root):
+    """The message of nested nodes, as `decode` returns them: encode(decode(m)) == m for each message m in canonical form,
+    which pads with zeros and has Big Integers of the fewest bytes that are a multiple of eight.
+
+    BadItem names the first node, in document order, whose tag, type or value can't be encoded. Nesting takes no stack.
+    """
+    found, lent, waiting = [], bytearray(8), [(0, root)]
+    while waiting:
+        depth, node = waiting.pop()
+        try:
+            tag, typ, value = node
+            if not 0 <= tag < 1 << 24:
+                raise ValueError(FAULTS[10])
+            if typ != 1 and typ not in _CONTENTS:
+                raise ValueError(FAULTS[3])
+            if typ == 1:
+                waiting += [(depth + 1, below) for below in reversed(value)]
+            content = b"" if typ == 1 else _CONTENTS[typ](value)
+        except (AttributeError, OverflowError, TypeError, ValueError) as why:
+            raise BadItem(len(found), why, node[0] if isinstance(node, tuple) and node else None) from why
+        found.append(Item(len(lent) - 8, depth, tag, typ, len(content)))
+        lent += content
+    return write(found, bytes(lent))
 
 
 def check(message):

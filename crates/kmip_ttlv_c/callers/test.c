@@ -192,6 +192,58 @@ static void walks(void) {
     HOLD(fault.kind == KMIP_TTLV_SURPLUS && fault.offset == 40);
 }
 
+/* Items written: those of a message, others made from nothing, and bad ones; no memory is asked for. */
+static void writing(void) {
+    kmip_ttlv_item items[3];
+    kmip_ttlv_fault fault;
+    kmip_ttlv_bad_item bad = {7, 7};
+    uint8_t message[40], out[48];
+    size_t count = 99, length = 99;
+    memcpy(message, VERSION, 40);
+    message[23] = 0x55; /* padding of another value */
+    HOLD(kmip_ttlv_items(message, 40, items, 3, &count, &fault) == KMIP_TTLV_OK && count == 3);
+    left = 0;
+    memset(out, '.', sizeof out);
+    HOLD(kmip_ttlv_write(items, 3, message, 40, out, 39, &length, &bad) == KMIP_TTLV_NO_ROOM);
+    HOLD(length == 40 && bad.kind == KMIP_TTLV_WHOLE && bad.index == 0 && out[0] == '.' && out[39] == '.');
+    HOLD(kmip_ttlv_write(items, 3, message, 40, out, 48, &length, &bad) == KMIP_TTLV_OK);
+    HOLD(length == 40 && bad.kind == KMIP_TTLV_WHOLE && memcmp(out, VERSION, 40) == 0 && out[40] == '.');
+    HOLD(kmip_ttlv_write(items, 0, message, 0, out, 0, &length, &bad) == KMIP_TTLV_OK && length == 0);
+    /* an item left out: the structure gets shorter */
+    HOLD(kmip_ttlv_write(items, 2, message, 40, out, 48, &length, &bad) == KMIP_TTLV_OK && length == 24 && out[7] == 0x10);
+    HOLD(memcmp(out + 8, VERSION + 8, 16) == 0);
+    /* from nothing: eight bytes of any value, and the two values */
+    static const uint8_t values[16] = {0, 0, 0, 0, 0, 0, 0, 0, 0, 0, 0, 1, 0, 0, 0, 0};
+    static const kmip_ttlv_item made[3] = {
+        {0, 0, 0x420069, KMIP_TTLV_STRUCTURE, 0},
+        {0, 1, 0x42006A, KMIP_TTLV_INTEGER, 4},
+        {4, 1, 0x42006B, KMIP_TTLV_INTEGER, 4},
+    };
+    HOLD(kmip_ttlv_write(made, 3, values, 16, out, 40, &length, &bad) == KMIP_TTLV_OK && length == 40);
+    HOLD(memcmp(out, VERSION, 40) == 0);
+    static const struct {
+        kmip_ttlv_item item;
+        uint32_t kind;
+    } rows[] = {
+        {{0, 2, 0x420020, KMIP_TTLV_INTEGER, 4}, KMIP_TTLV_NOT_INSIDE},
+        {{0, 1, 0x1000000, KMIP_TTLV_INTEGER, 4}, KMIP_TTLV_LONG_TAG},
+        {{0, 1, 0x420020, 0, 4}, KMIP_TTLV_UNKNOWN_TYPE},
+        {{0, 1, 0x420020, 256 + 2, 4}, KMIP_TTLV_UNKNOWN_TYPE},
+        {{0, 1, 0x420020, KMIP_TTLV_DATE_TIME, 4}, KMIP_TTLV_WRONG_LENGTH},
+        {{5, 1, 0x420020, KMIP_TTLV_INTEGER, 4}, KMIP_TTLV_OUTSIDE},
+        {{SIZE_MAX, 1, 0x420020, KMIP_TTLV_BYTE_STRING, 0}, KMIP_TTLV_OUTSIDE},
+        {{0, 1, 0x420020, KMIP_TTLV_BYTE_STRING, UINT32_MAX}, KMIP_TTLV_OUTSIDE},
+        {{0, 1, 0x420020, KMIP_TTLV_BOOLEAN, 8}, KMIP_TTLV_INVALID_VALUE},
+    };
+    for (size_t row = 0; row < sizeof rows / sizeof rows[0]; row++) {
+        kmip_ttlv_item some[3] = {made[0], made[1], rows[row].item};
+        memset(out, '.', sizeof out);
+        HOLD(kmip_ttlv_write(some, 3, values, 16, out, 48, &length, &bad) == KMIP_TTLV_MALFORMED);
+        HOLD(length == 0 && bad.index == 2 && bad.kind == rows[row].kind && out[0] == '.');
+    }
+    left = -1;
+}
+
 /* Hostile bytes: the worked message with bits flipped, cut anywhere. Each block is as long as what is lent, so that a
  * sanitizer sees what is read or written past it. */
 static void hostile(void) {
@@ -214,6 +266,12 @@ static void hostile(void) {
         kmip_ttlv_fault same;
         HOLD((kmip_ttlv_check(bytes, size, &same) == KMIP_TTLV_MALFORMED) == (walk == KMIP_TTLV_MALFORMED));
         HOLD(same.kind == fault.kind && same.offset == fault.offset && fault.offset <= size);
+        if (count <= 2) {
+            kmip_ttlv_bad_item bad;
+            size_t written = 0;
+            kmip_ttlv_status wrote = kmip_ttlv_write(items, count, bytes, size, out, room, &written, &bad);
+            HOLD(wrote == (written > room ? KMIP_TTLV_NO_ROOM : KMIP_TTLV_OK) && written <= size && out[room] == 0x77);
+        }
         kmip_ttlv_status status = kmip_ttlv_to_diag(bytes, size, PREFIX, 4, true, out, room, &length, &count);
         HOLD(status == (length > room ? KMIP_TTLV_NO_ROOM : KMIP_TTLV_OK) && count <= size / 8 + 1);
         if (status == KMIP_TTLV_OK) {
@@ -234,6 +292,7 @@ int main(void) {
     memory();
     refusals();
     walks();
+    writing();
     hostile();
     HOLD(blocks == 0);
     printf("C: %s\n", failed ? "failed" : "all held");

@@ -91,6 +91,7 @@ class Walks(unittest.TestCase):
             root = kmip_ttlv.decode(bytes.fromhex("42002001") + len(leaf).to_bytes(4, "big") + leaf)
             self.assertEqual(root, (0x420020, 1, [(0x420020, leaf[3], value)]))
             self.assertIs(type(root.value[0].value), type(value))
+            self.assertEqual(kmip_ttlv.encode(root), bytes.fromhex("42002001") + len(leaf).to_bytes(4, "big") + leaf)
         with self.assertRaises(kmip_ttlv.Malformed):
             kmip_ttlv.decode(VERSION[:-1])
 
@@ -98,9 +99,70 @@ class Walks(unittest.TestCase):
         depth = 20000
         message = b"".join(bytes.fromhex("42002001") + (8 * (depth - 1 - at)).to_bytes(4, "big") for at in range(depth))
         node, count = kmip_ttlv.decode(message), 1
+        self.assertEqual(kmip_ttlv.encode(node), message)
         while node.value:
             (node,), count = node.value, count + 1
         self.assertEqual(count, depth)
+
+    def test_encoding(self):
+        node = kmip_ttlv.Node
+        for message in (VERSION, DESTROY):
+            self.assertEqual(kmip_ttlv.encode(kmip_ttlv.decode(message)), message)
+            self.assertEqual(kmip_ttlv.write(kmip_ttlv.items(message), message), message)
+        version = node(0x420069, 1, [node(0x42006A, 2, 1), node(0x42006B, 2, 0)])
+        header = node(0x420077, 1, [version, node(0x42000D, 2, 1)])
+        name = node(0x420094, 7, "fc8833de-70d2-4ece-b063-fede3a3c59fe")
+        item = node(0x42000F, 1, [node(0x42005C, 5, 0x14), node(0x420079, 1, [name])])
+        self.assertEqual(kmip_ttlv.encode(node(0x420078, 1, [header, item])), DESTROY)
+        self.assertEqual(kmip_ttlv.encode(name)[:8].hex(), "4200940700000024")
+        values = [(2, -(2**31)), (3, 2**63 - 1), (4, 0), (4, -(2**63)), (4, 2**63), (5, 2**32 - 1), (6, True), (7, ""), (7, "\u00e9")]
+        values += [(8, b""), (8, b"12345678"), (9, datetime(1969, 12, 31, 23, 59, 59, tzinfo=timezone.utc)), (9, -(2**63)), (10, 0)]
+        root = node(0x420020, 1, [node(0x420020, typ, value) for typ, value in values] + [node(0, 1, []), node(0xFFFFFF, 1, [])])
+        self.assertEqual(kmip_ttlv.decode(kmip_ttlv.encode(root)), root)
+        dirty = VERSION[:23] + b"\1" + VERSION[24:]
+        self.assertEqual(kmip_ttlv.encode(kmip_ttlv.decode(dirty)), VERSION)
+        self.assertEqual(kmip_ttlv.write(kmip_ttlv.items(dirty), dirty), VERSION)
+        self.assertEqual(kmip_ttlv.write([], b""), b"")
+
+    def test_bad_items(self):
+        node, good = kmip_ttlv.Node, kmip_ttlv.Node(0x420020, 2, 1)
+        bad = [(2**24, 2, 1), (-1, 2, 1), (0x420020, 11, 1), (0x420020, 0, 1), (0x420020, 2, 2**31), (0x420020, 2, "1")]
+        bad += [(0x420020, 3, 2**63), (0x420020, 4, 1.5), (0x420020, 5, -1), (0x420020, 6, 1), (0x420020, 7, b"a")]
+        bad += [(0x420020, 7, "\ud800"), (0x420020, 8, "a"), (0x420020, 8, 3), (0x420020, 9, datetime(2008, 3, 14)), (0x420020, 10, 2**32)]
+        bad += [(0x420020, 9, datetime(2008, 3, 14, 0, 0, 0, 1, tzinfo=timezone.utc)), (0x420020, 1, 1), ("a", 2, 1), (0x420020, 2), None]
+        for it in bad:
+            root = node(0x420020, 1, [good, node(0x420020, 1, [good]), node(*it) if it and len(it) == 3 else it, good])
+            with self.assertRaises(kmip_ttlv.BadItem) as refused:
+                kmip_ttlv.encode(root)
+            self.assertEqual(refused.exception.index, 4, it)
+            self.assertIn("item 4", str(refused.exception))
+        item, lent = kmip_ttlv.Item, bytes(24)
+        root = item(0, 0, 0x420020, 1, 0)
+        rows = (
+            ([item(0, 1, 0x420020, 2, 4)], 0, 9),
+            ([root, item(0, 2, 0x420020, 2, 4)], 1, 9),
+            ([root, item(0, 1, 0x420020, 2, 4), item(0, 2, 0x420020, 2, 4)], 2, 9),
+            ([root, item(0, 1, 2**24, 2, 4)], 1, 10),
+            ([root, item(0, 1, 0x420020, 11, 4)], 1, 3),
+            ([root, item(0, 1, 0x420020, 2, 5)], 1, 5),
+            ([root, item(13, 1, 0x420020, 2, 4)], 1, 11),
+            ([root, item(2**64 - 1, 1, 0x420020, 2, 4)], 1, 11),
+            ([root, item(0, 1, 0x420020, 8, 17)], 1, 11),
+        )
+        for found, index, kind in rows:
+            with self.assertRaises(kmip_ttlv.BadItem) as refused:
+                kmip_ttlv.write(found, lent)
+            self.assertEqual((refused.exception.index, refused.exception.why), (index, kmip_ttlv.FAULTS[kind]))
+        for typ, length, content in ((6, 8, b"\0" * 7 + b"\2"), (7, 1, b"\xff")):
+            with self.assertRaises(kmip_ttlv.BadItem) as refused:
+                kmip_ttlv.write([root, item(0, 1, 0x420020, typ, length)], bytes(8) + content)
+            self.assertEqual((refused.exception.index, refused.exception.why), (1, kmip_ttlv.FAULTS[7]))
+        self.assertRaises(kmip_ttlv.BadItem, kmip_ttlv.write, [item(0, 0, 2**32 + 1, 2, 4)], lent)
+        # sixteen thousand times the same quarter of a megabyte: the item with which the root passes four bytes
+        large = [root] + [item(0, 1, 0x420020, 8, 2**18 - 8)] * (2**14 + 1)
+        with self.assertRaises(kmip_ttlv.BadItem) as refused:
+            kmip_ttlv.write(large, bytes(2**18))
+        self.assertEqual((refused.exception.index, refused.exception.why), (2**14, kmip_ttlv.FAULTS[12]))
 
     def test_refusals(self):
         with self.assertRaises(kmip_ttlv.BadNames) as refused:
@@ -130,6 +192,10 @@ class Walks(unittest.TestCase):
             diagnostic = kmip_ttlv.to_diag(message, closed=True)
             if fault is None:
                 self.assertEqual(len(kmip_ttlv.items(message)), kmip_ttlv.from_diag(diagnostic).count("Tag: "))
+                written = kmip_ttlv.write(kmip_ttlv.items(message), message)
+                self.assertEqual(kmip_ttlv.items(written), kmip_ttlv.items(message))
+                if all(it.typ != 4 for it in kmip_ttlv.items(message)):
+                    self.assertEqual(kmip_ttlv.encode(kmip_ttlv.decode(message)), written)
             else:
                 self.assertRaises(kmip_ttlv.Malformed, kmip_ttlv.items, message)
                 self.assertLessEqual(fault.offset, len(message))

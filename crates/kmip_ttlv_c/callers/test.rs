@@ -21,6 +21,14 @@ pub struct Fault {
     pub kind: u32,
 }
 
+/// The first item that can't be written: which, and what is wrong with it, as the header numbers it.
+#[repr(C)]
+#[derive(Clone, Copy, Debug, Default, PartialEq, Eq)]
+pub struct BadItem {
+    pub index: usize,
+    pub kind: u32,
+}
+
 const OK: u32 = 0;
 const NO_ROOM: u32 = 3;
 const MALFORMED: u32 = 4;
@@ -39,6 +47,8 @@ extern "C" {
     fn kmip_ttlv_items(bytes: *const c_uchar, bytes_len: usize, items: *mut Item, room: usize, count: *mut usize,
         fault: *mut Fault) -> u32;
     fn kmip_ttlv_check(bytes: *const c_uchar, bytes_len: usize, fault: *mut Fault) -> u32;
+    fn kmip_ttlv_write(items: *const Item, count: usize, bytes: *const c_uchar, bytes_len: usize, out: *mut c_uchar,
+        room: usize, length: *mut usize, bad: *mut BadItem) -> u32;
 }
 
 /// Calls with a buffer until it is large enough; an error is the status.
@@ -109,6 +119,24 @@ pub fn check(bytes: &[u8]) -> Option<Fault> {
     (status == MALFORMED).then_some(fault)
 }
 
+/// Items written as canonical bytes, their values lying in `bytes`, or the first that can't be written.
+pub fn write(items: &[Item], bytes: &[u8]) -> Result<Vec<u8>, BadItem> {
+    let (mut out, mut length, mut bad) = (vec![0; bytes.len()], 0, BadItem::default());
+    loop {
+        let status = unsafe {
+            kmip_ttlv_write(items.as_ptr(), items.len(), bytes.as_ptr(), bytes.len(), out.as_mut_ptr(), out.len(), &mut length,
+                &mut bad)
+        };
+        match status {
+            OK => break,
+            NO_ROOM => out.resize(length, 0),
+            _ => return Err(bad),
+        }
+    }
+    out.truncate(length);
+    Ok(out)
+}
+
 fn main() {
     let digits = "420069010000002042006A0200000004000000010000000042006B02000000040000000000000000";
     let message: Vec<u8> = (0..digits.len()).step_by(2).map(|at| u8::from_str_radix(&digits[at..at + 2], 16).unwrap()).collect();
@@ -125,6 +153,11 @@ fn main() {
     let found = items(&message).unwrap();
     assert_eq!(found.len(), 3);
     assert_eq!(found[2], Item { offset: 24, depth: 1, tag: 0x42006B, typ: 2, length: 4 });
+    assert_eq!(write(&found, &message).as_deref(), Ok(&message[..]));
+    let twice = [found[0], found[1], found[1], found[2]];
+    assert_eq!(write(&twice, &message).unwrap().len(), 56);
+    let deep = [found[0], Item { depth: 2, ..found[1] }];
+    assert_eq!(write(&deep, &message), Err(BadItem { index: 1, kind: 9 }));
     assert_eq!(check(&message), None);
     assert_eq!(check(&message[..39]), Some(Fault { offset: 0, kind: 1 }));
     assert_eq!(to_diag(&[], "", true).as_deref(), Ok("ERR"));

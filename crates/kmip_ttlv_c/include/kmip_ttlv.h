@@ -1,4 +1,4 @@
-/* TTLV, the encoding of OASIS KMIP 1.0 (section 9.1): messages printed, redacted, walked and checked.
+/* TTLV, the encoding of OASIS KMIP 1.0 (section 9.1): messages printed, redacted, walked, checked and written.
  *
  * Every call returns a status. It keeps nothing of what it is lent, has no state of its own, and frees all memory that it
  * allocates before it returns, so any number of threads may be in calls at a time. Lengths, counts and offsets are in
@@ -6,10 +6,10 @@
  *
  * What is lent is a pointer and a length of at most PTRDIFF_MAX; a `room` is at most that too. No pointer may be null, also
  * where its length is 0. What is lent must not change during the call, and what is written to (a buffer, a list, the
- * places of `length`, `items`, `count`, `bad_line` and `fault`) must not overlap with anything else that is lent.
+ * places of `length`, `items`, `count`, `bad_line`, `fault` and `bad`) must not overlap with anything else that is lent.
  *
- * A call that makes a text writes it to `out` if its `room` bytes hold all of it, without an ending zero, and writes
- * nothing after the text. `*length` is how long the text is, also if there was no room; on any other error it is 0. On
+ * A call that makes a text or a message writes it to `out` if its `room` bytes hold all of it, without an ending zero, and
+ * writes nothing after it. `*length` is how long it is, also if there was no room; on any other error it is 0. On
  * every error `out` is unchanged.
  *
  * Texts: `*length` of a diagnostic is at most a few times the length of the bytes. The readable texts indent each line by
@@ -52,7 +52,7 @@ typedef uint32_t kmip_ttlv_status;
 #define KMIP_TTLV_NOT_UTF8 2u
 /* The buffer or the list is too small; `*length` or `*count` says what it has to hold. */
 #define KMIP_TTLV_NO_ROOM 3u
-/* The bytes are not one whole message. */
+/* The bytes are not one whole message; or an item can't be written. */
 #define KMIP_TTLV_MALFORMED 4u
 /* A line of a table of names can't be read; `*bad_line` is its number. */
 #define KMIP_TTLV_BAD_NAMES 5u
@@ -104,6 +104,22 @@ typedef struct {
 #define KMIP_TTLV_INVALID_VALUE 7u
 /* Further bytes follow the root. */
 #define KMIP_TTLV_SURPLUS 8u
+
+/* The first item that can't be written. If several things are wrong with it, it is the first of these: NOT_INSIDE, LONG_TAG,
+ * UNKNOWN_TYPE, WRONG_LENGTH, OUTSIDE, INVALID_VALUE, TOO_LONG. */
+typedef struct {
+    size_t index;  /* which item: 0 for the first, and 0 where nothing is wrong */
+    uint32_t kind; /* what is wrong with it: KMIP_TTLV_WHOLE, or one of the seven */
+} kmip_ttlv_bad_item;
+
+/* No structure before it contains it: its depth is more than the number of structures that are open there. */
+#define KMIP_TTLV_NOT_INSIDE 9u
+/* Its tag is 2^24 or more. */
+#define KMIP_TTLV_LONG_TAG 10u
+/* Its value goes past the end of the lent bytes. */
+#define KMIP_TTLV_OUTSIDE 11u
+/* With it, the content of a structure around it takes 2^32 bytes or more (or all items take 2^64 or more). */
+#define KMIP_TTLV_TOO_LONG 12u
 
 /* The redacted diagnostic of any bytes. Of a well-formed message it shows each item's tag and type, the value of an
  * enumeration, and no other value; in malformed bytes key bytes may sit where a tag is expected, and are shown then.
@@ -164,6 +180,22 @@ kmip_ttlv_status kmip_ttlv_items(const uint8_t *bytes, size_t bytes_len, kmip_tt
  * MALFORMED: they are not, and `*fault` is the first fault in document order. OUT_OF_MEMORY: its kind is
  * KMIP_TTLV_WHOLE. */
 kmip_ttlv_status kmip_ttlv_check(const uint8_t *bytes, size_t bytes_len, kmip_ttlv_fault *fault);
+
+/* Writes items, in document order, as canonical TTLV bytes; lengths of structures are computed, and padding is zero.
+ *
+ * An item belongs to the last structure before it whose depth is one less. The value of any other item is the `length` bytes
+ * from `offset` + 8 of `bytes` on: what kmip_ttlv_items returned of a whole message is written as that message (with zeros
+ * for its padding). What lies in the eight bytes before a value is not read. Values may lie in any order and overlap, and
+ * `offset` and `length` of a structure are ignored, so items can be left out, added and moved. To write a message from
+ * nothing, begin `bytes` with eight bytes of any value, append the values, and let `offset` be where a value begins, less 8.
+ *
+ * Several items may have depth 0. If one has, and it is a structure, what is written is one whole message, as
+ * kmip_ttlv_check has it. The call allocates nothing.
+ *
+ * MALFORMED: an item can't be written; `*bad` is the first, and `*length` is 0. NO_ROOM: `out`. With NO_ROOM and OK,
+ * `bad->kind` is KMIP_TTLV_WHOLE. */
+kmip_ttlv_status kmip_ttlv_write(const kmip_ttlv_item *items, size_t count, const uint8_t *bytes, size_t bytes_len,
+                                 uint8_t *out, size_t room, size_t *length, kmip_ttlv_bad_item *bad);
 
 /* The version of the library, as KMIP_TTLV_VERSION.
  *

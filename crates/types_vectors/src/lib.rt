@@ -1,4 +1,4 @@
-//! Tests of the low-level types and of refusals: the standard's vectors, tables of answers, printed
+//! Tests of the low-level types, of refusals and of items that are written: the standard's vectors, tables of answers, printed
 //! texts, memory, growths that are refused, and readers and writers that give or take one byte a call,
 //! are interrupted or fail.
 #![tactic(auto)]
@@ -26,3 +26,5 @@ mod streams;
 mod structure;
 #[cfg(test)]
 mod values;
+#[cfg(test)]
+mod written;

@@ -1,0 +1,9 @@
+pub mod Opens
+pub mod Patches
+pub mod Stands
+pub mod Holding
+pub mod Fitting
+pub mod Completing
+pub mod Uniques
+pub mod Emitting
+pub mod Measuring

@@ -1,0 +1,4 @@
+pub mod GivenItems
+pub mod FlatWrites
+pub mod OpenStructures
+pub mod FlatLaws

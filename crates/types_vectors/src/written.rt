@@ -1,0 +1,183 @@
+//! Items written: those of a message, others made from nothing, bad ones, and memory that is refused.
+
+use kmip_ttlv_items::{FoundItem, walk_items};
+use kmip_ttlv_memory::BoundedAllocator;
+use kmip_ttlv_types::{TtlvTag, TtlvType};
+use kmip_ttlv_write::{BadItem, BadKind, GiveItem, GivenItem, WriteError, write_into, write_items};
+use std::alloc::{Allocator, Global};
+
+// The protocol version 1.0, a structure of two integers, from the standard's worked messages; and the same with padding that
+// is not zero.
+const VERSION: [u8; 40] =
+    *b"\x42\x00\x69\x01\0\0\0\x20\x42\x00\x6A\x02\0\0\0\x04\0\0\0\x01\0\0\0\0\x42\x00\x6B\x02\0\0\0\x04\0\0\0\0\0\0\0\0";
+
+const DIRTY: [u8; 40] =
+    *b"\x42\x00\x69\x01\0\0\0\x20\x42\x00\x6A\x02\0\0\0\x04\0\0\0\x01\0\0\0\x05\x42\x00\x6B\x02\0\0\0\x04\0\0\0\0\xFF\0\0\0";
+
+// A boolean of two, a text that is not UTF-8, and the two integers, behind eight bytes that nothing reads.
+const VALUES: [u8; 32] = *b"........\0\0\0\0\0\0\0\x02\xFF\0\0\0\0\0\0\0\0\0\0\x01\0\0\0\0";
+
+// An item by its place, depth, type and length.
+fn item(offset: usize, depth: usize, tag: u32, typ: u32, length: u32) -> GivenItem {
+    GivenItem {
+        offset,
+        depth,
+        tag,
+        typ,
+        length,
+    }
+}
+
+// The items of the protocol version, their values among the others.
+fn made() -> [GivenItem; 3] {
+    [
+        item(0, 0, 0x42_0069, 1, 0),
+        item(16, 1, 0x42_006A, 2, 4),
+        item(20, 1, 0x42_006B, 2, 4),
+    ]
+}
+
+// Whether these items are written as the protocol version.
+fn is_version<T: GiveItem>(alloc: Global, items: &[T], lent: &[u8]) -> bool {
+    let Ok(out) = write_items(alloc, items, lent) else {
+        return false;
+    };
+    out.as_slice() == VERSION.as_slice()
+}
+
+// An item that no message of these tests has.
+fn unlike() -> Option<FoundItem> {
+    Some(FoundItem {
+        offset: 99,
+        depth: 9,
+        tag: TtlvTag::from_number(9)?,
+        typ: TtlvType::Interval,
+        length: 9,
+    })
+}
+
+// Whether what a walk finds in a message is written as the protocol version.
+fn is_written_back(alloc: Global, message: &[u8]) -> bool {
+    let Some(other) = unlike() else {
+        return false;
+    };
+    let mut found = [other; 3];
+    let Ok(end) = walk_items(alloc, message, &mut found) else {
+        return false;
+    };
+    end.count == 3 && is_version(alloc, &found, message)
+}
+
+#[test]
+fn a_message_is_written_back(rt: HostRuntime) {
+    assert!(rt; is_written_back(rt.alloc(), &VERSION));
+    assert!(rt; is_written_back(rt.alloc(), &DIRTY));
+    assert!(rt; is_version(rt.alloc(), &made(), &VALUES));
+}
+
+// An item's place, depth, tag, type and length, and what is wrong with it.
+type Row = (usize, usize, u32, u32, u32, BadKind);
+
+// One row for each kind, and the first of several: the last item of three, of which the others are good.
+const BAD: [Row; 12] = [
+    (0, 2, 0x42_0020, 2, 4, BadKind::NotInside),
+    (99, 2, 0x100_0000, 0, 5, BadKind::NotInside),
+    (0, 1, 0x100_0000, 2, 4, BadKind::LongTag),
+    (0, 1, 0x42_0020, 0, 4, BadKind::UnknownType),
+    (0, 1, 0x42_0020, 0x102, 4, BadKind::UnknownType),
+    (99, 1, 0x42_0020, 9, 4, BadKind::WrongLength),
+    (0, 1, 0x42_0020, 6, 9, BadKind::WrongLength),
+    (21, 1, 0x42_0020, 2, 4, BadKind::Outside),
+    (25, 1, 0x42_0020, 8, 0, BadKind::Outside),
+    (
+        0xFFFF_FFFF_FFFF_FFFF,
+        1,
+        0x42_0020,
+        8,
+        0xFFFF_FFFF,
+        BadKind::Outside,
+    ),
+    (0, 1, 0x42_0020, 6, 8, BadKind::InvalidValue),
+    (8, 1, 0x42_0020, 7, 1, BadKind::InvalidValue),
+];
+
+// Whether the third item is named, and a buffer stays as it was.
+fn is_bad(alloc: Global, last: GivenItem, kind: BadKind) -> bool {
+    let [root, first, _] = made();
+    let items = [root, first, last];
+    let wanted = BadItem { index: 2, kind };
+    let mut out = [7; 64];
+    let named = write_into(&items, &VALUES, &mut out) == Err(wanted);
+    let Err(error) = write_items(alloc, &items, &VALUES) else {
+        return false;
+    };
+    named && out == [7; 64] && error == WriteError::Bad(wanted)
+}
+
+#[test]
+fn the_first_bad_item_is_named(rt: HostRuntime) {
+    for (offset, depth, tag, typ, length, kind) in BAD {
+        let last = item(offset, depth, tag, typ, length);
+        assert!(rt; is_bad(rt.alloc(), last, kind), "{kind:?}");
+    }
+}
+
+// How many bytes are written into a buffer of so many, and whether they are the protocol version and the rest stays.
+fn is_put(room: usize) -> bool {
+    let mut out = [7; 64];
+    let Some(lent) = out.get_mut(..room) else {
+        return false;
+    };
+    let written = write_into(&made(), &VALUES, lent) == Ok(40);
+    let filled = if room < 40 { 0 } else { 40 };
+    written && out[..filled] == VERSION[..filled] && out[filled..] == [7; 64][filled..]
+}
+
+#[test]
+fn a_buffer_is_filled_if_it_has_room(rt: HostRuntime) {
+    for room in [0, 8, 39, 40, 41, 64] {
+        assert!(rt; is_put(room), "{room}");
+    }
+}
+
+// Whether writing fails exactly where this growth is refused.
+fn refuses(alloc: Global, before: u64) -> bool {
+    let heap = BoundedAllocator::failing_after(alloc, before);
+    match write_items(&heap, &made(), &VALUES) {
+        Ok(out) => !heap.has_failed() && out.as_slice() == VERSION.as_slice(),
+        Err(error) => heap.has_failed() && error == WriteError::OutOfMemory,
+    }
+}
+
+#[test]
+fn each_growth_may_be_refused(rt: HostRuntime) {
+    for before in 0..3 {
+        assert!(rt; refuses(rt.alloc(), before), "{before}");
+    }
+}
+
+// A thousand structures, each in the one before: the lengths shrink by eight.
+fn is_nested(alloc: Global) -> bool {
+    let mut items = [item(0, 0, 0x42_0069, 1, 0); 1_000];
+    for (depth, item) in items.iter_mut().enumerate() {
+        item.depth = depth;
+    }
+    let Ok(out) = write_items(alloc, &items, &[]) else {
+        return false;
+    };
+    let mut holds = out.len() == 8_000;
+    for (index, header) in out.as_slice().chunks(8).enumerate() {
+        let [_, _, _, typ, a, b, c, d] = header else {
+            return false;
+        };
+        holds = holds
+            && *typ == 1
+            && u32::from_be_bytes([*a, *b, *c, *d]) as usize + 8 * index == 7_992;
+    }
+    holds
+}
+
+#[test]
+fn structures_nest(rt: HostRuntime) {
+    assert!(rt; is_nested(rt.alloc()));
+}
