@@ -2,10 +2,11 @@
 
 ghost use Rattle.std.specs.Prelude.{◌≡◌, ℕ, List, [], ◌<◌, replicate, Some as SpecSome};
 ghost use Rattle.kmip_ttlv_types.specs.declared.typ.TtlvType.TheVariants.{BigInteger as SpecBigInteger};
+ghost use Rattle.std.specs.Int.{w32, w64, to_be_bytes};
 ghost use Rattle.kmip_ttlv_types.specs.Items.{header};
 ghost use Rattle.kmip_ttlv_types.specs.Names.{transparent_name};
 ghost use Rattle.kmip_ttlv_types.specs.Primitives.{sign_extended};
-ghost use Rattle.kmip_ttlv_types.specs.Trees.{Tree, bytes_all};
+ghost use Rattle.kmip_ttlv_types.specs.Trees.{Tree, leaf_bytes, bytes_all};
 ghost use Rattle.kmip_ttlv_base.specs.Values.{unit_variant_value};
 ghost use Rattle.kmip_ttlv_base.specs.Visits.{Knows};
 ghost use Rattle.kmip_ttlv_ser.specs.WrittenItems.{take_tag, one_leaf, items, is_wrapper};
@@ -18,12 +19,12 @@ ghost use Rattle.kmip_ttlv_ser.specs.Emits.{began_variant, emit_step};
 
 use crate::held::Held;
 use crate::measurer::padding;
-use crate::names::{is_wrapper, transparent_name, without_override};
+use crate::names::{is_wrapper, number_of, transparent_name, without_override};
 use crate::output::Output;
 use kmip_ttlv_base::shape::Serialize;
 use kmip_ttlv_base::visit::{Group, Leaf, Visitor};
 use kmip_ttlv_types::numbers::sign_of;
-use kmip_ttlv_types::{TtlvTag, TtlvType, number};
+use kmip_ttlv_types::{TtlvTag, TtlvType};
 use std::alloc::AllocError;
 
 /// What gives the bytes of a value. The plan has the lengths of the structures that are to come.
@@ -42,6 +43,28 @@ fn put_header<O: Output>(out: &mut O, tag: TtlvTag, typ: TtlvType, len: u64)
     let [a, b, c] = <[u8; 3]>::from(tag);
     let [_, _, _, _, d, e, f, g] = len.to_be_bytes();
     out.give(&[a, b, c, typ.code(), d, e, f, g]);
+}
+
+/// Gives a leaf of a number of four bytes: header, content and four bytes of padding, in one piece.
+#[inline(always)]
+#[tactic(auto, unfolding(kmip_ttlv_types::specs::Trees::leaf_bytes))]
+fn put_word<O: Output>(out: &mut O, tag: TtlvTag, typ: TtlvType, number: u32)
+    ensures { Given O.given (leaf_bytes tag typ (to_be_bytes w32 number)) out.old out.new }
+{
+    let [a, b, c] = <[u8; 3]>::from(tag);
+    let [d, e, f, g] = number.to_be_bytes();
+    out.give(&[a, b, c, typ.code(), 0, 0, 0, 4, d, e, f, g, 0, 0, 0, 0]);
+}
+
+/// Gives a leaf of a number of eight bytes: header and content, in one piece.
+#[inline(always)]
+#[tactic(auto, unfolding(kmip_ttlv_types::specs::Trees::leaf_bytes))]
+fn put_long<O: Output>(out: &mut O, tag: TtlvTag, typ: TtlvType, number: u64)
+    ensures { Given O.given (leaf_bytes tag typ (to_be_bytes w64 number)) out.old out.new }
+{
+    let [a, b, c] = <[u8; 3]>::from(tag);
+    let [d, e, f, g, h, i, j, k] = number.to_be_bytes();
+    out.give(&[a, b, c, typ.code(), 0, 0, 0, 8, d, e, f, g, h, i, j, k]);
 }
 
 /// Gives fewer than eight bytes of one value.
@@ -67,6 +90,32 @@ impl<'a, O: Output> Emitter<'a, O> {
         put_header(&mut self.out, tag, typ, len);
         self.out.give(content);
         put_filling(&mut self.out, 0, padding(len) as usize);
+        self.held = Held::Nothing;
+    }
+
+    /// A leaf of a number of four bytes under the tag that waits.
+    #[inline(always)]
+    fn put_four(&mut self, typ: TtlvType, number: u32)
+        ensures { Knows (HasWritten O.given)
+            (λ s. wrote (one_leaf s.held typ (to_be_bytes w32 number)) s) self.old self.new }
+    {
+        let Some(tag) = self.held.tag() else {
+            return;
+        };
+        put_word(&mut self.out, tag, typ, number);
+        self.held = Held::Nothing;
+    }
+
+    /// A leaf of a number of eight bytes under the tag that waits.
+    #[inline(always)]
+    fn put_eight(&mut self, typ: TtlvType, number: u64)
+        ensures { Knows (HasWritten O.given)
+            (λ s. wrote (one_leaf s.held typ (to_be_bytes w64 number)) s) self.old self.new }
+    {
+        let Some(tag) = self.held.tag() else {
+            return;
+        };
+        put_long(&mut self.out, tag, typ, number);
         self.held = Held::Nothing;
     }
 
@@ -96,11 +145,11 @@ impl<'a, O: Output> Emitter<'a, O> {
         let Some(tag) = self.held.take(name) else {
             return;
         };
-        let Some(value) = number(variant) else {
+        let Some(value) = number_of(variant) else {
             return;
         };
         self.held = Held::Plain(tag);
-        self.put_leaf(TtlvType::Enumeration, &value.to_be_bytes());
+        self.put_four(TtlvType::Enumeration, value);
     }
 
     /// A structure's header, its length the next of the plan.
@@ -171,14 +220,14 @@ impl<'a, O: Output> Visitor for Emitter<'a, O> {
     #[inline(always)]
     fn leaf(&mut self, leaf: Leaf<'_>) -> Result<(), AllocError> {
         match leaf {
-            Leaf::Bool(b) => self.put_leaf(TtlvType::Boolean, &u64::from(b).to_be_bytes()),
-            Leaf::I8(n) => self.put_leaf(TtlvType::Integer, &i32::from(n).to_be_bytes()),
-            Leaf::I16(n) => self.put_leaf(TtlvType::Integer, &i32::from(n).to_be_bytes()),
-            Leaf::I32(n) => self.put_leaf(TtlvType::Integer, &n.to_be_bytes()),
-            Leaf::U32(n) => self.put_leaf(TtlvType::Enumeration, &n.to_be_bytes()),
-            Leaf::I64(n) => self.put_leaf(TtlvType::LongInteger, &n.to_be_bytes()),
-            Leaf::U64(n) => self.put_leaf(TtlvType::DateTime, &n.to_be_bytes()),
-            Leaf::Interval(n) => self.put_leaf(TtlvType::Interval, &n.to_be_bytes()),
+            Leaf::Bool(b) => self.put_eight(TtlvType::Boolean, u64::from(b)),
+            Leaf::I8(n) => self.put_four(TtlvType::Integer, i32::from(n).cast_unsigned()),
+            Leaf::I16(n) => self.put_four(TtlvType::Integer, i32::from(n).cast_unsigned()),
+            Leaf::I32(n) => self.put_four(TtlvType::Integer, n.cast_unsigned()),
+            Leaf::U32(n) => self.put_four(TtlvType::Enumeration, n),
+            Leaf::I64(n) => self.put_eight(TtlvType::LongInteger, n.cast_unsigned()),
+            Leaf::U64(n) => self.put_eight(TtlvType::DateTime, n),
+            Leaf::Interval(n) => self.put_four(TtlvType::Interval, n),
             Leaf::Text(text) => self.put_leaf(TtlvType::TextString, text.as_bytes()),
             Leaf::Bytes(bytes) => self.put_leaf(TtlvType::ByteString, bytes),
             Leaf::BigInteger(bytes) => self.put_big_integer(bytes),

@@ -14,7 +14,7 @@ use std::io::{Error, Write};
 #[derive(Drop)]
 pub struct Gathered<'w, W: Write> {
     writer: &'w mut W,
-    buffer: Buffer,
+    buffer: &'w mut Buffer,
     pub failure: Option<Error>,
 }
 
@@ -31,16 +31,17 @@ fn send<W: Write>(writer: &mut W, failure: &mut Option<Error>, bytes: &[u8])
 }
 
 impl<'w, W: Write> Gathered<'w, W> {
-    /// A writer, and nothing that waits.
-    pub fn new(writer: &'w mut W) -> Gathered<'w, W>
+    /// A writer, and nothing that waits. The buffer is lent, so that it stays where it lies.
+    pub fn new(writer: &'w mut W, buffer: &'w mut Buffer) -> Gathered<'w, W>
         ensures same_reference { result.writer.ghost_name ≡ writer.entry.ghost_name }
         ensures writer { result.writer.now ≡ writer.old }
-        ensures empty { waiting result.buffer ≡ [] }
+        ensures empty { waiting result.buffer.now ≡ [] }
         ensures failure { result.failure ≡ SpecNone }
     {
+        buffer.clear();
         Gathered {
             writer,
-            buffer: Buffer::new(),
+            buffer,
             failure: None,
         }
     }
@@ -49,8 +50,8 @@ impl<'w, W: Write> Gathered<'w, W> {
     pub fn flush(&mut self)
         ensures same_reference { self.new.writer.ghost_name ≡ self.old.writer.ghost_name }
         ensures sent { Sends (W.contents self.old.writer.now) (W.contents self.new.writer.now)
-            self.old.failure self.new.failure (waiting self.old.buffer) }
-        ensures empty { waiting self.new.buffer ≡ [] }
+            self.old.failure self.new.failure (waiting self.old.buffer.now) }
+        ensures empty { waiting self.new.buffer.now ≡ [] }
     {
         send(self.writer, &mut self.failure, self.buffer.bytes());
         self.buffer.clear();
@@ -61,7 +62,7 @@ impl<W: Write> Output for Gathered<'_, W> {
     ghost Start = { Lent };
 
     ghost given = { λ start sent g. IsGathered start sent g.writer.ghost_name (W.contents g.writer.now)
-        (waiting g.buffer) g.failure };
+        (waiting g.buffer.now) g.failure };
 
     fn give(&mut self, piece: &[u8]) {
         if piece.len() <= self.buffer.room() {

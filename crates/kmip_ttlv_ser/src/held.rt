@@ -4,7 +4,7 @@ ghost use Rattle.std.specs.Prelude.{◌≡◌};
 ghost use Rattle.kmip_ttlv_ser.specs.WrittenItems.{take_tag, held_tag, held_over};
 ghost use Rattle.kmip_ttlv_ser.specs.Faults.{held_len};
 
-use crate::names::override_name;
+use crate::names::{override_name, tag_of};
 use kmip_ttlv_types::TtlvTag;
 
 /// The tag that the next item gets.
@@ -50,10 +50,10 @@ impl Held {
         ensures { result ≡ take_tag self.now name.now }
     {
         match self {
-            Held::Nothing => TtlvTag::from_name(name),
+            Held::Nothing => tag_of(name),
             Held::Plain(_) => None,
             Held::Overriding(tag) => {
-                TtlvTag::from_name(name)?;
+                tag_of(name)?;
                 Some(*tag)
             }
         }

@@ -14,12 +14,12 @@ ghost use Rattle.kmip_ttlv_ser.specs.Measures.{unwrapped, out_of_newtype, out_of
 ghost use Rattle.kmip_ttlv_ser.specs.Measures.{Plans};
 
 use crate::held::{Held, Place};
-use crate::names::{is_wrapper, transparent_name, without_override};
+use crate::names::{is_wrapper, number_of, transparent_name, without_override};
 use crate::refusal::{Cause, Refusal};
 use kmip_ttlv_base::error::Result as Answer;
 use kmip_ttlv_base::shape::Serialize;
 use kmip_ttlv_base::visit::{Group, Leaf, Visitor};
-use kmip_ttlv_types::{TtlvTag, number};
+use kmip_ttlv_types::TtlvTag;
 use std::alloc::{AllocError, Allocator};
 
 /// How many bytes pad a leaf's content of this length.
@@ -115,13 +115,13 @@ impl<A: Allocator> Measurer<A> {
             return self.refuse_name(name);
         };
         self.held = Held::Plain(tag);
-        if number(variant).is_none() {
+        if number_of(variant).is_none() {
             return self.refuse(Cause::InvalidVariant(variant), 3);
         }
         self.item(4)
     }
 
-    /// Into a structure.
+    /// Into a structure. The first makes room for several, so that most values take memory once.
     #[inline(always)]
     fn enter(&mut self, name: &'static str) -> Result<(), AllocError>
         requires { self.old.refusal ≡ SpecNone }
@@ -137,6 +137,10 @@ impl<A: Allocator> Measurer<A> {
             return Ok(());
         };
         let at = self.sizes.len();
+        if at == 0 {
+            self.sizes.reserve(16)?;
+            self.nest.reserve(8)?;
+        }
         self.sizes.push(0)?;
         self.nest.push(Open { at, start })?;
         self.place = Place {

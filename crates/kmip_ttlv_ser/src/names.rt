@@ -1,14 +1,47 @@
-//! The parts of names: what follows a prefix, and the one variant that is a wrapper.
+//! The parts of names: what follows a prefix, the one variant that is a wrapper, and the numbers that
+//! names are.
+//!
+//! All of it is inlined and calls nothing, save on rare ways, so that the compiler computes it of the
+//! constant names that message types have.
 
-ghost use Rattle.std.specs.Prelude.{◌≡◌, option_map};
-ghost use Rattle.kmip_ttlv_types.specs.Names.{transparent_name, override_name};
+ghost use Rattle.std.specs.Prelude.{◌≡◌, ◌<◌, ◌≤◌, eqb, option_map, IfSome};
+ghost use Rattle.std.specs.Str.Parse.{AllDigits};
+ghost use Rattle.std.specs.List.{starts_with};
+ghost use Rattle.std.specs.Char.{digit_value};
+ghost use Rattle.kmip_ttlv_types.specs.Names.{transparent_name, override_name, numeral, number, tag_of};
 ghost use Rattle.kmip_ttlv_ser.specs.WrittenItems.{without_override, is_wrapper};
+
+use kmip_ttlv_types::{TtlvTag, number};
+
+/// Whether the bytes begin with the prefix.
+#[inline(always)]
+fn begins(bytes: &[u8], prefix: &[u8]) -> bool
+    ensures { result ≡ starts_with eqb bytes.now prefix.now }
+{
+    if bytes.len() < prefix.len() {
+        return false;
+    }
+    let mut at = 0;
+    while at < prefix.len() {
+        if bytes[at] != prefix[at] {
+            return false;
+        }
+        at += 1;
+    }
+    true
+}
 
 /// What follows `Transparent:`, where a name begins with it.
 #[inline(always)]
 pub(crate) fn transparent_name(name: &'static str) -> Option<&'static str>
     ensures { option_map (λ s. s.now) result ≡ transparent_name name.now }
 {
+    if !begins(name.as_bytes(), b"Transparent:") {
+        return None;
+    }
+    if name.is_char_boundary(12) {
+        return Some(&name[12..]);
+    }
     name.strip_prefix("Transparent:")
 }
 
@@ -17,6 +50,12 @@ pub(crate) fn transparent_name(name: &'static str) -> Option<&'static str>
 pub(crate) fn override_name(name: &'static str) -> Option<&'static str>
     ensures { option_map (λ s. s.now) result ≡ override_name name.now }
 {
+    if !begins(name.as_bytes(), b"Override:") {
+        return None;
+    }
+    if name.is_char_boundary(9) {
+        return Some(&name[9..]);
+    }
     name.strip_prefix("Override:")
 }
 
@@ -37,5 +76,67 @@ pub(crate) fn without_override(name: &'static str) -> &'static str
 pub(crate) fn is_wrapper(variant: &str) -> bool
     ensures { result ≡ is_wrapper variant.now }
 {
-    variant == "Transparent"
+    if variant.len() != 11 {
+        return false;
+    }
+    begins(variant.as_bytes(), b"Transparent")
+}
+
+/// The value of a hexadecimal digit of either case, and 16 for any other byte.
+#[inline(always)]
+fn value_of(byte: u8) -> u32
+    ensures digit { result < 16 → result ≡ digit_value byte }
+    ensures other { 16 ≤ result → 16 ≤ digit_value byte }
+{
+    match byte {
+        b'0'..=b'9' => byte as u32 - 48,
+        b'A'..=b'F' => byte as u32 - 55,
+        b'a'..=b'f' => byte as u32 - 87,
+        _ => 16,
+    }
+}
+
+/// The number of at least one hexadecimal digit of either case, where it is below 2^32.
+#[inline(always)]
+fn numeral(digits: &[u8]) -> Option<u32>
+    ensures value { result ≡ numeral digits.now }
+    ensures digits { IfSome result (λ _. AllDigits 16 digits.now) }
+{
+    let mut value: u32 = 0;
+    let mut at = 0;
+    while at < digits.len() {
+        let digit = value_of(digits[at]);
+        if digit >= 16 || value >= 0x1000_0000 {
+            return None;
+        }
+        value = value * 16 + digit;
+        at += 1;
+    }
+    if at == 0 { None } else { Some(value) }
+}
+
+/// The number that a text is. Texts with a further `0x` or a `+` go the general way.
+#[inline(always)]
+pub(crate) fn number_of(text: &str) -> Option<u32>
+    ensures { result ≡ number text.now }
+{
+    let bytes = text.as_bytes();
+    let found = if begins(bytes, b"0x") {
+        numeral(&bytes[2..])
+    } else {
+        numeral(bytes)
+    };
+    match found {
+        Some(n) => Some(n),
+        None => number(text),
+    }
+}
+
+/// The tag that a name is.
+#[tactic(auto, unfolding(kmip_ttlv_types::specs::Names::tag_of))]
+#[inline(always)]
+pub(crate) fn tag_of(name: &str) -> Option<TtlvTag>
+    ensures { result ≡ tag_of name.now }
+{
+    TtlvTag::from_number(number_of(name)?)
 }

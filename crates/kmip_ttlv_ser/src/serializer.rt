@@ -4,6 +4,7 @@ ghost use Rattle.std.specs.Prelude.{◌≡◌, [], false};
 ghost use Rattle.kmip_ttlv_ser.specs.WriteAnswers.{Writes, WritesTo, progress, Serializes, GivesAll};
 ghost use Rattle.kmip_ttlv_ser.specs.WriteAnswers.{IsClosed, AppendsValue};
 
+use crate::buffer::Buffer;
 use crate::emitter::emit;
 use crate::gathered::Gathered;
 use crate::held::Place;
@@ -54,7 +55,8 @@ pub fn to_writer<A: Allocator + Copy, T: Serialize, W: Write>(
         opened: false,
     };
     let plan = measure(alloc, value, place)?;
-    let mut gathered = emit(value, &plan.sizes, Gathered::new(writer));
+    let mut buffer = Buffer::new();
+    let mut gathered = emit(value, &plan.sizes, Gathered::new(writer, &mut buffer));
     gathered.flush();
     match gathered.failure {
         None => Ok(()),
