@@ -11,7 +11,7 @@ _ttlv() {
     show) options='--redact --raw --names --input --help' ;;
     diag) options='--prefix --closed --input --help' ;;
     undiag) options='--prefix --names --help' ;;
-    check) options='--input --help' ;;
+    check) options='--kmip --input --help' ;;
     hex) options='--input --help' ;;
     esac
     if [ -z "$command" ] || [[ $word == -* ]]; then

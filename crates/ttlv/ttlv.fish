@@ -12,3 +12,4 @@ complete -c ttlv -n '__fish_seen_subcommand_from show undiag' -l names -r -d 'A 
 complete -c ttlv -n '__fish_seen_subcommand_from show diag check hex' -l input -x -a 'raw hex base64 base64url pem xxd hexdump od tcpdump' -d 'What the input is, in place of what it looks like'
 complete -c ttlv -n '__fish_seen_subcommand_from diag undiag' -l prefix -x -d 'Hexadecimal digits that are left out in front of tags'
 complete -c ttlv -n '__fish_seen_subcommand_from diag' -l closed -d 'Closes empty structures'
+complete -c ttlv -n '__fish_seen_subcommand_from check' -l kmip -d 'Wants each message to be a Request Message or a Response Message'

@@ -185,7 +185,10 @@ static void walks(void) {
     HOLD(kmip_ttlv_check(VERSION, 40, &fault) == KMIP_TTLV_OK);
     for (size_t cut = 0; cut < 40; cut++) {
         HOLD(kmip_ttlv_check(VERSION, cut, &fault) == KMIP_TTLV_MALFORMED && fault.kind == KMIP_TTLV_CUT);
+        HOLD(fault.offset == (cut < 8 ? 0u : cut < 24 ? 8u : 24u));
     }
+    HOLD(kmip_ttlv_items(VERSION, 39, items, 4, &count, &fault) == KMIP_TTLV_MALFORMED);
+    HOLD(count == 2 && items[1].offset == 8 && fault.offset == 24);
     memcpy(message, VERSION, 40);
     memset(message + 40, 0, 8);
     HOLD(kmip_ttlv_check(message, 41, &fault) == KMIP_TTLV_MALFORMED);

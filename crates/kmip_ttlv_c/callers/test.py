@@ -53,8 +53,9 @@ class Walks(unittest.TestCase):
 
     def test_faults(self):
         self.assertIsNone(kmip_ttlv.check(DESTROY))
+        begins = [it.offset for it in kmip_ttlv.items(DESTROY)] + [len(DESTROY)]
         for cut in range(len(DESTROY)):
-            self.assertEqual(kmip_ttlv.check(DESTROY[:cut]), (0, 1))
+            self.assertEqual(kmip_ttlv.check(DESTROY[:cut]), (max(at for at in begins if at <= cut), 1))
         self.assertEqual(kmip_ttlv.check(DESTROY + b"\0"), (len(DESTROY), 8))
         with self.assertRaises(kmip_ttlv.Malformed) as refused:
             kmip_ttlv.items(VERSION[:12] + b"\0\0\0\5" + VERSION[16:])

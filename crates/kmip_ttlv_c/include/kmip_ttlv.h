@@ -63,7 +63,7 @@ typedef struct {
     size_t depth;    /* how many structures it is in: 0 for the root */
     uint32_t tag;    /* its tag, below 2^24 */
     uint32_t typ;    /* the code of its type, KMIP_TTLV_STRUCTURE to KMIP_TTLV_INTERVAL */
-    uint32_t length; /* the length of its value in bytes, without padding */
+    uint32_t length; /* the length of its value in bytes, without padding; in a cut message a structure's bytes may be fewer */
 } kmip_ttlv_item;
 
 /* The codes of types (9.1.1.2). */
@@ -79,8 +79,9 @@ typedef struct {
 #define KMIP_TTLV_INTERVAL 10u
 
 /* The first fault of bytes that are not one whole message, in document order. If several things are wrong with one item, it
- * is the first of these: for the root, fewer than eight bytes (CUT), UNKNOWN_TYPE, NO_STRUCTURE, fewer bytes than its length
- * states (CUT); for any other item PARTIAL_HEADER, UNKNOWN_TYPE, WRONG_LENGTH, OVERLONG, INVALID_VALUE. */
+ * is the first of these: for the root, fewer than eight bytes (CUT), UNKNOWN_TYPE, NO_STRUCTURE; for any other item
+ * PARTIAL_HEADER, fewer than eight bytes (CUT), UNKNOWN_TYPE, WRONG_LENGTH, OVERLONG, a value without its end (CUT),
+ * INVALID_VALUE. Items before the one that is cut are listed. */
 typedef struct {
     size_t offset; /* where the item that is wrong begins, or the surplus, from the first byte; 0 where nothing is wrong */
     uint32_t kind; /* what is wrong there, KMIP_TTLV_WHOLE to KMIP_TTLV_SURPLUS */
@@ -88,7 +89,7 @@ typedef struct {
 
 /* Nothing is wrong. */
 #define KMIP_TTLV_WHOLE 0u
-/* The bytes end within the root: fewer than eight, or fewer than its length states. */
+/* The bytes end before the root does, within this item: its header, its value or its padding. */
 #define KMIP_TTLV_CUT 1u
 /* The root is no Structure. */
 #define KMIP_TTLV_NO_STRUCTURE 2u

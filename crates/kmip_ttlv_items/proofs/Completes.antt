@@ -11,9 +11,9 @@ use Rattle.kmip_ttlv_items.specs.declared.found.Fault.{Fault}
 use Rattle.kmip_ttlv_items.specs.declared.found.FaultKind.{FaultKind}
 use Rattle.kmip_ttlv_items.specs.declared.found.FaultKind.TheVariants.{Cut, NoStructure, UnknownType, PartialHeader, WrongLength, Overlong, InvalidValue, Surplus}
 use Rattle.kmip_ttlv_items.specs.FoundItems.{item}
-use Rattle.kmip_ttlv_items.specs.ItemWalks.{type_at, content_at, has_length, HasType, IsWhole, Misfits, RootMisfits, WalksTo, enters_root, enters, passes, leaves, Meets, at_first, on_the_way, Ended, Ends}
-use Rattle.kmip_ttlv_items.proofs.Spans.{size_least}
-use Rattle.kmip_ttlv_items.proofs.Steps.{IsNested, nested_within}
+use Rattle.kmip_ttlv_items.specs.ItemWalks.{type_at, content_at, own_size, has_length, HasType, IsWhole, Misfits, RootMisfits, WalksTo, enters_root, enters, passes, leaves, Meets, at_first, on_the_way, Ended, Ends}
+use Rattle.kmip_ttlv_items.proofs.Spans.{size_least, own_least, own_leaf}
+use Rattle.kmip_ttlv_items.proofs.Steps.{IsNested}
 use Rattle.kmip_ttlv_items.proofs.Walks.{walked, ended_whole, ended_at_root, ended_inside, ended_behind}
 
 -- a type is Structure or another
@@ -34,15 +34,26 @@ Judged : List ℕ → ℕ → ℕ → ℕ → Type 0
 Judged w p e depth = ((i : FoundItem) × IsWhole w p e depth i) ⊎ ((kind : FaultKind) × Misfits w p e kind)
 
 module _ (w : List ℕ) (p e depth : ℕ) where
-  whole_item : (t : TtlvType) → type_at w p ≡ Some t → p + size t (length_at w p) ≤ e → (t ≢ Structure → is_valid t (content_at w p) ≡ true) → Judged w p e depth
+  whole_item : (t : TtlvType) → type_at w p ≡ Some t → p + size t (length_at w p) ≤ e → p + own_size t (length_at w p) ≤ length w → (t ≢ Structure → is_valid t (content_at w p) ≡ true) → Judged w p e depth
   unfolding Judged
-  whole_item t is fits valid =
-      inl (item p depth (tag_at w p) t (length_at w p), record { offset = refl; deep = refl; tag = refl; typ = is; len = refl; fits = fits; valid = valid })
+  whole_item t is fits there valid =
+      inl (item p depth (tag_at w p) t (length_at w p), record { offset = refl; deep = refl; tag = refl; typ = is; len = refl; fits = fits; there = there; valid = valid })
 
-  judged_content : (t : TtlvType) → HasType w p e t → has_length (fixed_length t) (length_at w p) ≡ true → p + size t (length_at w p) ≤ e → t ≢ Structure → (b : Bool) → is_valid t (content_at w p) ≡ b → Judged w p e depth
+  judged_content : (t : TtlvType) → HasType w p e t → has_length (fixed_length t) (length_at w p) ≡ true → p + size t (length_at w p) ≤ e → p + own_size t (length_at w p) ≤ length w → t ≢ Structure → (b : Bool) → is_valid t (content_at w p) ≡ b → Judged w p e depth
   unfolding Judged
-  judged_content t has long fits leaf true valid = whole_item t has.typ fits (λ _. valid)
-  judged_content t has long fits leaf false valid = inr (InvalidValue, (t, has, long, fits, leaf, valid))
+  judged_content t has long fits there leaf true valid = whole_item t has.typ fits there (λ _. valid)
+  judged_content t has long fits there leaf false valid = inr (InvalidValue, (t, has, long, fits, there, leaf, valid))
+
+  judged_there : (t : TtlvType) → HasType w p e t → has_length (fixed_length t) (length_at w p) ≡ true → p + size t (length_at w p) ≤ e → Judged w p e depth
+  unfolding Judged
+  judged_there t has long fits =
+      elim (cases_lt (length w) (p + own_size t (length_at w p))) [
+        | inl cut ↦ inr (Cut, inr (record { typ = t; has = has; long = long; fits = fits; cut = cut }))
+        | inr there ↦ elim (node_or_leaf t) [
+          | inl node ↦ whole_item t has.typ fits there (λ leaf. absurd (leaf node))
+          | inr leaf ↦ judged_content t has long fits there leaf (is_valid t (content_at w p)) refl
+        ]
+      ]
 
   judged_length : (t : TtlvType) → HasType w p e t → (b : Bool) → has_length (fixed_length t) (length_at w p) ≡ b → Judged w p e depth
   unfolding Judged
@@ -50,48 +61,44 @@ module _ (w : List ℕ) (p e depth : ℕ) where
   judged_length t has true long =
       elim (cases_lt e (p + size t (length_at w p))) [
         | inl past ↦ inr (Overlong, (t, has, long, past))
-        | inr fits ↦ elim (node_or_leaf t) [
-          | inl node ↦ whole_item t has.typ fits (λ leaf. absurd (leaf node))
-          | inr leaf ↦ judged_content t has long fits leaf (is_valid t (content_at w p)) refl
-        ]
+        | inr fits ↦ judged_there t has long fits
       ]
 
-  judged_type : p + 8 ≤ e → (t : Option TtlvType) → type_at w p ≡ t → Judged w p e depth
+  judged_type : p + 8 ≤ e → p + 8 ≤ length w → (t : Option TtlvType) → type_at w p ≡ t → Judged w p e depth
   unfolding Judged
-  judged_type there None none = inr (UnknownType, (there, none))
-  judged_type there (Some t) is = judged_length t (record { there = there; typ = is }) (has_length (fixed_length t) (length_at w p)) refl
+  judged_type there read None none = inr (UnknownType, (there, read, none))
+  judged_type there read (Some t) is = judged_length t (record { there = there; read = read; typ = is }) (has_length (fixed_length t) (length_at w p)) refl
 
   judged : Judged w p e depth
   unfolding Judged
-  judged = elim (cases_lt e (p + 8)) [ inl short ↦ inr (PartialHeader, short) | inr there ↦ judged_type there (type_at w p) refl ]
+  judged =
+      elim (cases_lt e (p + 8)) [
+        | inl short ↦ inr (PartialHeader, short)
+        | inr there ↦ elim (cases_lt (length w) (p + 8)) [ inl cut ↦ inr (Cut, inl (there, cut)) | inr read ↦ judged_type there read (type_at w p) refl ]
+      ]
 
 -- a root is whole and a structure, or it misfits
 RootJudged : List ℕ → Type 0
-RootJudged w = ((kind : FaultKind) × RootMisfits w kind) ⊎ ((i : FoundItem) × IsWhole w 0 (length w) 0 i × (i.typ ≡ Structure))
+RootJudged w = ((kind : FaultKind) × RootMisfits w kind) ⊎ ((i : FoundItem) × IsWhole w 0 (size i.typ i.length) 0 i × (i.typ ≡ Structure))
 
 module _ (w : List ℕ) where
-  root_long : HasType w 0 (length w) Structure → 8 + length_at w 0 ≤ length w → RootJudged w
-  unfolding RootJudged
-  root_long has long =
-      inr (item 0 0 (tag_at w 0) Structure (length_at w 0), record { offset = refl; deep = refl; tag = refl; typ = has.typ; len = refl; fits = omega (arith, long); valid = λ leaf. absurd (leaf refl) }, refl)
-
   root_structure : HasType w 0 (length w) Structure → RootJudged w
   unfolding RootJudged
   root_structure has =
-      elim (cases_lt (length w) (8 + length_at w 0)) [ inl short ↦ inl (Cut, inr (has, short)) | inr long ↦ root_long has long ]
+      inr (item 0 0 (tag_at w 0) Structure (length_at w 0), record { offset = refl; deep = refl; tag = refl; typ = has.typ; len = refl; fits = omega arith; there = has.read; valid = λ leaf. absurd (leaf refl) }, refl)
 
   root_type : 8 ≤ length w → (t : Option TtlvType) → type_at w 0 ≡ t → RootJudged w
   unfolding RootJudged
   root_type there None none = inl (UnknownType, (there, none))
   root_type there (Some t) is =
       elim (node_or_leaf t) [
-        | inl node ↦ root_structure (record { there = there; typ = is ∙ ap (λ (u : TtlvType). Some u) node })
-        | inr leaf ↦ inl (NoStructure, (t, record { there = there; typ = is }, leaf))
+        | inl node ↦ root_structure (record { there = there; read = there; typ = is ∙ ap (λ (u : TtlvType). Some u) node })
+        | inr leaf ↦ inl (NoStructure, (t, record { there = there; read = there; typ = is }, leaf))
       ]
 
   root_judged : RootJudged w
   unfolding RootJudged
-  root_judged = elim (cases_lt (length w) 8) [ inl short ↦ inl (Cut, inl short) | inr there ↦ root_type there (type_at w 0) refl ]
+  root_judged = elim (cases_lt (length w) 8) [ inl short ↦ inl (Cut, short) | inr there ↦ root_type there (type_at w 0) refl ]
 
 module _ (w : List ℕ) where
   at_end : (xs : List FoundItem) (fault : Option Fault) → Ended w xs fault → Ends w xs
@@ -115,8 +122,8 @@ module _ (w : List ℕ) where
       met : (i : FoundItem) → IsWhole w p e (length (e ∷ es)) i → Ends w (xs ++ (i ∷ []))
       met i whole =
           elim (node_or_leaf i.typ) [
-            | inl node ↦ further (p + 8) ((p + size i.typ i.length) ∷ e ∷ es) (xs ++ (i ∷ [])) (omega (arith, whole.fits, size_least i.typ i.length, nested_within w e es nested.1)) (enters p (p + 8) e (p + size i.typ i.length) es xs i walks whole node refl refl)
-            | inr leaf ↦ further (p + size i.typ i.length) (e ∷ es) (xs ++ (i ∷ [])) (omega (arith, whole.fits, size_least i.typ i.length, nested_within w e es nested.1)) (passes p (p + size i.typ i.length) e es xs i walks whole leaf refl)
+            | inl node ↦ further (p + 8) ((p + size i.typ i.length) ∷ e ∷ es) (xs ++ (i ∷ [])) (omega (arith, whole.there, own_least i.typ i.length)) (enters p (p + 8) e (p + size i.typ i.length) es xs i walks whole node refl refl)
+            | inr leaf ↦ further (p + size i.typ i.length) (e ∷ es) (xs ++ (i ∷ [])) (omega (arith, whole.there, own_leaf i.typ i.length leaf, size_least i.typ i.length)) (passes p (p + size i.typ i.length) e es xs i walks whole leaf refl)
           ]
 
       by : Judged w p e (length (e ∷ es)) → Ends w xs

@@ -14,7 +14,7 @@ use Rattle.kmip_ttlv_items.specs.declared.found.FaultKind.{FaultKind}
 use Rattle.kmip_ttlv_items.specs.declared.found.FaultKind.TheVariants.{Cut, NoStructure, UnknownType, PartialHeader, WrongLength, Overlong, InvalidValue, Surplus}
 use Rattle.kmip_ttlv_items.specs.FoundItems.{span, span_all, item, listed, listed_all, Lists}
 use Rattle.kmip_ttlv_items.specs.ItemWalks.{has_length, type_at, content_at, IsWhole, Misfits, RootMisfits}
-use Rattle.kmip_ttlv_items.proofs.Spans.{text_span, texts_span, span_least, valid_length, size_least, code_is}
+use Rattle.kmip_ttlv_items.proofs.Spans.{text_span, texts_span, span_least, valid_length, size_least, own_most, code_is}
 use Rattle.kmip_ttlv_items.proofs.Leads.{TreesAt, Lead, leaf_first, node_first, lead, leaf_before, node_before}
 
 -- trees stand from a place to the innermost end, from there to the next one, and so on; and these are their items
@@ -116,11 +116,11 @@ module _ (w : List ℕ) (p e : ℕ) (es : List ℕ) (found all : List FoundItem)
       -- of the first item the type is there, it fits, and of a leaf the length and the content are valid
       against : (kind : FaultKind) → Misfits w p e kind → (typ : TtlvType) → type_at w p ≡ Some typ → p + size typ (length_at w p) ≤ e → has_length (fixed_length typ) (length_at w p) ≡ true → (typ ≢ Structure → is_valid typ (content_at w p) ≡ true) → ⊥
       against PartialHeader wrong typ is fits has valid = omega (arith, wrong, size_least typ (length_at w p))
-      against UnknownType wrong typ is fits has valid = let k = wrong.1 in cc
+      against UnknownType wrong typ is fits has valid = let k = wrong.2 in cc
       against WrongLength wrong typ is fits has valid = let t : wrong.0 ≡ typ = let k = wrong.1.typ in cc in let k = wrong.2 in let m = ap (λ (u : TtlvType). has_length (fixed_length u) (length_at w p)) t in cc
       against Overlong wrong typ is fits has valid = let t : wrong.0 ≡ typ = let k = wrong.1.typ in cc in let m : size wrong.0 (length_at w p) ≡ size typ (length_at w p) = ap (λ (u : TtlvType). size u (length_at w p)) t in omega (arith, wrong.3)
-      against InvalidValue wrong typ is fits has valid = let t : wrong.0 ≡ typ = let k = wrong.1.typ in cc in let v = valid (λ s. wrong.4 (t ∙ s)) in let k = wrong.5 in let m = ap (λ (u : TtlvType). is_valid u (content_at w p)) t in cc
-      against Cut wrong typ is fits has valid = wrong
+      against InvalidValue wrong typ is fits has valid = let t : wrong.0 ≡ typ = let k = wrong.1.typ in cc in let v = valid (λ s. wrong.5 (t ∙ s)) in let k = wrong.6 in let m = ap (λ (u : TtlvType). is_valid u (content_at w p)) t in cc
+      against Cut wrong typ is fits has valid = elim wrong [ inl a ↦ omega (arith, a.1, fits, size_least typ (length_at w p)) | inr b ↦ omega (arith, b.cut, b.fits, own_most b.typ (length_at w p)) ]
       against NoStructure wrong typ is fits has valid = wrong
       against Surplus wrong typ is fits has valid = wrong
 
@@ -194,7 +194,7 @@ root_facts w all h = by h.message h.text h.root
 
 -- what is wrong with a root leaves no message
 pub root_misfit : (w : List ℕ) (all : List FoundItem) (kind : FaultKind) → RootMisfits w kind → Lists w all → ⊥
-root_misfit w all Cut wrong h = let k = root_facts w all h in elim wrong [ inl a ↦ omega arith | inr b ↦ omega arith ]
+root_misfit w all Cut wrong h = let k = root_facts w all h in omega arith
 root_misfit w all UnknownType wrong h = let k = (root_facts w all h).0 in let m = wrong.1 in cc
 root_misfit w all NoStructure wrong h = let k = (root_facts w all h).0 in wrong.2 (let m = wrong.1.typ in cc)
 root_misfit w all PartialHeader wrong h = wrong
@@ -203,7 +203,7 @@ root_misfit w all Overlong wrong h = wrong
 root_misfit w all InvalidValue wrong h = wrong
 root_misfit w all Surplus wrong h = wrong
 
-module _ (w : List ℕ) (i : FoundItem) (q e : ℕ) (whole : IsWhole w 0 (length w) 0 i) (is-node : i.typ ≡ Structure) (at : q ≡ 8) (end : e ≡ size i.typ i.length) where
+module _ (w : List ℕ) (i : FoundItem) (q e : ℕ) (whole : IsWhole w 0 e 0 i) (is-node : i.typ ≡ Structure) (at : q ≡ 8) (end : e ≡ size i.typ i.length) where
   -- where the root ends
   root_end : e ≡ 8 + length_at w 0
   root_end = end ∙ ap (λ (t : TtlvType). size t i.length) is-node ∙ ap (size Structure) whole.len ∙ omega arith
@@ -221,7 +221,7 @@ module _ (w : List ℕ) (i : FoundItem) (q e : ℕ) (whole : IsWhole w 0 (length
           let inner : TreesAt w q e below = subst (AreTreeTexts below) (k.content ∙ ap (λ (m : ℕ). take m (drop 8 w)) (sym n) ∙ ap (λ (m : ℕ). take (e - q) (drop m w)) (sym at)) text.2 in
           let span-is : span_all below ≡ length_at w 0 = omega (arith, texts_span below text.0 text.2, k.len) in
           let i-is : item 0 0 tag Structure (span_all below) ≡ i =
-          ap (λ (m : ℕ). item 0 0 m Structure (span_all below)) k.tag ∙ ap (λ (t : TtlvType). item 0 0 (tag_at w 0) t (span_all below)) (sym is-node) ∙ sym (item_is w 0 (length w) 0 (span_all below) i whole span-is) in
+          ap (λ (m : ℕ). item 0 0 m Structure (span_all below)) k.tag ∙ ap (λ (t : TtlvType). item 0 0 (tag_at w 0) t (span_all below)) (sym is-node) ∙ sym (item_is w 0 e 0 (span_all below) i whole span-is) in
           let ys = listed_all q 1 below in
           let all-is : all ≡ i ∷ ys = items ∙ ap (λ (m : ℕ). item 0 0 tag Structure (span_all below) ∷ listed_all m 1 below) (sym at) ∙ ap (λ (x : FoundItem). x ∷ ys) i-is in
           (ys, (below, [], inner, sym (append-nil ys), (omega (arith, root_end), refl)), all-is)
@@ -244,7 +244,7 @@ module _ (w : List ℕ) (i : FoundItem) (q e : ℕ) (whole : IsWhole w 0 (length
       let whole-text : take (size Structure n) (drop 0 w) ≡ w = take_all (size Structure n) w (omega arith) in
       let text : IsTextOf (raw_with (tag_at w 0) Structure (content_at w 0)) w = subst (IsTextOf (raw_with (tag_at w 0) Structure (content_at w 0))) whole-text (text_at_item w 0 (raw_with (tag_at w 0) Structure (content_at w 0)) root) in
       let span-is : span_all below ≡ n = omega (arith, texts_span below (content_at w 0) content, length-take-le n (drop 8 w) (omega (arith, length-drop 8 w))) in
-      let i-is : i ≡ item 0 0 (tag_at w 0) Structure (span_all below) = item_is w 0 (length w) 0 (span_all below) i whole span-is ∙ ap (λ (t : TtlvType). item 0 0 (tag_at w 0) t (span_all below)) is-node in
+      let i-is : i ≡ item 0 0 (tag_at w 0) Structure (span_all below) = item_is w 0 e 0 (span_all below) i whole span-is ∙ ap (λ (t : TtlvType). item 0 0 (tag_at w 0) t (span_all below)) is-node in
       let ys-is : h.0 ≡ listed_all q 1 below = h.1.3 ∙ ap (λ (s : List FoundItem). listed_all q 1 below ++ s) h.1.4.1 ∙ append-nil (listed_all q 1 below) in
       record {
         message = node (tag_at w 0) below;

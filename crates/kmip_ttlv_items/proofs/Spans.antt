@@ -9,7 +9,7 @@ use Rattle.kmip_ttlv_types.specs.Places.{size}
 use Rattle.kmip_ttlv_types.specs.Trees.{Tree, Trees, leaf, node, no_trees, tree, IsTreeText, AreTreeTexts}
 use Rattle.kmip_ttlv_types.proofs.PlaceLemmas.{raw_with, text_length}
 use Rattle.kmip_ttlv_items.specs.FoundItems.{span, span_all}
-use Rattle.kmip_ttlv_items.specs.ItemWalks.{has_length}
+use Rattle.kmip_ttlv_items.specs.ItemWalks.{has_length, own_size}
 
 mutual
   -- a text takes its tree's span
@@ -65,6 +65,49 @@ valid_length Interval content h = h
 -- the bytes of an item have its header
 pub size_least : (t : TtlvType) (n : ℕ) → 8 + n ≤ size t n
 size_least t n = omega arith
+
+-- so have an item's own bytes, and they are no more than its size; of a leaf they are all
+pub own_least : (t : TtlvType) (n : ℕ) → 8 ≤ own_size t n
+own_least Structure n = omega arith
+own_least Integer n = omega arith
+own_least LongInteger n = omega arith
+own_least BigInteger n = omega arith
+own_least Enumeration n = omega arith
+own_least Boolean n = omega arith
+own_least TextString n = omega arith
+own_least ByteString n = omega arith
+own_least DateTime n = omega arith
+own_least Interval n = omega arith
+
+pub own_leaf : (t : TtlvType) (n : ℕ) → t ≢ Structure → own_size t n ≡ size t n
+own_leaf Structure n ne = absurd (ne refl)
+own_leaf Integer n ne = refl
+own_leaf LongInteger n ne = refl
+own_leaf BigInteger n ne = refl
+own_leaf Enumeration n ne = refl
+own_leaf Boolean n ne = refl
+own_leaf TextString n ne = refl
+own_leaf ByteString n ne = refl
+own_leaf DateTime n ne = refl
+own_leaf Interval n ne = refl
+
+pub own_structure : (t : TtlvType) (n : ℕ) → t ≡ Structure → own_size t n ≡ 8
+own_structure t n is = ap (λ (u : TtlvType). own_size u n) is
+
+pub size_structure : (t : TtlvType) (n : ℕ) → t ≡ Structure → size t n ≡ 8 + n
+size_structure t n is = ap (λ (u : TtlvType). size u n) is ∙ omega arith
+
+pub own_most : (t : TtlvType) (n : ℕ) → own_size t n ≤ size t n
+own_most Structure n = omega arith
+own_most Integer n = omega arith
+own_most LongInteger n = omega arith
+own_most BigInteger n = omega arith
+own_most Enumeration n = omega arith
+own_most Boolean n = omega arith
+own_most TextString n = omega arith
+own_most ByteString n = omega arith
+own_most DateTime n = omega arith
+own_most Interval n = omega arith
 
 -- a valid value is none of a structure
 pub leaf_not : (typ : TtlvType) (content : List ℕ) → is_valid typ content ≡ true → typ ≢ Structure

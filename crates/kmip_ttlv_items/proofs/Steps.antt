@@ -1,6 +1,12 @@
--- What a walk kept of the items that it met, and how the ends of structures lie.
-use Rattle.std.proofs.Common.{◌≡◌, ℕ, suc, ◌≤◌, List, [], ◌∷◌, ◌++◌, length, map, set, ap, sym, refl, ◌∙◌, arith}
+-- What a walk kept of the items that it met, how the ends of structures lie, and what is wrong with a value.
+use Rattle.std.proofs.Common.{◌≡◌, inr, ℕ, suc, ◌+◌, ◌≤◌, Some, List, [], ◌∷◌, ◌++◌, length, map, set, ap, sym, refl, ◌∙◌, arith}
 use Rattle.std.proofs.lemmas.List.{map-append}
+use Rattle.kmip_ttlv_types.specs.declared.typ.TtlvType.{TtlvType}
+use Rattle.kmip_ttlv_types.specs.Places.{length_at, size}
+use Rattle.kmip_ttlv_items.specs.declared.found.FaultKind.{FaultKind}
+use Rattle.kmip_ttlv_items.specs.declared.found.FaultKind.TheVariants.{Cut, NoStructure, UnknownType, PartialHeader, WrongLength, Overlong, InvalidValue, Surplus}
+use Rattle.kmip_ttlv_items.specs.ItemWalks.{HasType, IsLengthOf, Misfits}
+use Rattle.kmip_ttlv_items.specs.WalkPlaces.{JudgesValue}
 use Rattle.kmip_ttlv_items.specs.declared.found.FoundItem.{FoundItem}
 use Rattle.kmip_ttlv_items.specs.FoundItems.{overlaid}
 
@@ -27,11 +33,22 @@ keeps_more keep found i old out new count kept counts is =
     length_map [] = refl
     length_map (x ∷ xs) = ap suc (length_map xs)
 
--- ends lie in one another, and within the bytes
+-- ends lie in one another, and the last is the one that the root's header states
 abbrev pub IsNested : List ℕ → ℕ → List ℕ → Type 0
-IsNested w p [] = p ≤ length w
+IsNested w p [] = p ≡ 8 + length_at w 0
 IsNested w p (e ∷ es) = (p ≤ e) × IsNested w e es
 
-pub nested_within : (w : List ℕ) (p : ℕ) (es : List ℕ) → IsNested w p es → p ≤ length w
-nested_within w p [] h = h
+pub nested_within : (w : List ℕ) (p : ℕ) (es : List ℕ) → IsNested w p es → p ≤ 8 + length_at w 0
+nested_within w p [] h = omega (arith, h)
 nested_within w p (e ∷ es) h = omega (arith, h.0, nested_within w e es h.1)
+
+-- what is wrong with the value of an item that passes no end
+pub value_misfits : (w : List ℕ) (p e : ℕ) (t : TtlvType) → HasType w p e t → IsLengthOf t (length_at w p) → p + size t (length_at w p) ≤ e → (kind : FaultKind) → JudgesValue w p t (Some kind) → Misfits w p e kind
+value_misfits w p e t has long fits Cut cut = inr (record { typ = t; has = has; long = long; fits = fits; cut = cut })
+value_misfits w p e t has long fits InvalidValue wrong = (t, has, long, fits, wrong.0, wrong.1, wrong.2)
+value_misfits w p e t has long fits NoStructure wrong = absurd wrong
+value_misfits w p e t has long fits UnknownType wrong = absurd wrong
+value_misfits w p e t has long fits PartialHeader wrong = absurd wrong
+value_misfits w p e t has long fits WrongLength wrong = absurd wrong
+value_misfits w p e t has long fits Overlong wrong = absurd wrong
+value_misfits w p e t has long fits Surplus wrong = absurd wrong

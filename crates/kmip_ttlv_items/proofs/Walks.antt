@@ -1,31 +1,35 @@
 -- What is known of each walk: where it stands, that the items of a message are those that it met and those that are
 -- left, and so how it ends.
-use Rattle.std.proofs.Common.{◌≡◌, ◌≢◌, ℕ, ◌+◌, ◌-◌, ◌*◌, ◌<◌, ◌≤◌, Bool, true, false, List, [], ◌∷◌, ◌++◌, length, get_or, Some, None, ap, sym, refl, subst, ◌∙◌, arith, length-append, append-nil, ◌==◌, if◌then◌else◌}
+use Rattle.std.proofs.Common.{◌≡◌, ◌≢◌, ℕ, ◌+◌, ◌-◌, ◌*◌, ◌^◌, ◌<◌, ◌≤◌, Bool, true, false, List, [], ◌∷◌, ◌++◌, length, get_or, Some, None, ap, sym, refl, subst, ◌∙◌, arith, length-append, append-nil, ◌==◌, if◌then◌else◌}
 use Rattle.std.proofs.lemmas.Bool.{eqb-true, eqb-false}
 use Rattle.std.proofs.Math.Bridge.{le_prop}
 use Rattle.std.proofs.Math.Logic.{∥∥₁_elim, ∥∥₁_map}
+use Rattle.kmip_ttlv_types.specs.declared.typ.TtlvType.{TtlvType}
+use Rattle.kmip_ttlv_types.specs.declared.typ.TtlvType.TheVariants.{Structure}
 use Rattle.kmip_ttlv_types.specs.Leaves.{is_valid}
 use Rattle.kmip_ttlv_types.specs.Places.{tag_at, length_at, size}
 use Rattle.kmip_ttlv_items.specs.declared.found.FoundItem.{FoundItem}
 use Rattle.kmip_ttlv_items.specs.declared.found.FaultKind.{FaultKind}
 use Rattle.kmip_ttlv_items.specs.declared.found.FaultKind.TheVariants.{Surplus}
 use Rattle.kmip_ttlv_items.specs.FoundItems.{Lists}
-use Rattle.kmip_ttlv_items.specs.ItemWalks.{type_at, content_at, IsWhole, Misfits, RootMisfits, WalksTo, enters_root, enters, passes, leaves, at_root, inside, behind, Meets, at_first, on_the_way, CanStand, Ended}
+use Rattle.kmip_ttlv_items.specs.ItemWalks.{type_at, content_at, own_size, IsWhole, Misfits, RootMisfits, WalksTo, enters_root, enters, passes, leaves, at_root, inside, behind, Meets, at_first, on_the_way, CanStand, Ended}
 use Rattle.kmip_ttlv_items.specs.WalkPlaces.{unreached, innermost, GoesOn, into_structure, past_leaf, IsDue, root, within}
-use Rattle.kmip_ttlv_items.proofs.Spans.{size_least}
-use Rattle.kmip_ttlv_items.proofs.Lefts.{Goes, out_to, out_from, past_to, past_from, into_to, into_from, misfit, root_misfit, root_to, root_from}
+use Rattle.kmip_ttlv_items.proofs.Spans.{size_least, size_structure, own_least, own_leaf}
+use Rattle.kmip_ttlv_items.proofs.Lefts.{Goes, out_to, out_from, past_to, past_from, into_to, into_from, misfit, root_facts, root_misfit, root_to, root_from}
 use Rattle.kmip_ttlv_items.proofs.Steps.{IsNested, nested_within}
 
 -- ends lie in one another; each item took eight bytes at least; and nothing of a message is left out
 pub record Walked (w : List ℕ) (p : ℕ) (es : List ℕ) (xs : List FoundItem) : Type 0 where
   pub nested : IsNested w p es
+  pub here : p ≤ length w
   pub eighths : 8 * length xs ≤ p
   pub far : 8 ≤ p
   pub to : (all : List FoundItem) → Lists w all → Goes w p es xs all
 
 pub walked : (w : List ℕ) (p : ℕ) (es : List ℕ) (xs : List FoundItem) → WalksTo w p es xs → Walked w p es xs
 walked w _ _ _ (enters_root q e i whole is at end) = record {
-  nested = (omega (arith, size_least i.typ i.length), omega (arith, whole.fits));
+  nested = (omega (arith, size_least i.typ i.length), end ∙ ap (λ (t : TtlvType). size t i.length) is ∙ ap (size Structure) whole.len ∙ omega arith);
+  here = omega (arith, whole.there, own_least i.typ i.length);
   eighths = omega arith;
   far = omega arith;
   to = root_to w i q e whole is at end;
@@ -33,55 +37,59 @@ walked w _ _ _ (enters_root q e i whole is at end) = record {
 walked w _ _ _ (enters p q e f es xs i walks whole is at end) =
     let h = walked w p (e ∷ es) xs walks in
     let lt : p < e = omega (arith, whole.fits, size_least i.typ i.length) in
-    let fits = nested_within w e es h.nested.1 in
+    let fits : (all : List FoundItem) → Lists w all → e ≤ length w = λ all l. omega (arith, nested_within w e es h.nested.1, (root_facts w all l).1) in
     record {
+      here = omega (arith, whole.there, own_least i.typ i.length);
       nested = (omega (arith, size_least i.typ i.length), (omega (arith, whole.fits), h.nested.1));
       eighths = omega (arith, h.eighths, length-append xs (i ∷ []));
       far = omega (arith, h.far);
-      to = λ all l. into_to w p e es xs all lt fits i q f whole is at end (h.to all l);
+      to = λ all l. into_to w p e es xs all lt (fits all l) i q f whole is at end (h.to all l);
     }
 walked w _ _ _ (passes p q e es xs i walks whole ne at) =
     let h = walked w p (e ∷ es) xs walks in
     let lt : p < e = omega (arith, whole.fits, size_least i.typ i.length) in
-    let fits = nested_within w e es h.nested.1 in
+    let fits : (all : List FoundItem) → Lists w all → e ≤ length w = λ all l. omega (arith, nested_within w e es h.nested.1, (root_facts w all l).1) in
     record {
+      here = omega (arith, whole.there, own_leaf i.typ i.length ne);
       nested = (omega (arith, whole.fits), h.nested.1);
       eighths = omega (arith, h.eighths, length-append xs (i ∷ []), size_least i.typ i.length);
       far = omega (arith, h.far);
-      to = λ all l. past_to w p e es xs all lt fits i q whole ne at (h.to all l);
+      to = λ all l. past_to w p e es xs all lt (fits all l) i q whole ne at (h.to all l);
     }
 walked w _ _ _ (leaves p e es xs walks at) =
     let h = walked w p (e ∷ es) xs walks in
     record {
+      here = h.here;
       nested = subst (λ (q : ℕ). IsNested w q es) (sym at) h.nested.1;
       eighths = h.eighths;
       far = h.far;
-      to = λ all l. out_to w p e es xs all at (nested_within w e es h.nested.1) (h.to all l);
+      to = λ all l. out_to w p e es xs all at (omega (arith, h.here, at)) (h.to all l);
     }
 
 module _ (w : List ℕ) (plain : (k : ℕ) → get_or w k 0 < 256) where
-  -- where what is left is that of a message, the whole is one
-  pub walked_from : (p : ℕ) (es : List ℕ) (xs all : List FoundItem) → WalksTo w p es xs → Goes w p es xs all → Lists w all
-  walked_from _ _ _ all (enters_root q e i whole is at end) g = root_from w i q e whole is at end plain all g
-  walked_from _ _ _ all (enters p q e f es xs i walks whole is at end) g =
+  -- where the root ends with the bytes, and what is left is that of a message, the whole is one
+  pub walked_from : (p : ℕ) (es : List ℕ) (xs all : List FoundItem) → length w ≡ 8 + length_at w 0 → WalksTo w p es xs → Goes w p es xs all → Lists w all
+  walked_from _ _ _ all exact (enters_root q e i whole is at end) g = root_from w i q e whole is at end plain all g
+  walked_from _ _ _ all exact (enters p q e f es xs i walks whole is at end) g =
       let h = walked w p (e ∷ es) xs walks in
       let lt : p < e = omega (arith, whole.fits, size_least i.typ i.length) in
-      walked_from p (e ∷ es) xs all walks (into_from w p e es xs all lt (nested_within w e es h.nested.1) plain i q f whole is at end g)
-  walked_from _ _ _ all (passes p q e es xs i walks whole ne at) g =
+      walked_from p (e ∷ es) xs all exact walks (into_from w p e es xs all lt (omega (arith, exact, nested_within w e es h.nested.1)) plain i q f whole is at end g)
+  walked_from _ _ _ all exact (passes p q e es xs i walks whole ne at) g =
       let h = walked w p (e ∷ es) xs walks in
       let lt : p < e = omega (arith, whole.fits, size_least i.typ i.length) in
-      walked_from p (e ∷ es) xs all walks (past_from w p e es xs all lt (nested_within w e es h.nested.1) plain i q whole ne at g)
-  walked_from _ _ _ all (leaves p e es xs walks at) g = walked_from p (e ∷ es) xs all walks (out_from w p e es xs all at g)
+      walked_from p (e ∷ es) xs all exact walks (past_from w p e es xs all lt (omega (arith, exact, nested_within w e es h.nested.1)) plain i q whole ne at g)
+  walked_from _ _ _ all exact (leaves p e es xs walks at) g = walked_from p (e ∷ es) xs all exact walks (out_from w p e es xs all at g)
 
   -- all of a message was met
   pub ended_whole : (p : ℕ) (xs : List FoundItem) → WalksTo w p [] xs → length w ≤ p → Ended w xs None
   ended_whole p xs walks le =
-      let end : p ≡ length w = omega (arith, (walked w p [] xs walks).nested) in
-      walked_from p [] xs xs walks ([], (end, refl), sym (append-nil xs))
+      let h = walked w p [] xs walks in
+      let end : p ≡ length w = omega (arith, h.here) in
+      walked_from p [] xs xs (sym end ∙ h.nested) walks ([], (end, refl), sym (append-nil xs))
 
--- an item that is whole is so by any later end
-whole_anywhere : (w : List ℕ) (p e depth : ℕ) (i : FoundItem) → IsWhole w p e depth i → e ≤ length w → IsWhole w i.offset (length w) i.depth i
-whole_anywhere w p e depth i h le =
+-- an item that is whole is so by its own end
+whole_anywhere : (w : List ℕ) (p e depth : ℕ) (i : FoundItem) → IsWhole w p e depth i → IsWhole w i.offset (i.offset + size i.typ i.length) i.depth i
+whole_anywhere w p e depth i h =
     let at : p ≡ i.offset = sym h.offset in
     record {
       offset = refl;
@@ -89,7 +97,8 @@ whole_anywhere w p e depth i h le =
       tag = h.tag ∙ ap (tag_at w) at;
       typ = ap (type_at w) (sym at) ∙ h.typ;
       len = h.len ∙ ap (length_at w) at;
-      fits = omega (arith, h.fits, at);
+      fits = omega arith;
+      there = omega (arith, h.there, at);
       valid = λ ne. ap (λ (q : ℕ). is_valid i.typ (content_at w q)) (sym at) ∙ h.valid ne;
     }
 
@@ -120,7 +129,7 @@ module _ (w : List ℕ) where
   pub ended_inside : (p e : ℕ) (es : List ℕ) (xs : List FoundItem) (kind : FaultKind) → WalksTo w p (e ∷ es) xs → p < e → Misfits w p e kind → Ended w xs (Some record { offset = p; kind = kind })
   ended_inside p e es xs kind walks lt wrong =
       let h = walked w p (e ∷ es) xs walks in
-      (inside e es walks lt wrong, λ all l. misfit w p e es xs all lt (nested_within w e es h.nested.1) kind wrong (h.to all l))
+      (inside e es walks lt wrong, λ all l. misfit w p e es xs all lt (omega (arith, nested_within w e es h.nested.1, (root_facts w all l).1)) kind wrong (h.to all l))
 
   -- further bytes follow the root
   pub ended_behind : (p : ℕ) (xs : List FoundItem) → WalksTo w p [] xs → p < length w → Ended w xs (Some record { offset = p; kind = Surplus })
@@ -147,16 +156,16 @@ module _ (w : List ℕ) where
   -- each item that was met took eight bytes at least
   pub met_few : (p : ℕ) (es : List ℕ) (xs : List FoundItem) → Meets w p es xs → 8 * length xs ≤ length w
   met_few p es xs (at_first _ _ none) = omega (arith, ap length none)
-  met_few p es xs (on_the_way walks) = let h = walked w p es xs walks in omega (arith, h.eighths, nested_within w p es h.nested)
+  met_few p es xs (on_the_way walks) = let h = walked w p es xs walks in omega (arith, h.eighths, h.here)
 
-  -- the innermost of the ends that are not reached
-  pub stands_within : (p : ℕ) (es : List ℕ) (e : ℕ) (fs : List ℕ) → 0 < p → CanStand w p es → unreached p es ≡ e ∷ fs → (p ≤ e) × (e ≤ length w)
+  -- the innermost of the ends that are not reached, and the bytes, lie behind the place
+  pub stands_within : (p : ℕ) (es : List ℕ) (e : ℕ) (fs : List ℕ) → 0 < p → CanStand w p es → unreached p es ≡ e ∷ fs → (p ≤ e) × (p ≤ length w)
   stands_within p es e fs lt stands is = ∥∥₁_elim stands (hlevel le_prop) by
     where
-      by : ((xs : List FoundItem) × Meets w p es xs) → (p ≤ e) × (e ≤ length w)
+      by : ((xs : List FoundItem) × Meets w p es xs) → (p ≤ e) × (p ≤ length w)
       by (xs, m) =
-          let nested = (walked w p (e ∷ fs) xs (subst (λ (s : List ℕ). WalksTo w p s xs) is (unreached_walks p es xs (met_walks p es xs lt m)))).nested in
-          (nested.0, nested_within w e fs nested.1)
+          let h = walked w p (e ∷ fs) xs (subst (λ (s : List ℕ). WalksTo w p s xs) is (unreached_walks p es xs (met_walks p es xs lt m))) in
+          (h.nested.0, h.here)
 
   -- ends that are reached are left, wherever a walk can stand
   pub unreached_met : (p : ℕ) (es : List ℕ) (xs : List FoundItem) → 0 < p → Meets w p es xs → Meets w p (unreached p es) xs
@@ -164,7 +173,7 @@ module _ (w : List ℕ) where
 
   -- the item that is due is met, and the walk goes on
   pub met_more : (p : ℕ) (es : List ℕ) (i : FoundItem) (q : ℕ) (fs : List ℕ) (xs : List FoundItem) → IsDue w p es i → GoesOn i es q fs → Meets w p es xs → Meets w q fs (xs ++ (i ∷ []))
-  met_more p es i q fs xs (root first whole node) goes m = by goes
+  met_more p es i q fs xs (root first whole node small) goes m = by goes
     where
       met : (es ≡ []) × (xs ≡ [])
       met = met_none p es xs first m
@@ -173,10 +182,12 @@ module _ (w : List ℕ) where
       by (past_leaf leaf _ _) = absurd (leaf node)
       by (into_structure _ at ends) =
           let end = i.offset + size i.typ i.length in
-          let walks : WalksTo w q (end ∷ []) (i ∷ []) = enters_root q end i whole node (omega (arith, at, whole.offset)) (omega (arith, whole.offset)) in
+          let end-is : end ≡ size i.typ i.length = omega (arith, whole.offset) in
+          let whole' : IsWhole w 0 end 0 i = subst (λ (e : ℕ). IsWhole w 0 e 0 i) (sym end-is) whole in
+          let walks : WalksTo w q (end ∷ []) (i ∷ []) = enters_root q end i whole' node (omega (arith, at, whole.offset)) end-is in
           let is : fs ≡ end ∷ [] = ends ∙ ap (λ (s : List ℕ). end ∷ s) met.0 in
           on_the_way (subst (λ (s : List ℕ). WalksTo w q s (xs ++ (i ∷ []))) (sym is) (subst (λ (s : List FoundItem). WalksTo w q (end ∷ []) (s ++ (i ∷ []))) (sym met.1) walks))
-  met_more p es i q fs xs (within e gs is some lt fits whole) goes m = by goes
+  met_more p es i q fs xs (within e gs is some lt top whole) goes m = by goes
     where
       walks : WalksTo w p (e ∷ gs) xs
       walks = subst (λ (s : List ℕ). WalksTo w p s xs) is (met_walks p es xs some m)
@@ -201,17 +212,22 @@ module _ (w : List ℕ) where
   pub stands_still : (p : ℕ) (es fs : List ℕ) → ((xs : List FoundItem) → Meets w p es xs → Meets w p fs xs) → CanStand w p es → CanStand w p fs
   stands_still p es fs stays stands = ∥∥₁_map stands (λ (xs, m). (xs, stays xs m))
 
-  -- the item that is due is whole among the bytes
-  pub due_whole : (p : ℕ) (es : List ℕ) (i : FoundItem) → IsDue w p es i → IsWhole w i.offset (length w) i.depth i
-  due_whole p es i (root first whole node) = whole_anywhere w 0 (length w) 0 i whole (omega arith)
-  due_whole p es i (within e gs is some lt fits whole) = whole_anywhere w p e (length es) i whole fits
+  -- the item that is due is whole by its own end
+  pub due_whole : (p : ℕ) (es : List ℕ) (i : FoundItem) → IsDue w p es i → IsWhole w i.offset (i.offset + size i.typ i.length) i.depth i
+  due_whole p es i (root first whole node small) = whole_anywhere w 0 (size i.typ i.length) 0 i whole
+  due_whole p es i (within e gs is some lt top whole) = whole_anywhere w p e (length es) i whole
 
   -- where it stands
-  pub due_at : (p : ℕ) (es : List ℕ) (i : FoundItem) → IsDue w p es i → (i.offset ≡ p) × (p + size i.typ i.length ≤ length w)
-  due_at p es i (root first whole node) = (omega (arith, whole.offset, first), omega (arith, whole.fits, first))
-  due_at p es i (within e gs is some lt fits whole) = (whole.offset, omega (arith, whole.fits))
+  pub due_at : (p : ℕ) (es : List ℕ) (i : FoundItem) → IsDue w p es i → (i.offset ≡ p) × (p + own_size i.typ i.length ≤ length w)
+  due_at p es i (root first whole node small) = (omega (arith, whole.offset, first), omega (arith, whole.there, first))
+  due_at p es i (within e gs is some lt top whole) = (whole.offset, whole.there)
+
+  -- and its end is a number of 64 bits
+  pub due_small : (p : ℕ) (es : List ℕ) (i : FoundItem) → IsDue w p es i → i.offset + size i.typ i.length < 2 ^ 64
+  due_small p es i (root first whole node small) = omega (arith, whole.offset, size_structure i.typ i.length node, small)
+  due_small p es i (within e gs is some lt top whole) = omega (arith, whole.offset, whole.fits, top)
 
   -- and the walk goes further
   pub due_onward : (p : ℕ) (es : List ℕ) (i : FoundItem) (q : ℕ) (fs : List ℕ) → IsDue w p es i → GoesOn i es q fs → length w - q < length w - p
-  due_onward p es i q fs due (into_structure node at ends) = omega (arith, at, (due_at p es i due).0, (due_at p es i due).1, size_least i.typ i.length)
-  due_onward p es i q fs due (past_leaf leaf at same) = omega (arith, at, (due_at p es i due).0, (due_at p es i due).1, size_least i.typ i.length)
+  due_onward p es i q fs due (into_structure node at ends) = omega (arith, at, (due_at p es i due).0, (due_at p es i due).1, own_least i.typ i.length)
+  due_onward p es i q fs due (past_leaf leaf at same) = omega (arith, at, (due_at p es i due).0, (due_at p es i due).1, own_leaf i.typ i.length leaf, size_least i.typ i.length)

@@ -27,7 +27,13 @@ type_at bytes p = type_of (code_at bytes p)
 abbrev pub content_at : List ℕ → ℕ → List ℕ
 content_at bytes p = take (length_at bytes p) (drop (p + 8) bytes)
 
--- the item that begins at a place is whole by an end, and a leaf has a value; it is in so many structures
+-- how many bytes an item takes itself: a structure those of its header, since the items in it have their own
+abbrev pub own_size : TtlvType → ℕ → ℕ
+own_size Structure n = 8
+own_size t n = size t n
+
+-- the item that begins at a place passes no end, its own bytes are there, and a leaf has a value; it is in so many
+-- structures
 pub record IsWhole (bytes : List ℕ) (p e depth : ℕ) (i : FoundItem) : Type 0 where
   pub offset : i.offset ≡ p
   pub deep : i.depth ≡ depth
@@ -35,45 +41,59 @@ pub record IsWhole (bytes : List ℕ) (p e depth : ℕ) (i : FoundItem) : Type 0
   pub typ : type_at bytes p ≡ Some i.typ
   pub len : i.length ≡ length_at bytes p
   pub fits : p + size i.typ i.length ≤ e
+  pub there : p + own_size i.typ i.length ≤ length bytes
   pub valid : i.typ ≢ Structure → is_valid i.typ (content_at bytes p) ≡ true
 
--- the header that stands at a place before an end has this type
+-- the header that stands at a place before an end, among the bytes, has this type
 pub record HasType (bytes : List ℕ) (p e : ℕ) (t : TtlvType) : Type 0 where
   pub there : p + 8 ≤ e
+  pub read : p + 8 ≤ length bytes
   pub typ : type_at bytes p ≡ Some t
 
 -- a length that a value of this type may have
 abbrev pub IsLengthOf : TtlvType → ℕ → Type 0
 IsLengthOf t n = has_length (fixed_length t) n ≡ true
 
+-- the bytes end within the header that is due at a place before an end
+abbrev pub CutHeader : List ℕ → ℕ → ℕ → Type 0
+CutHeader bytes p e = (p + 8 ≤ e) × (length bytes < p + 8)
+
+-- or within the value of the leaf there, which passes no end
+pub record CutValue (bytes : List ℕ) (p e : ℕ) : Type 0 where
+  pub typ : TtlvType
+  pub has : HasType bytes p e typ
+  pub long : IsLengthOf typ (length_at bytes p)
+  pub fits : p + size typ (length_at bytes p) ≤ e
+  pub cut : length bytes < p + own_size typ (length_at bytes p)
+
 -- what is wrong with the item that is due at a place within a structure that ends there: each name is for what no
 -- name above it is for
 abbrev pub Misfits : List ℕ → ℕ → ℕ → FaultKind → Type 0
 Misfits bytes p e PartialHeader = e < p + 8
-Misfits bytes p e UnknownType = (p + 8 ≤ e) × (type_at bytes p ≡ None)
+Misfits bytes p e Cut = CutHeader bytes p e ⊎ CutValue bytes p e
+Misfits bytes p e UnknownType = (p + 8 ≤ e) × (p + 8 ≤ length bytes) × (type_at bytes p ≡ None)
 Misfits bytes p e WrongLength =
     (t : TtlvType) × HasType bytes p e t × (has_length (fixed_length t) (length_at bytes p) ≡ false)
 Misfits bytes p e Overlong =
     (t : TtlvType) × HasType bytes p e t × IsLengthOf t (length_at bytes p) × (e < p + size t (length_at bytes p))
 Misfits bytes p e InvalidValue =
     (t : TtlvType) × HasType bytes p e t × IsLengthOf t (length_at bytes p) × (p + size t (length_at bytes p) ≤ e)
-    × (t ≢ Structure) × (is_valid t (content_at bytes p) ≡ false)
+    × (p + own_size t (length_at bytes p) ≤ length bytes) × (t ≢ Structure) × (is_valid t (content_at bytes p) ≡ false)
 Misfits bytes p e _ = ⊥
 
 -- what is wrong with the root
 abbrev pub RootMisfits : List ℕ → FaultKind → Type 0
-RootMisfits bytes Cut =
-    (length bytes < 8) ⊎ (HasType bytes 0 (length bytes) Structure × (length bytes < 8 + length_at bytes 0))
+RootMisfits bytes Cut = length bytes < 8
 RootMisfits bytes UnknownType = (8 ≤ length bytes) × (type_at bytes 0 ≡ None)
 RootMisfits bytes NoStructure = (t : TtlvType) × HasType bytes 0 (length bytes) t × (t ≢ Structure)
 RootMisfits bytes _ = ⊥
 
--- a walk over whole items, one after the other, into structures and out of them at their ends: it has come to
--- a place, within structures with these ends, the innermost first, and has met these items
+-- a walk over whole items, one after the other, into structures and out of them at the ends that their headers state,
+-- whether or not the bytes reach so far: it has come to a place, within structures with these ends, the innermost first, and has met these items
 pub data WalksTo (bytes : List ℕ) : ℕ → List ℕ → List FoundItem → Type 0 where
   enters_root :
       (q e : ℕ) (i : FoundItem)
-      → IsWhole bytes 0 (length bytes) 0 i
+      → IsWhole bytes 0 e 0 i
       → i.typ ≡ Structure
       → q ≡ 8
       → e ≡ size i.typ i.length

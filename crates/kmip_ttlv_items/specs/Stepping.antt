@@ -1,5 +1,6 @@
 -- A walk that is taken step by step.
-use Rattle.std.specs.Prelude.{ℕ, ◌-◌, ◌<◌, List, [], ◌∷◌, ◌++◌, length, reverse}
+use Rattle.std.specs.Prelude.{ℕ, ◌+◌, ◌-◌, ◌<◌, List, [], ◌∷◌, ◌++◌, length, reverse}
+use Rattle.kmip_ttlv_types.specs.Places.{size}
 use Rattle.kmip_ttlv_items.specs.declared.found.FoundItem.{FoundItem}
 use Rattle.kmip_ttlv_items.specs.declared.found.Step.{Step}
 use Rattle.kmip_ttlv_items.specs.declared.found.Step.TheVariants.{Item, End}
@@ -14,10 +15,10 @@ Met walk xs = Meets walk.bytes.now walk.offset (reverse walk.ends.items) xs
 abbrev pub left : {A : Type 0} → ItemWalk A → ℕ
 left walk = length walk.bytes.now - walk.offset
 
--- a walk met one more item, which is whole among the bytes, and went on
+-- a walk met one more item, which is whole, and went on
 pub record Comes {A : Type 0} (old new : ItemWalk A) (i : FoundItem) : Type 0 where
   pub met : (xs : List FoundItem) → Met old xs → Met new (xs ++ (i ∷ []))
-  pub whole : IsWhole old.bytes.now i.offset (length old.bytes.now) i.depth i
+  pub whole : IsWhole old.bytes.now i.offset (i.offset + size i.typ i.length) i.depth i
   pub onward : left new < left old
 
 -- a walk met no further item

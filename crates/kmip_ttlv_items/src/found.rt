@@ -5,7 +5,7 @@ ghost use Rattle.kmip_ttlv_items.specs.declared.found.FoundItem.{FoundItem as An
 
 use kmip_ttlv_types::{TtlvTag, TtlvType};
 
-/// An item of a message.
+/// An item of a message. Of a Structure the header was met, and not yet the items in it.
 #[derive(Clone, Copy, Debug, PartialEq, Eq)]
 pub struct FoundItem {
     /// Where its header begins, in bytes from the first. Its value begins eight bytes further.
@@ -41,7 +41,8 @@ impl KeepItem for FoundItem {
 /// What is wrong with bytes as one whole message.
 #[derive(Clone, Copy, Debug, PartialEq, Eq)]
 pub enum FaultKind {
-    /// The bytes end within the root: fewer than eight, or fewer than its length states.
+    /// The bytes end before the root does, within this item: within its header, or within the value or the
+    /// padding of a leaf.
     Cut,
     /// The root is no Structure.
     NoStructure,

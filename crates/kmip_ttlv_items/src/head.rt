@@ -1,9 +1,11 @@
 //! The item at a place, judged by what is around it. It takes no memory.
 
-ghost use Rattle.std.specs.Prelude.{◌≡◌, ◌≤◌, length, IfOk, IfErr};
+ghost use Rattle.std.specs.Prelude.{◌≡◌, ◌<◌, ◌≤◌, ◌+◌, ◌^◌, length, IfOk, IfErr};
 ghost use Rattle.kmip_ttlv_types.specs.declared.typ.TtlvType.TheVariants.{Structure as TheStructure};
 ghost use Rattle.kmip_ttlv_types.specs.ItemTypes.{fixed_length};
+ghost use Rattle.kmip_ttlv_types.specs.Places.{size};
 ghost use Rattle.kmip_ttlv_items.specs.ItemWalks.{has_length, IsWhole, Misfits, RootMisfits};
+ghost use Rattle.kmip_ttlv_items.specs.WalkPlaces.{JudgesValue};
 
 use crate::found::{FaultKind, FoundItem};
 use kmip_ttlv_types::TtlvType;
@@ -21,8 +23,27 @@ fn has_length(typ: TtlvType, n: u32) -> bool
     }
 }
 
-/// The item that is due at a place within so many structures, the innermost of which ends there, or
-/// what is wrong with it.
+// What is wrong with the value of an item that begins at a place and passes no end, if anything is.
+#[tactic(auto, using(crate::proofs::Spans::own_leaf, crate::proofs::Spans::own_structure))]
+fn value_fault(bytes: &[u8], offset: usize, typ: TtlvType) -> Option<FaultKind>
+    requires { offset + 8 ≤ length bytes.now }
+    ensures { JudgesValue bytes.now offset typ result }
+{
+    if typ == TtlvType::Structure {
+        return None;
+    }
+    let length = length_at(bytes, offset);
+    if bytes.len() - offset < size_of(typ, length) {
+        return Some(FaultKind::Cut);
+    }
+    if !is_valid(typ, content_at(bytes, offset, length)) {
+        return Some(FaultKind::InvalidValue);
+    }
+    None
+}
+
+/// The item that is due at a place within so many structures, the innermost of which ends at `end`, or
+/// what is wrong with it. The bytes may end before the structure does.
 pub fn item_at(
     bytes: &[u8],
     offset: usize,
@@ -30,12 +51,15 @@ pub fn item_at(
     depth: usize,
 ) -> Result<FoundItem, FaultKind>
     requires before { offset ≤ end }
-    requires within { end ≤ length bytes.now }
+    requires within { offset ≤ length bytes.now }
     ensures ok { IfOk result (λ item. IsWhole bytes.now offset end depth item) }
     ensures err { IfErr result (λ kind. Misfits bytes.now offset end kind) }
 {
     if end - offset < 8 {
         return Err(FaultKind::PartialHeader);
+    }
+    if bytes.len() - offset < 8 {
+        return Err(FaultKind::Cut);
     }
     let Some(typ) = type_at(bytes, offset) else {
         return Err(FaultKind::UnknownType);
@@ -47,11 +71,8 @@ pub fn item_at(
     if end - offset < size_of(typ, length) {
         return Err(FaultKind::Overlong);
     }
-    if typ != TtlvType::Structure {
-        let content = content_at(bytes, offset, length);
-        if !is_valid(typ, content) {
-            return Err(FaultKind::InvalidValue);
-        }
+    if let Some(kind) = value_fault(bytes, offset, typ) {
+        return Err(kind);
     }
     let tag = tag_at(bytes, offset);
     Ok(FoundItem {
@@ -63,9 +84,11 @@ pub fn item_at(
     })
 }
 
-/// The root, which is a Structure that the bytes begin with, or what is wrong with it.
+/// The root, which is a Structure whose header the bytes begin with, or what is wrong with it.
+#[tactic(auto, using(crate::proofs::Spans::own_structure))]
 pub fn root_of(bytes: &[u8]) -> Result<FoundItem, FaultKind>
-    ensures ok { IfOk result (λ root. IsWhole bytes.now 0 (length bytes.now) 0 root × (root.typ ≡ TheStructure)) }
+    ensures ok { IfOk result (λ root. IsWhole bytes.now 0 (size root.typ root.length) 0 root × (root.typ ≡ TheStructure)
+        × (root.length < 2 ^ 32)) }
     ensures err { IfErr result (λ kind. RootMisfits bytes.now kind) }
 {
     if bytes.len() < 8 {
@@ -78,9 +101,6 @@ pub fn root_of(bytes: &[u8]) -> Result<FoundItem, FaultKind>
         return Err(FaultKind::NoStructure);
     }
     let length = length_at(bytes, 0);
-    if bytes.len() < size_of(typ, length) {
-        return Err(FaultKind::Cut);
-    }
     let tag = tag_at(bytes, 0);
     Ok(FoundItem {
         offset: 0,

@@ -10,14 +10,28 @@ use std::alloc::{Allocator, Global};
 type Row = (&'static str, usize, FaultKind);
 
 // One row for each fault, and the first of several.
-const FAULTS: [Row; 20] = [
+const FAULTS: [Row; 24] = [
     ("", 0, FaultKind::Cut),
     ("42006901000000", 0, FaultKind::Cut),
-    ("4200690100000008", 0, FaultKind::Cut),
+    // The root's header alone, then cut within padding, a value, and a header, and behind an item.
+    ("4200690100000008", 8, FaultKind::Cut),
     (
         "420069010000001042006A020000000400000001000000",
-        0,
+        8,
         FaultKind::Cut,
+    ),
+    ("420069010000001042006A02000000040000", 8, FaultKind::Cut),
+    ("420069010000001042006A020000", 8, FaultKind::Cut),
+    (
+        "420069010000002042006A02000000040000000100000000",
+        24,
+        FaultKind::Cut,
+    ),
+    // In a structure that ends before the bytes do, and the root states more.
+    (
+        "420069010000002042006A010000000842006B0200000004",
+        16,
+        FaultKind::Overlong,
     ),
     (
         "42006A02000000040000000100000000",
@@ -28,8 +42,8 @@ const FAULTS: [Row; 20] = [
     ("42006A0000000000", 0, FaultKind::UnknownType),
     (
         "420069010000001042006A0B0000000400000001000000",
-        0,
-        FaultKind::Cut,
+        8,
+        FaultKind::UnknownType,
     ),
     (
         "420069010000001042006A0B000000040000000100000000",

@@ -33,7 +33,7 @@ const GROWN: [(Task<'static>, &str); 5] = [
         Task::Hexadecimal,
         "420069010000002042006A0200000004000000010000000042006B02000000040000000000000000\n",
     ),
-    (Task::Check, ""),
+    (Task::Check { kmip: false }, ""),
 ];
 
 // What a run, or all runs of a row, came to.

@@ -1,7 +1,7 @@
 //! Malformed messages and input that can't be decoded: the status, what is printed by then, and the line
 //! on standard error.
 
-use crate::runs::{VERSION_LINES, back_with, run_with};
+use crate::runs::{CREATE_RESPONSE, VERSION, VERSION_LINES, back_with, run_with};
 use std::alloc::{AllocError, Global};
 use ttlv_run::{Encoding, Task, Values};
 
@@ -12,7 +12,11 @@ const SHOW: Task<'static> = Task::Show {
     values: Values::Escaped,
 };
 
-const MALFORMED: [Row; 8] = [
+// The lines of the version's first two items.
+const BEFORE_MINOR: &str =
+    "Tag: Protocol Version (0x420069), Type: Structure (0x01), Data:\n  Tag: Protocol Version Major (0x42006A), Type: Integer (0x02), Data: 0x000001 (1)\n";
+
+const MALFORMED: [Row; 12] = [
     (
         Encoding::Detected,
         "42006901",
@@ -32,6 +36,31 @@ const MALFORMED: [Row; 8] = [
         VERSION_LINES,
         "capture: byte 40: Protocol Version (0x420069): the input ends within the message\n",
     ),
+    // A message is cut within a value, within padding, within a header, and between two items.
+    (
+        Encoding::Detected,
+        "420069010000002042006A0200000004000000010000000042006B02000000040000",
+        BEFORE_MINOR,
+        "capture: byte 24: Protocol Version Minor (0x42006B): the input ends within the message\n",
+    ),
+    (
+        Encoding::Detected,
+        "420069010000002042006A0200000004000000010000000042006B020000000400000000000000",
+        BEFORE_MINOR,
+        "capture: byte 24: Protocol Version Minor (0x42006B): the input ends within the message\n",
+    ),
+    (
+        Encoding::Detected,
+        "420069010000002042006A0200000004000000010000000042006B02",
+        BEFORE_MINOR,
+        "capture: byte 24: Protocol Version Minor (0x42006B): the input ends within the message\n",
+    ),
+    (
+        Encoding::Detected,
+        "420069010000002042006A02000000040000000100000000",
+        BEFORE_MINOR,
+        "capture: byte 24: no tag: the input ends within the message\n",
+    ),
     (
         Encoding::Detected,
         "42006A02000000040000000100000000",
@@ -48,7 +77,7 @@ const MALFORMED: [Row; 8] = [
     (
         Encoding::Detected,
         "420069010000002042006A0200000004000000010000000042006B07000000090000000000000000",
-        "Tag: Protocol Version (0x420069), Type: Structure (0x01), Data:\n  Tag: Protocol Version Major (0x42006A), Type: Integer (0x02), Data: 0x000001 (1)\n",
+        BEFORE_MINOR,
         "capture: byte 24: Protocol Version Minor (0x42006B): longer than the structure around\n",
     ),
     (
@@ -227,7 +256,7 @@ fn undecoded_input(rt: HostRuntime) {
 
 // A cut message under each other task: what is printed of it.
 const CUT: [(Task<'static>, &str); 4] = [
-    (Task::Check, ""),
+    (Task::Check { kmip: false }, ""),
     (Task::Hexadecimal, "42006901\n"),
     (
         Task::Diagnose {
@@ -256,6 +285,45 @@ fn is_cut(alloc: Global, task: Task<'_>, text: &str) -> bool {
 fn each_task(rt: HostRuntime) {
     for (task, text) in CUT {
         assert!(rt; is_cut(rt.alloc(), task, text), "{task:?}");
+    }
+}
+
+// An input whose messages are to be those of KMIP, the status, and the line.
+const KMIP: [(&str, u8, &str); 5] = [
+    (CREATE_RESPONSE, 0, ""),
+    ("4200780100000000", 0, ""),
+    (
+        VERSION,
+        1,
+        "capture: byte 0: Protocol Version (0x420069): neither a Request Message nor a Response Message\n",
+    ),
+    // The second of two messages.
+    (
+        "42007801000000004200690100000000",
+        1,
+        "capture: byte 8: Protocol Version (0x420069): neither a Request Message nor a Response Message\n",
+    ),
+    // A message that is malformed too.
+    (
+        "42006901000000084200",
+        1,
+        "capture: byte 8: no tag: the input ends within the message\n",
+    ),
+];
+
+fn is_judged(alloc: Global, row: (&str, u8, &str)) -> bool {
+    let (input, status, line) = row;
+    let task = Task::Check { kmip: true };
+    match run_with(alloc, alloc, task, Encoding::Detected, input.as_bytes()) {
+        Ok(outcome) => outcome.is(status, "", line),
+        Err(AllocError) => false,
+    }
+}
+
+#[test]
+fn messages_of_kmip(rt: HostRuntime) {
+    for row in KMIP {
+        assert!(rt; is_judged(rt.alloc(), row), "{row:?}");
     }
 }
 

@@ -95,7 +95,7 @@ fn growths(alloc: Global, encoding: Encoding, input: &str) -> Result<u64, AllocE
     let names = Names { tags, values };
     let job = Job {
         name: "capture",
-        task: Task::Check,
+        task: Task::Check { kmip: false },
         encoding,
     };
     for before in 0..100u64 {
@@ -156,7 +156,7 @@ fn nested_status(alloc: Global, depth: u32, most: usize) -> Result<u8, AllocErro
     let names = Names { tags, values };
     let job = Job {
         name: "capture",
-        task: Task::Check,
+        task: Task::Check { kmip: false },
         encoding: Encoding::Hexadecimal,
     };
     let memory = Memory {

@@ -62,7 +62,7 @@ const PRINTED: [Row; 23] = [
     (PREFIXED, Encoding::Detected, VERSION, "69[6Ai6Bi]\n"),
     (PREFIXED, Encoding::Detected, "4200690100000000", "69[ERR\n"),
     (CLOSED, Encoding::Detected, "4200690100000000", "69[]\n"),
-    (Task::Check, Encoding::Detected, VERSION, ""),
+    (Task::Check { kmip: false }, Encoding::Detected, VERSION, ""),
     (
         Task::Hexadecimal,
         Encoding::Detected,
@@ -114,7 +114,7 @@ const PRINTED: [Row; 23] = [
     (SHOW, Encoding::Detected, "", ""),
     (SHOW, Encoding::Detected, " \n", ""),
     (SHOW, Encoding::Base64, "", ""),
-    (Task::Check, Encoding::Raw, "", ""),
+    (Task::Check { kmip: false }, Encoding::Raw, "", ""),
 ];
 
 fn prints(alloc: Global, row: Row) -> bool {

@@ -7,7 +7,7 @@ use ttlv_words::request_of;
 // Words, what is asked, the file of names, and how many files are read.
 type Row = (&'static str, Asked<'static>, Option<&'static str>, usize);
 
-const ASKED: [Row; 15] = [
+const ASKED: [Row; 16] = [
     (
         "ttlv show",
         Asked::Print {
@@ -87,11 +87,20 @@ const ASKED: [Row; 15] = [
     (
         "ttlv check --input hex a b c",
         Asked::Print {
-            task: Task::Check,
+            task: Task::Check { kmip: false },
             encoding: Encoding::Hexadecimal,
         },
         None,
         3,
+    ),
+    (
+        "ttlv check --kmip a",
+        Asked::Print {
+            task: Task::Check { kmip: true },
+            encoding: Encoding::Detected,
+        },
+        None,
+        1,
     ),
     (
         "ttlv hex --input base64 -- -a",

@@ -13,7 +13,8 @@ use Rattle.ttlv_run.specs.declared.job.Task.{Task}
 use Rattle.ttlv_run.specs.declared.job.Task.TheVariants.{Show}
 use Rattle.ttlv_run.specs.declared.job.Values.{Values}
 use Rattle.ttlv_run.specs.declared.messages.Place.{Place}
-use Rattle.ttlv_run.specs.Messages.{first_size, message_at, Whole, whole_more, tag_there, Breaks, Prints, GoesOn}
+use Rattle.ttlv_run.specs.declared.messages.Wrong.TheVariants.{Malformed, NotKmip}
+use Rattle.ttlv_run.specs.Messages.{first_size, message_at, Whole, whole_more, tag_there, is_taken, IsWrong, malformed, not_taken, Breaks, Prints, GoesOn}
 use Rattle.ttlv_run.specs.Texts.{Names, item_line, message_text, Adds}
 
 -- a message is some of the bytes that are left
@@ -60,22 +61,27 @@ module _ (names : Names) (task : Task) (bytes : List ℕ) where
   -- a message is whole, and the next one is due; or it has a fault
   here : (p : ℕ) (front : List ℕ) → Whole names task bytes p front → p < length bytes → (found : List FoundItem) (fault : Option Fault) → Ended (message_at bytes p) found fault → (text : List ℕ) → text ≡ front ++ message_text names task (message_at bytes p) found
       → (Whole names task bytes (p + length (message_at bytes p)) text → GoesOn names task bytes text) → GoesOn names task bytes text
-  here p front whole lt found None ended text is further = further (whole_more p (p + length (message_at bytes p)) front text whole lt (record { found = found; ended = ended; is = is }) refl)
-  here p front whole lt found (Some f) ended text is further =
-      let at = p + f.offset in
-      let place : Place = record { offset = at; tag = tag_there bytes at; kind = f.kind } in
-      let breaks : Breaks names task bytes text place = record {
-        at = p;
-        front = front;
-        fault = f;
-        whole = whole;
-        left = lt;
-        adds = record { found = found; ended = ended; is = is };
-        offset = refl;
-        tag = refl;
-        kind = refl;
-      } in
-      record { more = []; place = Some place; prints = subst (λ (s : List ℕ). Breaks names task bytes s place) (sym (append-nil text)) breaks }
+  here p front whole lt found fault ended text is further = by fault ended (is_taken task (message_at bytes p)) refl
+    where
+      -- it ends here
+      stops : (f : Option Fault) → Ended (message_at bytes p) found f → (place : Place) → place.tag ≡ tag_there bytes place.offset → IsWrong task (message_at bytes p) p place f → GoesOn names task bytes text
+      stops f ended place tag wrong =
+          let breaks : Breaks names task bytes text place = record {
+            at = p;
+            front = front;
+            fault = f;
+            whole = whole;
+            left = lt;
+            adds = record { found = found; ended = ended; is = is };
+            wrong = wrong;
+            tag = tag;
+          } in
+          record { more = []; place = Some place; prints = subst (λ (s : List ℕ). Breaks names task bytes s place) (sym (append-nil text)) breaks }
+
+      by : (f : Option Fault) → Ended (message_at bytes p) found f → (b : Bool) → is_taken task (message_at bytes p) ≡ b → GoesOn names task bytes text
+      by None ended true taken = further (whole_more p (p + length (message_at bytes p)) front text whole lt (record { found = found; ended = ended; is = is }) taken refl)
+      by None ended false other = stops None ended (record { offset = p; tag = tag_there bytes p; wrong = NotKmip }) refl (not_taken other refl refl)
+      by (Some f) ended b taken = stops (Some f) ended (record { offset = p + f.offset; tag = tag_there bytes (p + f.offset); wrong = Malformed f.kind }) refl (malformed f refl refl)
 
   module _ (plain : (k : ℕ) → get_or bytes k 0 < 256) where
     -- all messages are whole

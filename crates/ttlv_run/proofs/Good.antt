@@ -1,19 +1,18 @@
--- The items that a walk meets lie among the bytes, and their values are those of their types; and so does a fault.
+-- The leaves that a walk meets lie among the bytes, and their values are those of their types; and so does a fault.
 use Rattle.std.proofs.Common.{ℕ, ◌≤◌, List, ◌∷◌, length, Some, ap, sym, ◌∙◌, arith}
 use Rattle.kmip_ttlv_types.specs.Leaves.{is_valid}
 use Rattle.kmip_ttlv_types.specs.Places.{length_at}
 use Rattle.kmip_ttlv_items.specs.declared.found.FoundItem.{FoundItem}
 use Rattle.kmip_ttlv_items.specs.declared.found.Fault.{Fault}
 use Rattle.kmip_ttlv_items.specs.ItemWalks.{content_at, IsWhole, Stops, at_root, inside, behind, Ended}
-use Rattle.kmip_ttlv_items.proofs.Spans.{size_least}
-use Rattle.kmip_ttlv_items.proofs.Steps.{nested_within}
+use Rattle.kmip_ttlv_items.proofs.Spans.{size_least, own_leaf}
 use Rattle.kmip_ttlv_items.proofs.Walks.{walked}
 use Rattle.ttlv_run.specs.Items.{IsGood}
 
 -- an item that is whole
-pub whole_good : (w : List ℕ) (p e depth : ℕ) (i : FoundItem) → IsWhole w p e depth i → e ≤ length w → IsGood w i
-whole_good w p e depth i h within = record {
-  within = omega (arith, h.offset, h.fits, size_least i.typ i.length);
+pub whole_good : (w : List ℕ) (p e depth : ℕ) (i : FoundItem) → IsWhole w p e depth i → IsGood w i
+whole_good w p e depth i h = record {
+  within = λ ne. omega (arith, h.offset, h.there, own_leaf i.typ i.length ne, size_least i.typ i.length);
   len = h.len ∙ ap (length_at w) (sym h.offset);
   valid = λ ne. ap (λ (q : ℕ). is_valid i.typ (content_at w q)) h.offset ∙ h.valid ne;
 }
@@ -24,5 +23,5 @@ fault_within w xs f h = by h.0
   where
     by : Stops w xs f → f.offset ≤ length w
     by (at_root none at wrong) = omega (arith, at)
-    by (inside e es walks lt wrong) = nested_within w f.offset (e ∷ es) (walked w f.offset (e ∷ es) xs walks).nested
+    by (inside e es walks lt wrong) = (walked w f.offset (e ∷ es) xs walks).here
     by (behind walks lt is) = omega (arith, lt)

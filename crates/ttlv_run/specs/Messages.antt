@@ -1,5 +1,5 @@
 -- The messages of an input, one after the other, and what is printed of them.
-use Rattle.std.specs.Prelude.{◌≡◌, ℕ, ◌+◌, ◌<◌, ◌&&◌, List, [], ◌++◌, length, take, drop, nat_le}
+use Rattle.std.specs.Prelude.{◌≡◌, ℕ, ◌+◌, ◌<◌, Bool, true, false, not, ◌&&◌, ◌||◌, ◌==◌, List, [], ◌++◌, length, take, drop, nat_le}
 use Rattle.std.specs.Prelude.{Option, Some, None, if◌then◌else◌, codes}
 use Rattle.std.specs.Fmt.{decimal}
 use Rattle.kmip_ttlv_types.specs.Places.{tag_at, length_at}
@@ -9,7 +9,10 @@ use Rattle.kmip_ttlv_items.specs.declared.found.FaultKind.{FaultKind}
 use Rattle.kmip_ttlv_items.specs.declared.found.FaultKind.TheVariants.{Cut, NoStructure, UnknownType, PartialHeader}
 use Rattle.kmip_ttlv_items.specs.declared.found.FaultKind.TheVariants.{WrongLength, Overlong, InvalidValue, Surplus}
 use Rattle.ttlv_run.specs.declared.job.Task.{Task}
+use Rattle.ttlv_run.specs.declared.job.Task.TheVariants.{Check}
 use Rattle.ttlv_run.specs.declared.messages.Place.{Place}
+use Rattle.ttlv_run.specs.declared.messages.Wrong.{Wrong}
+use Rattle.ttlv_run.specs.declared.messages.Wrong.TheVariants.{Malformed, NotKmip}
 use Rattle.ttlv_run.specs.Texts.{Names, Adds}
 
 -- how many bytes the first message takes: as many as its header states, or else all that are there
@@ -23,6 +26,20 @@ first_size bytes =
 abbrev pub message_at : List ℕ → ℕ → List ℕ
 message_at bytes p = take (first_size (drop p bytes)) (drop p bytes)
 
+-- the tag of the item at a place, where its three bytes are there
+abbrev pub tag_there : List ℕ → ℕ → Option ℕ
+tag_there bytes p = if nat_le (p + 3) (length bytes) then Some (tag_at bytes p) else None
+
+-- the tag is that of a Request Message (420078) or of a Response Message (42007B)
+abbrev pub is_kmip : Option ℕ → Bool
+is_kmip None = false
+is_kmip (Some tag) = tag == 4_325_496 || tag == 4_325_499
+
+-- the task takes a message with this root
+abbrev pub is_taken : Task → List ℕ → Bool
+is_taken (Check kmip) message = not kmip || is_kmip (tag_there message 0)
+is_taken task message = true
+
 -- up to a place the bytes are whole messages, and this is what is printed of them
 pub data Whole (names : Names) (task : Task) (bytes : List ℕ) : ℕ → List ℕ → Type 0 where
   whole_none : Whole names task bytes 0 []
@@ -31,24 +48,33 @@ pub data Whole (names : Names) (task : Task) (bytes : List ℕ) : ℕ → List �
       → Whole names task bytes p old
       → p < length bytes
       → Adds names task (message_at bytes p) old new None
+      → is_taken task (message_at bytes p) ≡ true
       → q ≡ p + length (message_at bytes p)
       → Whole names task bytes q new
 
--- the tag of the item at a place, where its three bytes are there
-abbrev pub tag_there : List ℕ → ℕ → Option ℕ
-tag_there bytes p = if nat_le (p + 3) (length bytes) then Some (tag_at bytes p) else None
+-- what is wrong with the message at a place, and where: it has a fault, or the task takes none with its root
+pub data IsWrong (task : Task) (message : List ℕ) (at : ℕ) (place : Place) : Option Fault → Type 0 where
+  malformed :
+      (f : Fault)
+      → place.offset ≡ at + f.offset
+      → place.wrong ≡ Malformed f.kind
+      → IsWrong task message at place (Some f)
+  not_taken :
+      is_taken task message ≡ false
+      → place.offset ≡ at
+      → place.wrong ≡ NotKmip
+      → IsWrong task message at place None
 
--- behind whole messages stands one that is not whole: what is printed up to its fault, and where that is
+-- behind whole messages stands one that is wrong: what is printed of it, up to its fault if it has one, and where that is
 pub record Breaks (names : Names) (task : Task) (bytes text : List ℕ) (place : Place) : Type 0 where
   pub at : ℕ
   pub front : List ℕ
-  pub fault : Fault
+  pub fault : Option Fault
   pub whole : Whole names task bytes at front
   pub left : at < length bytes
-  pub adds : Adds names task (message_at bytes at) front text (Some fault)
-  pub offset : place.offset ≡ at + fault.offset
+  pub adds : Adds names task (message_at bytes at) front text fault
+  pub wrong : IsWrong task (message_at bytes at) at place fault
   pub tag : place.tag ≡ tag_there bytes place.offset
-  pub kind : place.kind ≡ fault.kind
 
 -- what is printed of all messages, or of those up to the first fault
 abbrev pub Prints : Names → Task → List ℕ → List ℕ → Option Place → Type 0
@@ -72,6 +98,11 @@ fault_words Overlong = codes "longer than the structure around"
 fault_words InvalidValue = codes "invalid value for the type"
 fault_words Surplus = codes "bytes behind the message"
 
+-- what is wrong, in words
+abbrev pub wrong_words : Wrong → List ℕ
+wrong_words (Malformed kind) = fault_words kind
+wrong_words NotKmip = codes "neither a Request Message nor a Response Message"
+
 -- a tag with its name, where there is one
 abbrev pub tag_told : Names → Option ℕ → List ℕ
 tag_told names None = codes "no tag"
@@ -82,4 +113,4 @@ tag_told names (Some tag) = tag_named (names.tags tag) tag
 unfoldable pub fault_line : Names → List ℕ → Place → List ℕ
 fault_line names name place =
     name ++ codes ": byte " ++ decimal place.offset ++ codes ": " ++ tag_told names place.tag ++ codes ": "
-    ++ fault_words place.kind ++ codes "\n"
+    ++ wrong_words place.wrong ++ codes "\n"

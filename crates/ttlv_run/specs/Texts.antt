@@ -75,11 +75,15 @@ shown names Hidden tag typ content = hidden
 shown names Escaped tag TextString content = escaped content
 shown names values tag typ content = value_shown typ content
 
+-- the value of an item among the bytes of a message
+unfoldable pub content_shown : Names → Values → List ℕ → FoundItem → List ℕ
+content_shown names values bytes i = shown names values i.tag i.typ (content_at bytes i.offset)
+
 -- the line of an item: its depth, tag, type and value
 unfoldable pub item_line : Names → Values → List ℕ → FoundItem → List ℕ
 item_line names values bytes i =
     bounded_part names.tags i.depth i.tag
-    ++ (data_part i.typ ++ (shown names values i.tag i.typ (content_at bytes i.offset) ++ 10 ∷ []))
+    ++ (data_part i.typ ++ (content_shown names values bytes i ++ 10 ∷ []))
 
 -- what a line of diagnostics is read back as, but for white space at its end, each line indented by 64 levels at most; an
 -- empty one as nothing
@@ -100,7 +104,7 @@ message_text names (Show values) bytes found = flat_map (item_line names values 
 message_text names (Diagnose closed prefix) bytes found =
     hostile prefix.now closed (length bytes) (trace closed bytes) ++ 10 ∷ []
 message_text names Hexadecimal bytes found = encode_upper bytes ++ 10 ∷ []
-message_text names Check bytes found = []
+message_text names (Check kmip) bytes found = []
 
 -- a message's text was added to another: of the items that were met by its end, or by the first fault
 pub record Adds (names : Names) (task : Task) (bytes old new : List ℕ) (fault : Option Fault) : Type 0 where

@@ -28,8 +28,8 @@ pub enum Task<'w> {
     Diagnose { closed: bool, prefix: &'w str },
     /// Its bytes in hexadecimal and a line feed.
     Hexadecimal,
-    /// Nothing.
-    Check,
+    /// Nothing; with `kmip` a message is at fault too whose root is neither a Request Message nor a Response Message.
+    Check { kmip: bool },
 }
 
 /// What the bytes of messages stand in the input as.

@@ -10,7 +10,7 @@ ghost use Rattle.kmip_ttlv_items.specs.declared.found.Fault.{Fault as AFault};
 ghost use Rattle.kmip_ttlv_util.specs.Pieces.{SomeText};
 ghost use Rattle.kmip_ttlv_util.specs.Pretty.{value_shown};
 ghost use Rattle.kmip_ttlv_util.specs.TagNames.{name_in};
-ghost use Rattle.ttlv_run.specs.Texts.{names_of, value_in, behind_space, shown, item_line, Adds};
+ghost use Rattle.ttlv_run.specs.Texts.{names_of, value_in, behind_space, shown, content_shown, item_line, Adds};
 ghost use Rattle.ttlv_run.specs.Items.{IsGood};
 
 use crate::escape::push_escaped;
@@ -91,6 +91,25 @@ fn push_shown<S: TextSink, A: Allocator>(
     }
 }
 
+// Adds the value of an item; a structure has none of its own.
+fn push_content<S: TextSink, A: Allocator>(
+    out: &mut S,
+    names: &Names<'_, A>,
+    values: Values,
+    bytes: &[u8],
+    item: &FoundItem,
+) -> Result<(), S::Error>
+    requires { IsGood bytes.now item.now }
+    ensures ok { OnOk result (S.adds out.old (content_shown (names_of names.now) values bytes.now item.now) out.new) }
+    ensures err { OnErr result (S.breaks out.old (content_shown (names_of names.now) values bytes.now item.now) out.new) }
+{
+    if item.typ == TtlvType::Structure {
+        return Ok(());
+    }
+    let content = &bytes[item.offset + 8..item.offset + 8 + item.length as usize];
+    push_shown(out, names, values, item, content)
+}
+
 // Adds the line of an item.
 fn push_line<S: TextSink, A: Allocator>(
     out: &mut S,
@@ -105,8 +124,7 @@ fn push_line<S: TextSink, A: Allocator>(
 {
     push_beginning(out, &names.tags, Indentation::Bounded, item.depth, item.tag)?;
     push_data_part(out, item.typ)?;
-    let content = &bytes[item.offset + 8..item.offset + 8 + item.length as usize];
-    push_shown(out, names, values, item, content)?;
+    push_content(out, names, values, bytes, item)?;
     out.push_str("\n")
 }
 

@@ -4,7 +4,7 @@ ghost use Rattle.std.specs.Prelude.{◌≡◌, ◌<◌, ◌≤◌, ◌+◌, leng
 ghost use Rattle.kmip_ttlv_types.specs.Places.{length_at};
 ghost use Rattle.kmip_ttlv_util.specs.Pieces.{SomeText};
 ghost use Rattle.ttlv_run.specs.declared.messages.Place.{Place as APlace};
-ghost use Rattle.ttlv_run.specs.Messages.{first_size, message_at, tag_there, Prints, fault_words, fault_line, tag_told};
+ghost use Rattle.ttlv_run.specs.Messages.{first_size, message_at, tag_there, is_kmip, is_taken, Prints, fault_words, wrong_words, fault_line, tag_told};
 ghost use Rattle.ttlv_run.specs.Texts.{names_of};
 
 use crate::job::{Names, Task};
@@ -15,6 +15,12 @@ use kmip_ttlv_types::TtlvTag;
 use kmip_ttlv_util::{TextSink, push_tag};
 use std::alloc::{AllocError, Allocator};
 
+/// The tag of a Request Message.
+const REQUEST: u32 = 0x42_0078;
+
+/// The tag of a Response Message.
+const RESPONSE: u32 = 0x42_007B;
+
 /// A fault among the bytes of an input's messages.
 #[derive(Clone, Copy, Debug, PartialEq, Eq)]
 pub struct Place {
@@ -23,7 +29,16 @@ pub struct Place {
     /// Its tag, where the three bytes of a tag are there.
     pub tag: Option<TtlvTag>,
     /// What is wrong.
-    pub kind: FaultKind,
+    pub wrong: Wrong,
+}
+
+/// What is wrong with a message.
+#[derive(Clone, Copy, Debug, PartialEq, Eq)]
+pub enum Wrong {
+    /// It is malformed.
+    Malformed(FaultKind),
+    /// It is well-formed, but its root is neither a Request Message nor a Response Message.
+    NotKmip,
 }
 
 // The length that a header in front states.
@@ -71,6 +86,26 @@ fn tag_there(bytes: &[u8], at: usize) -> Option<TtlvTag>
     Some(TtlvTag::from([bytes[at], bytes[at + 1], bytes[at + 2]]))
 }
 
+// Whether a tag is that of a Request Message or of a Response Message.
+fn is_kmip(tag: Option<TtlvTag>) -> bool
+    ensures { result ≡ is_kmip tag }
+{
+    match tag {
+        Some(tag) => *tag == REQUEST || *tag == RESPONSE,
+        None => false,
+    }
+}
+
+// Whether a message's root is one that a task takes.
+fn is_taken(task: Task<'_>, message: &[u8]) -> bool
+    ensures { result ≡ is_taken task.entry message.now }
+{
+    match task {
+        Task::Check { kmip } => !kmip || is_kmip(tag_there(message, 0)),
+        _ => true,
+    }
+}
+
 /// Adds what a task prints of the messages that bytes are, one after the other, up to the first fault, and
 /// gives that fault.
 ///
@@ -94,8 +129,17 @@ pub fn print_all<S: TextSink, A: Allocator + Copy>(
         if let Some(fault) = push_message(alloc, out, names, task, message)? {
             let offset = at + fault.offset;
             let tag = tag_there(bytes, offset);
-            let kind = fault.kind;
-            return Ok(Some(Place { offset, tag, kind }));
+            let wrong = Wrong::Malformed(fault.kind);
+            return Ok(Some(Place { offset, tag, wrong }));
+        }
+        if !is_taken(task, message) {
+            let tag = tag_there(bytes, at);
+            let wrong = Wrong::NotKmip;
+            return Ok(Some(Place {
+                offset: at,
+                tag,
+                wrong,
+            }));
         }
         at += message.len();
     }
@@ -103,6 +147,16 @@ pub fn print_all<S: TextSink, A: Allocator + Copy>(
 }
 
 // What is wrong, in words.
+fn wrong_words(wrong: Wrong) -> &'static str
+    ensures { result.now ≡ wrong_words wrong }
+{
+    match wrong {
+        Wrong::Malformed(kind) => fault_words(kind),
+        Wrong::NotKmip => "neither a Request Message nor a Response Message",
+    }
+}
+
+// A fault in words.
 fn fault_words(kind: FaultKind) -> &'static str
     ensures { result.now ≡ fault_words kind }
 {
@@ -150,7 +204,7 @@ pub fn fault_line<A: Allocator + Copy>(
     line.push_str(": ")?;
     push_told(&mut line, names, place.tag)?;
     line.push_str(": ")?;
-    line.push_str(fault_words(place.kind))?;
+    line.push_str(wrong_words(place.wrong))?;
     line.push_str("\n")?;
     Ok(line)
 }

@@ -63,7 +63,7 @@ pub fn push_message<S: TextSink, A: Allocator + Copy>(
         Task::Show { values } => return push_lines(alloc, out, names, values, message),
         Task::Diagnose { closed, prefix } => push_diagnostic(alloc, out, closed, prefix, message)?,
         Task::Hexadecimal => push_hexadecimal(out, message)?,
-        Task::Check => {}
+        Task::Check { .. } => {}
     }
     Ok(find_fault(alloc, message)?)
 }

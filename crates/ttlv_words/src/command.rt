@@ -102,8 +102,13 @@ fn undiag<'w>(alloc: Global) -> Result<Command<'w>, AllocError> {
 }
 
 fn check<'w>(alloc: Global) -> Result<Command<'w>, AllocError> {
+    let kmip = Arg::new(alloc, "kmip")
+        .long("kmip")
+        .action(ArgAction::SetTrue)
+        .help("Wants each message to be a Request Message or a Response Message");
     Command::new(alloc, "check")
         .about("Prints nothing but the first fault of each input")
+        .arg(kmip)?
         .arg(input(alloc))?
         .arg(files(alloc))
 }

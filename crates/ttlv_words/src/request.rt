@@ -57,7 +57,10 @@ fn task_of<'w>(command: &str, matches: &ArgMatches<'w>) -> Task<'w> {
             prefix: prefix_of(matches),
         },
         "hex" => Task::Hexadecimal,
-        _ => Task::Check,
+        "check" => Task::Check {
+            kmip: matches.get_flag("kmip"),
+        },
+        _ => Task::Check { kmip: false },
     }
 }
 

@@ -1,4 +1,4 @@
-use Rattle.std.proofs.Common.{rules, arith, ◌≡◌, ◌∙◌, ℕ, ◌<◌, ◌≤◌, List, length, Some, sym, subst}
+use Rattle.std.proofs.Common.{rules, arith, ◌≡◌, ◌∙◌, ℕ, ◌<◌, ◌≤◌, ◌^◌, List, length, Some, sym, subst}
 use Rattle.std.specs.Prelude.{reverse}
 use Rattle.std.proofs.lemmas.List.{length-reverse}
 use Rattle.kmip_ttlv_items.specs.ItemWalks.{IsWhole, Meets, CanStand, WalksTo}
@@ -11,7 +11,7 @@ module _ (w : List ℕ) (p : ℕ) (old new : List ℕ) (some : 0 < p) (is : new 
   stays : (xs : List _) → Meets w p old xs → Meets w p new xs
   stays xs m = subst (λ (s : List ℕ). Meets w p s xs) (sym is) (unreached_met w p old xs some m)
 
-  first : (e : ℕ) → Some e ≡ innermost new → CanStand w p old → (p < e) × (e ≤ length w)
+  first : (e : ℕ) → Some e ≡ innermost new → CanStand w p old → (p < e) × (p ≤ length w)
   first e top stands =
       let at = first_of new e top in
       let there = sym is ∙ at.1 in
@@ -47,7 +47,8 @@ returns-in-Ok-clause-due g c =
     let at = first_of new c.in-Some.end c.in-Some.ensures.innermost in
     let many : c.len.result ≡ length c.leave.new.ends.items = search rules in
     let deep : c.len.result ≡ length new = many ∙ sym (length-reverse c.leave.new.ends.items) in
-    within c.in-Some.end at.0 at.1 (omega arith) lies.0 lies.1 (subst (λ (d : ℕ). IsWhole w c.args.offset c.in-Some.end d c.in-Ok.item) deep c.in-Ok.ensures.ok)
+    let top : c.in-Some.end < 2 ^ 64 = search rules in
+    within c.in-Some.end at.0 at.1 (omega arith) lies.0 top (subst (λ (d : ℕ). IsWhole w c.args.offset c.in-Some.end d c.in-Ok.item) deep c.in-Ok.ensures.ok)
 
 pub returns-in-Err-clause-stays : goal.returns-in-Err-clause-stays
 returns-in-Err-clause-stays g c =

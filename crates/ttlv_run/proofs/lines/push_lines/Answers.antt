@@ -1,5 +1,6 @@
-use Rattle.std.proofs.Common.{◌∙◌, ◌<◌, sym, refl, subst, List, [], ◌∷◌, ◌++◌, ℕ, length, get_or, reverse, arith}
+use Rattle.std.proofs.Common.{◌∙◌, ◌+◌, ◌<◌, sym, refl, subst, List, [], ◌∷◌, ◌++◌, ℕ, get_or, reverse, arith}
 use Rattle.std.specs.List.{flat_map}
+use Rattle.kmip_ttlv_types.specs.Places.{size}
 use Rattle.kmip_ttlv_items.specs.ItemWalks.{Ended}
 use Rattle.kmip_ttlv_items.specs.Stepping.{Steps, Comes}
 use Rattle.kmip_ttlv_util.proofs.Saying.{adds_same, breaks_same}
@@ -18,7 +19,7 @@ push_line-requires g c =
     let w = c.items.walk.bytes.now in
     let i = c.in-Item.item in
     let comes : Comes c.items.walk c.next.new.self i = subst (Steps c.items.walk c.next.new.self) c.in-Item.is c.in_ok-item.ensures.ok in
-    let good : IsGood w i = whole_good w i.offset (length w) i.depth i comes.whole (omega arith) in
+    let good : IsGood w i = whole_good w i.offset (i.offset + size i.typ i.length) i.depth i comes.whole in
     subst (λ (s : List ℕ). IsGood s i) c.items.invariant.bytes good
 
 pub items-preserved : goal.items-preserved

@@ -2,7 +2,7 @@ use Rattle.std.proofs.Common.{rules, ◌≡◌, ℕ, List, sym, subst}
 use Rattle.std.specs.Prelude.{reverse}
 use Rattle.kmip_ttlv_items.specs.ItemWalks.{CanStand}
 use Rattle.kmip_ttlv_items.specs.WalkPlaces.{IsDue, Due}
-use Rattle.kmip_ttlv_items.proofs.Walks.{stands_on, stands_still, met_more, due_whole, due_onward}
+use Rattle.kmip_ttlv_items.proofs.Walks.{stands_on, stands_still, met_more, due_whole, due_onward, due_small}
 use Rattle.kmip_ttlv_items.proofs.item_walk.ItemWalk.next.Goals as goal
 use Rattle.kmip_ttlv_items.proofs.item_walk.ItemWalk.next.Goals.{in-Item+in_ok-self, in_default}
 
@@ -28,6 +28,14 @@ invariant_of-self-in_default g c =
     let w = c.args.self.now.bytes.now in
     let p = c.args.self.now.offset in
     record { stands = stands_still w p (reverse c.args.self.now.ends.items) (reverse c.due-step.new.ends.items) c.due-step.ensures.stays c.args.self.now.stands }
+
+pub enter-requires : goal.enter-requires
+enter-requires g c =
+    let w = c.args.self.now.bytes.now in
+    let p = c.args.self.now.offset in
+    let new = reverse c.due-step.new.ends.items in
+    let due : IsDue w p new c.in-Item.item = subst (Due w p new) c.in-Item.is c.due-step.ensures.due in
+    due_small w p new c.in-Item.item due
 
 pub returns-clause-ok : goal.returns-clause-ok
 returns-clause-ok g c =
