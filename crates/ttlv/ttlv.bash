@@ -2,13 +2,16 @@
 _ttlv() {
     local word=${COMP_WORDS[COMP_CWORD]} before=${COMP_WORDS[COMP_CWORD - 1]} command= options=
     case $before in
+    --width) COMPREPLY=(); return ;;
+    --tag) COMPREPLY=(); return ;;
+    --color) COMPREPLY=($(compgen -W 'always never auto' -- "$word")); return ;;
     --input) COMPREPLY=($(compgen -W 'raw hex base64 base64url pem xxd hexdump od tcpdump' -- "$word")); return ;;
     --prefix) COMPREPLY=(); return ;;
     esac
     [ "$COMP_CWORD" -gt 1 ] && command=${COMP_WORDS[1]}
     case $command in
     '') options='show diag undiag check hex --help --version' ;;
-    show) options='--redact --raw --names --input --help' ;;
+    show) options='--redact --raw --offsets --width --tag --color --names --input --help' ;;
     diag) options='--prefix --closed --input --help' ;;
     undiag) options='--prefix --names --help' ;;
     check) options='--kmip --input --help' ;;

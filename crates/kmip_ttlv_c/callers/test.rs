@@ -159,7 +159,7 @@ fn main() {
     let deep = [found[0], Item { depth: 2, ..found[1] }];
     assert_eq!(write(&deep, &message), Err(BadItem { index: 1, kind: 9 }));
     assert_eq!(check(&message), None);
-    assert_eq!(check(&message[..39]), Some(Fault { offset: 0, kind: 1 }));
+    assert_eq!(check(&message[..39]), Some(Fault { offset: 24, kind: 1 }));
     assert_eq!(to_diag(&[], "", true).as_deref(), Ok("ERR"));
     let mut seed = 20251123u64;
     for _ in 0..10_000 {

@@ -1,5 +1,5 @@
 -- Items that are written into a lent buffer.
-use Rattle.std.proofs.Common.{◌≡◌, ◌⊎◌, inl, inr, ℕ, ◌<◌, ◌≤◌, List, ◌++◌, length, map, drop, None, refl, ap, sym, ◌∙◌, arith}
+use Rattle.std.proofs.Common.{◌≡◌, ◌⊎◌, inl, inr, ℕ, ◌<◌, ◌≤◌, List, ◌++◌, length, map, drop, None, refl, ap, ◌∙◌, arith}
 use Rattle.kmip_ttlv_write.specs.FlatWrites.{FillsFront}
 use Rattle.kmip_ttlv_c.specs.declared.items.KmipTtlvItem.{KmipTtlvItem}
 use Rattle.kmip_ttlv_c.specs.declared.writing.KmipTtlvBadItem.{KmipTtlvBadItem}

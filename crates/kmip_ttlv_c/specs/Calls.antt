@@ -1,5 +1,5 @@
 -- What the calls answer that make a text, and why they refuse.
-use Rattle.std.specs.Prelude.{◌≡◌, ◌⊎◌, ℕ, Bool, ◌+◌, ◌/◌, ◌≤◌, List, length, Option, Some, None}
+use Rattle.std.specs.Prelude.{◌≡◌, ℕ, Bool, ◌+◌, ◌/◌, ◌≤◌, List, length, Option, Some, None}
 use Rattle.std.specs.Str.{IsUtf8}
 use Rattle.kmip_ttlv_util.specs.Traces.{trace}
 use Rattle.kmip_ttlv_util.specs.Diagnostics.{hostile}

@@ -7,7 +7,7 @@ use Rattle.std.proofs.lemmas.Bool.{ne_eqb, lt-ltb, le-ltb}
 use Rattle.std.proofs.lemmas.List.Splits.{slice_split_first}
 use Rattle.kmip_ttlv_types.specs.Names.{tag_of}
 use Rattle.kmip_ttlv_util.specs.TagNames.{no_names}
-use Rattle.kmip_ttlv_names.specs.NameTables.{Said, says_nothing, says_name, says_no_tag, named, is_space, is_line_feed, entry_of, line_of, lines_of, with_name, names_after, is_good, bad_from, AddsLine}
+use Rattle.kmip_ttlv_names.specs.NameTables.{Said, says_nothing, says_name, says_no_tag, named, is_space, is_line_feed, entry_of, line_of, lines_of, with_name, names_after, is_good, bad_from, AddsLine, first_of, tag_if, tag_among, tag_named}
 
 -- an empty line
 pub blank_is : (s t : List ℕ) → t ≡ trim_end s → length t ≡ 0 → line_of s ≡ says_nothing
@@ -90,3 +90,18 @@ reading_good table rest names next number r is add = r.bad_is ∙ ap (bad_from n
 
 pub reading_no_last : (table rest : List ℕ) (names next : ℕ → Option (List ℕ)) (number : ℕ) → Reading table rest names number → position_or_len is_line_feed rest ≡ length rest → AddsLine names rest false next → bad_from 1 (lines_of table) ≡ Some number
 reading_no_last table rest names next number r is add = r.bad_is ∙ ap (bad_from number) (last_line rest is) ∙ ap (λ (b : Bool). cond b None (Some number)) (sym add.tells)
+
+-- ---- the tag of a name
+
+-- it is that of the first line, or else of the others
+pub first_tag : (name rest line more : List ℕ) → position_or_len is_line_feed rest < length rest → line ≡ before_first is_line_feed rest → more ≡ after_first is_line_feed rest → tag_named name rest ≡ first_of (tag_if name (line_of line)) (tag_named name more)
+unfolding tag_named
+first_tag name rest line more lt l m = ap (tag_among name) (first_line rest line more lt l m)
+
+first_none : (o : Option ℕ) → first_of o None ≡ o
+first_none None = refl
+first_none (Some x) = refl
+
+pub last_tag : (name rest : List ℕ) → position_or_len is_line_feed rest ≡ length rest → tag_named name rest ≡ tag_if name (line_of rest)
+unfolding tag_named
+last_tag name rest is = ap (tag_among name) (last_line rest is) ∙ first_none (tag_if name (line_of rest))

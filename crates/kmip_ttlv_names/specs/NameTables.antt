@@ -1,6 +1,6 @@
 -- What a table of names says: a line for each tag.
 use Rattle.std.specs.Prelude.{◌≡◌, ℕ, suc, ◌+◌, Bool, true, false, List, [], ◌∷◌, length, take, drop, Option, Some}
-use Rattle.std.specs.Prelude.{None, if◌then◌else◌, ◌==◌, nat_lt}
+use Rattle.std.specs.Prelude.{None, if◌then◌else◌, ◌==◌, nat_lt, bytes_eq}
 use Rattle.std.specs.List.{slice_split, position_or_len, before_first, after_first}
 use Rattle.std.specs.Str.{trim_end}
 use Rattle.kmip_ttlv_types.specs.Names.{tag_of}
@@ -47,6 +47,11 @@ line_of s = trimmed_line (trim_end s)
 abbrev pub lines_of : List ℕ → List (List ℕ)
 lines_of s = slice_split is_line_feed s
 
+-- the first of two tags, where there is one
+abbrev pub first_of : Option ℕ → Option ℕ → Option ℕ
+first_of None other = other
+first_of (Some tag) other = Some tag
+
 -- names, and one more in front of them
 abbrev pub with_name : (ℕ → Option (List ℕ)) → Said → ℕ → Option (List ℕ)
 with_name names (says_name t name) tag = if t == tag then Some name else names tag
@@ -79,6 +84,20 @@ bad_line table = bad_from 1 (lines_of table)
 abbrev pub IsUnread : Option ℕ → TableError → Type 0
 IsUnread bad (BadLine n) = bad ≡ Some n
 IsUnread bad OutOfMemory = Unit {0}
+
+-- the tag that a line names, where this is its name
+abbrev pub tag_if : List ℕ → Said → Option ℕ
+tag_if name (says_name tag own) = if bytes_eq own name then Some tag else None
+tag_if name _ = None
+
+-- the tag of the first of some lines that gives this name
+abbrev pub tag_among : List ℕ → List (List ℕ) → Option ℕ
+tag_among name [] = None
+tag_among name (l ∷ ls) = first_of (tag_if name (line_of l)) (tag_among name ls)
+
+-- the tag to which a table gives a name
+unfoldable pub tag_named : List ℕ → List ℕ → Option ℕ
+tag_named name table = tag_among name (lines_of table)
 
 -- what the code sees of a line
 abbrev pub Means : Said → Line → Type 0

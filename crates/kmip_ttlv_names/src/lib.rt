@@ -6,11 +6,15 @@
 #![tactic(auto)]
 
 mod enumerations;
+mod masks;
+mod secrets;
 mod standard;
 mod table;
 mod values;
 
 pub use enumerations::STANDARD_VALUES;
+pub use masks::STANDARD_MASKS;
+pub use secrets::STANDARD_SECRETS;
 pub use standard::STANDARD_TAGS;
-pub use table::{TableError, standard_names, tag_names};
-pub use values::{standard_values, value_name};
+pub use table::{TableError, standard_names, tag_named, tag_names};
+pub use values::{standard_masks, standard_secrets, standard_values, value_name};

@@ -2,7 +2,7 @@
 
 ghost use Rattle.std.specs.Prelude.{◌≡◌, IfOk, IfErr, OnOk, OnErr};
 ghost use Rattle.kmip_ttlv_util.specs.TagNames.{name_in};
-ghost use Rattle.kmip_ttlv_names.specs.NameTables.{line_of, Means, names_of, bad_line, IsUnread, AddsLine};
+ghost use Rattle.kmip_ttlv_names.specs.NameTables.{line_of, Means, names_of, bad_line, IsUnread, AddsLine, tag_if, tag_named};
 
 use crate::standard::STANDARD_TAGS;
 use kmip_ttlv_types::TtlvTag;
@@ -98,6 +98,30 @@ pub fn tag_names<'t, A: Allocator + Copy>(
         Ok(false) => Err(TableError::BadLine(number)),
         Err(_) => Err(TableError::OutOfMemory),
     }
+}
+
+// The tag that a line names, where this is its name.
+fn tag_if(line: &str, name: &str) -> Option<TtlvTag>
+    ensures { result ≡ tag_if name.now (line_of line.now) }
+{
+    match read_line(line) {
+        Line::Name(tag, own) => { if own == name { Some(tag) } else { None } }
+        Line::Blank | Line::Bad => None,
+    }
+}
+
+/// The tag of a name: that of the first line of a table that gives it. Takes no memory.
+pub fn tag_named(table: &str, name: &str) -> Option<TtlvTag>
+    ensures { result ≡ tag_named name.now table.now }
+{
+    let mut rest = table;
+    'lines: while let Some((line, more)) = rest.split_once('\n') {
+        if let Some(tag) = tag_if(line, name) {
+            return Some(tag);
+        }
+        rest = more;
+    }
+    tag_if(rest, name)
 }
 
 /// The names of the tags in KMIP's specifications.

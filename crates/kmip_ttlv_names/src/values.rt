@@ -8,6 +8,8 @@ ghost use Rattle.kmip_ttlv_names.specs.NameTables.{names_of};
 ghost use Rattle.kmip_ttlv_names.specs.ValueNames.{name_of_value, entry_name};
 
 use crate::enumerations::STANDARD_VALUES;
+use crate::masks::STANDARD_MASKS;
+use crate::secrets::STANDARD_SECRETS;
 use crate::table::{TableError, tag_names};
 use kmip_ttlv_types::number;
 use kmip_ttlv_util::LentTagMap;
@@ -46,4 +48,22 @@ pub fn standard_values<A: Allocator + Copy>(alloc: A) -> Result<LentTagMap<'stat
     ensures names { IfOk result (λ lists. name_in lists ≡ names_of STANDARD_VALUES.now) }
 {
     tag_names(alloc, STANDARD_VALUES)
+}
+
+/// The lists of bits of the masks in KMIP's specifications, by tag, each in the form of a list of values.
+///
+/// OutOfMemory where memory is refused.
+pub fn standard_masks<A: Allocator + Copy>(alloc: A) -> Result<LentTagMap<'static, A>, TableError>
+    ensures names { IfOk result (λ lists. name_in lists ≡ names_of STANDARD_MASKS.now) }
+{
+    tag_names(alloc, STANDARD_MASKS)
+}
+
+/// The tags of the items in KMIP's specifications that hold secrets, each with its name.
+///
+/// OutOfMemory where memory is refused.
+pub fn standard_secrets<A: Allocator + Copy>(alloc: A) -> Result<LentTagMap<'static, A>, TableError>
+    ensures names { IfOk result (λ tags. name_in tags ≡ names_of STANDARD_SECRETS.now) }
+{
+    tag_names(alloc, STANDARD_SECRETS)
 }

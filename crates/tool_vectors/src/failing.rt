@@ -1,24 +1,26 @@
 //! Runs where memory is refused, and where the input, the output or the errors fail.
 
-use crate::runs::{HIDDEN_LINES, Outcome, VERSION, VERSION_LINES, back_with, of, run_with};
+use crate::runs::{
+    HIDDEN_LINES, Outcome, VERSION, VERSION_LINES, back_with, names_in, of, run_with,
+};
 use kmip_ttlv_memory::BoundedAllocator;
-use kmip_ttlv_names::{standard_names, standard_values};
 use std::alloc::{AllocError, Global};
 use std::io;
 use std::io::{ErrorKind, Read, Write};
 use ttlv_run::run::run;
-use ttlv_run::{Encoding, Job, Names, Task, Values};
+use ttlv_run::{Encoding, Job, Look, Task, Values};
 
-const SHOW: Task<'static> = Task::Show {
-    values: Values::Escaped,
-};
+const SHOW: Task<'static> = Task::Show { look: Look::PLAIN };
 
 // A task and what it prints of the version's message.
 const GROWN: [(Task<'static>, &str); 5] = [
     (SHOW, VERSION_LINES),
     (
         Task::Show {
-            values: Values::Hidden,
+            look: Look {
+                values: Values::Hidden,
+                ..Look::PLAIN
+            },
         },
         HIDDEN_LINES,
     ),
@@ -161,10 +163,7 @@ fn run_between(
     reads: (u64, ErrorKind),
     writes: (usize, ErrorKind),
 ) -> Result<Outcome, AllocError> {
-    let (Ok(tags), Ok(values)) = (standard_names(alloc), standard_values(alloc)) else {
-        return Err(AllocError);
-    };
-    let names = Names { tags, values };
+    let names = names_in(alloc)?;
     let job = Job {
         name: "capture",
         task: Task::Hexadecimal,

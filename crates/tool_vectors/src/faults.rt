@@ -3,14 +3,12 @@
 
 use crate::runs::{CREATE_RESPONSE, VERSION, VERSION_LINES, back_with, run_with};
 use std::alloc::{AllocError, Global};
-use ttlv_run::{Encoding, Task, Values};
+use ttlv_run::{Encoding, Look, Task, Values};
 
 // An encoding, an input, what is shown of it, and the line.
 type Row = (Encoding, &'static str, &'static str, &'static str);
 
-const SHOW: Task<'static> = Task::Show {
-    values: Values::Escaped,
-};
+const SHOW: Task<'static> = Task::Show { look: Look::PLAIN };
 
 // The lines of the version's first two items.
 const BEFORE_MINOR: &str =
@@ -267,7 +265,10 @@ const CUT: [(Task<'static>, &str); 4] = [
     ),
     (
         Task::Show {
-            values: Values::Hidden,
+            look: Look {
+                values: Values::Hidden,
+                ..Look::PLAIN
+            },
         },
         "",
     ),

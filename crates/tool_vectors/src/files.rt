@@ -1,14 +1,16 @@
 //! Runs over several inputs: their order, the greatest status, and a line for each that is at fault.
 
 use crate::runs::{Outcome, VERSION, of};
-use kmip_ttlv_names::{STANDARD_TAGS, TableError, standard_values, tag_names};
+use kmip_ttlv_names::{
+    STANDARD_TAGS, TableError, standard_masks, standard_secrets, standard_values, tag_names,
+};
 use std::alloc::{AllocError, Global};
 use std::io;
 use std::io::{ErrorKind, Read};
 use ttlv_run::files::{Opener, run_files};
 use ttlv_run::progress::Progress;
 use ttlv_run::table::own_table;
-use ttlv_run::{Asked, Encoding, Names, Task, Values};
+use ttlv_run::{Asked, Encoding, Look, Names, Task, Values};
 
 // An input in memory, which may fail in place of its end.
 #[derive(Drop)]
@@ -128,7 +130,14 @@ fn outcome_of(
 ) -> Result<Outcome, TableError> {
     let tags = tag_names(alloc, table)?;
     let values = standard_values(alloc)?;
-    let names = Names { tags, values };
+    let masks = standard_masks(alloc)?;
+    let secrets = standard_secrets(alloc)?;
+    let names = Names {
+        tags,
+        values,
+        masks,
+        secrets,
+    };
     let mut output = Vec::new(alloc);
     let mut errors = Vec::new(alloc);
     let status = run_files(
@@ -180,7 +189,14 @@ impl io::Write for Full {
 fn stops_at_three(alloc: Global) -> Result<bool, TableError> {
     let tags = tag_names(alloc, STANDARD_TAGS)?;
     let values = standard_values(alloc)?;
-    let names = Names { tags, values };
+    let masks = standard_masks(alloc)?;
+    let secrets = standard_secrets(alloc)?;
+    let names = Names {
+        tags,
+        values,
+        masks,
+        secrets,
+    };
     let files = ["none", "two", "cut"];
     let mut errors = Vec::new(alloc);
     let status = run_files(
@@ -253,9 +269,7 @@ fn named(alloc: Global) -> Result<Outcome, TableError> {
         return Err(TableError::OutOfMemory);
     };
     let asked = Asked::Print {
-        task: Task::Show {
-            values: Values::Escaped,
-        },
+        task: Task::Show { look: Look::PLAIN },
         encoding: Encoding::Hexadecimal,
     };
     outcome_of(alloc, asked, all.as_str(), &["whole"])

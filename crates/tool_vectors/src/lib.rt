@@ -14,6 +14,8 @@ mod files;
 #[cfg(test)]
 mod long;
 #[cfg(test)]
+mod looks;
+#[cfg(test)]
 mod names;
 #[cfg(test)]
 mod printed;

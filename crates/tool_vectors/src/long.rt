@@ -1,17 +1,14 @@
 //! Long inputs, which are printed as they go: where memory is refused, or the output fails, a beginning is there.
 
-use crate::runs::{Outcome, VERSION, VERSION_LINES, back_with, of, repeated, run_with};
+use crate::runs::{Outcome, VERSION, VERSION_LINES, back_with, names_in, of, repeated, run_with};
 use kmip_ttlv_memory::BoundedAllocator;
-use kmip_ttlv_names::{standard_names, standard_values};
 use std::alloc::{AllocError, Global};
 use std::io;
 use std::io::{ErrorKind, Write};
 use ttlv_run::run::run;
-use ttlv_run::{Encoding, Job, Memory, Names, Task, Values};
+use ttlv_run::{Encoding, Job, Look, Memory, Task};
 
-const SHOW: Task<'static> = Task::Show {
-    values: Values::Escaped,
-};
+const SHOW: Task<'static> = Task::Show { look: Look::PLAIN };
 
 // A task, and what it prints of the version's message.
 const PRINTED: [(Task<'static>, &str); 3] = [
@@ -88,11 +85,7 @@ const ONE_NUMBER: &str = "QgBpAQAAABBCAGoCAAAABAAAAAEAAAAA";
 
 // How often a run asks for memory for an input.
 fn growths(alloc: Global, encoding: Encoding, input: &str) -> Result<u64, AllocError> {
-    let (tags, values) = (standard_names(alloc), standard_values(alloc));
-    let (Ok(tags), Ok(values)) = (tags, values) else {
-        return Err(AllocError);
-    };
-    let names = Names { tags, values };
+    let names = names_in(alloc)?;
     let job = Job {
         name: "capture",
         task: Task::Check { kmip: false },
@@ -150,10 +143,7 @@ fn nested(alloc: Global, depth: u32) -> Result<String, AllocError> {
 fn nested_status(alloc: Global, depth: u32, most: usize) -> Result<u8, AllocError> {
     let text = nested(alloc, depth)?;
     let small = BoundedAllocator::in_blocks(alloc, most);
-    let (Ok(tags), Ok(values)) = (standard_names(&small), standard_values(&small)) else {
-        return Err(AllocError);
-    };
-    let names = Names { tags, values };
+    let names = names_in(&small)?;
     let job = Job {
         name: "capture",
         task: Task::Check { kmip: false },
@@ -229,10 +219,7 @@ impl Write for Full<'_> {
 
 // A run whose output is full after so many bytes.
 fn run_into(alloc: Global, input: &str, room: usize) -> Result<Outcome, AllocError> {
-    let (Ok(tags), Ok(values)) = (standard_names(alloc), standard_values(alloc)) else {
-        return Err(AllocError);
-    };
-    let names = Names { tags, values };
+    let names = names_in(alloc)?;
     let job = Job {
         name: "capture",
         task: SHOW,

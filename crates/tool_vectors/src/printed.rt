@@ -2,11 +2,11 @@
 
 use crate::runs::{CREATE_RESPONSE, HIDDEN_LINES, VERSION, VERSION_LINES, back_with, run_with};
 use std::alloc::{AllocError, Global};
-use ttlv_run::{Encoding, Task, Values};
+use ttlv_run::{Encoding, Look, Task, Values};
 
 // The lines of the response.
 const RESPONSE_LINES: &str =
-    "Tag: Response Message (0x42007B), Type: Structure (0x01), Data:\n  Tag: Response Header (0x42007A), Type: Structure (0x01), Data:\n    Tag: Protocol Version (0x420069), Type: Structure (0x01), Data:\n      Tag: Protocol Version Major (0x42006A), Type: Integer (0x02), Data: 0x000001 (1)\n      Tag: Protocol Version Minor (0x42006B), Type: Integer (0x02), Data: 0x000000 (0)\n    Tag: Time Stamp (0x420092), Type: DateTime (0x09), Data: 0x4AFBE7C2\n    Tag: Batch Count (0x42000D), Type: Integer (0x02), Data: 0x000001 (1)\n  Tag: Batch Item (0x42000F), Type: Structure (0x01), Data:\n    Tag: Operation (0x42005C), Type: Enumeration (0x05), Data: 0x000001 (1) Create\n    Tag: Result Status (0x42007F), Type: Enumeration (0x05), Data: 0x000000 (0) Success\n    Tag: Response Payload (0x42007C), Type: Structure (0x01), Data:\n      Tag: Object Type (0x420057), Type: Enumeration (0x05), Data: 0x000002 (2) Symmetric Key\n      Tag: Unique Identifier (0x420094), Type: TextString (0x07), Data: fc8833de-70d2-4ece-b063-fede3a3c59fe\n";
+    "Tag: Response Message (0x42007B), Type: Structure (0x01), Data:\n  Tag: Response Header (0x42007A), Type: Structure (0x01), Data:\n    Tag: Protocol Version (0x420069), Type: Structure (0x01), Data:\n      Tag: Protocol Version Major (0x42006A), Type: Integer (0x02), Data: 0x000001 (1)\n      Tag: Protocol Version Minor (0x42006B), Type: Integer (0x02), Data: 0x000000 (0)\n    Tag: Time Stamp (0x420092), Type: DateTime (0x09), Data: 0x4AFBE7C2 2009-11-12T10:47:30Z\n    Tag: Batch Count (0x42000D), Type: Integer (0x02), Data: 0x000001 (1)\n  Tag: Batch Item (0x42000F), Type: Structure (0x01), Data:\n    Tag: Operation (0x42005C), Type: Enumeration (0x05), Data: 0x000001 (1) Create\n    Tag: Result Status (0x42007F), Type: Enumeration (0x05), Data: 0x000000 (0) Success\n    Tag: Response Payload (0x42007C), Type: Structure (0x01), Data:\n      Tag: Object Type (0x420057), Type: Enumeration (0x05), Data: 0x000002 (2) Symmetric Key\n      Tag: Unique Identifier (0x420094), Type: TextString (0x07), Data: fc8833de-70d2-4ece-b063-fede3a3c59fe\n";
 
 // The version's message as base64.
 const VERSION_BASE64: &str = "QgBpAQAAACBCAGoCAAAABAAAAAEAAAAAQgBrAgAAAAQAAAAAAAAAAA==";
@@ -24,16 +24,20 @@ const HOSTILE: &str =
 // A task, an encoding, an input, and what is printed.
 type Row = (Task<'static>, Encoding, &'static str, &'static str);
 
-const SHOW: Task<'static> = Task::Show {
-    values: Values::Escaped,
-};
+const SHOW: Task<'static> = Task::Show { look: Look::PLAIN };
 
 const RAW_TEXTS: Task<'static> = Task::Show {
-    values: Values::Raw,
+    look: Look {
+        values: Values::Raw,
+        ..Look::PLAIN
+    },
 };
 
 const REDACT: Task<'static> = Task::Show {
-    values: Values::Hidden,
+    look: Look {
+        values: Values::Hidden,
+        ..Look::PLAIN
+    },
 };
 
 const PREFIXED: Task<'static> = Task::Diagnose {

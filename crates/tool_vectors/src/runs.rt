@@ -1,6 +1,6 @@
 //! Runs over memory, and the messages that they are tried on.
 
-use kmip_ttlv_names::{standard_names, standard_values};
+use kmip_ttlv_names::{standard_masks, standard_names, standard_secrets, standard_values};
 use std::alloc::{AllocError, Allocator, Global};
 use ttlv_run::run::{read_back, run};
 use ttlv_run::{BackJob, Encoding, Job, Memory, Names, Task};
@@ -62,6 +62,22 @@ pub fn of<A: Allocator + Copy>(heap: A) -> Memory<A, A> {
     }
 }
 
+/// The standard's names.
+pub fn names_in<A: Allocator + Copy>(heap: A) -> Result<Names<'static, A>, AllocError> {
+    let (Ok(tags), Ok(values)) = (standard_names(heap), standard_values(heap)) else {
+        return Err(AllocError);
+    };
+    let (Ok(masks), Ok(secrets)) = (standard_masks(heap), standard_secrets(heap)) else {
+        return Err(AllocError);
+    };
+    Ok(Names {
+        tags,
+        values,
+        masks,
+        secrets,
+    })
+}
+
 /// A run on an input in memory, with the standard's names.
 pub fn run_with<A: Allocator + Copy>(
     heap: A,
@@ -70,10 +86,7 @@ pub fn run_with<A: Allocator + Copy>(
     encoding: Encoding,
     input: &[u8],
 ) -> Result<Outcome, AllocError> {
-    let (Ok(tags), Ok(values)) = (standard_names(heap), standard_values(heap)) else {
-        return Err(AllocError);
-    };
-    let names = Names { tags, values };
+    let names = names_in(heap)?;
     let job = Job {
         name: "capture",
         task,
@@ -97,10 +110,7 @@ pub fn back_with<A: Allocator + Copy>(
     prefix: &str,
     input: &[u8],
 ) -> Result<Outcome, AllocError> {
-    let (Ok(tags), Ok(values)) = (standard_names(heap), standard_values(heap)) else {
-        return Err(AllocError);
-    };
-    let names = Names { tags, values };
+    let names = names_in(heap)?;
     let job = BackJob {
         name: "capture",
         prefix,

@@ -1,7 +1,7 @@
 //! What the words of the command line ask for.
 
 use std::alloc::{AllocError, Global};
-use ttlv_run::{Asked, Encoding, Task, Values};
+use ttlv_run::{Asked, Encoding, Look, Task, Values};
 use ttlv_words::request_of;
 
 // Words, what is asked, the file of names, and how many files are read.
@@ -11,9 +11,7 @@ const ASKED: [Row; 16] = [
     (
         "ttlv show",
         Asked::Print {
-            task: Task::Show {
-                values: Values::Escaped,
-            },
+            task: Task::Show { look: Look::PLAIN },
             encoding: Encoding::Detected,
         },
         None,
@@ -23,7 +21,10 @@ const ASKED: [Row; 16] = [
         "ttlv show --redact --names own.txt a b",
         Asked::Print {
             task: Task::Show {
-                values: Values::Hidden,
+                look: Look {
+                    values: Values::Hidden,
+                    ..Look::PLAIN
+                },
             },
             encoding: Encoding::Detected,
         },
@@ -34,7 +35,10 @@ const ASKED: [Row; 16] = [
         "ttlv show --raw a",
         Asked::Print {
             task: Task::Show {
-                values: Values::Raw,
+                look: Look {
+                    values: Values::Raw,
+                    ..Look::PLAIN
+                },
             },
             encoding: Encoding::Detected,
         },
@@ -46,7 +50,10 @@ const ASKED: [Row; 16] = [
         "ttlv show --raw --redact",
         Asked::Print {
             task: Task::Show {
-                values: Values::Hidden,
+                look: Look {
+                    values: Values::Hidden,
+                    ..Look::PLAIN
+                },
             },
             encoding: Encoding::Detected,
         },
@@ -114,7 +121,7 @@ const ASKED: [Row; 16] = [
     (
         "ttlv check --input base64url",
         Asked::Print {
-            task: Task::Check,
+            task: Task::Check { kmip: false },
             encoding: Encoding::Base64Url,
         },
         None,
@@ -123,7 +130,7 @@ const ASKED: [Row; 16] = [
     (
         "ttlv check --input pem",
         Asked::Print {
-            task: Task::Check,
+            task: Task::Check { kmip: false },
             encoding: Encoding::Armoured,
         },
         None,
@@ -132,7 +139,7 @@ const ASKED: [Row; 16] = [
     (
         "ttlv check --input od",
         Asked::Print {
-            task: Task::Check,
+            task: Task::Check { kmip: false },
             encoding: Encoding::Dump,
         },
         None,
@@ -141,7 +148,7 @@ const ASKED: [Row; 16] = [
     (
         "ttlv check --input tcpdump",
         Asked::Print {
-            task: Task::Check,
+            task: Task::Check { kmip: false },
             encoding: Encoding::Packets,
         },
         None,

@@ -6,7 +6,10 @@
 
 use either::Either;
 use kmip_ttlv_memory::BoundedAllocator;
-use kmip_ttlv_names::{STANDARD_TAGS, standard_values, tag_names};
+use kmip_ttlv_names::{
+    STANDARD_TAGS, standard_masks, standard_secrets, standard_values, tag_named, tag_names,
+};
+use kmip_ttlv_types::TtlvTag;
 use std::alloc::{AllocError, Allocator, Global};
 use std::fs::File;
 use std::io::{IsTerminal, Stderr, Stdin};
@@ -16,8 +19,8 @@ use std::{env, fs, io};
 use ttlv_run::files::{Opener, run_asked, run_files};
 use ttlv_run::progress::Progress;
 use ttlv_run::table::own_table;
-use ttlv_run::{Memory, Names};
-use ttlv_words::{Request, request_of};
+use ttlv_run::{Asked, Look, Memory, Names, Task};
+use ttlv_words::{Color, Request, request_of};
 
 /// The status of usage, and of input that can't be read.
 const USAGE: u8 = 2;
@@ -80,7 +83,7 @@ const MOST: usize = 1_048_576;
 // Does with standard input what is asked.
 fn run_stdin<B: Allocator + Copy>(
     rt: &HostRuntime,
-    request: &Request<'_>,
+    asked: Asked<'_>,
     memory: Memory<Global, B>,
     names: &Names<'_, B>,
 ) -> u8 {
@@ -89,7 +92,7 @@ fn run_stdin<B: Allocator + Copy>(
     let mut input = Progress::new(rt.stdin(), rt.stderr(), None, shown);
     run_asked(
         memory,
-        request.asked,
+        asked,
         "standard input",
         names,
         &mut input,
@@ -101,18 +104,19 @@ fn run_stdin<B: Allocator + Copy>(
 // Does with each input what is asked.
 fn do_all<B: Allocator + Copy>(
     rt: &HostRuntime,
-    request: &Request<'_>,
+    asked: Asked<'_>,
+    files: &[&str],
     memory: Memory<Global, B>,
     names: &Names<'_, B>,
 ) -> u8 {
-    if request.files.is_empty() {
-        return run_stdin(rt, request, memory, names);
+    if files.is_empty() {
+        return run_stdin(rt, asked, memory, names);
     }
     run_files(
         memory,
-        request.asked,
+        asked,
         names,
-        request.files.as_slice(),
+        files,
         &mut Disk { rt },
         &mut rt.stdout(),
         &mut rt.stderr(),
@@ -133,9 +137,61 @@ fn table(rt: &HostRuntime, path: Option<&str>) -> Result<String, u8> {
     own_table(alloc, STANDARD_TAGS, path, &mut file, &mut rt.stderr())
 }
 
+// Whether lines are coloured.
+fn is_colored(rt: &HostRuntime, color: Color) -> bool {
+    match color {
+        Color::Always => true,
+        Color::Never => false,
+        Color::Auto => {
+            let unwanted = match env::var(rt, "NO_COLOR") {
+                Ok(value) => !value.is_empty(),
+                Err(_) => false,
+            };
+            !unwanted && rt.stdout().is_terminal()
+        }
+    }
+}
+
+// The tag of a name in a table, or of its digits; or the status where it is none.
+fn tag_of(rt: &HostRuntime, table: &str, name: &str) -> Result<TtlvTag, u8> {
+    match tag_named(table, name).or(TtlvTag::from_name(name)) {
+        Some(tag) => Ok(tag),
+        None => {
+            let _ = eprintln!(rt; "{name}: no tag has this name");
+            Err(USAGE)
+        }
+    }
+}
+
+// What is asked, with what only the table and the terminal decide.
+fn asked_of<'w>(rt: &HostRuntime, request: &Request<'w>, table: &str) -> Result<Asked<'w>, u8> {
+    let (look, encoding) = match request.asked {
+        Asked::Print {
+            task: Task::Show { look },
+            encoding,
+        } => (look, encoding),
+        asked => return Ok(asked),
+    };
+    let only = match request.tag {
+        Some(name) => Some(*tag_of(rt, table, name)?),
+        None => None,
+    };
+    let look = Look {
+        colored: is_colored(rt, request.color),
+        only,
+        ..look
+    };
+    let task = Task::Show { look };
+    Ok(Asked::Print { task, encoding })
+}
+
 fn run_all(rt: &HostRuntime, request: &Request<'_>) -> u8 {
     let table = match table(rt, request.names) {
         Ok(table) => table,
+        Err(status) => return status,
+    };
+    let asked = match asked_of(rt, request, table.as_str()) {
+        Ok(asked) => asked,
         Err(status) => return status,
     };
     let small = BoundedAllocator::in_blocks(rt.alloc(), MOST);
@@ -149,8 +205,16 @@ fn run_all(rt: &HostRuntime, request: &Request<'_>) -> u8 {
     let Ok(values) = standard_values(&small) else {
         return NO_MEMORY;
     };
-    let names = Names { tags, values };
-    do_all(rt, request, memory, &names)
+    let (Ok(masks), Ok(secrets)) = (standard_masks(&small), standard_secrets(&small)) else {
+        return NO_MEMORY;
+    };
+    let names = Names {
+        tags,
+        values,
+        masks,
+        secrets,
+    };
+    do_all(rt, asked, request.files.as_slice(), memory, &names)
 }
 
 fn main(rt: HostRuntime) -> ExitCode {

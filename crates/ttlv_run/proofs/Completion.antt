@@ -11,11 +11,12 @@ use Rattle.kmip_ttlv_items.specs.ItemWalks.{Meets, at_first, Ended, Ends}
 use Rattle.kmip_ttlv_items.proofs.Completes.{ends}
 use Rattle.ttlv_run.specs.declared.job.Task.{Task}
 use Rattle.ttlv_run.specs.declared.job.Task.TheVariants.{Show}
-use Rattle.ttlv_run.specs.declared.job.Values.{Values}
+use Rattle.ttlv_run.specs.declared.job.Look.{Look}
+use Rattle.ttlv_run.specs.declared.lines.Reach.{Reach}
 use Rattle.ttlv_run.specs.declared.messages.Place.{Place}
 use Rattle.ttlv_run.specs.declared.messages.Wrong.TheVariants.{Malformed, NotKmip}
 use Rattle.ttlv_run.specs.Messages.{first_size, message_at, Whole, whole_more, tag_there, is_taken, IsWrong, malformed, not_taken, Breaks, Prints, GoesOn}
-use Rattle.ttlv_run.specs.Texts.{Names, item_line, message_text, Adds}
+use Rattle.ttlv_run.specs.Texts.{Names, reach_after, no_reach, item_text, lines_from, message_text, IsMessageText}
 
 -- a message is some of the bytes that are left
 first_within : (r : List ℕ) → 0 < length r → (0 < first_size r) × (first_size r ≤ length r)
@@ -53,35 +54,62 @@ flat_map-append f (x ∷ xs) ys = ap (λ (s : List ℕ). f x ++ s) (flat_map-app
 pub flat_map-more : {X : Type 0} (f : X → List ℕ) (x : X) (ys : List X) → flat_map f (ys ++ (x ∷ [])) ≡ flat_map f ys ++ f x
 flat_map-more f x ys = flat_map-append f ys (x ∷ []) ∙ ap (λ (s : List ℕ). flat_map f ys ++ s) (append-nil (f x))
 
+-- ---- the lines of some items, and of others behind them
+
+-- how far items reach, where several more were met
+abbrev pub reach_all : Names → Look → Reach → List FoundItem → Reach
+reach_all names look r [] = r
+reach_all names look r (i ∷ is) = reach_all names look (reach_after names look r i) is
+
+module _ (names : Names) (look : Look) (at : ℕ) (bytes : List ℕ) where
+  pub lines-append : (r : Reach) (xs ys : List FoundItem) → lines_from names look at bytes r (xs ++ ys) ≡ lines_from names look at bytes r xs ++ lines_from names look at bytes (reach_all names look r xs) ys
+  lines-append r [] ys = refl
+  lines-append r (x ∷ xs) ys =
+      let s = reach_after names look r x in
+      let line = item_text names look s at bytes x in
+      ap (λ (t : List ℕ). line ++ t) (lines-append s xs ys) ∙ sym (append_assoc line (lines_from names look at bytes s xs) (lines_from names look at bytes (reach_all names look s xs) ys))
+
+  -- one more
+  pub lines-more : (r : Reach) (x : FoundItem) (xs : List FoundItem) → lines_from names look at bytes r (xs ++ (x ∷ [])) ≡ lines_from names look at bytes r xs ++ item_text names look (reach_after names look (reach_all names look r xs) x) at bytes x
+  lines-more r x xs =
+      lines-append r xs (x ∷ []) ∙ ap (λ (s : List ℕ). lines_from names look at bytes r xs ++ s) (append-nil (item_text names look (reach_after names look (reach_all names look r xs) x) at bytes x))
+
+  pub reach-more : (r : Reach) (x : FoundItem) (xs : List FoundItem) → reach_all names look r (xs ++ (x ∷ [])) ≡ reach_after names look (reach_all names look r xs) x
+  reach-more r x [] = refl
+  reach-more r x (y ∷ ys) = reach-more (reach_after names look r y) x ys
+
 module _ (names : Names) (task : Task) (bytes : List ℕ) where
   -- behind a beginning too
   back : (front more : List ℕ) → GoesOn names task bytes (front ++ more) → GoesOn names task bytes front
   back front more h = record { more = more ++ h.more; place = h.place; prints = subst (λ (s : List ℕ). Prints names task bytes s h.place) (append_assoc front more h.more) h.prints }
 
   -- a message is whole, and the next one is due; or it has a fault
-  here : (p : ℕ) (front : List ℕ) → Whole names task bytes p front → p < length bytes → (found : List FoundItem) (fault : Option Fault) → Ended (message_at bytes p) found fault → (text : List ℕ) → text ≡ front ++ message_text names task (message_at bytes p) found
-      → (Whole names task bytes (p + length (message_at bytes p)) text → GoesOn names task bytes text) → GoesOn names task bytes text
-  here p front whole lt found fault ended text is further = by fault ended (is_taken task (message_at bytes p)) refl
+  here : (p : ℕ) (front : List ℕ) → Whole names task bytes p front → p < length bytes → (told : List ℕ) (fault : Option Fault) → IsMessageText names task p (message_at bytes p) told fault
+      → (Whole names task bytes (p + length (message_at bytes p)) (front ++ told) → GoesOn names task bytes (front ++ told)) → GoesOn names task bytes (front ++ told)
+  here p front whole lt told fault tells further = by fault tells (is_taken task (message_at bytes p)) refl
     where
       -- it ends here
-      stops : (f : Option Fault) → Ended (message_at bytes p) found f → (place : Place) → place.tag ≡ tag_there bytes place.offset → IsWrong task (message_at bytes p) p place f → GoesOn names task bytes text
-      stops f ended place tag wrong =
+      breaks : (f : Option Fault) → IsMessageText names task p (message_at bytes p) told f → (place : Place) → place.tag ≡ tag_there bytes place.offset → IsWrong task (message_at bytes p) p place f → GoesOn names task bytes (front ++ told)
+      breaks f tells place tag wrong =
+          let text = front ++ told in
           let breaks : Breaks names task bytes text place = record {
             at = p;
             front = front;
+            told = told;
             fault = f;
             whole = whole;
             left = lt;
-            adds = record { found = found; ended = ended; is = is };
+            tells = tells;
             wrong = wrong;
+            is = refl;
             tag = tag;
           } in
           record { more = []; place = Some place; prints = subst (λ (s : List ℕ). Breaks names task bytes s place) (sym (append-nil text)) breaks }
 
-      by : (f : Option Fault) → Ended (message_at bytes p) found f → (b : Bool) → is_taken task (message_at bytes p) ≡ b → GoesOn names task bytes text
-      by None ended true taken = further (whole_more p (p + length (message_at bytes p)) front text whole lt (record { found = found; ended = ended; is = is }) taken refl)
-      by None ended false other = stops None ended (record { offset = p; tag = tag_there bytes p; wrong = NotKmip }) refl (not_taken other refl refl)
-      by (Some f) ended b taken = stops (Some f) ended (record { offset = p + f.offset; tag = tag_there bytes (p + f.offset); wrong = Malformed f.kind }) refl (malformed f refl refl)
+      by : (f : Option Fault) → IsMessageText names task p (message_at bytes p) told f → (b : Bool) → is_taken task (message_at bytes p) ≡ b → GoesOn names task bytes (front ++ told)
+      by None tells true taken = further (whole_more p (p + length (message_at bytes p)) front (front ++ told) told whole lt tells taken refl refl)
+      by None tells false other = breaks None tells (record { offset = p; tag = tag_there bytes p; wrong = NotKmip }) refl (not_taken other refl refl)
+      by (Some f) tells b taken = breaks (Some f) tells (record { offset = p + f.offset; tag = tag_there bytes (p + f.offset); wrong = Malformed f.kind }) refl (malformed f refl refl)
 
   module _ (plain : (k : ℕ) → get_or bytes k 0 < 256) where
     -- all messages are whole
@@ -93,8 +121,8 @@ module _ (names : Names) (task : Task) (bytes : List ℕ) where
     one_whole p front lt whole further =
         let message = message_at bytes p in
         let end : Ends message [] = ends message (message_plain bytes p lt plain) 0 [] [] (at_first refl refl refl) in
-        let text = front ++ message_text names task message end.more in
-        back front (message_text names task message end.more) (here p front whole lt end.more end.fault end.ended text refl (further text))
+        let told = message_text names task p message end.more in
+        back front told (here p front whole lt told end.fault (record { found = end.more; ended = end.ended; is = refl }) (further (front ++ told)))
 
     -- by how many bytes are left
     whole_by : (n p : ℕ) (front : List ℕ) → length bytes - p ≤ n → p ≤ length bytes → Whole names task bytes p front → GoesOn names task bytes front
@@ -110,19 +138,19 @@ module _ (names : Names) (task : Task) (bytes : List ℕ) where
     whole_goes p front le whole = whole_by (length bytes - p) p front (omega arith) le whole
 
     -- behind a message, of which this is printed
-    pub goes_behind : (p : ℕ) (front : List ℕ) → p < length bytes → Whole names task bytes p front → (t : List ℕ) (fault : Option Fault) → Adds names task (message_at bytes p) [] t fault → GoesOn names task bytes (front ++ t)
-    goes_behind p front lt whole t fault adds =
-        here p front whole lt adds.found fault adds.ended (front ++ t) (ap (λ (s : List ℕ). front ++ s) adds.is) (λ next. whole_goes (p + length (message_at bytes p)) (front ++ t) (message_within bytes p lt) next)
+    pub goes_behind : (p : ℕ) (front : List ℕ) → p < length bytes → Whole names task bytes p front → (t : List ℕ) (fault : Option Fault) → IsMessageText names task p (message_at bytes p) t fault → GoesOn names task bytes (front ++ t)
+    goes_behind p front lt whole t fault tells = here p front whole lt t fault tells (λ next. whole_goes (p + length (message_at bytes p)) (front ++ t) (message_within bytes p lt) next)
 
-module _ (names : Names) (values : Values) (bytes : List ℕ) (plain : (k : ℕ) → get_or bytes k 0 < 256) where
+module _ (names : Names) (look : Look) (bytes : List ℕ) (plain : (k : ℕ) → get_or bytes k 0 < 256) where
   -- behind the lines of the items that were met of a message
-  pub items_go : (p : ℕ) (front : List ℕ) → p < length bytes → Whole names (Show values) bytes p front → (q : ℕ) (es : List ℕ) (xs : List FoundItem) → Meets (message_at bytes p) q es xs
-      → GoesOn names (Show values) bytes (front ++ flat_map (item_line names values (message_at bytes p)) xs)
+  pub items_go : (p : ℕ) (front : List ℕ) → p < length bytes → Whole names (Show look) bytes p front → (q : ℕ) (es : List ℕ) (xs : List FoundItem) → Meets (message_at bytes p) q es xs
+      → GoesOn names (Show look) bytes (front ++ lines_from names look p (message_at bytes p) no_reach xs)
   items_go p front lt whole q es xs met =
       let message = message_at bytes p in
-      let f = item_line names values message in
       let end : Ends message xs = ends message (message_plain bytes p lt plain) q es xs met in
-      let text = (front ++ flat_map f xs) ++ flat_map f end.more in
-      let is : text ≡ front ++ flat_map f (xs ++ end.more) = append_assoc front (flat_map f xs) (flat_map f end.more) ∙ ap (λ (s : List ℕ). front ++ s) (sym (flat_map-append f xs end.more)) in
-      back names (Show values) bytes (front ++ flat_map f xs) (flat_map f end.more)
-      (here names (Show values) bytes p front whole lt (xs ++ end.more) end.fault end.ended text is (λ next. whole_goes names (Show values) bytes plain (p + length message) text (message_within bytes p lt) next))
+      let first = lines_from names look p message no_reach xs in
+      let rest = lines_from names look p message (reach_all names look no_reach xs) end.more in
+      let told = lines_from names look p message no_reach (xs ++ end.more) in
+      let is : (front ++ first) ++ rest ≡ front ++ told = append_assoc front first rest ∙ ap (λ (s : List ℕ). front ++ s) (sym (lines-append names look p message no_reach xs end.more)) in
+      let all : GoesOn names (Show look) bytes (front ++ told) = goes_behind names (Show look) bytes plain p front lt whole told end.fault (record { found = xs ++ end.more; ended = end.ended; is = refl }) in
+      back names (Show look) bytes (front ++ first) rest (subst (GoesOn names (Show look) bytes) (sym is) all)

@@ -5,13 +5,14 @@ use Rattle.kmip_ttlv_types.specs.Places.{length_at}
 use Rattle.kmip_ttlv_items.specs.declared.found.FoundItem.{FoundItem}
 use Rattle.kmip_ttlv_items.specs.declared.found.Fault.{Fault}
 use Rattle.kmip_ttlv_items.specs.ItemWalks.{content_at, IsWhole, Stops, at_root, inside, behind, Ended}
-use Rattle.kmip_ttlv_items.proofs.Spans.{size_least, own_leaf}
+use Rattle.kmip_ttlv_items.proofs.Spans.{size_least, own_least, own_leaf}
 use Rattle.kmip_ttlv_items.proofs.Walks.{walked}
 use Rattle.ttlv_run.specs.Items.{IsGood}
 
 -- an item that is whole
 pub whole_good : (w : List ℕ) (p e depth : ℕ) (i : FoundItem) → IsWhole w p e depth i → IsGood w i
 whole_good w p e depth i h = record {
+  head = omega (arith, h.offset, h.there, own_least i.typ i.length);
   within = λ ne. omega (arith, h.offset, h.there, own_leaf i.typ i.length ne, size_least i.typ i.length);
   len = h.len ∙ ap (length_at w) (sym h.offset);
   valid = λ ne. ap (λ (q : ℕ). is_valid i.typ (content_at w q)) h.offset ∙ h.valid ne;

@@ -1,6 +1,8 @@
 pub mod Appending
 pub mod BackEnds
 pub mod Backs
+pub mod Bits
+pub mod Calendar
 pub mod Completion
 pub mod DumpLines
 pub mod Good
@@ -8,6 +10,7 @@ pub mod Groups
 pub mod Hexadecimal
 pub mod InPlace
 pub mod Packets
+pub mod Parts
 pub mod Printing
 pub mod Sequences
 pub mod Told

@@ -2,7 +2,6 @@
 use Rattle.std.proofs.Common.{◌≡◌, ℕ, ◌<◌, List, [], ◌++◌, length, get_or, Option, Result, Ok, Err, OnErr, ap, sym, refl, subst}
 use Rattle.std.specs.Borrow.{GName}
 use Rattle.std.specs.Io.KnownBytes.{Appends}
-use Rattle.std.specs.List.{flat_map}
 use Rattle.kmip_ttlv_items.specs.declared.found.FoundItem.{FoundItem}
 use Rattle.kmip_ttlv_items.specs.declared.found.Fault.{Fault}
 use Rattle.kmip_ttlv_items.specs.ItemWalks.{Meets, at_first, Ends}
@@ -12,11 +11,11 @@ use Rattle.kmip_ttlv_util.specs.Pieces.{SomeText, Moves}
 use Rattle.kmip_ttlv_util.proofs.Saying.{piece_ends}
 use Rattle.ttlv_run.specs.declared.job.Task.{Task}
 use Rattle.ttlv_run.specs.declared.job.Task.TheVariants.{Show}
-use Rattle.ttlv_run.specs.declared.job.Values.{Values}
+use Rattle.ttlv_run.specs.declared.job.Look.{Look}
 use Rattle.ttlv_run.specs.declared.messages.Place.{Place}
 use Rattle.ttlv_run.specs.Messages.{message_at, Whole, Prints, GoesOn}
-use Rattle.ttlv_run.specs.Texts.{Names, item_line, message_text, Adds}
-use Rattle.ttlv_run.proofs.Completion.{flat_map-append, goes_behind}
+use Rattle.ttlv_run.specs.Texts.{Names, no_reach, lines_from, message_text, IsMessageText}
+use Rattle.ttlv_run.proofs.Completion.{reach_all, lines-append, goes_behind}
 
 -- it failed
 pub err_holds : {T E : Type 0} (r : Result T E) (P : Type 0) → P → OnErr r P
@@ -24,30 +23,25 @@ err_holds (Ok x) P h = tt
 err_holds (Err e) P h = h
 
 -- what a task prints of a message, up to some fault or to its end
-abbrev pub Told : Names → Task → List ℕ → List ℕ → Type 0
-Told names task bytes t = (fault : Option Fault) × Adds names task bytes [] t fault
-
--- behind another text
-pub behind : (names : Names) (task : Task) (bytes front t : List ℕ) (fault : Option Fault) → Adds names task bytes [] t fault → Adds names task bytes front (front ++ t) fault
-behind names task bytes front t fault h = record { found = h.found; ended = h.ended; is = ap (λ (s : List ℕ). front ++ s) h.is }
+abbrev pub Told : Names → Task → ℕ → List ℕ → List ℕ → Type 0
+Told names task at bytes t = (fault : Option Fault) × IsMessageText names task at bytes t fault
 
 -- a message in which items were met has an end
-module _ (names : Names) (bytes : List ℕ) (plain : (k : ℕ) → get_or bytes k 0 < 256) where
-  pub record Rest (values : Values) (xs : List FoundItem) : Type 0 where
+module _ (names : Names) (at : ℕ) (bytes : List ℕ) (plain : (k : ℕ) → get_or bytes k 0 < 256) where
+  pub record Rest (look : Look) (xs : List FoundItem) : Type 0 where
     pub more : List ℕ
-    pub told : Told names (Show values) bytes (flat_map (item_line names values bytes) xs ++ more)
+    pub told : Told names (Show look) at bytes (lines_from names look at bytes no_reach xs ++ more)
 
-  pub lines_rest : (values : Values) (w : List ℕ) (q : ℕ) (es : List ℕ) (xs : List FoundItem) → w ≡ bytes → Meets w q es xs → Rest values xs
-  lines_rest values w q es xs is met =
+  pub lines_rest : (look : Look) (w : List ℕ) (q : ℕ) (es : List ℕ) (xs : List FoundItem) → w ≡ bytes → Meets w q es xs → Rest look xs
+  lines_rest look w q es xs is met =
       let end : Ends bytes xs = ends bytes plain q es xs (subst (λ (s : List ℕ). Meets s q es xs) is met) in
-      let f = item_line names values bytes in
       record {
-        more = flat_map f end.more;
-        told = (end.fault, record { found = xs ++ end.more; ended = end.ended; is = sym (flat_map-append f xs end.more) });
+        more = lines_from names look at bytes (reach_all names look no_reach xs) end.more;
+        told = (end.fault, record { found = xs ++ end.more; ended = end.ended; is = sym (lines-append names look at bytes no_reach xs end.more) });
       }
 
   -- whatever a task prints of it
-  pub told_any : (task : Task) (t : List ℕ) → ((found : List FoundItem) → message_text names task bytes found ≡ t) → Told names task bytes t
+  pub told_any : (task : Task) (t : List ℕ) → ((found : List FoundItem) → message_text names task at bytes found ≡ t) → Told names task at bytes t
   told_any task t is =
       let end : Ends bytes [] = ends bytes plain 0 [] [] (at_first refl refl refl) in
       (end.fault, record { found = end.more; ended = end.ended; is = sym (is end.more) })
@@ -55,19 +49,19 @@ module _ (names : Names) (bytes : List ℕ) (plain : (k : ℕ) → get_or bytes 
 -- sinks, by what was added to them
 module _ {X : Type 0} (adds breaks : X → List ℕ → X → Type 0) (first : (a b : X) (s t : List ℕ) → breaks a s b → breaks a (s ++ t) b) where
   -- in the lines of the items that were met
-  pub broken_lines : (names : Names) (bytes : List ℕ) (plain : (k : ℕ) → get_or bytes k 0 < 256) (values : Values) (xs : List FoundItem) (a b : X) → Rest names bytes plain values xs → breaks a (flat_map (item_line names values bytes) xs) b → SomeText (Told names (Show values) bytes) (λ t. breaks a t b)
-  broken_lines names bytes plain values xs a b rest h = record {
-    text = flat_map (item_line names values bytes) xs ++ rest.more;
+  pub broken_lines : (names : Names) (at : ℕ) (bytes : List ℕ) (plain : (k : ℕ) → get_or bytes k 0 < 256) (look : Look) (xs : List FoundItem) (a b : X) → Rest names at bytes plain look xs → breaks a (lines_from names look at bytes no_reach xs) b → SomeText (Told names (Show look) at bytes) (λ t. breaks a t b)
+  broken_lines names at bytes plain look xs a b rest h = record {
+    text = lines_from names look at bytes no_reach xs ++ rest.more;
     is = rest.told;
-    holds = first a b (flat_map (item_line names values bytes) xs) rest.more h;
+    holds = first a b (lines_from names look at bytes no_reach xs) rest.more h;
   }
 
   -- in the text of a message behind whole ones
-  pub broken_message : (second : (a b c : X) (s t : List ℕ) → adds a s b → breaks b t c → breaks a (s ++ t) c) (names : Names) (task : Task) (bytes : List ℕ) (plain : (k : ℕ) → get_or bytes k 0 < 256) (p : ℕ) (m : List ℕ) (a b c : X) → m ≡ message_at bytes p → p < length bytes → SomeText (Whole names task bytes p) (λ t. adds a t b) → SomeText (Told names task m) (λ t. breaks b t c)
+  pub broken_message : (second : (a b c : X) (s t : List ℕ) → adds a s b → breaks b t c → breaks a (s ++ t) c) (names : Names) (task : Task) (bytes : List ℕ) (plain : (k : ℕ) → get_or bytes k 0 < 256) (p : ℕ) (m : List ℕ) (a b c : X) → m ≡ message_at bytes p → p < length bytes → SomeText (Whole names task bytes p) (λ t. adds a t b) → SomeText (Told names task p m) (λ t. breaks b t c)
       → SomeText (λ t. (place : Option Place) × Prints names task bytes t place) (λ t. breaks a t c)
   broken_message second names task bytes plain p m a b c is lt w h =
       let text = w.text ++ h.text in
-      let told = subst (λ (s : List ℕ). Told names task s h.text) is h.is in
+      let told = subst (λ (s : List ℕ). Told names task p s h.text) is h.is in
       let goes : GoesOn names task bytes text = goes_behind names task bytes plain p w.text lt w.is h.text told.0 told.1 in
       record {
         text = text ++ goes.more;

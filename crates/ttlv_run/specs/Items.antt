@@ -6,8 +6,9 @@ use Rattle.kmip_ttlv_types.specs.Places.{length_at}
 use Rattle.kmip_ttlv_items.specs.declared.found.FoundItem.{FoundItem}
 use Rattle.kmip_ttlv_items.specs.ItemWalks.{content_at}
 
--- the value of a leaf lies among the bytes, and is one of its type
+-- the header lies among the bytes; so does the value of a leaf, which is one of its type
 pub record IsGood (bytes : List ℕ) (i : FoundItem) : Type 0 where
+  pub head : i.offset + 8 ≤ length bytes
   pub within : i.typ ≢ Structure → i.offset + 8 + i.length ≤ length bytes
   pub len : i.length ≡ length_at bytes i.offset
   pub valid : i.typ ≢ Structure → is_valid i.typ (content_at bytes i.offset) ≡ true

@@ -1,10 +1,12 @@
 pub mod Backs
 pub mod Columns
+pub mod Dates
 pub mod DumpLines
 pub mod Files
 pub mod Guesses
 pub mod Inputs
 pub mod Items
+pub mod Masks
 pub mod Messages
 pub mod Misreadings
 pub mod Reasons

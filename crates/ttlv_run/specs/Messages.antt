@@ -13,7 +13,7 @@ use Rattle.ttlv_run.specs.declared.job.Task.TheVariants.{Check}
 use Rattle.ttlv_run.specs.declared.messages.Place.{Place}
 use Rattle.ttlv_run.specs.declared.messages.Wrong.{Wrong}
 use Rattle.ttlv_run.specs.declared.messages.Wrong.TheVariants.{Malformed, NotKmip}
-use Rattle.ttlv_run.specs.Texts.{Names, Adds}
+use Rattle.ttlv_run.specs.Texts.{Names, IsMessageText}
 
 -- how many bytes the first message takes: as many as its header states, or else all that are there
 abbrev pub first_size : List ℕ → ℕ
@@ -44,11 +44,12 @@ is_taken task message = true
 pub data Whole (names : Names) (task : Task) (bytes : List ℕ) : ℕ → List ℕ → Type 0 where
   whole_none : Whole names task bytes 0 []
   whole_more :
-      (p q : ℕ) (old new : List ℕ)
+      (p q : ℕ) (old new told : List ℕ)
       → Whole names task bytes p old
       → p < length bytes
-      → Adds names task (message_at bytes p) old new None
+      → IsMessageText names task p (message_at bytes p) told None
       → is_taken task (message_at bytes p) ≡ true
+      → new ≡ old ++ told
       → q ≡ p + length (message_at bytes p)
       → Whole names task bytes q new
 
@@ -69,11 +70,13 @@ pub data IsWrong (task : Task) (message : List ℕ) (at : ℕ) (place : Place) :
 pub record Breaks (names : Names) (task : Task) (bytes text : List ℕ) (place : Place) : Type 0 where
   pub at : ℕ
   pub front : List ℕ
+  pub told : List ℕ
   pub fault : Option Fault
   pub whole : Whole names task bytes at front
   pub left : at < length bytes
-  pub adds : Adds names task (message_at bytes at) front text fault
+  pub tells : IsMessageText names task at (message_at bytes at) told fault
   pub wrong : IsWrong task (message_at bytes at) at place fault
+  pub is : text ≡ front ++ told
   pub tag : place.tag ≡ tag_there bytes place.offset
 
 -- what is printed of all messages, or of those up to the first fault

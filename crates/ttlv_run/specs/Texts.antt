@@ -1,14 +1,15 @@
 -- What is printed of one message.
-use Rattle.std.specs.Prelude.{◌≡◌, ℕ, ◌/◌, ◌%◌, ◌==◌, false, List, [], ◌∷◌, ◌++◌, length, nat_lt}
+use Rattle.std.specs.Prelude.{◌≡◌, ℕ, ◌+◌, ◌/◌, ◌%◌, ◌==◌, Bool, true, false, ◌&&◌, List, [], ◌∷◌, ◌++◌}
+use Rattle.std.specs.Prelude.{length, take, nat_lt, nat_le}
 use Rattle.std.specs.Prelude.{Option, Some, None, if◌then◌else◌, codes, encode_utf8}
 use Rattle.std.specs.List.{flat_map}
 use Rattle.std.specs.Char.{is_control}
-use Rattle.std.specs.Fmt.{digit_glyph}
+use Rattle.std.specs.Fmt.{decimal, digit_glyph}
 use Rattle.std.specs.Str.{chars, trim_end}
-use Rattle.std.specs.Int.{w32, from_be_bytes}
+use Rattle.std.specs.Int.{w32, w64, from_be_bytes}
 use Rattle.hex.specs.Hex.{encode_upper}
 use Rattle.kmip_ttlv_types.specs.declared.typ.TtlvType.{TtlvType}
-use Rattle.kmip_ttlv_types.specs.declared.typ.TtlvType.TheVariants.{Structure, Enumeration, TextString}
+use Rattle.kmip_ttlv_types.specs.declared.typ.TtlvType.TheVariants.{Structure, Integer, Enumeration, TextString, ByteString, DateTime}
 use Rattle.kmip_ttlv_util.specs.Diagnostics.{hostile}
 use Rattle.kmip_ttlv_util.specs.Lines.{bounded_part, data_part, hidden}
 use Rattle.kmip_ttlv_util.specs.Pretty.{value_shown}
@@ -24,6 +25,10 @@ use Rattle.ttlv_run.specs.declared.job.Task.{Task}
 use Rattle.ttlv_run.specs.declared.job.Task.TheVariants.{Show, Diagnose, Hexadecimal, Check}
 use Rattle.ttlv_run.specs.declared.job.Values.{Values}
 use Rattle.ttlv_run.specs.declared.job.Values.TheVariants.{Hidden, Escaped}
+use Rattle.ttlv_run.specs.declared.job.Look.{Look}
+use Rattle.ttlv_run.specs.declared.lines.Reach.{Reach}
+use Rattle.ttlv_run.specs.Dates.{date_shown}
+use Rattle.ttlv_run.specs.Masks.{list_mask}
 use Rattle.ttlv_run.specs.declared.job.Names.{Names as NamesHeld}
 
 -- the name of a value in a list, where there is one
@@ -31,14 +36,32 @@ abbrev pub value_in : Option (List ℕ) → ℕ → Option (List ℕ)
 value_in None value = None
 value_in (Some list) value = name_of_value value list
 
--- the names that are printed: of tags, and of a tag's values
+-- the names of the bits of a mask that are set, where there is a list of them
+abbrev pub mask_in : Option (List ℕ) → ℕ → List ℕ
+mask_in None mask = []
+mask_in (Some list) mask = list_mask list mask
+
+-- something is there
+abbrev pub is_there : Option (List ℕ) → Bool
+is_there None = false
+is_there (Some name) = true
+
+-- the names that are printed: of tags, of a tag's values, and of the bits that are set in a mask; and which tags are
+-- secret
 pub record Names : Type 0 where
   pub tags : ℕ → Option (List ℕ)
   pub values : ℕ → ℕ → Option (List ℕ)
+  pub masks : ℕ → ℕ → List ℕ
+  pub secrets : ℕ → Bool
 
 -- those that a program holds
 abbrev pub names_of : {A : Type 0} → NamesHeld A → Names
-names_of held = record { tags = name_in held.tags; values = λ tag value. value_in (name_in held.values tag) value }
+names_of held = record {
+  tags = name_in held.tags;
+  values = λ tag value. value_in (name_in held.values tag) value;
+  masks = λ tag mask. mask_in (name_in held.masks tag) mask;
+  secrets = λ tag. is_there (name_in held.secrets tag);
+}
 
 -- a name behind a space
 abbrev pub behind_space : Option (List ℕ) → List ℕ
@@ -65,25 +88,104 @@ escaped_char c =
 unfoldable pub escaped : List ℕ → List ℕ
 escaped text = flat_map escaped_char (chars text)
 
--- the value of a leaf, with the name that an enumeration's has; where values are hidden, of an enumeration alone; and
--- a text is escaped, if it isn't to be raw
-unfoldable pub shown : Names → Values → ℕ → TtlvType → List ℕ → List ℕ
-shown names values tag Structure content = []
-shown names values tag Enumeration content =
+-- how many bytes a string has of which a part is printed
+abbrev pub count_shown : ℕ → List ℕ
+count_shown count = codes ".. (" ++ (decimal count ++ codes " bytes)")
+
+-- a string of bytes, as many as may be printed, and then how many it has
+abbrev pub bytes_shown : Option ℕ → List ℕ → List ℕ
+bytes_shown None content = value_shown ByteString content
+bytes_shown (Some width) content =
+    if nat_le (length content) width then value_shown ByteString content
+    else value_shown ByteString (take width content) ++ count_shown (length content)
+
+-- the value of a leaf, with the name that an enumeration's has, those of a mask's bits, and a date; where values are
+-- hidden, of an enumeration alone; a text is escaped, if it isn't to be raw
+unfoldable pub shown : Names → Values → Option ℕ → ℕ → TtlvType → List ℕ → List ℕ
+shown names values width tag Structure content = []
+shown names values width tag Enumeration content =
     value_shown Enumeration content ++ behind_space (names.values tag (from_be_bytes w32 content))
-shown names Hidden tag typ content = hidden
-shown names Escaped tag TextString content = escaped content
-shown names values tag typ content = value_shown typ content
+shown names Hidden width tag typ content = hidden
+shown names Escaped width tag TextString content = escaped content
+shown names values width tag Integer content =
+    value_shown Integer content ++ names.masks tag (from_be_bytes w32 content)
+shown names values width tag DateTime content = value_shown DateTime content ++ date_shown (from_be_bytes w64 content)
+shown names values width tag ByteString content = bytes_shown width content
+shown names values width tag typ content = value_shown typ content
 
--- the value of an item among the bytes of a message
-unfoldable pub content_shown : Names → Values → List ℕ → FoundItem → List ℕ
-content_shown names values bytes i = shown names values i.tag i.typ (content_at bytes i.offset)
+-- what sets a colour, where lines are coloured
+abbrev pub color_part : Bool → List ℕ → List ℕ
+color_part colored color = if colored then color else []
 
--- the line of an item: its depth, tag, type and value
-unfoldable pub item_line : Names → Values → List ℕ → FoundItem → List ℕ
-item_line names values bytes i =
-    bounded_part names.tags i.depth i.tag
-    ++ (data_part i.typ ++ (content_shown names values bytes i ++ 10 ∷ []))
+-- a text in a colour of a terminal, by its number (ECMA-48)
+abbrev pub painted : Bool → List ℕ → List ℕ → List ℕ
+painted colored color text = color_part colored color ++ (text ++ color_part colored (27 ∷ codes "[0m"))
+
+-- an offset and a tab, where offsets are printed
+abbrev pub offset_part : Bool → ℕ → List ℕ
+offset_part offsets offset = if offsets then decimal offset ++ codes "\t" else []
+
+-- the beginning of an item's line, up to its tag
+unfoldable pub tag_part : Names → Bool → FoundItem → List ℕ
+tag_part names colored i = painted colored (27 ∷ codes "[36m") (bounded_part names.tags i.depth i.tag)
+
+-- the value of a leaf, painted; a structure has none
+abbrev pub painted_value : Bool → TtlvType → List ℕ → List ℕ
+painted_value colored Structure text = []
+painted_value colored typ text = painted colored (27 ∷ codes "[32m") text
+
+-- that of an item among the bytes of a message
+unfoldable pub value_part : Names → Look → Values → List ℕ → FoundItem → List ℕ
+value_part names look values bytes i =
+    painted_value look.colored i.typ (shown names values look.width i.tag i.typ (content_at bytes i.offset))
+
+-- the line of an item of a message that begins at an offset: the offset, if asked for, the depth, tag, type and value
+unfoldable pub item_line : Names → Look → Values → ℕ → List ℕ → FoundItem → List ℕ
+item_line names look values at bytes i =
+    offset_part look.offsets (at + i.offset)
+    ++ (tag_part names look.colored i
+    ++ (data_part i.typ ++ (value_part names look values bytes i ++ 10 ∷ [])))
+
+-- how far the items of some tags reach, where one more item was met, which is one of them or not
+abbrev pub reached : Bool → ℕ → FoundItem → ℕ
+reached is_one end i = if is_one && nat_lt end (i.offset + 8 + i.length) then i.offset + 8 + i.length else end
+
+-- the tag is the one that is asked for
+abbrev pub is_asked : Option ℕ → ℕ → Bool
+is_asked None tag = false
+is_asked (Some only) tag = only == tag
+
+-- how far the secret items reach, and those that are asked for
+abbrev pub reach_after : Names → Look → Reach → FoundItem → Reach
+reach_after names look r i = record {
+  secret = reached (names.secrets i.tag) r.secret i;
+  asked = reached (is_asked look.only i.tag) r.asked i;
+}
+
+-- no item was met
+abbrev pub no_reach : Reach
+no_reach = record { secret = 0; asked = 0 }
+
+-- what is said of a value: nothing of one in a secret item, if those are hidden
+abbrev pub values_told : Look → Reach → FoundItem → Values
+values_told look r i = if look.secrets_hidden && nat_lt i.offset r.secret then Hidden else look.values
+
+-- an item is passed over: one tag is asked for, and it is in no item of that tag
+abbrev pub is_passed : Option ℕ → Reach → FoundItem → Bool
+is_passed None r i = false
+is_passed (Some only) r i = nat_le r.asked i.offset
+
+-- the line of an item, if it is asked for
+unfoldable pub item_text : Names → Look → Reach → ℕ → List ℕ → FoundItem → List ℕ
+item_text names look r at bytes i =
+    if is_passed look.only r i then [] else item_line names look (values_told look r i) at bytes i
+
+-- the lines of items that a walk met one after the other, where those before them reach so far
+abbrev pub lines_from : Names → Look → ℕ → List ℕ → Reach → List FoundItem → List ℕ
+lines_from names look at bytes r [] = []
+lines_from names look at bytes r (i ∷ is) =
+    item_text names look (reach_after names look r i) at bytes i
+    ++ lines_from names look at bytes (reach_after names look r i) is
 
 -- what a line of diagnostics is read back as, but for white space at its end, each line indented by 64 levels at most; an
 -- empty one as nothing
@@ -98,16 +200,16 @@ line_back tags prefix line = trimmed_back tags prefix (trim_end line)
 unfoldable pub text_back : (ℕ → Option (List ℕ)) → List ℕ → List ℕ → List ℕ
 text_back tags prefix text = flat_map (line_back tags prefix) (lines_of text)
 
--- what a task prints of a message in which these items were met
-abbrev pub message_text : Names → Task → List ℕ → List FoundItem → List ℕ
-message_text names (Show values) bytes found = flat_map (item_line names values bytes) found
-message_text names (Diagnose closed prefix) bytes found =
+-- what a task prints of a message that begins at an offset, in which these items were met
+abbrev pub message_text : Names → Task → ℕ → List ℕ → List FoundItem → List ℕ
+message_text names (Show look) at bytes found = lines_from names look at bytes no_reach found
+message_text names (Diagnose closed prefix) at bytes found =
     hostile prefix.now closed (length bytes) (trace closed bytes) ++ 10 ∷ []
-message_text names Hexadecimal bytes found = encode_upper bytes ++ 10 ∷ []
-message_text names (Check kmip) bytes found = []
+message_text names Hexadecimal at bytes found = encode_upper bytes ++ 10 ∷ []
+message_text names (Check kmip) at bytes found = []
 
--- a message's text was added to another: of the items that were met by its end, or by the first fault
-pub record Adds (names : Names) (task : Task) (bytes old new : List ℕ) (fault : Option Fault) : Type 0 where
+-- this is the text of a message that begins at an offset: of the items that were met by its end, or by the first fault
+pub record IsMessageText (names : Names) (task : Task) (at : ℕ) (bytes text : List ℕ) (fault : Option Fault) : Type 0 where
   pub found : List FoundItem
   pub ended : Ended bytes found fault
-  pub is : new ≡ old ++ message_text names task bytes found
+  pub is : text ≡ message_text names task at bytes found

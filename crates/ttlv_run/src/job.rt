@@ -18,11 +18,40 @@ pub enum Values {
     Raw,
 }
 
+/// How readable lines are printed.
+#[derive(Clone, Copy, Debug, PartialEq, Eq)]
+pub struct Look {
+    /// What is said of values.
+    pub values: Values,
+    /// Whether values are hidden of items whose tags are secret, and of what is in them.
+    pub secrets_hidden: bool,
+    /// Whether the offset of an item, in bytes from the first message's first, and a tab stand in front of its line.
+    pub offsets: bool,
+    /// The most bytes of a Byte String that are printed; all where there is no limit.
+    pub width: Option<usize>,
+    /// Whether tags and values are coloured.
+    pub colored: bool,
+    /// The tag, as a number, of the items that are printed, with what is in them; all items where there is none.
+    pub only: Option<u32>,
+}
+
+impl Look {
+    /// All lines without offsets or colours, with values and whole Byte Strings, where texts are escaped.
+    pub const PLAIN: Look = Look {
+        values: Values::Escaped,
+        secrets_hidden: false,
+        offsets: false,
+        width: None,
+        colored: false,
+        only: None,
+    };
+}
+
 /// What is printed of each message.
 #[derive(Clone, Copy, Debug, PartialEq, Eq)]
 pub enum Task<'w> {
-    /// A readable line of each item, with values told so.
-    Show { values: Values },
+    /// A readable line of each item.
+    Show { look: Look },
     /// Its diagnostic and a line feed: whether empty structures are closed, and the hexadecimal digits
     /// that are left out where a tag begins with them.
     Diagnose { closed: bool, prefix: &'w str },
@@ -103,11 +132,15 @@ pub struct BackJob<'w> {
     pub prefix: &'w str,
 }
 
-/// The names that are printed beside tags and values.
+/// The names that are printed beside tags and values, and the tags whose values are secret.
 #[derive(Drop)]
 pub struct Names<'n, A: Allocator = Global> {
     /// The names of tags.
     pub tags: LentTagMap<'n, A>,
     /// The lists of enumerations' values, by tag, in the form of kmip_ttlv_names.
     pub values: LentTagMap<'n, A>,
+    /// The lists of masks' bits, by tag, in the same form.
+    pub masks: LentTagMap<'n, A>,
+    /// The tags of items whose values are secret, each with a name of any kind.
+    pub secrets: LentTagMap<'n, A>,
 }

@@ -1,16 +1,15 @@
 //! Laws of the definitions that the run's contract cites, each on a function without a body.
 
 ghost use Rattle.std.specs.Prelude.{◌<◌, ◌≤◌, ◌++◌, ℕ, List, [], length};
-ghost use Rattle.std.specs.List.{flat_map};
 ghost use Rattle.kmip_ttlv_items.specs.declared.found.FoundItem.{FoundItem as AnItem};
 ghost use Rattle.kmip_ttlv_items.specs.ItemWalks.{AreBytes, Meets};
 ghost use Rattle.ttlv_run.specs.declared.job.Task.{Task as ATask};
 ghost use Rattle.ttlv_run.specs.declared.job.Task.TheVariants.{Show as ToShow};
-ghost use Rattle.ttlv_run.specs.declared.job.Values.{Values as TheValues};
+ghost use Rattle.ttlv_run.specs.declared.job.Look.{Look as TheLook};
 ghost use Rattle.ttlv_run.specs.declared.form.Form.TheVariants.{DumpText};
 ghost use Rattle.ttlv_run.specs.DumpLines.{ColonLine, BareLine, CountsColumn};
 ghost use Rattle.ttlv_run.specs.Messages.{Whole, message_at, GoesOn};
-ghost use Rattle.ttlv_run.specs.Texts.{Names as TheNames, item_line};
+ghost use Rattle.ttlv_run.specs.Texts.{Names as TheNames, lines_from, no_reach};
 
 /// What is printed of an input exists, whatever its bytes are; and it goes on behind what is printed of
 /// whole messages in front, and behind the lines of the items that were met of the next one.
@@ -18,12 +17,12 @@ pub fn each_input_is_printed()
     ensures any { (names : TheNames) (task : ATask) (bytes : List ℕ) → AreBytes bytes → GoesOn names task bytes [] }
     ensures messages { (names : TheNames) (task : ATask) (bytes : List ℕ) (p : ℕ) (front : List ℕ)
         → AreBytes bytes → p ≤ length bytes → Whole names task bytes p front → GoesOn names task bytes front }
-    ensures items { (names : TheNames) (values : TheValues) (bytes : List ℕ) (p : ℕ) (front : List ℕ)
+    ensures items { (names : TheNames) (look : TheLook) (bytes : List ℕ) (p : ℕ) (front : List ℕ)
         (q : ℕ) (es : List ℕ) (xs : List AnItem)
-        → AreBytes bytes → p < length bytes → Whole names (ToShow values) bytes p front
+        → AreBytes bytes → p < length bytes → Whole names (ToShow look) bytes p front
         → Meets (message_at bytes p) q es xs
-        → GoesOn names (ToShow values) bytes
-        (front ++ flat_map (item_line names values (message_at bytes p)) xs) }
+        → GoesOn names (ToShow look) bytes
+        (front ++ lines_from names look p (message_at bytes p) no_reach xs) }
 {}
 
 /// Of a dump's line the digits of its hexadecimal column count, and neither those of its offset nor those of its

@@ -1,134 +1,198 @@
-//! The readable lines of one message: a line for each item that a walk over it meets.
+//! The readable lines of one message: a line for each item that a walk over it meets, or for those that are asked for.
 
-ghost use Rattle.std.specs.Prelude.{◌≡◌, ◌≢◌, ◌<◌, ◌≤◌, ◌+◌, ◌++◌, true, [], Option, IfOk, OnOk, OnErr, option_map};
-ghost use Rattle.std.specs.Int.{w32, from_be_bytes};
-ghost use Rattle.kmip_ttlv_types.specs.declared.typ.TtlvType.TheVariants.{Structure as TheStructure};
-ghost use Rattle.kmip_ttlv_types.specs.declared.typ.TtlvType.TheVariants.{Enumeration as TheEnumeration};
-ghost use Rattle.kmip_ttlv_types.specs.Leaves.{is_valid};
+ghost use Rattle.std.specs.Prelude.{◌≡◌, ◌<◌, ◌+◌, ◌^◌, ◌++◌, codes, length, Option, IfOk, OnOk, OnErr};
+ghost use Rattle.std.specs.Fmt.{decimal};
 ghost use Rattle.ttlv_run.specs.declared.job.Task.TheVariants.{Show as ToShow};
 ghost use Rattle.kmip_ttlv_items.specs.declared.found.Fault.{Fault as AFault};
 ghost use Rattle.kmip_ttlv_util.specs.Pieces.{SomeText};
-ghost use Rattle.kmip_ttlv_util.specs.Pretty.{value_shown};
-ghost use Rattle.kmip_ttlv_util.specs.TagNames.{name_in};
-ghost use Rattle.ttlv_run.specs.Texts.{names_of, value_in, behind_space, shown, content_shown, item_line, Adds};
 ghost use Rattle.ttlv_run.specs.Items.{IsGood};
+ghost use Rattle.ttlv_run.specs.Texts.{names_of, offset_part, tag_part, value_part, item_line, values_told, is_passed, item_text, is_asked, reached, reach_after, IsMessageText};
 
-use crate::escape::push_escaped;
-use crate::job::{Names, Values};
+use crate::colors::{NONE, TAG, VALUE, push_color};
+use crate::job::{Look, Names, Values};
+use crate::values::push_shown;
+use itoa::Buffer;
 use kmip_ttlv_items::{Fault, FoundItem, ItemWalk, Step};
-use kmip_ttlv_names::value_name;
 use kmip_ttlv_types::{TtlvTag, TtlvType};
-use kmip_ttlv_util::{Indentation, TextSink, push_beginning, push_data_part, push_value};
+use kmip_ttlv_util::{Indentation, TextSink, push_beginning, push_data_part};
 use std::alloc::Allocator;
 
-// The name of an enumeration's value, where there is one.
-fn value_name_of<'n, A: Allocator>(
-    names: &Names<'n, A>,
-    tag: TtlvTag,
-    value: u32,
-) -> Option<&'n str>
-    ensures { option_map (λ s. s.now) result ≡ value_in (name_in names.now.values tag) value }
+/// How far the items of some tags reach that a walk has met, in bytes from the message's first; 0 where it met none.
+#[derive(Clone, Copy)]
+pub struct Reach {
+    /// Those whose values are secret.
+    pub secret: u128,
+    /// Those that are asked for.
+    pub asked: u128,
+}
+
+// How far items reach, where one more was met.
+fn reached(is_one: bool, end: u128, item: &FoundItem) -> u128
+    ensures { result ≡ reached is_one end item.now }
 {
-    match names.values.get(&tag).copied() {
-        Some(list) => value_name(list, value),
-        None => None,
+    let own = item.offset as u128 + 8 + item.length as u128;
+    if is_one && end < own { own } else { end }
+}
+
+// Whether a tag's values are secret.
+fn is_secret<A: Allocator>(names: &Names<'_, A>, tag: TtlvTag) -> bool
+    ensures { result ≡ (names_of names.now).secrets tag }
+{
+    match names.secrets.get(&tag) {
+        Some(_) => true,
+        None => false,
     }
 }
 
-// Adds a name behind a space, where there is one.
-fn push_name<S: TextSink>(out: &mut S, name: Option<&str>) -> Result<(), S::Error>
-    ensures ok { OnOk result (S.adds out.old (behind_space (option_map (λ s. s.now) name.entry)) out.new) }
-    ensures err { OnErr result (S.breaks out.old (behind_space (option_map (λ s. s.now) name.entry)) out.new) }
+// Whether a tag is the one that is asked for.
+fn is_asked(only: Option<u32>, tag: TtlvTag) -> bool
+    ensures { result ≡ is_asked only tag }
 {
-    match name {
-        Some(name) => {
-            out.push_str(" ")?;
-            out.push_str(name)
-        }
-        None => Ok(()),
+    match only {
+        Some(only) => only == *tag,
+        None => false,
     }
 }
 
-// Adds the value of an enumeration, with its name where it has one.
-fn push_enumeration<S: TextSink, A: Allocator>(
-    out: &mut S,
+// How far the items of both kinds reach, where one more item was met.
+fn reach_after<A: Allocator>(
     names: &Names<'_, A>,
-    tag: TtlvTag,
-    content: &[u8],
-) -> Result<(), S::Error>
-    requires { is_valid TheEnumeration content.now ≡ true }
-    ensures ok { OnOk result (S.adds out.old (value_shown TheEnumeration content.now
-        ++ behind_space ((names_of names.now).values tag (from_be_bytes w32 content.now))) out.new) }
-    ensures err { OnErr result (S.breaks out.old (value_shown TheEnumeration content.now
-        ++ behind_space ((names_of names.now).values tag (from_be_bytes w32 content.now))) out.new) }
-{
-    push_value(out, TtlvType::Enumeration, content)?;
-    let value = u32::from_be_bytes([content[0], content[1], content[2], content[3]]);
-    push_name(out, value_name_of(names, tag, value))
-}
-
-// Adds the value of a leaf, if it isn't hidden; a text escaped, if it isn't to be raw.
-#[tactic(auto, unfolding(crate::specs::Texts::shown))]
-fn push_shown<S: TextSink, A: Allocator>(
-    out: &mut S,
-    names: &Names<'_, A>,
-    values: Values,
+    look: &Look,
+    reach: Reach,
     item: &FoundItem,
-    content: &[u8],
-) -> Result<(), S::Error>
-    requires { item.now.typ ≢ TheStructure → is_valid item.now.typ content.now ≡ true }
-    ensures ok { OnOk result (S.adds out.old (shown (names_of names.now) values item.now.tag item.now.typ content.now)
-        out.new) }
-    ensures err { OnErr result (S.breaks out.old
-        (shown (names_of names.now) values item.now.tag item.now.typ content.now) out.new) }
+) -> Reach
+    ensures { result ≡ reach_after (names_of names.now) look.now reach item.now }
 {
-    match item.typ {
-        TtlvType::Structure => Ok(()),
-        TtlvType::Enumeration => push_enumeration(out, names, item.tag, content),
-        _ if values == Values::Hidden => out.push_str("<redacted>"),
-        TtlvType::TextString if values == Values::Escaped => push_escaped(out, content),
-        _ => push_value(out, item.typ, content),
+    let secret = reached(is_secret(names, item.tag), reach.secret, item);
+    let asked = reached(is_asked(look.only, item.tag), reach.asked, item);
+    Reach { secret, asked }
+}
+
+// Adds a number and a tab.
+fn push_number<S: TextSink>(out: &mut S, number: usize) -> Result<(), S::Error>
+    ensures ok { OnOk result (S.adds out.old (decimal number ++ codes "\t") out.new) }
+    ensures err { OnErr result (S.breaks out.old (decimal number ++ codes "\t") out.new) }
+{
+    out.push_str(Buffer::new().format(number))?;
+    out.push_str("\t")
+}
+
+// Adds an offset and a tab, where offsets are printed.
+fn push_offset<S: TextSink>(out: &mut S, offsets: bool, offset: usize) -> Result<(), S::Error>
+    ensures ok { OnOk result (S.adds out.old (offset_part offsets offset) out.new) }
+    ensures err { OnErr result (S.breaks out.old (offset_part offsets offset) out.new) }
+{
+    if offsets {
+        return push_number(out, offset);
     }
+    Ok(())
+}
+
+// Adds the beginning of an item's line, up to its tag.
+fn push_head<S: TextSink, A: Allocator>(
+    out: &mut S,
+    names: &Names<'_, A>,
+    colored: bool,
+    item: &FoundItem,
+) -> Result<(), S::Error>
+    ensures ok { OnOk result (S.adds out.old (tag_part (names_of names.now) colored item.now) out.new) }
+    ensures err { OnErr result (S.breaks out.old (tag_part (names_of names.now) colored item.now) out.new) }
+{
+    push_color(out, colored, TAG)?;
+    push_beginning(out, &names.tags, Indentation::Bounded, item.depth, item.tag)?;
+    push_color(out, colored, NONE)
 }
 
 // Adds the value of an item; a structure has none of its own.
 fn push_content<S: TextSink, A: Allocator>(
     out: &mut S,
     names: &Names<'_, A>,
+    look: &Look,
     values: Values,
     bytes: &[u8],
     item: &FoundItem,
 ) -> Result<(), S::Error>
     requires { IsGood bytes.now item.now }
-    ensures ok { OnOk result (S.adds out.old (content_shown (names_of names.now) values bytes.now item.now) out.new) }
-    ensures err { OnErr result (S.breaks out.old (content_shown (names_of names.now) values bytes.now item.now) out.new) }
+    ensures ok { OnOk result (S.adds out.old (value_part (names_of names.now) look.now values bytes.now item.now) out.new) }
+    ensures err { OnErr result (S.breaks out.old (value_part (names_of names.now) look.now values bytes.now item.now) out.new) }
 {
     if item.typ == TtlvType::Structure {
         return Ok(());
     }
     let content = &bytes[item.offset + 8..item.offset + 8 + item.length as usize];
-    push_shown(out, names, values, item, content)
+    push_color(out, look.colored, VALUE)?;
+    push_shown(out, names, values, look.width, item, content)?;
+    push_color(out, look.colored, NONE)
 }
 
-// Adds the line of an item.
+// Adds the line of an item of a message that begins at an offset.
 fn push_line<S: TextSink, A: Allocator>(
     out: &mut S,
     names: &Names<'_, A>,
+    look: &Look,
     values: Values,
+    at: usize,
     bytes: &[u8],
     item: &FoundItem,
 ) -> Result<(), S::Error>
-    requires { IsGood bytes.now item.now }
-    ensures ok { OnOk result (S.adds out.old (item_line (names_of names.now) values bytes.now item.now) out.new) }
-    ensures err { OnErr result (S.breaks out.old (item_line (names_of names.now) values bytes.now item.now) out.new) }
+    requires good { IsGood bytes.now item.now }
+    requires within { at + length bytes.now < 2 ^ 64 }
+    ensures ok { OnOk result (S.adds out.old (item_line (names_of names.now) look.now values at bytes.now item.now) out.new) }
+    ensures err { OnErr result (S.breaks out.old (item_line (names_of names.now) look.now values at bytes.now item.now) out.new) }
 {
-    push_beginning(out, &names.tags, Indentation::Bounded, item.depth, item.tag)?;
+    push_offset(out, look.offsets, at + item.offset)?;
+    push_head(out, names, look.colored, item)?;
     push_data_part(out, item.typ)?;
-    push_content(out, names, values, bytes, item)?;
+    push_content(out, names, look, values, bytes, item)?;
     out.push_str("\n")
 }
 
-/// Adds a line for each item of a message, up to its first fault, and gives that fault.
+// What is said of an item's value, where secret items reach so far.
+fn values_told(look: &Look, reach: Reach, item: &FoundItem) -> Values
+    ensures { result ≡ values_told look.now reach item.now }
+{
+    if look.secrets_hidden && (item.offset as u128) < reach.secret {
+        Values::Hidden
+    } else {
+        look.values
+    }
+}
+
+// Whether an item is passed over, where one tag is asked for and its items reach so far.
+fn is_passed(look: &Look, reach: Reach, item: &FoundItem) -> bool
+    ensures { result ≡ is_passed look.now.only reach item.now }
+{
+    match look.only {
+        Some(_) => reach.asked <= item.offset as u128,
+        None => false,
+    }
+}
+
+// Adds the line of an item, if it is asked for.
+#[tactic(auto, unfolding(crate::specs::Texts::item_text))]
+fn push_item<S: TextSink, A: Allocator>(
+    out: &mut S,
+    names: &Names<'_, A>,
+    look: &Look,
+    reach: Reach,
+    at: usize,
+    bytes: &[u8],
+    item: &FoundItem,
+) -> Result<(), S::Error>
+    requires good { IsGood bytes.now item.now }
+    requires within { at + length bytes.now < 2 ^ 64 }
+    ensures ok { OnOk result (S.adds out.old (item_text (names_of names.now) look.now reach at bytes.now item.now) out.new) }
+    ensures err { OnErr result (S.breaks out.old (item_text (names_of names.now) look.now reach at bytes.now item.now) out.new) }
+{
+    if is_passed(look, reach, item) {
+        return Ok(());
+    }
+    let values = values_told(look, reach, item);
+    push_line(out, names, look, values, at, bytes, item)
+}
+
+/// Adds the lines of a message, which begins at an offset among the bytes of all, up to its first fault, and gives that
+/// fault.
 ///
 /// It takes memory for the ends of the structures that are open at a time, and no list of the items. It fails
 /// where the sink fails and when out of memory; a beginning of the lines was added then.
@@ -136,20 +200,29 @@ pub fn push_lines<S: TextSink, A: Allocator + Copy>(
     alloc: A,
     out: &mut S,
     names: &Names<'_, A>,
-    values: Values,
+    look: Look,
+    at: usize,
     message: &[u8],
 ) -> Result<Option<Fault>, S::Error>
+    requires { at + length message.now < 2 ^ 64 }
     ensures ok { IfOk result (λ fault. SomeText
-        (λ t. Adds (names_of names.now) (ToShow values) message.now [] t fault)
+        (λ t. IsMessageText (names_of names.now) (ToShow look) at message.now t fault)
         (λ t. S.adds out.old t out.new)) }
     ensures err { OnErr result (SomeText
-        (λ t. (fault : Option AFault) × Adds (names_of names.now) (ToShow values) message.now [] t fault)
+        (λ t. (fault : Option AFault) × IsMessageText (names_of names.now) (ToShow look) at message.now t fault)
         (λ t. S.breaks out.old t out.new)) }
 {
     let mut walk = ItemWalk::new(alloc, message);
+    let mut reach = Reach {
+        secret: 0,
+        asked: 0,
+    };
     'items: loop {
         match walk.next()? {
-            Step::Item(item) => push_line(out, names, values, message, &item)?,
+            Step::Item(item) => {
+                reach = reach_after(names, &look, reach, &item);
+                push_item(out, names, &look, reach, at, message, &item)?;
+            }
             Step::End(fault) => return Ok(fault),
         }
     }

@@ -126,7 +126,7 @@ pub fn print_all<S: TextSink, A: Allocator + Copy>(
     let mut at = 0;
     'messages: while at < bytes.len() {
         let message = message_at(bytes, at);
-        if let Some(fault) = push_message(alloc, out, names, task, message)? {
+        if let Some(fault) = push_message(alloc, out, names, task, at, message)? {
             let offset = at + fault.offset;
             let tag = tag_there(bytes, offset);
             let wrong = Wrong::Malformed(fault.kind);

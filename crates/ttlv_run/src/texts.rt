@@ -1,12 +1,12 @@
 //! What is printed of one message.
 
-ghost use Rattle.std.specs.Prelude.{◌≡◌, ◌++◌, ◌∷◌, [], length, Option, IfOk, OnOk, OnErr};
+ghost use Rattle.std.specs.Prelude.{◌≡◌, ◌<◌, ◌+◌, ◌^◌, ◌++◌, ◌∷◌, [], length, Option, IfOk, OnOk, OnErr};
 ghost use Rattle.hex.specs.Hex.{encode_upper};
 ghost use Rattle.kmip_ttlv_items.specs.declared.found.Fault.{Fault as AFault};
 ghost use Rattle.kmip_ttlv_util.specs.Diagnostics.{hostile};
 ghost use Rattle.kmip_ttlv_util.specs.Pieces.{SomeText};
 ghost use Rattle.kmip_ttlv_util.specs.Traces.{trace};
-ghost use Rattle.ttlv_run.specs.Texts.{names_of, Adds};
+ghost use Rattle.ttlv_run.specs.Texts.{names_of, IsMessageText};
 
 use crate::job::{Names, Task};
 use crate::lines::push_lines;
@@ -41,8 +41,8 @@ fn push_hexadecimal<S: TextSink>(out: &mut S, message: &[u8]) -> Result<(), S::E
     out.push_str("\n")
 }
 
-/// Adds what a task prints of a message, and gives its first fault; what is wrong with it comes up to
-/// there.
+/// Adds what a task prints of a message, which begins at an offset among the bytes of all, and gives its first fault; its
+/// lines come up to there.
 ///
 /// It fails where the sink fails and when out of memory; a beginning of the text was added then.
 pub fn push_message<S: TextSink, A: Allocator + Copy>(
@@ -50,17 +50,19 @@ pub fn push_message<S: TextSink, A: Allocator + Copy>(
     out: &mut S,
     names: &Names<'_, A>,
     task: Task<'_>,
+    at: usize,
     message: &[u8],
 ) -> Result<Option<Fault>, S::Error>
+    requires { at + length message.now < 2 ^ 64 }
     ensures ok { IfOk result (λ fault. SomeText
-        (λ t. Adds (names_of names.now) task.entry message.now [] t fault)
+        (λ t. IsMessageText (names_of names.now) task.entry at message.now t fault)
         (λ t. S.adds out.old t out.new)) }
     ensures err { OnErr result (SomeText
-        (λ t. (fault : Option AFault) × Adds (names_of names.now) task.entry message.now [] t fault)
+        (λ t. (fault : Option AFault) × IsMessageText (names_of names.now) task.entry at message.now t fault)
         (λ t. S.breaks out.old t out.new)) }
 {
     match task {
-        Task::Show { values } => return push_lines(alloc, out, names, values, message),
+        Task::Show { look } => return push_lines(alloc, out, names, look, at, message),
         Task::Diagnose { closed, prefix } => push_diagnostic(alloc, out, closed, prefix, message)?,
         Task::Hexadecimal => push_hexadecimal(out, message)?,
         Task::Check { .. } => {}

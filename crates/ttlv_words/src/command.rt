@@ -1,5 +1,6 @@
 //! The commands and their options.
 
+use clap::builder::ValueParser;
 use clap::{Arg, ArgAction, Command};
 use std::alloc::{AllocError, Global};
 
@@ -62,11 +63,48 @@ fn names<'w>(alloc: Global) -> Arg<'w> {
         .help("A file with further names of tags, as `420001 Activation Date`, a line for each")
 }
 
+fn offsets<'w>(alloc: Global) -> Arg<'w> {
+    Arg::new(alloc, "offsets")
+        .short('o')
+        .long("offsets")
+        .action(ArgAction::SetTrue)
+        .help("Prints the offset of each item, in bytes, in front of its line")
+}
+
+fn width<'w>(alloc: Global) -> Arg<'w> {
+    Arg::new(alloc, "width")
+        .long("width")
+        .value_name("BYTES")
+        .value_parser(ValueParser::unsigned(0, u64::MAX))
+        .help("The most bytes that are printed of a byte string")
+}
+
+fn tag<'w>(alloc: Global) -> Arg<'w> {
+    Arg::new(alloc, "tag").long("tag").value_name("NAME").help(
+        "Prints only the items of this tag, with what is in them: its name, or six hexadecimal digits",
+    )
+}
+
+fn color<'w>(alloc: Global) -> Arg<'w> {
+    Arg::new(alloc, "color")
+        .long("color")
+        .value_name("WHEN")
+        .default_value("auto")
+        .value_parser(["always", "never", "auto"].as_slice())
+        .help("Whether lines are coloured; auto: on a terminal, unless NO_COLOR is set")
+}
+
 fn show<'w>(alloc: Global) -> Result<Command<'w>, AllocError> {
     let redact = Arg::new(alloc, "redact")
         .long("redact")
-        .action(ArgAction::SetTrue)
-        .help("Hides all values but those of enumerations");
+        .value_name("WHAT")
+        .num_args(0..=1)
+        .require_equals(true)
+        .default_missing_value("all")
+        .value_parser(["all", "keys"].as_slice())
+        .help(
+            "Hides all values but those of enumerations, or those of keys, passwords and credentials alone",
+        );
     let raw = Arg::new(alloc, "raw")
         .long("raw")
         .action(ArgAction::SetTrue)
@@ -75,6 +113,10 @@ fn show<'w>(alloc: Global) -> Result<Command<'w>, AllocError> {
         .about("Prints a readable line for each item; control characters in texts are escaped")
         .arg(redact)?
         .arg(raw)?
+        .arg(offsets(alloc))?
+        .arg(width(alloc))?
+        .arg(tag(alloc))?
+        .arg(color(alloc))?
         .arg(names(alloc))?
         .arg(input(alloc))?
         .arg(files(alloc))

@@ -7,4 +7,4 @@
 mod command;
 mod request;
 
-pub use request::{Request, request_of};
+pub use request::{Color, Request, request_of};

@@ -3,7 +3,18 @@
 use crate::command::program;
 use clap::{ArgMatches, Error};
 use std::alloc::{AllocError, Global};
-use ttlv_run::{Asked, Encoding, Task, Values};
+use ttlv_run::{Asked, Encoding, Look, Task, Values};
+
+/// When lines are coloured.
+#[derive(Clone, Copy, Debug, PartialEq, Eq)]
+pub enum Color {
+    /// Always.
+    Always,
+    /// Never.
+    Never,
+    /// Where the output is a terminal, and no colours are wanted nowhere.
+    Auto,
+}
 
 /// What the program is to do.
 #[derive(Drop)]
@@ -12,6 +23,10 @@ pub struct Request<'w> {
     pub asked: Asked<'w>,
     /// The file with further names of tags, where there is one.
     pub names: Option<&'w str>,
+    /// The tag whose items alone are shown, by its name or its hexadecimal digits.
+    pub tag: Option<&'w str>,
+    /// When lines are coloured.
+    pub color: Color,
     /// The files to be read; none for standard input.
     pub files: Vec<&'w str>,
 }
@@ -38,7 +53,7 @@ fn prefix_of<'w>(matches: &ArgMatches<'w>) -> &'w str {
 
 // Where both are asked for, values are hidden.
 fn values_of(matches: &ArgMatches<'_>) -> Values {
-    if matches.get_flag("redact") {
+    if matches.get_str("redact") == Some("all") {
         Values::Hidden
     } else if matches.get_flag("raw") {
         Values::Raw
@@ -47,20 +62,39 @@ fn values_of(matches: &ArgMatches<'_>) -> Values {
     }
 }
 
+// Colours and the tag are not known before the names and the terminal are.
+fn look_of(matches: &ArgMatches<'_>) -> Look {
+    Look {
+        values: values_of(matches),
+        secrets_hidden: matches.get_str("redact") == Some("keys"),
+        offsets: matches.get_flag("offsets"),
+        width: matches.get_one("width"),
+        colored: false,
+        only: None,
+    }
+}
+
+fn color_of(matches: &ArgMatches<'_>) -> Color {
+    match matches.get_str("color") {
+        Some("always") => Color::Always,
+        Some("never") => Color::Never,
+        _ => Color::Auto,
+    }
+}
+
 fn task_of<'w>(command: &str, matches: &ArgMatches<'w>) -> Task<'w> {
     match command {
         "show" => Task::Show {
-            values: values_of(matches),
+            look: look_of(matches),
         },
         "diag" => Task::Diagnose {
             closed: matches.get_flag("closed"),
             prefix: prefix_of(matches),
         },
         "hex" => Task::Hexadecimal,
-        "check" => Task::Check {
-            kmip: matches.get_flag("kmip"),
+        _ => Task::Check {
+            kmip: command == "check" && matches.get_flag("kmip"),
         },
-        _ => Task::Check { kmip: false },
     }
 }
 
@@ -94,6 +128,8 @@ fn request_in<'w>(
     Ok(Request {
         asked,
         names: matches.get_str("names"),
+        tag: matches.get_str("tag"),
+        color: color_of(matches),
         files: files_of(alloc, matches)?,
     })
 }

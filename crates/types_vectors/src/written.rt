@@ -129,8 +129,11 @@ fn is_put(room: usize) -> bool {
         return false;
     };
     let written = write_into(&made(), &VALUES, lent) == Ok(40);
-    let filled = if room < 40 { 0 } else { 40 };
-    written && out[..filled] == VERSION[..filled] && out[filled..] == [7; 64][filled..]
+    let mut wanted = [7; 64];
+    if 40 <= room {
+        wanted[..40].copy_from_slice(&VERSION);
+    }
+    written && out == wanted
 }
 
 #[test]
@@ -166,13 +169,13 @@ fn is_nested(alloc: Global) -> bool {
         return false;
     };
     let mut holds = out.len() == 8_000;
-    for (index, header) in out.as_slice().chunks(8).enumerate() {
+    let mut wanted: u32 = 8_000;
+    for header in out.as_slice().chunks(8) {
+        wanted = wanted.saturating_sub(8);
         let [_, _, _, typ, a, b, c, d] = header else {
             return false;
         };
-        holds = holds
-            && *typ == 1
-            && u32::from_be_bytes([*a, *b, *c, *d]) as usize + 8 * index == 7_992;
+        holds = holds && *typ == 1 && u32::from_be_bytes([*a, *b, *c, *d]) == wanted;
     }
     holds
 }

@@ -1,4 +1,4 @@
-use Rattle.std.proofs.Common.{List, ℕ, Option, subst, sym}
+use Rattle.std.proofs.Common.{List, ℕ, Option, subst}
 use Rattle.std.specs.Prelude.{string_bytes}
 use Rattle.kmip_ttlv_c.specs.Buffers.{Offers, offers}
 use Rattle.kmip_ttlv_c.specs.Calls.{IsReadable}

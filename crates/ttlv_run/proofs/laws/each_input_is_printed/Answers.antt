@@ -16,4 +16,4 @@ pub returns-clause-messages : goal.returns-clause-messages
 returns-clause-messages c = λ names task bytes p front h le whole. whole_goes names task bytes (plain bytes h) p front le whole
 
 pub returns-clause-items : goal.returns-clause-items
-returns-clause-items c = λ names values bytes p front q es xs h lt whole met. items_go names values bytes (plain bytes h) p front lt whole q es xs met
+returns-clause-items c = λ names look bytes p front q es xs h lt whole met. items_go names look bytes (plain bytes h) p front lt whole q es xs met

@@ -1,8 +1,8 @@
 use Rattle.std.proofs.Common.{◌≡◌, List}
-use Rattle.std.specs.List.{flat_map}
 use Rattle.kmip_ttlv_items.specs.declared.found.FoundItem.{FoundItem}
 use Rattle.kmip_ttlv_items.specs.Stepping.{Met, left}
-use Rattle.ttlv_run.specs.Texts.{names_of, item_line}
+use Rattle.ttlv_run.specs.Texts.{names_of, no_reach, lines_from}
+use Rattle.ttlv_run.proofs.Completion.{reach_all}
 use Rattle.ttlv_run.proofs.lines.push_lines.Given as goal
 
 abbrev pub invariant-items : goal.invariant-items
@@ -11,7 +11,8 @@ invariant-items g l = record {
   told :
       (found : List FoundItem)
       × Met l.walk found
-      × g.S.TextSink.adds l.fn.out (flat_map (item_line (names_of l.names) l.values l.message) found) l.out;
+      × (l.reach ≡ reach_all (names_of l.names) l.look no_reach found)
+      × g.S.TextSink.adds l.fn.out (lines_from (names_of l.names) l.look l.at l.message no_reach found) l.out;
 }
 
 abbrev pub decreases-items : goal.decreases-items

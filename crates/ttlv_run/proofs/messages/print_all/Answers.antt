@@ -2,9 +2,9 @@ use Rattle.std.proofs.Common.{rules, ◌≡◌, ◌+◌, ◌<◌, ◌++◌, ◌�
 use Rattle.kmip_ttlv_items.specs.declared.found.Fault.{Fault}
 use Rattle.kmip_ttlv_util.specs.Pieces.{SomeText}
 use Rattle.ttlv_run.specs.Messages.{Whole, whole_none, whole_more, message_at, is_taken, malformed, not_taken}
-use Rattle.ttlv_run.specs.Texts.{names_of, Adds}
+use Rattle.ttlv_run.specs.Texts.{names_of, IsMessageText}
 use Rattle.ttlv_run.proofs.Good.{fault_within}
-use Rattle.ttlv_run.proofs.Printing.{err_holds, behind, broken_message}
+use Rattle.ttlv_run.proofs.Printing.{err_holds, broken_message}
 use Rattle.ttlv_run.proofs.messages.print_all.Goals as goal
 
 pub messages-init : goal.messages-init
@@ -14,7 +14,7 @@ pub overflow_add-offset : goal.overflow_add-offset
 overflow_add-offset g c =
     let names = names_of c.args.names.now in
     let message = c.message_at-message.result.now in
-    let adds = subst (λ (o : Option Fault). SomeText (λ t. Adds names c.args.task message [] t o) (λ t. g.S.TextSink.adds c.messages.out t c.push_message.new.out)) c.in-Some.is c.in_ok-fault.ensures.ok in
+    let adds = subst (λ (o : Option Fault). SomeText (λ t. IsMessageText names c.args.task c.messages.at message t o) (λ t. g.S.TextSink.adds c.messages.out t c.push_message.new.out)) c.in-Some.is c.in_ok-fault.ensures.ok in
     let within = fault_within message adds.is.found c.in-Some.fault adds.is.ended in
     omega (arith, within, c.message_at-message.ensures.within)
 
@@ -23,13 +23,13 @@ messages-preserved g c =
     let names = names_of c.args.names.now in
     let message = c.message_at-message.result.now in
     let w = c.messages.invariant.whole in
-    let adds = subst (λ (o : Option Fault). SomeText (λ t. Adds names c.args.task message [] t o) (λ t. g.S.TextSink.adds c.messages.out t c.push_message.new.out)) c.in_default.is c.in_ok-fault.ensures.ok in
-    let here = subst (λ (m : List ℕ). Adds names c.args.task m w.text (w.text ++ adds.text) None) c.message_at-message.ensures.is (behind names c.args.task message w.text adds.text None adds.is) in
+    let adds = subst (λ (o : Option Fault). SomeText (λ t. IsMessageText names c.args.task c.messages.at message t o) (λ t. g.S.TextSink.adds c.messages.out t c.push_message.new.out)) c.in_default.is c.in_ok-fault.ensures.ok in
+    let here = subst (λ (m : List ℕ). IsMessageText names c.args.task c.messages.at m adds.text None) c.message_at-message.ensures.is adds.is in
     let taken : is_taken c.args.task (message_at c.args.bytes.now c.messages.at) ≡ true = ap (is_taken c.args.task) (sym c.message_at-message.ensures.is) ∙ sym c.is_taken.ensures ∙ search rules in
     let at : c.messages.at + length message ≡ c.messages.at + length (message_at c.args.bytes.now c.messages.at) = ap (λ m. c.messages.at + length m) c.message_at-message.ensures.is in
     record {
       within = c.message_at-message.ensures.within;
-      whole = record { text = w.text ++ adds.text; is = whole_more _ _ _ _ w.is c.messages-test.true here taken at; holds = g.met.S.TextSink.adds_both _ _ _ w.text adds.text w.holds adds.holds };
+      whole = record { text = w.text ++ adds.text; is = whole_more _ _ w.text (w.text ++ adds.text) adds.text w.is c.messages-test.true here taken refl at; holds = g.met.S.TextSink.adds_both _ _ _ w.text adds.text w.holds adds.holds };
     }
 
 pub returns-in-Some-clause-ok : goal.returns-in-Some-clause-ok
@@ -38,18 +38,20 @@ returns-in-Some-clause-ok g c =
     let message = c.message_at-message.result.now in
     let w = c.messages.invariant.whole in
     let fault = c.in-Some.fault in
-    let adds = subst (λ (o : Option Fault). SomeText (λ t. Adds names c.args.task message [] t o) (λ t. g.S.TextSink.adds c.messages.out t c.push_message.new.out)) c.in-Some.is c.in_ok-fault.ensures.ok in
-    let here = subst (λ (m : List ℕ). Adds names c.args.task m w.text (w.text ++ adds.text) (Some fault)) c.message_at-message.ensures.is (behind names c.args.task message w.text adds.text (Some fault) adds.is) in
+    let adds = subst (λ (o : Option Fault). SomeText (λ t. IsMessageText names c.args.task c.messages.at message t o) (λ t. g.S.TextSink.adds c.messages.out t c.push_message.new.out)) c.in-Some.is c.in_ok-fault.ensures.ok in
+    let here = subst (λ (m : List ℕ). IsMessageText names c.args.task c.messages.at m adds.text (Some fault)) c.message_at-message.ensures.is adds.is in
     record {
       text = w.text ++ adds.text;
       is = record {
         at = c.messages.at;
         front = w.text;
+        told = adds.text;
         fault = Some fault;
         whole = w.is;
         left = c.messages-test.true;
-        adds = here;
+        tells = here;
         wrong = malformed fault refl refl;
+        is = refl;
         tag = c.tag_there-tag.ensures;
       };
       holds = g.met.S.TextSink.adds_both _ _ _ w.text adds.text w.holds adds.holds;
@@ -61,19 +63,21 @@ returns-then-not-is_taken-clause-ok g c =
     let names = names_of c.args.names.now in
     let message = c.message_at-message.result.now in
     let w = c.messages.invariant.whole in
-    let adds = subst (λ (o : Option Fault). SomeText (λ t. Adds names c.args.task message [] t o) (λ t. g.S.TextSink.adds c.messages.out t c.push_message.new.out)) c.in_default.is c.in_ok-fault.ensures.ok in
-    let here = subst (λ (m : List ℕ). Adds names c.args.task m w.text (w.text ++ adds.text) None) c.message_at-message.ensures.is (behind names c.args.task message w.text adds.text None adds.is) in
+    let adds = subst (λ (o : Option Fault). SomeText (λ t. IsMessageText names c.args.task c.messages.at message t o) (λ t. g.S.TextSink.adds c.messages.out t c.push_message.new.out)) c.in_default.is c.in_ok-fault.ensures.ok in
+    let here = subst (λ (m : List ℕ). IsMessageText names c.args.task c.messages.at m adds.text None) c.message_at-message.ensures.is adds.is in
     let other : is_taken c.args.task (message_at c.args.bytes.now c.messages.at) ≡ false = ap (is_taken c.args.task) (sym c.message_at-message.ensures.is) ∙ sym c.is_taken.ensures ∙ search rules in
     record {
       text = w.text ++ adds.text;
       is = record {
         at = c.messages.at;
         front = w.text;
+        told = adds.text;
         fault = None;
         whole = w.is;
         left = c.messages-test.true;
-        adds = here;
+        tells = here;
         wrong = not_taken other refl refl;
+        is = refl;
         tag = c.tag_there-tag-then-not-is_taken.ensures;
       };
       holds = g.met.S.TextSink.adds_both _ _ _ w.text adds.text w.holds adds.holds;

@@ -17,8 +17,8 @@ returns-in_err-push_diagnostic-in-Diagnose-clause-err g c =
     let plain : (k : ℕ) → get_or m k 0 < 256 = λ k. omega (arith, c.type_inv.message k) in
     let closed = c.in-Diagnose.closed in
     let text = hostile c.in-Diagnose.prefix.now closed (length m) (trace closed m) ++ 10 ∷ [] in
-    let told = told_any names m plain c.args.task text (λ found. ap (λ (task : Task). message_text names task m found) c.in-Diagnose.is) in
-    let broken : SomeText (Told names c.args.task m) (λ t. g.S.TextSink.breaks c.args.out.now t c.push_diagnostic.new.out) = record { text = text; is = told; holds = c.in_err-push_diagnostic-in-Diagnose.ensures.err } in
+    let told = told_any names c.args.at m plain c.args.task text (λ found. ap (λ (task : Task). message_text names task c.args.at m found) c.in-Diagnose.is) in
+    let broken : SomeText (Told names c.args.task c.args.at m) (λ t. g.S.TextSink.breaks c.args.out.now t c.push_diagnostic.new.out) = record { text = text; is = told; holds = c.in_err-push_diagnostic-in-Diagnose.ensures.err } in
     err_holds _ _ broken
 
 pub returns-in_err-push_hexadecimal-in-Hexadecimal-clause-err : goal.returns-in_err-push_hexadecimal-in-Hexadecimal-clause-err
@@ -27,8 +27,8 @@ returns-in_err-push_hexadecimal-in-Hexadecimal-clause-err g c =
     let m = c.args.message.now in
     let plain : (k : ℕ) → get_or m k 0 < 256 = λ k. omega (arith, c.type_inv.message k) in
     let text = encode_upper m ++ 10 ∷ [] in
-    let told = told_any names m plain c.args.task text (λ found. ap (λ (task : Task). message_text names task m found) c.in-Hexadecimal.is) in
-    let broken : SomeText (Told names c.args.task m) (λ t. g.S.TextSink.breaks c.args.out.now t c.push_hexadecimal.new.out) = record { text = text; is = told; holds = c.in_err-push_hexadecimal-in-Hexadecimal.ensures.err } in
+    let told = told_any names c.args.at m plain c.args.task text (λ found. ap (λ (task : Task). message_text names task c.args.at m found) c.in-Hexadecimal.is) in
+    let broken : SomeText (Told names c.args.task c.args.at m) (λ t. g.S.TextSink.breaks c.args.out.now t c.push_hexadecimal.new.out) = record { text = text; is = told; holds = c.in_err-push_hexadecimal-in-Hexadecimal.ensures.err } in
     err_holds _ _ broken
 
 -- out of memory behind the text
@@ -37,46 +37,46 @@ returns-in_err-find_fault-clause-err g c =
     let names = names_of c.args.names.now in
     let m = c.args.message.now in
     let plain : (k : ℕ) → get_or m k 0 < 256 = λ k. omega (arith, c.type_inv.message k) in
-    let added : SomeText (λ t. (found : List FoundItem) → message_text names c.args.task m found ≡ t) (λ t. g.S.TextSink.adds c.args.out.now t c.match-task.out) =
+    let added : SomeText (λ t. (found : List FoundItem) → message_text names c.args.task c.args.at m found ≡ t) (λ t. g.S.TextSink.adds c.args.out.now t c.match-task.out) =
     elim c.match-task.branch [
       | in-Diagnose+in_ok-push_diagnostic-in-Diagnose w ↦ record {
         text = hostile w.in-Diagnose.prefix.now w.in-Diagnose.closed (length m) (trace w.in-Diagnose.closed m) ++ 10 ∷ [];
-        is = λ found. ap (λ (task : Task). message_text names task m found) w.in-Diagnose.is;
+        is = λ found. ap (λ (task : Task). message_text names task c.args.at m found) w.in-Diagnose.is;
         holds = rw w.out-is w.in_ok-push_diagnostic-in-Diagnose.ensures.ok;
       }
       | in-Hexadecimal+in_ok-push_hexadecimal-in-Hexadecimal w ↦ record {
         text = encode_upper m ++ 10 ∷ [];
-        is = λ found. ap (λ (task : Task). message_text names task m found) w.in-Hexadecimal.is;
+        is = λ found. ap (λ (task : Task). message_text names task c.args.at m found) w.in-Hexadecimal.is;
         holds = rw w.out-is w.in_ok-push_hexadecimal-in-Hexadecimal.ensures.ok;
       }
       | in-Check w ↦ record {
         text = [];
-        is = λ found. ap (λ (task : Task). message_text names task m found) w.in-Check.is;
+        is = λ found. ap (λ (task : Task). message_text names task c.args.at m found) w.in-Check.is;
         holds = rw w.out-is (g.met.S.TextSink.adds_none c.args.out.now);
       }
     ] in
-    let broken : SomeText (Told names c.args.task m) (λ t. g.S.TextSink.breaks c.args.out.now t c.match-task.out) = record { text = added.text; is = told_any names m plain c.args.task added.text added.is; holds = g.met.S.TextSink.breaks_after _ _ added.text added.holds } in
+    let broken : SomeText (Told names c.args.task c.args.at m) (λ t. g.S.TextSink.breaks c.args.out.now t c.match-task.out) = record { text = added.text; is = told_any names c.args.at m plain c.args.task added.text added.is; holds = g.met.S.TextSink.breaks_after _ _ added.text added.holds } in
     err_holds _ _ broken
 
 pub returns-clause-ok : goal.returns-clause-ok
 returns-clause-ok g c =
     let names = names_of c.args.names.now in
     let m = c.args.message.now in
-    let added : SomeText (λ t. (found : List FoundItem) → message_text names c.args.task m found ≡ t) (λ t. g.S.TextSink.adds c.args.out.now t c.match-task.out) =
+    let added : SomeText (λ t. (found : List FoundItem) → message_text names c.args.task c.args.at m found ≡ t) (λ t. g.S.TextSink.adds c.args.out.now t c.match-task.out) =
     elim c.match-task.branch [
       | in-Diagnose+in_ok-push_diagnostic-in-Diagnose w ↦ record {
         text = hostile w.in-Diagnose.prefix.now w.in-Diagnose.closed (length m) (trace w.in-Diagnose.closed m) ++ 10 ∷ [];
-        is = λ found. ap (λ (task : Task). message_text names task m found) w.in-Diagnose.is;
+        is = λ found. ap (λ (task : Task). message_text names task c.args.at m found) w.in-Diagnose.is;
         holds = rw w.out-is w.in_ok-push_diagnostic-in-Diagnose.ensures.ok;
       }
       | in-Hexadecimal+in_ok-push_hexadecimal-in-Hexadecimal w ↦ record {
         text = encode_upper m ++ 10 ∷ [];
-        is = λ found. ap (λ (task : Task). message_text names task m found) w.in-Hexadecimal.is;
+        is = λ found. ap (λ (task : Task). message_text names task c.args.at m found) w.in-Hexadecimal.is;
         holds = rw w.out-is w.in_ok-push_hexadecimal-in-Hexadecimal.ensures.ok;
       }
       | in-Check w ↦ record {
         text = [];
-        is = λ found. ap (λ (task : Task). message_text names task m found) w.in-Check.is;
+        is = λ found. ap (λ (task : Task). message_text names task c.args.at m found) w.in-Check.is;
         holds = rw w.out-is (g.met.S.TextSink.adds_none c.args.out.now);
       }
     ] in

@@ -2,7 +2,7 @@ use Rattle.std.proofs.Common.{◌∷◌, ℕ, List, Option, Bor, ap, sym}
 use Rattle.std.specs.Prelude.{codes, option_map}
 use Rattle.kmip_ttlv_util.proofs.Saying.{breaks_same, ok_same, err_same, err_now, ok_then, err_then}
 use Rattle.ttlv_run.specs.Texts.{behind_space}
-use Rattle.ttlv_run.proofs.lines.push_name.Goals as goal
+use Rattle.ttlv_run.proofs.values.push_name.Goals as goal
 
 abbrev shown_name : Option (Bor (List ℕ)) → List ℕ
 shown_name o = behind_space (option_map (λ (s : Bor (List ℕ)). s.now) o)

@@ -1,0 +1,61 @@
+use Rattle.std.proofs.Common.{rules, arith, ◌≡◌, ◌<◌, ◌^◌, ◌++◌, ◌==◌, ◌%◌, ◌/◌, ◌*◌, Bool, [], ℕ, List, Option, ap, sym, refl, ◌∙◌, append_assoc, append-nil}
+use Rattle.std.specs.Prelude.{option_map}
+use Rattle.kmip_ttlv_names.specs.ValueNames.{name_of_value}
+use Rattle.kmip_ttlv_util.proofs.Saying.{adds_same, breaks_same, err_now}
+use Rattle.ttlv_run.specs.Masks.{behind_mark, set_name, still_first, bit_names, list_mask}
+use Rattle.ttlv_run.proofs.Bits.{first_place, bit_small, next_place, none_left}
+use Rattle.ttlv_run.proofs.masks.push_mask.Goals as goal
+
+pub bits-init : goal.bits-init
+unfolding list_mask
+bits-init g c =
+    let small : c.args.mask < 2 ^ 32 = search rules in
+    (first_place c.args.mask small, record { text = []; is = refl; holds = g.met.S.TextSink.adds_none c.args.out.now })
+
+pub bits-preserved : goal.bits-preserved
+bits-preserved g c =
+    let names : ℕ → Option (List ℕ) = λ bit. name_of_value bit c.args.list.now in
+    let n = next_place names c.bits.bit c.bits.rest c.bits.is_first c.bits.invariant.0 c.bits-test.true in
+    let w = c.bits.invariant.1 in
+    let name = option_map (λ s. s.now) c.set_name-name.result in
+    let behind = behind_mark c.bits.is_first name in
+    let set = set_name names c.bits.bit (c.bits.rest % 2 == 1) in
+    let tail = bit_names names n.to.left (c.bits.bit * 2) (c.bits.rest / 2) (still_first c.bits.is_first set) in
+    let same : behind ≡ behind_mark c.bits.is_first set = ap (behind_mark c.bits.is_first) c.set_name-name.ensures in
+    let first_is : c.still_first-is_first.result ≡ still_first c.bits.is_first set = c.still_first-is_first.ensures ∙ ap (still_first c.bits.is_first) c.set_name-name.ensures in
+    let front : list_mask c.args.list.now c.args.mask ≡ (w.text ++ behind) ++ tail =
+    w.is ∙ ap (λ (s : List ℕ). w.text ++ s) n.names_are ∙ ap (λ (s : List ℕ). w.text ++ (s ++ tail)) (sym same) ∙ sym (append_assoc w.text behind tail) in (
+      n.to,
+      record {
+        text = w.text ++ behind;
+        is = front ∙ ap (λ (b : Bool). (w.text ++ behind) ++ bit_names names n.to.left (c.bits.bit * 2) (c.bits.rest / 2) b) (sym first_is);
+        holds = g.met.S.TextSink.adds_both _ _ _ w.text behind w.holds c.in_ok-push_bit.ensures.ok;
+      },
+    )
+
+-- the sink failed in a name, behind which others follow
+pub returns-in_err-push_bit-clause-err : goal.returns-in_err-push_bit-clause-err
+returns-in_err-push_bit-clause-err g c =
+    let names : ℕ → Option (List ℕ) = λ bit. name_of_value bit c.args.list.now in
+    let n = next_place names c.bits.bit c.bits.rest c.bits.is_first c.bits.invariant.0 c.bits-test.true in
+    let w = c.bits.invariant.1 in
+    let name = option_map (λ s. s.now) c.set_name-name.result in
+    let behind = behind_mark c.bits.is_first name in
+    let set = set_name names c.bits.bit (c.bits.rest % 2 == 1) in
+    let tail = bit_names names n.to.left (c.bits.bit * 2) (c.bits.rest / 2) (still_first c.bits.is_first set) in
+    let same : behind ≡ behind_mark c.bits.is_first set = ap (behind_mark c.bits.is_first) c.set_name-name.ensures in
+    let whole : w.text ++ (behind ++ tail) ≡ list_mask c.args.list.now c.args.mask =
+    ap (λ (s : List ℕ). w.text ++ (s ++ tail)) same ∙ ap (λ (s : List ℕ). w.text ++ s) (sym n.names_are) ∙ sym w.is in
+    let first = g.met.S.TextSink.breaks_first _ _ behind tail c.in_err-push_bit.ensures.err in
+    err_now g.S.TextSink.adds g.S.TextSink.breaks _ _ _ _ (breaks_same g.S.TextSink.adds g.S.TextSink.breaks _ _ _ _ (g.met.S.TextSink.breaks_second _ _ _ w.text (behind ++ tail) w.holds first) whole)
+
+-- no bit is left
+pub returns-clause-ok : goal.returns-clause-ok
+returns-clause-ok g c =
+    let names : ℕ → Option (List ℕ) = λ bit. name_of_value bit c.args.list.now in
+    let p = c.bits.invariant.0 in
+    let w = c.bits.invariant.1 in
+    let none : c.bits.rest ≡ 0 = omega (arith, c.bits-test.false) in
+    let all : list_mask c.args.list.now c.args.mask ≡ w.text =
+    w.is ∙ ap (λ (r : ℕ). w.text ++ bit_names names p.left c.bits.bit r c.bits.is_first) none ∙ ap (λ (s : List ℕ). w.text ++ s) (none_left names p.left c.bits.bit c.bits.is_first) ∙ append-nil w.text in
+    adds_same g.S.TextSink.adds g.S.TextSink.breaks _ _ w.text _ w.holds (sym all)

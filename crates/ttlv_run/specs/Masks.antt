@@ -1,0 +1,33 @@
+-- The names of a mask's bits.
+use Rattle.std.specs.Prelude.{ℕ, zero, suc, ◌*◌, ◌/◌, ◌%◌, Bool, true, false, ◌==◌, List, [], ◌∷◌, ◌++◌}
+use Rattle.std.specs.Prelude.{Option, Some, None, if◌then◌else◌, codes}
+use Rattle.kmip_ttlv_names.specs.ValueNames.{name_of_value}
+
+-- what stands in front of a name: a space, or a bar where it isn't the first
+abbrev pub mark : Bool → List ℕ
+mark is_first = if is_first then codes " " else codes " | "
+
+-- a name behind that
+abbrev pub behind_mark : Bool → Option (List ℕ) → List ℕ
+behind_mark is_first None = []
+behind_mark is_first (Some name) = mark is_first ++ name
+
+-- the name of a bit, if it is set
+abbrev pub set_name : (ℕ → Option (List ℕ)) → ℕ → Bool → Option (List ℕ)
+set_name names bit is_set = if is_set then names bit else None
+
+-- the next name is the first, where one more was due
+abbrev pub still_first : Bool → Option (List ℕ) → Bool
+still_first is_first None = is_first
+still_first is_first (Some name) = false
+
+-- the names of the lowest bits of a number, the first of which stands for `bit`: as many bits as the first number
+abbrev pub bit_names : (ℕ → Option (List ℕ)) → ℕ → ℕ → ℕ → Bool → List ℕ
+bit_names names zero bit rest is_first = []
+bit_names names (suc n) bit rest is_first =
+    behind_mark is_first (set_name names bit (rest % 2 == 1))
+    ++ bit_names names n (bit * 2) (rest / 2) (still_first is_first (set_name names bit (rest % 2 == 1)))
+
+-- the names that a list gives to the 32 bits of a mask that are set, from the lowest on
+unfoldable pub list_mask : List ℕ → ℕ → List ℕ
+list_mask list mask = bit_names (λ bit. name_of_value bit list) 32 1 mask true

@@ -1,0 +1,196 @@
+//! The value of a leaf in a readable line.
+
+ghost use Rattle.std.specs.Prelude.{◌≡◌, ◌≢◌, ◌++◌, true, Option, OnOk, OnErr, option_map};
+ghost use Rattle.std.specs.Fmt.{decimal};
+ghost use Rattle.std.specs.Int.{w32, w64, from_be_bytes};
+ghost use Rattle.kmip_ttlv_types.specs.declared.typ.TtlvType.TheVariants.{Structure as TheStructure};
+ghost use Rattle.kmip_ttlv_types.specs.declared.typ.TtlvType.TheVariants.{Enumeration as TheEnumeration};
+ghost use Rattle.kmip_ttlv_types.specs.declared.typ.TtlvType.TheVariants.{Integer as AnInteger};
+ghost use Rattle.kmip_ttlv_types.specs.declared.typ.TtlvType.TheVariants.{DateTime as ADateTime};
+ghost use Rattle.kmip_ttlv_types.specs.Leaves.{is_valid};
+ghost use Rattle.kmip_ttlv_util.specs.Pretty.{value_shown};
+ghost use Rattle.kmip_ttlv_util.specs.TagNames.{name_in};
+ghost use Rattle.ttlv_run.specs.Dates.{date_shown};
+ghost use Rattle.ttlv_run.specs.Texts.{names_of, value_in, mask_in, behind_space, count_shown, bytes_shown, shown};
+
+use crate::dates::push_date;
+use crate::escape::push_escaped;
+use crate::job::{Names, Values};
+use crate::masks::push_mask;
+use itoa::Buffer;
+use kmip_ttlv_items::FoundItem;
+use kmip_ttlv_names::value_name;
+use kmip_ttlv_types::{TtlvTag, TtlvType};
+use kmip_ttlv_util::{TextSink, push_value};
+use std::alloc::Allocator;
+
+// The name of an enumeration's value, where there is one.
+fn value_name_of<'n, A: Allocator>(
+    names: &Names<'n, A>,
+    tag: TtlvTag,
+    value: u32,
+) -> Option<&'n str>
+    ensures { option_map (λ s. s.now) result ≡ value_in (name_in names.now.values tag) value }
+{
+    match names.values.get(&tag).copied() {
+        Some(list) => value_name(list, value),
+        None => None,
+    }
+}
+
+// Adds a name behind a space, where there is one.
+fn push_name<S: TextSink>(out: &mut S, name: Option<&str>) -> Result<(), S::Error>
+    ensures ok { OnOk result (S.adds out.old (behind_space (option_map (λ s. s.now) name.entry)) out.new) }
+    ensures err { OnErr result (S.breaks out.old (behind_space (option_map (λ s. s.now) name.entry)) out.new) }
+{
+    match name {
+        Some(name) => {
+            out.push_str(" ")?;
+            out.push_str(name)
+        }
+        None => Ok(()),
+    }
+}
+
+// Adds the value of an enumeration, with its name where it has one.
+fn push_enumeration<S: TextSink, A: Allocator>(
+    out: &mut S,
+    names: &Names<'_, A>,
+    tag: TtlvTag,
+    content: &[u8],
+) -> Result<(), S::Error>
+    requires { is_valid TheEnumeration content.now ≡ true }
+    ensures ok { OnOk result (S.adds out.old (value_shown TheEnumeration content.now
+        ++ behind_space ((names_of names.now).values tag (from_be_bytes w32 content.now))) out.new) }
+    ensures err { OnErr result (S.breaks out.old (value_shown TheEnumeration content.now
+        ++ behind_space ((names_of names.now).values tag (from_be_bytes w32 content.now))) out.new) }
+{
+    push_value(out, TtlvType::Enumeration, content)?;
+    let value = u32::from_be_bytes([content[0], content[1], content[2], content[3]]);
+    push_name(out, value_name_of(names, tag, value))
+}
+
+// Adds the names of a mask's bits, where the tag is that of a mask.
+fn push_bits<S: TextSink, A: Allocator>(
+    out: &mut S,
+    names: &Names<'_, A>,
+    tag: TtlvTag,
+    mask: u32,
+) -> Result<(), S::Error>
+    ensures ok { OnOk result (S.adds out.old (mask_in (name_in names.now.masks tag) mask) out.new) }
+    ensures err { OnErr result (S.breaks out.old (mask_in (name_in names.now.masks tag) mask) out.new) }
+{
+    match names.masks.get(&tag).copied() {
+        Some(list) => push_mask(out, list, mask),
+        None => Ok(()),
+    }
+}
+
+// Adds the value of an integer, with the names of its bits where it is a mask.
+fn push_integer<S: TextSink, A: Allocator>(
+    out: &mut S,
+    names: &Names<'_, A>,
+    tag: TtlvTag,
+    content: &[u8],
+) -> Result<(), S::Error>
+    requires { is_valid AnInteger content.now ≡ true }
+    ensures ok { OnOk result (S.adds out.old (value_shown AnInteger content.now
+        ++ (names_of names.now).masks tag (from_be_bytes w32 content.now)) out.new) }
+    ensures err { OnErr result (S.breaks out.old (value_shown AnInteger content.now
+        ++ (names_of names.now).masks tag (from_be_bytes w32 content.now)) out.new) }
+{
+    push_value(out, TtlvType::Integer, content)?;
+    let mask = u32::from_be_bytes([content[0], content[1], content[2], content[3]]);
+    push_bits(out, names, tag, mask)
+}
+
+// The number of eight bytes.
+fn number_of(content: &[u8]) -> u64
+    requires { is_valid ADateTime content.now ≡ true }
+    ensures { result ≡ from_be_bytes w64 content.now }
+{
+    u64::from_be_bytes([
+        content[0], content[1], content[2], content[3], content[4], content[5], content[6],
+        content[7],
+    ])
+}
+
+// Adds the value of a date, and the date.
+fn push_date_time<S: TextSink>(out: &mut S, content: &[u8]) -> Result<(), S::Error>
+    requires { is_valid ADateTime content.now ≡ true }
+    ensures ok { OnOk result (S.adds out.old
+        (value_shown ADateTime content.now ++ date_shown (from_be_bytes w64 content.now)) out.new) }
+    ensures err { OnErr result (S.breaks out.old
+        (value_shown ADateTime content.now ++ date_shown (from_be_bytes w64 content.now)) out.new) }
+{
+    push_value(out, TtlvType::DateTime, content)?;
+    push_date(out, number_of(content))
+}
+
+// Adds a number.
+fn push_decimal<S: TextSink>(out: &mut S, number: usize) -> Result<(), S::Error>
+    ensures ok { OnOk result (S.adds out.old (decimal number) out.new) }
+    ensures err { OnErr result (S.breaks out.old (decimal number) out.new) }
+{
+    out.push_str(Buffer::new().format(number))
+}
+
+// Adds how many bytes a string has of which a part was printed.
+fn push_count<S: TextSink>(out: &mut S, count: usize) -> Result<(), S::Error>
+    ensures ok { OnOk result (S.adds out.old (count_shown count) out.new) }
+    ensures err { OnErr result (S.breaks out.old (count_shown count) out.new) }
+{
+    out.push_str(".. (")?;
+    push_decimal(out, count)?;
+    out.push_str(" bytes)")
+}
+
+// Adds a string of bytes, as many as may be printed.
+fn push_bytes<S: TextSink>(
+    out: &mut S,
+    width: Option<usize>,
+    content: &[u8],
+) -> Result<(), S::Error>
+    ensures ok { OnOk result (S.adds out.old (bytes_shown width content.now) out.new) }
+    ensures err { OnErr result (S.breaks out.old (bytes_shown width content.now) out.new) }
+{
+    let Some(width) = width else {
+        return push_value(out, TtlvType::ByteString, content);
+    };
+    if content.len() <= width {
+        return push_value(out, TtlvType::ByteString, content);
+    }
+    push_value(out, TtlvType::ByteString, &content[..width])?;
+    push_count(out, content.len())
+}
+
+/// Adds the value of a leaf, if it isn't hidden; a text escaped, if it isn't to be raw, and a string of bytes as far as
+/// `width` allows.
+///
+/// It fails where the sink fails.
+#[tactic(auto, unfolding(crate::specs::Texts::shown))]
+pub fn push_shown<S: TextSink, A: Allocator>(
+    out: &mut S,
+    names: &Names<'_, A>,
+    values: Values,
+    width: Option<usize>,
+    item: &FoundItem,
+    content: &[u8],
+) -> Result<(), S::Error>
+    requires { item.now.typ ≢ TheStructure → is_valid item.now.typ content.now ≡ true }
+    ensures ok { OnOk result (S.adds out.old (shown (names_of names.now) values width item.now.tag
+        item.now.typ content.now) out.new) }
+    ensures err { OnErr result (S.breaks out.old
+        (shown (names_of names.now) values width item.now.tag item.now.typ content.now) out.new) }
+{
+    match item.typ {
+        TtlvType::Structure => Ok(()),
+        TtlvType::Enumeration => push_enumeration(out, names, item.tag, content),
+        _ if values == Values::Hidden => out.push_str("<redacted>"),
+        TtlvType::TextString if values == Values::Escaped => push_escaped(out, content),
+        TtlvType::Integer => push_integer(out, names, item.tag, content),
+        TtlvType::DateTime => push_date_time(out, content),
+        TtlvType::ByteString => push_bytes(out, width, content),
+        _ => push_value(out, item.typ, content),
+    }
+}
