@@ -3,9 +3,9 @@
 use crate::skimmed::Skimmed;
 use kmip_ttlv::items::find_fault;
 use kmip_ttlv::{Config, PrettyPrinter, from_reader, from_slice};
+use kmip_ttlv_memory::BoundedAllocator;
 use reading_vectors::parts::Part;
 use reading_vectors::run::Run;
-use kmip_ttlv_memory::BoundedAllocator;
 use std::alloc::Global;
 use std::io::{self, Eprint};
 use std::time::{Clock, Instant};
