@@ -1,7 +1,7 @@
-//! Reads a TTLV message as hexadecimal text, or a diagnostic, from standard input, and prints a
-//! text of it.
+//! Reads a TTLV message in hexadecimal, or a diagnostic, from standard input, and prints a text
+//! of it.
 //!
-//! Here the words and the streams of the process are handed to `hex_to_txt_run`, which does the rest
+//! This crate passes the process's arguments and streams to `hex_to_txt_run`, which does the rest
 //! over any reader and any writers.
 #![tactic(auto)]
 
@@ -12,7 +12,7 @@ use std::process::ExitCode;
 use std::rt::Env;
 use std::{env, io};
 
-// The words after the program's name.
+// The arguments after the program's name.
 fn words(rt: &(impl Env + Alloc<A = Global>)) -> io::Result<Vec<String>> {
     let mut words = Vec::new(rt.alloc());
     for word in env::args(rt)?.skip(1) {
@@ -32,7 +32,7 @@ fn main(rt: HostRuntime) -> ExitCode {
             let _ = errors.write_all(b"out of memory\n");
             return ExitCode::from(1);
         }
-        // A word that is no text is unknown.
+        // An argument that is not UTF-8 is unknown.
         Err(_) => Vec::new(alloc),
     };
     ExitCode::from(run(

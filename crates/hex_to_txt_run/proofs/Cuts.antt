@@ -1,4 +1,4 @@
--- Bytes without the line feeds and carriage returns at their end.
+-- Bytes without trailing line feeds and carriage returns.
 use Rattle.std.proofs.Common.{◌≡◌, ℕ, ◌-◌, ◌<◌, ◌≤◌, false, List, length, take, drop, slice_index, sym, ap, ◌∙◌, arith, length-take}
 use Rattle.std.specs.List.{AllPass}
 use Rattle.std.proofs.lemmas.List.{take-append-drop, get_or-take}

@@ -8,7 +8,7 @@ use Rattle.hex_to_txt_run.specs.Tasks.{Task, pair_task, readable_task, diagnosti
 use Rattle.hex_to_txt_run.specs.TaskTexts.{TaskPrints, TaskRefuses}
 use Rattle.hex_to_txt_run.specs.Runs.{Streams, Fails, Failed, HasNoText, Printed, Responds}
 
--- whether the line was written to its end or not, a beginning of it was
+-- whether the line was written in full or not, a beginning of it was
 told : {T E : Type 0} (a b : Option (List ℕ)) (bytes : List ℕ) (r : Result T E) → OnOk r (Appends a b bytes) → OnErr r (AppendsFront a b bytes) → AppendsFront a b bytes
 told a b bytes (Ok x) all front = record { count = length bytes; within = le_refl _; appends = subst (Appends a b) (sym (take_all (length bytes) bytes (le_refl _))) all }
 told a b bytes (Err e) all front = front
@@ -16,7 +16,7 @@ told a b bytes (Err e) all front = front
 pub failed : {T E : Type 0} (task : Option Task) (s : Streams) (why : Reason) (a b : Option (List ℕ)) (bytes : List ℕ) (r : Result T E) → Fails task s why → bytes ≡ line_of why → OnOk r (Appends a b bytes) → OnErr r (AppendsFront a b bytes) → Failed task s a b
 failed task s why a b bytes r fails is all front = record { why = why; fails = fails; told = subst (AppendsFront a b) is (told a b bytes r all front) }
 
--- the input that was taken has a text
+-- the input that was read has a text
 no_text : (task : Task) (old new : Option (List ℕ)) (input text : List ℕ) → TakesAll old new input → TaskPrints task input text → HasNoText (Some task) old → ⊥
 no_text task None new input text taken prints none = none
 no_text task (Some known) None input text taken prints none = taken.taken
@@ -25,7 +25,7 @@ no_text task (Some known) (Some left) input text taken prints none =
     let P : List ℕ → Type 0 = λ l. TaskPrints task l text in
     none text (subst P (sym whole) prints)
 
--- where no text is the input's, the output stays as it was
+-- if the input has no text, the output is unchanged
 pub output_kept : (task : Option Task) (s : Streams) (why : Reason) → Fails task s why → HasNoText task s.input → Keeps s.output s.output_now
 output_kept None s unknown_words fails none = fails.1
 output_kept None s unreadable_input fails none = absurd fails
@@ -42,12 +42,12 @@ output_kept (Some task) s (refused_message line) fails none = fails.1
 output_kept (Some task) s unwritable_output fails none = absurd (no_text task s.input s.input_left fails.input fails.text fails.taken fails.prints none)
 output_kept (Some task) s refused_memory fails none = fails
 
--- where a text was printed, some text is the input's
+-- if a text was printed, the input has a text
 pub printed_some : (task : Option Task) (s : Streams) → Printed task s → HasNoText task s.input → ⊥
 printed_some None s printed none = printed.prints
 printed_some (Some task) s printed none = no_text task s.input s.input_left printed.input printed.text printed.taken printed.prints none
 
--- the input that was taken has no text, and the output stays as it was
+-- the input that was read has no text, and the output is unchanged
 pub unprinted : (asked : Option Task) (task : Task) (s : Streams) (why : Reason) (input : List ℕ) → Some task ≡ asked → TakesAll s.input s.input_left input → TaskRefuses task input why → Keeps s.output s.output_now → Fails asked s why
 unprinted asked task s why input is taken refuses kept = subst (λ (a : Option Task). Fails a s why) is (by_reason task why refuses)
   where
@@ -69,7 +69,7 @@ unprinted asked task s why input is taken refuses kept = subst (λ (a : Option T
     by_reason (diagnostic_task closed prefix) unwritable_output refuses = absurd refuses
     by_reason (read_back_task prefix) unwritable_output refuses = absurd refuses
 
--- the same, where this is answered
+-- the same, if this is the result
 pub answered : {T E : Type 0} (reason : E → Reason) (asked : Option Task) (task : Task) (s : Streams) (e y : E) (input : List ℕ) (r : Result T E) → r ≡ Err y → y ≡ e → Some task ≡ asked → TakesAll s.input s.input_left input → TaskRefuses task input (reason e) → Keeps s.output s.output_now → Responds reason asked s r
 answered {T} {E} reason asked task s e y input r is same task_is taken refuses kept =
     let fails = unprinted asked task s (reason e) input task_is taken refuses kept in

@@ -1,4 +1,4 @@
--- The item that a pair is written as, and that it fits.
+-- The item that a pair is encoded as, and that it fits.
 use Rattle.std.proofs.Common.{◌≡◌, ℕ, ℤ, List, [], ◌∷◌, Some, None, refl, ap, sym, ◌∙◌, length, append-nil, lit<}
 use Rattle.std.specs.Int.{w32, to_be_bytes}
 use Rattle.kmip_ttlv.specs.declared.types.TtlvType.TheVariants.{Integer}
@@ -19,7 +19,7 @@ the_tree a b ts same =
     let is : pair_tree a b ∷ [] ≡ ts = cc in
     ap bytes_all (sym is) ∙ append-nil _
 
--- a pair is written as its item
+-- a pair is encoded as its item
 pub pair_written : (a b : ℤ) (n : ℕ) (out : List ℕ) → IsWrittenAs (written_pair a b) n out → out ≡ bytes (pair_tree a b)
 unfolding take_tag tag_of number transparent_name some_item
 pair_written a b n out w = w.bytes_are ∙ the_tree a b w.trees w.are
@@ -31,7 +31,7 @@ pair_fits a b = record { each = ((lit< tt, (lit< tt, (lit< tt, tt))), tt); total
 none_refused : (a b : ℤ) → Some (pair_tree a b ∷ []) ≡ None → ⊥
 none_refused a b same = cc
 
--- and refused for want of memory alone
+-- and fails only when out of memory
 pub pair_refused : (a b : ℤ) (kind : Kind) (location : Location) → IsRefusedAs (written_pair a b) origin kind location → kind ≡ out_of_memory
 unfolding take_tag tag_of number transparent_name some_item
 pair_refused a b out_of_memory l h = refl

@@ -26,7 +26,7 @@ two_of d name v is given =
     let G : Value → Type 0 = λ w. Gives pair_form w in
     two v.items (subst G (ap view is ∙ view-Struct name v) given).1
 
--- what the form gives has two fields
+-- data of the form has two fields
 pub are_two : {A : Type 0} (d : Data A) (name : Bor (List ℕ)) (v : Vec (Data A) A) → d ≡ Struct name v → Gives pair_form (view d) → length v.items ≡ 2
 are_two d name v is given = ap length (two_of d name v is given).are
 
@@ -43,7 +43,7 @@ second_is_number d name v x is given at =
     let P : Data _ → Type 0 = λ y. IsI32 (view y) in
     subst P (sym (at ∙ ap (λ ds. slice_index_or ds 1 x) t.are)) t.second_is
 
--- and it is read as the pair of them
+-- and the data is the pair of them
 pub is_read : {A : Type 0} (d : Data A) (name : Bor (List ℕ)) (v : Vec (Data A) A) (x y : Data A) (a b : ℤ) → d ≡ Struct name v → Gives pair_form (view d) → x ≡ slice_index_or v.items 0 x → y ≡ slice_index_or v.items 1 y → view x ≡ i32_value a → view y ≡ i32_value b → view d ≡ read_pair a b
 is_read d name v x y a b is given x_at y_at x_is y_is =
     let t = two_of d name v is given in

@@ -1,4 +1,4 @@
--- The texts of a printer that has no names of tags.
+-- The texts of a printer without names of tags.
 use Rattle.std.proofs.Common.{◌≡◌, ℕ, suc, ◌-◌, Bool, false, List, [], ◌∷◌, ◌++◌, Option, Some, Ok, if◌then◌else◌, length, refl, sym, ap, ◌∙◌, subst, arith, append_assoc, append-nil, length-append, codes}
 use Rattle.std.specs.List.{slice_get}
 use Rattle.std.proofs.lemmas.List.{get_or_push}
@@ -39,7 +39,7 @@ last_is front =
     let long : length (front ++ 10 ∷ []) - 1 ≡ length front = omega (arith, length-append front (10 ∷ [])) in
     ap (slice_get (front ++ 10 ∷ [])) long ∙ slice_get-get_or (front ++ 10 ∷ []) (length front) 0 (omega (arith, length-append front (10 ∷ []))) ∙ ap Some (get_or_push front 10 0 (length front) refl)
 
--- to such a text no line feed is added
+-- no line feed is added to such a text
 ended_line : (text : List ℕ) → EndsLine text → ended text ≡ text
 unfolding EndsLine
 ended_line text (front, is) =

@@ -1,4 +1,4 @@
--- What the refusals of the reader and the writer say of a pair.
+-- What errors of decoding and encoding mean for a pair.
 use Rattle.std.proofs.Common.{◌≡◌, ◌≢◌, ℕ, List, [], ◌++◌, Ok, refl, sym, subst, append-nil}
 use Rattle.kmip_ttlv_base.specs.declared.error.Error.{Error}
 use Rattle.kmip_ttlv_base.specs.declared.error.ErrorKind.{ErrorKind}
@@ -35,7 +35,7 @@ none_begins (MalformedTtlv e) s bytes other h v b = h [] v (on_no_more s bytes v
 none_begins (SerdeError e) s bytes other h v b = h [] v (on_no_more s bytes v b)
 none_begins LengthOverflow s bytes other h v b = h [] v (on_no_more s bytes v b)
 
--- a refusal that is no want of memory says that there is no pair
+-- an error other than out of memory means that there is no pair
 pub no_pair : {A : Type 0} (e : Error A) (input bytes : List ℕ) (why : Reason) → decoded input ≡ Ok bytes → ErrorStands pair_form bytes e → MeansRefused e why → TaskRefuses pair_task input why
 no_pair e input bytes refused_memory decodes refuses means = tt
 no_pair e input bytes (refused_message line) decodes refuses means = (record { bytes = bytes; decodes = decodes; none = none_begins (kind_of e) pair_form bytes means.1 refuses }, means.0)

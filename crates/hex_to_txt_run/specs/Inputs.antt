@@ -1,4 +1,4 @@
--- What was taken from a reader, and the bytes that hexadecimal text stands for.
+-- What was read from a reader, and the bytes that hexadecimal input is decoded as.
 use Rattle.std.specs.Prelude.{◌≡◌, ℕ, ◌-◌, Bool, false, not, ◌==◌, ◌||◌, List, ◌++◌, ◌<◌, length, slice_index, filter}
 use Rattle.std.specs.Prelude.{Option, Result, IsErr}
 use Rattle.std.specs.List.{AllPass}
@@ -8,26 +8,26 @@ use Rattle.hex.specs.Hex.{decode_of}
 use Rattle.hex_to_txt_run.specs.Reasons.{Reason, unreadable_input, not_hexadecimal, refused_memory}
 use Rattle.hex.specs.declared.error.FromHexError.{FromHexError}
 
--- all bytes that a reader had were taken
+-- all bytes that a reader had were read
 pub record TakesAll (old new : Option (List ℕ)) (bytes : List ℕ) : Type 0 where
   pub taken : Consumes old new bytes
   pub ended : IsAtEnd new
 
--- line feeds, carriage returns, spaces, quotes and commas are left out
+-- line feeds, carriage returns, spaces, double quotes and commas are ignored
 abbrev pub is_kept : ℕ → Bool
 is_kept b = not (b == 10 || b == 13 || b == 32 || b == 34 || b == 44)
 
--- the bytes whose hexadecimal digits the input is
+-- the bytes with these hexadecimal digits
 abbrev pub decoded : List ℕ → Result (List ℕ) FromHexError
 decoded input = decode_of (filter is_kept input)
 
--- why an input was not taken
+-- why an input was not read
 abbrev pub IsUnread : Reason → Type 0
 IsUnread unreadable_input = Unit {0}
 IsUnread refused_memory = Unit {0}
 IsUnread _ = ⊥
 
--- why an input stands for no bytes
+-- why an input can't be decoded
 abbrev pub IsUndecoded : List ℕ → Reason → Type 0
 IsUndecoded input not_hexadecimal = IsErr (decoded input)
 IsUndecoded input refused_memory = Unit {0}
@@ -37,19 +37,19 @@ IsUndecoded input _ = ⊥
 abbrev pub is_break : ℕ → Bool
 is_break b = b == 10 || b == 13
 
--- the bytes without the line feeds and carriage returns at their end
+-- the bytes without trailing line feeds and carriage returns
 pub record CutAtEnd (bytes front : List ℕ) : Type 0 where
   pub breaks : List ℕ
   pub parts : bytes ≡ front ++ breaks
   pub are_breaks : AllPass is_break breaks
   pub ends : 0 < length front → is_break (slice_index front (length front - 1)) ≡ false
 
--- but for such an end the bytes are this text
+-- without such an end the bytes are this text
 pub record CutText (bytes text : List ℕ) : Type 0 where
   pub cut : CutAtEnd bytes text
   pub is_text : IsUtf8 text
 
--- but for such an end the bytes are no text
+-- without such an end the bytes are not UTF-8
 pub record CutNoText (bytes : List ℕ) : Type 0 where
   pub front : List ℕ
   pub cut : CutAtEnd bytes front

@@ -1,4 +1,4 @@
--- Why the program ends with status 1, and the line that says so.
+-- Why the program ends with status 1, and the error line.
 use Rattle.std.specs.Prelude.{ℕ, List, codes, string_bytes}
 use Rattle.hex_to_txt_run.specs.declared.refusal.Refusal.{Refusal}
 use Rattle.hex_to_txt_run.specs.declared.refusal.Refusal.TheVariants as held
@@ -13,7 +13,7 @@ pub data Reason : Type 0 where
   unwritable_output : Reason
   refused_memory : Reason
 
--- the line on standard error
+-- the line for standard error
 abbrev pub line_of : Reason → List ℕ
 line_of unknown_words = codes "usage: hex_to_txt flat|text|diag|closed|undiag [prefix]\n"
 line_of unreadable_input = codes "cannot read\n"
@@ -23,7 +23,7 @@ line_of (refused_message line) = line
 line_of unwritable_output = codes "cannot write\n"
 line_of refused_memory = codes "out of memory\n"
 
--- the reason, without where its line lies in memory
+-- the reason, without where its line is in memory
 abbrev pub reason_of : {A : Type 0} → Refusal A → Reason
 reason_of held.UnknownWords = unknown_words
 reason_of held.UnreadableInput = unreadable_input

@@ -1,4 +1,4 @@
--- What a run of the program takes, prints and says.
+-- What a run of the program reads, prints and reports.
 use Rattle.std.specs.Prelude.{ℕ, List, Option, Some, None, Result, Ok, Err}
 use Rattle.std.specs.Io.KnownBytes.{Appends, Keeps}
 use Rattle.kmip_ttlv.specs.Streams.{AppendsFront}
@@ -8,19 +8,19 @@ use Rattle.hex_to_txt_run.specs.Reasons.{line_of}
 use Rattle.hex_to_txt_run.specs.Tasks.{Task}
 use Rattle.hex_to_txt_run.specs.TaskTexts.{TaskPrints, TaskRefuses}
 
--- what the input has and what the output holds, before and after a run, as far as that is known
+-- what the input has and what the output holds, before and after a run, as far as they are known
 pub record Streams : Type 0 where
   pub input : Option (List ℕ)
   pub input_left : Option (List ℕ)
   pub output : Option (List ℕ)
   pub output_now : Option (List ℕ)
 
--- the text that the words ask for
+-- the text that the arguments ask for
 abbrev pub Prints : Option Task → List ℕ → List ℕ → Type 0
 Prints None input text = ⊥
 Prints (Some task) input text = TaskPrints task input text
 
--- the whole input was taken, and exactly its text was appended to the output
+-- the whole input was read, and exactly its text was appended to the output
 pub record Printed (task : Option Task) (s : Streams) : Type 0 where
   pub input : List ℕ
   pub text : List ℕ
@@ -28,13 +28,13 @@ pub record Printed (task : Option Task) (s : Streams) : Type 0 where
   pub prints : Prints task input text
   pub appended : Appends s.output s.output_now text
 
--- the whole input was taken, and this is why it has no text
+-- the whole input was read, and this is why it has no text
 pub record Unprinted (task : Task) (s : Streams) (why : Reason) : Type 0 where
   pub input : List ℕ
   pub taken : TakesAll s.input s.input_left input
   pub refuses : TaskRefuses task input why
 
--- the whole input was taken, and a beginning of its text was appended to the output
+-- the whole input was read, and a beginning of its text was appended to the output
 pub record Unwritten (task : Task) (s : Streams) : Type 0 where
   pub input : List ℕ
   pub text : List ℕ
@@ -42,8 +42,8 @@ pub record Unwritten (task : Task) (s : Streams) : Type 0 where
   pub prints : TaskPrints task input text
   pub appended : AppendsFront s.output s.output_now text
 
--- why a run ends with status 1, and what it did by then: but for an output that can't be written,
--- that stays as it was
+-- why a run ends with status 1, and what it did until then: the output is unchanged, unless it can't be
+-- written
 abbrev pub Fails : Option Task → Streams → Reason → Type 0
 Fails None s unknown_words = Keeps s.input s.input_left × Keeps s.output s.output_now
 Fails None s _ = ⊥
@@ -53,7 +53,7 @@ Fails (Some task) s unwritable_output = Unwritten task s
 Fails (Some task) s refused_memory = Keeps s.output s.output_now
 Fails (Some task) s why = Unprinted task s why × Keeps s.output s.output_now
 
--- what is done for the words: the text is printed, or there is a reason why not
+-- the result for the arguments: the text is printed, or there is a reason why not
 abbrev pub Responds : {T E : Type 0} → (E → Reason) → Option Task → Streams → Result T E → Type 0
 Responds reason task s (Ok x) = Printed task s
 Responds reason task s (Err e) = Fails task s (reason e)
@@ -64,7 +64,7 @@ pub record Failed (task : Option Task) (s : Streams) (errors errors_now : Option
   pub fails : Fails task s why
   pub told : AppendsFront errors errors_now (line_of why)
 
--- no text is the input's
+-- the input has no text
 abbrev pub HasNoText : Option Task → Option (List ℕ) → Type 0
 HasNoText task None = ⊥
 HasNoText task (Some input) = (text : List ℕ) → Prints task input text → ⊥

@@ -18,7 +18,7 @@ use Rattle.hex_to_txt_run.specs.Pair.{pair_form, read_pair, pair_text}
 use Rattle.hex_to_txt_run.specs.Tasks.{Task, pair_task, readable_task, diagnostic_task, read_back_task}
 use Rattle.hex_to_txt_run.specs.Reasons.{Reason, not_hexadecimal, not_utf8, refused_message, refused_memory}
 
--- the input's bytes begin with a pair, whose text this is
+-- the input's bytes begin with a pair, and this is its text
 pub record PrintsPair (input text : List ℕ) : Type 0 where
   pub bytes : List ℕ
   pub first : ℤ
@@ -32,7 +32,7 @@ abbrev pub is_line_feed : Option ℕ → Bool
 is_line_feed None = false
 is_line_feed (Some c) = c == 10
 
--- a text, and a line feed where it doesn't end with one
+-- a text, and a line feed if it doesn't end with one
 abbrev pub ended : List ℕ → List ℕ
 ended text = if is_line_feed (slice_get text (length text - 1)) then text else text ++ 10 ∷ []
 
@@ -42,7 +42,7 @@ pub record IsMessage (closed : Bool) (t : Tree) (bytes : List ℕ) : Type 0 wher
   pub root : IsStructure t
   pub full : closed ≡ false → HasNoEmpty t
 
--- the readable text of the input's bytes, ended by a line feed: of a message its lines, and nothing else
+-- the readable text of the input's bytes, ended by a line feed; for a well-formed message its lines, and nothing else
 pub record PrintsReadable (input text : List ℕ) : Type 0 where
   pub bytes : List ℕ
   pub readable : List ℕ
@@ -51,14 +51,14 @@ pub record PrintsReadable (input text : List ℕ) : Type 0 where
   pub prints : text ≡ ended readable
   pub message : (t : Tree) → IsMessage false t bytes → text ≡ pretty no_names 0 t
 
--- the diagnostic of the input's bytes and a line feed: of a message that of its outline
+-- the diagnostic of the input's bytes and a line feed; for a well-formed message that of its outline
 pub record PrintsDiagnostic (closed : Bool) (prefix input text : List ℕ) : Type 0 where
   pub bytes : List ℕ
   pub decodes : decoded input ≡ Ok bytes
   pub prints : text ≡ hostile prefix closed (length bytes) (trace closed bytes) ++ 10 ∷ []
   pub message : (t : Tree) → IsMessage closed t bytes → text ≡ diag prefix (outline_of t) ++ 10 ∷ []
 
--- the input is a text but for its final line feeds and carriage returns: what this diagnostic is read
+-- the input without trailing line feeds and carriage returns is a text; what this diagnostic is read
 -- back as, and a line feed
 pub record PrintsReadBack (prefix input text : List ℕ) : Type 0 where
   pub diagnostic : List ℕ
@@ -72,12 +72,12 @@ TaskPrints readable_task input text = PrintsReadable input text
 TaskPrints (diagnostic_task closed prefix) input text = PrintsDiagnostic closed prefix input text
 TaskPrints (read_back_task prefix) input text = PrintsReadBack prefix input text
 
--- the line of a refusal, with some words after its beginning
+-- an error line for a message: some words after `refused: `
 pub record IsRefusalLine (line : List ℕ) : Type 0 where
   pub words : List ℕ
   pub is : line ≡ codes "refused: " ++ (words ++ codes "\n")
 
--- a reader's refusal, as a reason: want of memory, or, for another cause, a line
+-- a decoding error as a reason: out of memory, or a line for any other error
 abbrev pub MeansRefused : {A : Type 0} → Error A → Reason → Type 0
 MeansRefused e refused_memory = Unit {0}
 MeansRefused e (refused_message line) = IsRefusalLine line × (kind_of e ≢ OutOfMemory)
@@ -98,7 +98,7 @@ TaskRefuses task input not_hexadecimal = IsErr (decoded input)
 TaskRefuses pair_task input (refused_message line) = HasNoPair input × IsRefusalLine line
 TaskRefuses task input _ = ⊥
 
--- what is answered for an input: its text, or why there is none
+-- the result for an input: its text, or why there is none
 abbrev pub TaskAnswers : {T E : Type 0} → (T → List ℕ) → (E → Reason) → Task → List ℕ → Result T E → Type 0
 TaskAnswers bytes reason task input (Ok text) = TaskPrints task input (bytes text)
 TaskAnswers bytes reason task input (Err e) = TaskRefuses task input (reason e)

@@ -1,17 +1,17 @@
--- What the program's words ask for.
+-- What the program's arguments ask for.
 use Rattle.std.specs.Prelude.{ℕ, Bool, true, false, List, [], ◌∷◌, Option, Some, None, if◌then◌else◌, bytes_eq, codes}
 use Rattle.hex_to_txt_run.specs.declared.task.Task.{Task as TaskHeld}
 use Rattle.hex_to_txt_run.specs.declared.task.Task.TheVariants as held
 
--- to print a pair of numbers; a readable text; a diagnostic, in which empty structures are closed or
--- not, under a prefix of tags; or what a diagnostic under a prefix is read back as
+-- to print a pair of numbers; a readable text; a diagnostic, with empty structures closed or left open,
+-- under a tag prefix; or what a diagnostic under a prefix is read back as
 pub data Task : Type 0 where
   pair_task : Task
   readable_task : Task
   diagnostic_task : (closed : Bool) → (prefix : List ℕ) → Task
   read_back_task : (prefix : List ℕ) → Task
 
--- what a word asks for, under a prefix
+-- the task with this name, under a prefix
 abbrev pub prefixed_task : List ℕ → List ℕ → Option Task
 prefixed_task word prefix =
     if bytes_eq word (codes "text") then Some readable_task else
@@ -19,14 +19,14 @@ prefixed_task word prefix =
     if bytes_eq word (codes "closed") then Some (diagnostic_task true prefix) else
     if bytes_eq word (codes "undiag") then Some (read_back_task prefix) else None
 
--- what the words ask for: `flat` alone, or another word and a prefix, which is empty where it is left out
+-- the task that the arguments ask for: `flat` alone, or another name and a prefix, which is empty if it is left out
 abbrev pub task_of : List (List ℕ) → Option Task
 task_of [] = None
 task_of (word ∷ []) = if bytes_eq word (codes "flat") then Some pair_task else prefixed_task word []
 task_of (word ∷ prefix ∷ []) = prefixed_task word prefix
 task_of (word ∷ prefix ∷ further ∷ rest) = None
 
--- a task, without where its prefix lies in memory
+-- a task, without where its prefix is in memory
 abbrev pub seen_task : TaskHeld → Task
 seen_task held.Flat = pair_task
 seen_task held.Text = readable_task

@@ -1,4 +1,4 @@
-//! The program's input: all bytes of a reader, and what they stand for.
+//! The program's input: all bytes of a reader, and their decoding.
 
 ghost use Rattle.std.specs.Prelude.{◌≡◌, ◌≤◌, ◌<◌, ◌+◌, length, take, drop, Ok, IfSome, IfNone, IfOk, IfErr, OnOk};
 ghost use Rattle.std.specs.Prelude.{OnErr, filter, vec_len};
@@ -14,7 +14,7 @@ use std::alloc::{AllocError, Allocator};
 use std::io;
 use std::io::{ErrorKind, Read};
 
-/// All bytes of a reader. An interrupted read is tried again.
+/// Reads all bytes of a reader. Interrupted reads are retried.
 pub fn read_all<A: Allocator, R: Read>(alloc: A, input: &mut R) -> Result<Vec<u8, A>, Refusal<A>>
     ensures ok { IfOk result (λ all. TakesAll (R.remaining input.old) (R.remaining input.new) all.items) }
     ensures err { IfErr result (λ e. IsUnread (reason_of e)) }
@@ -39,8 +39,8 @@ fn kept_bytes<A: Allocator>(alloc: A, input: &[u8]) -> Result<Vec<u8, A>, AllocE
     input.iter().copied().filter(|b| is_kept(*b)).collect(alloc)
 }
 
-/// The bytes whose hexadecimal digits, of either case, the input is; line feeds, carriage returns,
-/// spaces, quotes and commas are left out.
+/// Decodes hexadecimal input, with digits of either case; line feeds, carriage returns, spaces,
+/// double quotes and commas are ignored.
 pub fn decode<A: Allocator + Copy>(alloc: A, input: &[u8]) -> Result<Vec<u8, A>, Refusal<A>>
     ensures ok { IfOk result (λ bytes. decoded input.now ≡ Ok bytes.items) }
     ensures err { IfErr result (λ e. IsUndecoded input.now (reason_of e)) }
@@ -59,7 +59,7 @@ fn is_break(b: u8) -> bool
     b == 10 || b == 13
 }
 
-// The bytes without the line feeds and carriage returns at their end.
+// The bytes without trailing line feeds and carriage returns.
 fn cut_at_end(bytes: &[u8]) -> &[u8]
     ensures { CutAtEnd bytes.now result.now }
 {
@@ -70,8 +70,8 @@ fn cut_at_end(bytes: &[u8]) -> &[u8]
     &bytes[..end]
 }
 
-/// The input as a text, without the line feeds and carriage returns at its end; none where that is
-/// not UTF-8.
+/// The input as a text, without trailing line feeds and carriage returns; none if that is not
+/// UTF-8.
 pub fn text_in(input: &[u8]) -> Option<&str>
     ensures some { IfSome result (λ text. CutText input.now text.now) }
     ensures none { IfNone result (CutNoText input.now) }

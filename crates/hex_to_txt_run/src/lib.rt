@@ -1,9 +1,9 @@
-//! What the program `hex_to_txt` does, over any reader and any writers: it reads a TTLV message as
-//! hexadecimal text, or a diagnostic, and prints a text of it.
+//! The program `hex_to_txt`, over any reader and any writers: it reads a TTLV message in hexadecimal,
+//! or a diagnostic, and prints a text of it.
 //!
-//! `run` is the entry; its words say what is printed. `task` reads them, `input` takes the input,
-//! `texts` makes the text, and `refusal` has the reasons for status 1. `pair` is the type that `flat`
-//! reads and writes, which shows how a user's type is made.
+//! `run` is the entry point. `task` parses the arguments, `input` reads the input, `texts` makes the
+//! text, and `refusal` has the errors for status 1. `pair` is the type that `flat` decodes and
+//! encodes, an example of a user's type.
 #![tactic(auto)]
 
 mod input;

@@ -1,4 +1,4 @@
-//! The type that `flat` reads and writes.
+//! The type that `flat` decodes and encodes.
 
 ghost use Rattle.std.specs.Prelude.{◌≡◌};
 ghost use Rattle.kmip_ttlv.specs.Gives.{IsI32};
@@ -6,7 +6,7 @@ ghost use Rattle.kmip_ttlv.specs.Values.{view, i32_value};
 ghost use Rattle.hex_to_txt_run.specs.Pair.{pair_form, read_pair, written_pair};
 
 use kmip_ttlv::parts::{begin_struct, end_struct, integer};
-use kmip_ttlv::shape::{Data, Deserialize, FieldShape, Serialize, Shape};
+use kmip_ttlv::shape::{ByShape, Data, Deserialize, FieldShape, Serialize, Shape};
 use kmip_ttlv::visit::Visitor;
 use std::alloc::{AllocError, Allocator};
 
@@ -17,7 +17,7 @@ pub struct Pair {
     pub second: i32,
 }
 
-// The number that data is.
+// The number in the data.
 fn number_of<A: Allocator>(value: &Data<A>) -> i32
     requires { IsI32 (view value.now) }
     ensures { view value.now ≡ i32_value result }
@@ -39,6 +39,8 @@ impl Serialize for Pair {
         Ok(())
     }
 }
+
+impl ByShape for Pair {}
 
 impl<A: Allocator + Copy> Deserialize<A> for Pair {
     ghost form = { pair_form };

@@ -7,22 +7,22 @@ ghost use Rattle.hex_to_txt_run.specs.TaskTexts.{IsRefusalLine, MeansRefused};
 use kmip_ttlv::error::{Error, ErrorKind};
 use std::alloc::{AllocError, Allocator};
 
-/// Why the program ends with status 1. They are tested in this order, but for want of memory, which
-/// comes in place of any other.
+/// Why the program ends with status 1, in the order of the checks; out of memory can come in place
+/// of any other.
 #[derive(Drop)]
 pub enum Refusal<A: Allocator> {
     UnknownWords,
     UnreadableInput,
     NotHexadecimal,
     NotUtf8,
-    /// The input's bytes are no pair: the line that says why.
+    /// The input's bytes are no pair: the error line.
     RefusedMessage(String<A>),
     UnwritableOutput,
     RefusedMemory,
 }
 
 impl<A: Allocator> Refusal<A> {
-    /// The line on standard error.
+    /// The line for standard error.
     pub fn line(&self) -> &str
         ensures { result.now ≡ line_of (reason_of self.now) }
     {
@@ -48,7 +48,7 @@ impl<A: Allocator> From<AllocError> for Refusal<A> {
     }
 }
 
-// The line that says why bytes are no pair.
+// The error line if bytes are no pair.
 fn refusal_line<A: Allocator + Copy>(alloc: A, error: &Error<A>) -> Result<String<A>, AllocError>
     ensures { IfOk result (λ line. IsRefusalLine (string_bytes line)) }
 {
@@ -59,7 +59,7 @@ fn refusal_line<A: Allocator + Copy>(alloc: A, error: &Error<A>) -> Result<Strin
     Ok(line)
 }
 
-/// Why bytes are no pair: what the reader says, or want of memory.
+/// Why bytes are no pair: the decoder's error, or out of memory.
 pub fn refused<A: Allocator + Copy>(alloc: A, error: &Error<A>) -> Refusal<A>
     ensures { MeansRefused error.now (reason_of result) }
 {

@@ -15,8 +15,8 @@ use kmip_ttlv::types::stream::Sink;
 use std::alloc::Allocator;
 use std::io::{Read, Write};
 
-// Prints what the words ask for, or answers why not. The whole text is made before its first byte
-// is written.
+// Prints what the arguments ask for, or returns why it can't. Output is buffered: nothing is written
+// until the whole text is made.
 fn respond<A: Allocator + Copy, B: Allocator, R: Read, W: Write>(
     alloc: A,
     words: &[String<B>],
@@ -42,10 +42,10 @@ fn respond<A: Allocator + Copy, B: Allocator, R: Read, W: Write>(
     }
 }
 
-/// Runs the program: reads `input` to its end, prints the text that the words ask for to `output`,
-/// and answers the exit status, 0 or 1. With status 1 one line on `errors` says why.
+/// Runs the program: reads `input` to its end, prints the text that the arguments ask for to `output`,
+/// and returns the exit status, 0 or 1. With status 1 it writes one error line to `errors`.
 ///
-/// Interrupted reads and writes are tried again, as often as a 64-bit count allows. Where `errors`
+/// Interrupted reads and writes are retried, as often as a 64-bit counter allows. If `errors`
 /// can't be written, the status is the same.
 pub fn run<A: Allocator + Copy, B: Allocator, R: Read, W: Write, E: Write>(
     alloc: A,
@@ -64,7 +64,7 @@ pub fn run<A: Allocator + Copy, B: Allocator, R: Read, W: Write, E: Write>(
           output_now = W.contents output.new;
         })
         × Keeps (E.contents errors.old) (E.contents errors.new) }
-    // With status 1 there is a reason, which is true of the words and the input.
+    // With status 1 there is a reason, which is true of the arguments and the input.
     ensures failed { result ≡ 1 → Failed (task_of (map string_bytes words.now))
         (record {
           input = R.remaining input.old;
@@ -73,7 +73,7 @@ pub fn run<A: Allocator + Copy, B: Allocator, R: Read, W: Write, E: Write>(
           output_now = W.contents output.new;
         })
         (E.contents errors.old) (E.contents errors.new) }
-    // Where no text is the input's, the output gets nothing.
+    // If the input has no text, nothing is written to the output.
     ensures nothing { HasNoText (task_of (map string_bytes words.now)) (R.remaining input.old)
         → (result ≡ 1) × Keeps (W.contents output.old) (W.contents output.new) }
 {

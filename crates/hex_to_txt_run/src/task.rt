@@ -1,24 +1,24 @@
-//! What the program's words ask for.
+//! What the program's arguments ask for.
 
 ghost use Rattle.std.specs.Prelude.{◌≡◌, ◌<◌, map, length, option_map, string_bytes};
 ghost use Rattle.hex_to_txt_run.specs.Tasks.{task_of, prefixed_task, seen_task};
 
 use std::alloc::Allocator;
 
-/// What the program is to do with its input.
+/// What the program does with its input.
 #[derive(Clone, Copy)]
 pub enum Task<'w> {
-    /// Read a pair of numbers, and print them and the pair's bytes.
+    /// Decodes a pair of numbers, and prints them and the pair's bytes.
     Flat,
-    /// Print a message as readable text.
+    /// Prints the readable text of a message.
     Text,
-    /// Print a diagnostic; whether empty structures are closed, and the digits left out of tags.
+    /// Prints the diagnostic of a message: whether empty structures are closed, and the prefix omitted from tags.
     Diagnostic { closed: bool, prefix: &'w str },
-    /// Print what a diagnostic says, which leaves these digits out of tags.
+    /// Prints what a diagnostic is read back as, given the prefix omitted from tags.
     ReadBack { prefix: &'w str },
 }
 
-// What a word asks for, under a prefix.
+// The task with this name, under a prefix.
 fn prefixed_task<'w>(word: &str, prefix: &'w str) -> Option<Task<'w>>
     ensures { option_map seen_task result ≡ prefixed_task word.now prefix.now }
 {
@@ -37,7 +37,7 @@ fn prefixed_task<'w>(word: &str, prefix: &'w str) -> Option<Task<'w>>
     }
 }
 
-/// What the words ask for, if anything: `flat` alone, or another word with a prefix or without.
+/// The task that the arguments ask for, if any: `flat` alone, or another name with or without a prefix.
 pub fn task_of<'w, B: Allocator>(words: &'w [String<B>]) -> Option<Task<'w>>
     ensures { option_map seen_task result ≡ task_of (map string_bytes words.now) }
 {

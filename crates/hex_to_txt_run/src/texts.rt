@@ -15,7 +15,7 @@ use kmip_ttlv::error::ErrorKind;
 use kmip_ttlv::{PrettyPrinter, from_slice, to_vec};
 use std::alloc::{AllocError, Allocator};
 
-// The bytes that a pair is written as.
+// The encoding of a pair.
 fn pair_bytes<A: Allocator + Copy>(alloc: A, pair: &Pair) -> Result<Vec<u8, A>, AllocError>
     ensures { IfOk result (λ v. v.items ≡ bytes (pair_tree pair.now.first pair.now.second)) }
 {
@@ -28,7 +28,7 @@ fn pair_bytes<A: Allocator + Copy>(alloc: A, pair: &Pair) -> Result<Vec<u8, A>, 
     }
 }
 
-// A pair's numbers and the hexadecimal of its bytes, a line each.
+// A pair's numbers, then its bytes in hexadecimal, one per line.
 fn pair_text<A: Allocator + Copy>(alloc: A, pair: &Pair) -> Result<String<A>, AllocError>
     ensures { IfOk result (λ s. string_bytes s ≡ pair_text pair.now.first pair.now.second) }
 {
@@ -39,7 +39,7 @@ fn pair_text<A: Allocator + Copy>(alloc: A, pair: &Pair) -> Result<String<A>, Al
     format!(in alloc; "0xBBBBBB {first}\n0xCCCCCC {second}\n{digits}\n")
 }
 
-// The text of the pair with which the input's bytes begin.
+// The text of the pair that the input's bytes begin with.
 fn flat_text<A: Allocator + Copy>(alloc: A, input: &[u8]) -> Result<String<A>, Refusal<A>>
     ensures { TaskAnswers string_bytes reason_of pair_task input.now result }
 {
@@ -67,7 +67,7 @@ fn with_line_feed<A: Allocator>(text: String<A>) -> Result<String<A>, AllocError
     Ok(text)
 }
 
-// A text, and a line feed where it doesn't end with one.
+// A text, and a line feed if it doesn't end with one.
 fn ended<A: Allocator>(text: String<A>) -> Result<String<A>, AllocError>
     ensures { IfOk result (λ s. string_bytes s ≡ ended (string_bytes text)) }
 {
@@ -87,7 +87,7 @@ fn readable_text<A: Allocator + Copy>(alloc: A, input: &[u8]) -> Result<String<A
     Ok(ended(text)?)
 }
 
-// The diagnostic of the input's bytes, under a prefix of tags, and a line feed.
+// The diagnostic of the input's bytes under a tag prefix, and a line feed.
 fn diagnostic_text<A: Allocator + Copy>(
     alloc: A,
     closed: bool,
@@ -104,7 +104,7 @@ fn diagnostic_text<A: Allocator + Copy>(
     Ok(with_line_feed(text)?)
 }
 
-// What the input, a diagnostic under a prefix of tags, is read back as, and a line feed.
+// What the input, a diagnostic under a tag prefix, is read back as, and a line feed.
 fn read_back_text<A: Allocator + Copy>(
     alloc: A,
     prefix: &str,

@@ -1,4 +1,4 @@
--- A visitor that makes data makes the value that it is told of.
+-- A visitor that builds data builds the value whose events it gets.
 use Rattle.std.proofs.Common.{◌≡◌, List, [], ◌∷◌, ◌++◌, refl, sym, ap, ◌∙◌, append_assoc, append-nil}
 use Rattle.kmip_ttlv_base.specs.Values.{Value, Values, no_values, value, values_of}
 use Rattle.kmip_ttlv_base.specs.Values.{boolean_value, i8_value, i16_value, i32_value, u32_value, i64_value, u64_value}
@@ -19,7 +19,7 @@ values_are no_values = refl
 values_are (value v vs) = ap (value v) (values_are vs)
 
 mutual
-  -- a value that it was told of stands behind those of the innermost group
+  -- the events of a value append it to the values of the innermost group
   pub builds : (v : Value) (s : Unfinished) → visited build_step v s ≡ appended v s
   builds (boolean_value b) s = refl
   builds (i8_value z) s = refl
@@ -56,6 +56,6 @@ mutual
       ap (visited_in build_step vs) (builds v (within before around)) ∙ builds_in vs (before ++ v ∷ []) around
       ∙ ap (λ us. within us around) (append_assoc before (v ∷ []) (list_of vs))
 
--- where nothing but one value was told, the first value is that
+-- after the events of one value alone, the first value is that one
 pub built : (v : Value) (s : Unfinished) → visited build_step v (within [] []) ≡ s → first_of s.values ≡ v
 built v s told = ap (λ u. first_of u.values) (sym told ∙ builds v (within [] []))

@@ -1,4 +1,4 @@
--- The form that a shape is, variant by variant: what a type's `shape` is proved by.
+-- The form of a shape, variant by variant: lemmas for the proof of a type's `shape`.
 use Rattle.std.proofs.Common.{◌≡◌, ℕ, Bool as Boole, List, refl, ap, ◌∙◌, Vec, Box, Bor}
 use Rattle.kmip_ttlv_base.specs.declared.shape.FieldShape.{FieldShape}
 use Rattle.kmip_ttlv_base.specs.declared.shape.VariantShape.{VariantShape}

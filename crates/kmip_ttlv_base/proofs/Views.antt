@@ -1,4 +1,4 @@
--- The value that data is, variant by variant: what a type's `to_data` and `from_data` are proved by.
+-- The value of data, variant by variant: lemmas for the proofs of a type's `to_data` and `from_data`.
 use Rattle.std.proofs.Common.{◌≡◌, ℕ, ℤ, List, Bool as Boole, String, Vec, Box, Bor, string_bytes, rules}
 use Rattle.kmip_ttlv_base.specs.declared.shape.Data.{Data, the_lemmas}
 use Rattle.kmip_ttlv_base.specs.declared.shape.Data.TheVariants.{Bool, I8, I16, I32, U32, I64, U64, Interval, Text, Bytes, BigInteger, None, Some, Seq, Struct, Newtype, UnitVariant, NewtypeVariant, TupleVariant, Unsupported}

@@ -1,4 +1,4 @@
--- What a visitor that makes data has at each event.
+-- What a visitor that builds data has at each event.
 use Rattle.std.specs.Prelude.{List, [], ◌∷◌, ◌++◌, map, reverse}
 use Rattle.kmip_ttlv_base.specs.declared.build.Builder.{Builder}
 use Rattle.kmip_ttlv_base.specs.Values.{Value, none_value, some_value, seq_value, struct_value, newtype_value}
@@ -6,7 +6,7 @@ use Rattle.kmip_ttlv_base.specs.Values.{newtype_variant_value, tuple_variant_val
 use Rattle.kmip_ttlv_base.specs.Visits.{Around, a_some, a_seq, a_struct, a_newtype, a_newtype_variant, a_tuple_variant}
 use Rattle.kmip_ttlv_base.specs.Visits.{Event, alone, begun, ended}
 
--- the values so far of the innermost group that isn't ended, and of each group around it, the innermost first
+-- the values so far of the innermost open group, and of each group around it, the innermost first
 pub record Unfinished : Type 0 where
   pub values : List Value
   pub around : List (List Value)
@@ -24,7 +24,7 @@ abbrev pub first_of : List Value → Value
 first_of [] = none_value
 first_of (v ∷ vs) = v
 
--- the value that a group of these values is
+-- the value of a group of these values
 abbrev pub group_value : Around → List Value → Value
 group_value a_some vs = some_value (first_of vs)
 group_value a_seq vs = seq_value (values_of vs)
@@ -33,17 +33,17 @@ group_value (a_newtype name) vs = newtype_value name (first_of vs)
 group_value (a_newtype_variant name vname) vs = newtype_variant_value name vname (first_of vs)
 group_value (a_tuple_variant name vname) vs = tuple_variant_value name vname (values_of vs)
 
--- out of the innermost group: around the outermost one is a group of no values
+-- closes the innermost group: a group of no values is around the outermost one
 abbrev pub outside : List (List Value) → Unfinished
 outside [] = within [] []
 outside (vs ∷ around) = within vs around
 
--- what there is after this event: a group that ends is a value of the group around it
+-- the state after this event: a group that ends becomes a value of the group around it
 abbrev pub build_step : Event → Unfinished → Unfinished
 build_step (alone v) s = appended v s
 build_step (begun a) s = within [] (s.values ∷ s.around)
 build_step (ended a) s = appended (group_value a s.values) (outside s.around)
 
--- what a visitor that makes data has
+-- the state of a visitor that builds data
 abbrev pub unfinished : {A : Type 0} → Builder A → Unfinished
 unfinished b = within (map view b.values.items) (reverse (map (λ vs. map view vs.items) b.around.items))

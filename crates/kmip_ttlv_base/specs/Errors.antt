@@ -1,4 +1,4 @@
--- Why a call refuses and where, without where it lies in memory.
+-- Why a call fails and at which place, apart from where this is in memory.
 use Rattle.std.specs.Prelude.{◌≡◌, ℕ, Bool, true, false, List, [], ◌∷◌, Option, Some, None, option_map, string_bytes}
 use Rattle.std.specs.Prelude.{is_none, ◌&&◌, ◌⊎◌, ◌-◌, ◌^◌, ◌==◌, if◌then◌else◌, codes}
 use Rattle.std.specs.declared.vec.Vec.{Vec}
@@ -17,7 +17,7 @@ use Rattle.kmip_ttlv_base.specs.declared.error.SerdeError.{SerdeError}
 use Rattle.kmip_ttlv_base.specs.declared.error.SerdeError.TheVariants as serdes
 use Rattle.kmip_ttlv_base.specs.declared.error.ErrorLocation.{ErrorLocation}
 
--- how a type doesn't agree
+-- why bytes or a value don't match what a type describes, with texts as lists
 pub data Mismatch : Type 0 where
   invalid_variant : (name : List ℕ) → Mismatch
   invalid_rule : (name : List ℕ) → Mismatch
@@ -28,7 +28,7 @@ pub data Mismatch : Type 0 where
   unexpected_type : (expected actual : TtlvType) → Mismatch
   unsupported_rust_type : (name : List ℕ) → Mismatch
 
--- the kinds of refusals, their texts as lists
+-- the kinds of errors, with texts as lists
 pub data Kind : Type 0 where
   io_error : IoKind → Kind
   exceeds_limit : (size : ℕ) → Kind
@@ -37,7 +37,7 @@ pub data Kind : Type 0 where
   out_of_memory : Kind
   length_overflow : Kind
 
--- the mismatch, its texts as lists
+-- the mismatch, with texts as lists
 abbrev pub view_of_serde : {A : Type 0} → SerdeError A → Mismatch
 view_of_serde (serdes.InvalidVariant name) = invalid_variant name.now
 view_of_serde (serdes.InvalidVariantMatcherSyntax name) = invalid_rule (string_bytes name)
@@ -48,7 +48,7 @@ view_of_serde (serdes.UnexpectedTag expected actual) = unexpected_tag expected a
 view_of_serde (serdes.UnexpectedType expected actual) = unexpected_type expected actual
 view_of_serde (serdes.UnsupportedRustType name) = unsupported_rust_type name.now
 
--- the kind, its texts as lists
+-- the kind, with texts as lists
 abbrev pub view_of_kind : {A : Type 0} → ErrorKind A → Kind
 view_of_kind (kinds.IoError e) = io_error (error_kind e)
 view_of_kind (kinds.ResponseSizeExceedsLimit n) = exceeds_limit n
@@ -64,11 +64,11 @@ pub record Location : Type 0 where
   pub tag : Option ℕ
   pub typ : Option TtlvType
 
--- no place
+-- an unknown place
 abbrev pub unknown : Location
 unknown = record { offset = None; parents = []; tag = None; typ = None }
 
--- the tags of a vector, none where there is no vector
+-- the tags of a vector; none if there is no vector
 abbrev pub tags_of : {A : Type 0} → Option (Vec ℕ A) → List ℕ
 tags_of None = []
 tags_of (Some tags) = tags.items
@@ -87,15 +87,15 @@ is_empty (x ∷ xs) = false
 abbrev pub is_nowhere : Location → Bool
 is_nowhere l = is_none l.offset && is_empty l.parents && is_none l.tag && is_none l.typ
 
--- what `kind` answers
+-- what `kind` returns
 abbrev pub kind_of : {A : Type 0} → Error A → ErrorKind A
 kind_of e = e.kind
 
--- what `location` answers
+-- what `location` returns
 abbrev pub location_of : {A : Type 0} → Error A → ErrorLocation A
 location_of e = e.location
 
--- want of memory, which has no place
+-- out of memory, at an unknown place
 pub record IsMemory {A : Type 0} (e : Error A) : Type 0 where
   pub kind : kind_of e ≡ kinds.OutOfMemory
   pub location : view_of_location (location_of e) ≡ unknown
@@ -104,20 +104,20 @@ pub record IsMemory {A : Type 0} (e : Error A) : Type 0 where
 abbrev pub only_offset : ℕ → Location
 only_offset n = record { offset = Some n; parents = []; tag = None; typ = None }
 
--- an offset alone, or no place where the number is the greatest of 64 bits
+-- an offset alone, or an unknown place for the greatest number of 64 bits
 abbrev pub only_small_offset : ℕ → Location
 only_small_offset n = if n == 2 ^ 64 - 1 then unknown else only_offset n
 
--- an item that goes past the end that was converted from x
+-- an item goes past the end that was converted from x
 abbrev pub IsOverflow : {T : Type 0} → (T → ByteOffset → Type 0) → T → MalformedTtlvError → Type 0
 IsOverflow converts x (malforms.Overflow o) = converts x o
 IsOverflow converts x _ = ⊥
 
--- the text of an operation that the state machine's mode rules out
+-- the text for an operation that the state machine's mode doesn't allow
 abbrev pub invalid_operation : List ℕ
 invalid_operation = codes "Internal error: invalid state machine operaiton"
 
--- the kind that a low-level refusal is; where a text is copied, memory may be refused
+-- the kind of a low-level error; if a text is copied, memory may run out
 abbrev pub IsKindOf : {A B : Type 0} → LowError B → ErrorKind A → Type 0
 IsKindOf (lows.IoError e) k = k ≡ kinds.IoError e
 IsKindOf (lows.InvalidTtlvTag text) k =

@@ -1,4 +1,4 @@
--- A shape without where it lies in memory.
+-- Forms: shapes, apart from where they are in memory.
 use Rattle.std.specs.Prelude.{ℕ, Bool, List, [], ◌∷◌}
 use Rattle.kmip_ttlv_base.specs.declared.shape.Shape.{Shape, Row_of-FieldShape, end_of-FieldShape, more_of-FieldShape}
 use Rattle.kmip_ttlv_base.specs.declared.shape.Shape.{Row_of-VariantShape, end_of-VariantShape, more_of-VariantShape}
@@ -10,7 +10,7 @@ use Rattle.kmip_ttlv_base.specs.declared.shape.FieldShape.{FieldShape}
 use Rattle.kmip_ttlv_base.specs.declared.shape.VariantShape.{VariantShape}
 
 mutual
-  -- what is wanted of an item
+  -- what a value is decoded by
   pub data Form : Type 0 where
     struct : (name : List ℕ) → (fields : Fields) → (deny : Bool) → Form
     option : Form → Form

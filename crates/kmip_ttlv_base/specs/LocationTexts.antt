@@ -16,12 +16,12 @@ position_text n = codes "pos: " ++ decimal n ++ codes " bytes"
 unfoldable pub more_tags : List ℕ → List ℕ
 more_tags tags = flat_map (λ t. codes " > " ++ tag_text t) tags
 
--- the tags around, the outermost first, where there are any
+-- the tags around, the outermost first, if there are any
 abbrev pub parents_text : List ℕ → Option (List ℕ)
 parents_text [] = None
 parents_text (t ∷ ts) = Some (codes "parent tags: " ++ tag_text t ++ more_tags ts)
 
--- a part that is known, with a comma and a space before it where it is not the first
+-- a part that is known, with a comma and a space before it unless it is the first
 abbrev pub part_text : Bool → Option (List ℕ) → List ℕ
 part_text is_first None = []
 part_text is_first (Some text) = (if is_first then [] else codes ", ") ++ text
@@ -38,7 +38,7 @@ location_text l =
     ++ (part_text (is_none position && is_none parents) tag
     ++ part_text (is_none position && is_none parents && is_none tag) typ))
 
--- a part was written, and the answer is whether the next part is the first
+-- a part was written, and what is returned is whether the next part is the first
 abbrev pub WritesPart :
     {W E : Type 0} → (W → List ℕ → W → Type 0)
     → Formatter W → Bool → Option (List ℕ) → Result Bool E → Formatter W → Type 0

@@ -1,10 +1,10 @@
--- A value without where it lies in memory.
+-- Values: data, apart from where it is in memory.
 use Rattle.std.specs.Prelude.{ℕ, ℤ, Bool, List, [], ◌∷◌, map, string_bytes}
 use Rattle.kmip_ttlv_base.specs.declared.shape.Data.{Data, fold-Data, Data-F}
 use Rattle.kmip_ttlv_base.specs.declared.shape.Data.TheOpen as layer
 
 mutual
-  -- a value that is written, or that was read
+  -- a value that is encoded, or that was decoded
   pub data Value : Type 0 where
     boolean_value : Bool → Value
     i8_value : ℤ → Value
@@ -37,7 +37,7 @@ abbrev pub values_of : List Value → Values
 values_of [] = no_values
 values_of (v ∷ vs) = value v (values_of vs)
 
--- one level, with each value inside already seen
+-- one level, from the values of what is inside
 abbrev pub view_step : {A : Type 0} → Data-F A Value → Value
 view_step (layer.Bool b) = boolean_value b
 view_step (layer.I8 z) = i8_value z

@@ -1,4 +1,4 @@
--- What a visitor is told of a value, in document order.
+-- The events that a visitor gets of a value, in document order.
 use Rattle.std.specs.Prelude.{ℕ, List, Option, None, Some}
 use Rattle.kmip_ttlv_base.specs.Values.{Value, Values, no_values, value}
 use Rattle.kmip_ttlv_base.specs.Values.{boolean_value, i8_value, i16_value, i32_value, u32_value, i64_value, u64_value}
@@ -19,7 +19,7 @@ pub data Around : Type 0 where
   a_newtype_variant : (name vname : List ℕ) → Around
   a_tuple_variant : (name vname : List ℕ) → Around
 
--- what a visitor is told: a value that contains no other, and where a group begins and ends
+-- an event: a value that contains no other, or the start or the end of a group
 pub data Event : Type 0 where
   alone : Value → Event
   begun : Around → Event
@@ -51,7 +51,7 @@ around (groups.Newtype name) = a_newtype name.now
 around (groups.NewtypeVariant name variant) = a_newtype_variant name.now variant.now
 around (groups.TupleVariant name variant) = a_tuple_variant name.now variant.now
 
--- the state after all that a visitor is told of a value, where step is what one event does to it
+-- the state after all events of a value, by what one event does to it
 abbrev mutual
   pub visited : {S : Type 0} → (Event → S → S) → Value → S → S
   visited step (boolean_value b) s = step (alone (boolean_value b)) s
@@ -83,23 +83,23 @@ abbrev mutual
   visited_in step no_values s = s
   visited_in step (value v vs) s = visited_in step vs (visited step v s)
 
--- what was known of old is known of new, after this change
+-- for each state that was known of the old visitor, the changed one is known of the new
 abbrev pub Knows : {V S : Type 0} → (V → S → Type 0) → (S → S) → V → V → Type 0
 Knows {S = S} knows change old new = (s : S) → knows old s → knows new (change s)
 
--- what was known of old is known of new, after all that is told of this value
+-- the same, changed by all events of this value
 abbrev pub Tells : {V S : Type 0} → (V → S → Type 0) → (Event → S → S) → Value → V → V → Type 0
 Tells knows step v old new = Knows knows (visited step v) old new
 
--- what was known of old is known of new, after all that is told of these values
+-- the same, changed by all events of these values
 abbrev pub TellsEach : {V S : Type 0} → (V → S → Type 0) → (Event → S → S) → Values → V → V → Type 0
 TellsEach knows step vs old new = Knows knows (visited_in step vs) old new
 
--- what was known of old is known of new, after this event
+-- the same, changed by this event
 abbrev pub TellsOf : {V S : Type 0} → (V → S → Type 0) → (Event → S → S) → Event → V → V → Type 0
 TellsOf knows step e old new = Knows knows (step e) old new
 
--- what was known of old is known of new, after a group in which this was told
+-- the same, changed by a group's start, by what is inside, and by its end
 abbrev pub Encloses : {V S : Type 0} → (V → S → Type 0) → (Event → S → S) → Around → (S → S) → V → V → Type 0
 Encloses knows step a inside old new = Knows knows (λ s. step (ended a) (inside (step (begun a) s))) old new
 
@@ -108,7 +108,7 @@ abbrev pub optional : Option Value → Values
 optional None = no_values
 optional (Some v) = value v no_values
 
--- values behind values
+-- values after values
 abbrev pub joined : Values → Values → Values
 joined no_values later = later
 joined (value v vs) later = value v (joined vs later)

@@ -1,4 +1,4 @@
-//! The visitor that makes data of what it is told.
+//! The visitor that builds data from the events of a value.
 
 ghost use Rattle.std.specs.Prelude.{◌≡◌, IfOk, map};
 ghost use Rattle.kmip_ttlv_base.specs.Values.{view};
@@ -10,8 +10,7 @@ use crate::visit::{Group, Leaf, Visitor};
 use std::alloc::{AllocError, Allocator};
 use std::mem;
 
-// The values so far of the innermost group that isn't ended, and of each group around it, the
-// outermost first.
+// The values so far of the innermost open group, and of each group around it, the outermost first.
 #[derive(Drop)]
 pub struct Builder<A: Allocator> {
     alloc: A,
@@ -35,7 +34,7 @@ pub fn data_of<A: Allocator + Copy, T: Serialize>(
     Ok(first(builder.values))
 }
 
-// The first of these values, none where there is none.
+// The first of these values, or None if there are none.
 fn first<A: Allocator>(mut values: Vec<Data<A>, A>) -> Data<A>
     ensures { view result ≡ first_of (map view values.items) }
 {
@@ -101,7 +100,7 @@ fn group_data<A: Allocator>(
 }
 
 impl<A: Allocator + Copy> Builder<A> {
-    // The values of the innermost group. The group around it is the innermost then.
+    // Closes the innermost group, and returns its values. The group around it becomes the innermost.
     fn leave(&mut self) -> Vec<Data<A>, A>
         ensures values { map view result.items ≡ map view self.old.values.items }
         ensures around { unfinished self.new ≡ outside (unfinished self.old).around }

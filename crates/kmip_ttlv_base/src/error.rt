@@ -1,4 +1,4 @@
-//! Why a call refuses, and where.
+//! Why a call fails, and where.
 
 ghost use Rattle.std.specs.Prelude.{◌≡◌, Some, None, IfSome, IfNone, option_map};
 ghost use Rattle.kmip_ttlv_base.specs.Errors.{Kind, out_of_memory, Location, unknown, kind_of, view_of_kind};
@@ -18,10 +18,10 @@ use std::alloc::{AllocError, AllocFailed, Allocator, Global};
 use std::io::Cursor;
 use std::{fmt, io};
 
-/// What reading and writing answer.
+/// The result of encoding or decoding.
 pub type Result<T, A = Global> = std::result::Result<T, Error<A>>;
 
-/// Why a value is not written or bytes are not read, and where.
+/// Why a value can't be encoded or bytes can't be decoded, and where.
 #[derive(Drop)]
 #[derive_where(Debug)]
 pub struct Error<A: Allocator = Global> {
@@ -29,28 +29,28 @@ pub struct Error<A: Allocator = Global> {
     location: ErrorLocation<A>,
 }
 
-/// Why a value is not written or bytes are not read.
+/// Why a value can't be encoded or bytes can't be decoded.
 #[derive(Drop)]
 #[derive_where(Debug)]
 pub enum ErrorKind<A: Allocator = Global> {
     /// The reader or the writer failed, or the input ended too early (kind UnexpectedEof).
     IoError(io::Error),
-    /// A message is longer than the limit that was set: its length in bytes, header included.
+    /// A message is longer than the limit: its length in bytes, header included.
     ResponseSizeExceedsLimit(usize),
-    /// The bytes are no TTLV.
+    /// The bytes are no TTLV; or, encoding, an item has no tag, or a tag no item.
     MalformedTtlv(MalformedTtlvError),
-    /// The bytes, or the value, don't agree with what the type says of itself.
+    /// The bytes, or the value, don't match what the type describes.
     SerdeError(SerdeError<A>),
-    /// Memory was refused.
+    /// Memory ran out.
     OutOfMemory,
-    /// A length that four bytes can't hold, or more than 2^64 - 1 bytes in all.
+    /// A length doesn't fit into four bytes, or there are more than 2^64 - 1 bytes in all.
     LengthOverflow,
 }
 
-/// How bytes are no TTLV.
+/// Why bytes are no TTLV, or a value has none.
 #[derive(Clone, Copy, Debug, PartialEq, Eq)]
 pub enum MalformedTtlvError {
-    /// The code of no type.
+    /// This byte is no type's code.
     InvalidType(u8),
     /// A length, in bytes, that no value of this type has.
     InvalidLength {
@@ -62,56 +62,63 @@ pub enum MalformedTtlvError {
     InvalidValue {
         typ: TtlvType,
     },
-    /// An item goes past the end of the structure around it: that end.
+    /// An item goes past the end of the structure around it: the offset of that end.
     Overflow {
         field_end: ByteOffset,
     },
-    /// A field where another one is due.
+    /// A field in place of the expected one.
     UnexpectedTtlvField {
         expected: FieldType,
         actual: FieldType,
     },
-    /// An item of another type than a Structure.
+    /// A leaf where a Structure is expected.
     UnexpectedType {
         expected: TtlvType,
         actual: TtlvType,
     },
-    /// No call answers this: each type from 01 to 0A is supported.
+    /// Never returned by encoding or decoding: each type from 01 to 0A is supported.
     UnsupportedType(u8),
-    /// A serializer that refused before.
+    /// An earlier call of this serializer failed.
     UnknownStructureLength,
 }
 
-/// How bytes, or a value, don't agree with what the type says of itself.
+/// Why bytes, or a value, don't match what the type describes.
 #[derive(Drop)]
 #[derive_where(Debug)]
 pub enum SerdeError<A: Allocator = Global> {
-    /// A variant's name, where it is no number.
+    /// The name of a unit variant, which is no number.
     InvalidVariant(&'static str),
-    /// A variant's whole name, where it begins as a rule and is none.
+    /// The whole name of a variant that begins like a rule and is none.
     InvalidVariantMatcherSyntax(String<A>),
     /// A name that is no tag.
     InvalidTag(String<A>),
-    /// An item in a struct that has no fields.
+    /// An item in a struct without fields.
     MissingIdentifier,
     /// Another cause, in words.
     Other(String<A>),
-    /// An item with another tag than the wanted one.
+    /// An item with another tag than the expected one.
     UnexpectedTag {
         expected: TtlvTag,
         actual: TtlvTag,
     },
-    /// An item of another type than the wanted one.
+    /// An item of another type than the expected one.
     UnexpectedType {
         expected: TtlvType,
         actual: TtlvType,
     },
-    /// A value of a Rust type that isn't written: the type's name.
+    /// A value of a Rust type that can't be encoded: the type's name.
     UnsupportedRustType(&'static str),
 }
 
-/// Where a refusal stands: an offset in bytes from the first byte, the tags of the structures
-/// around it, the outermost first, and the item's tag and type, as far as they are known.
+/// Where an error is: an offset in bytes from the first byte, the tags of the structures around it, the
+/// outermost first, and the item's tag and type, as far as they are known.
+///
+/// ```
+/// let parents = Vec::from_slice(alloc, &[TtlvTag::from([0xAA; 3]), TtlvTag::from([0xBB; 3])])?;
+/// let tag = TtlvTag::from([0xCC; 3]);
+/// let place = ErrorLocation::at(Some(ByteOffset(16)), Some(parents), Some(tag), Some(TtlvType::Integer));
+/// println!(rt; "{place}")?; // pos: 16 bytes, parent tags: 0xAAAAAA > 0xBBBBBB, tag: 0xCCCCCC, type: Integer (0x02)
+/// ```
 #[derive(Drop)]
 #[derive_where(Debug)]
 pub struct ErrorLocation<A: Allocator = Global> {
@@ -122,7 +129,13 @@ pub struct ErrorLocation<A: Allocator = Global> {
 }
 
 impl<A: Allocator> Error<A> {
-    /// The refusal of this kind, at this place.
+    /// An error of this kind, at this place.
+    ///
+    /// ```
+    /// let kind = ErrorKind::from(SerdeError::InvalidVariant("Create"));
+    /// let error: Error = Error::new(kind, ErrorLocation::from(3u8));
+    /// println!(rt; "{error}")?; // Serde error : the variant Create is no number (at pos: 3 bytes)
+    /// ```
     pub fn new(kind: ErrorKind<A>, location: ErrorLocation<A>) -> Error<A>
         ensures kind { kind_of result ≡ kind }
         ensures location { location_of result ≡ location }
@@ -130,14 +143,14 @@ impl<A: Allocator> Error<A> {
         Error { kind, location }
     }
 
-    /// Why the call refused.
+    /// Why the call failed.
     pub fn kind(&self) -> &ErrorKind<A>
         ensures { result.now ≡ kind_of self.now }
     {
         &self.kind
     }
 
-    /// Where the refusal stands.
+    /// Where the error is.
     pub fn location(&self) -> &ErrorLocation<A>
         ensures { result.now ≡ location_of self.now }
     {
@@ -153,7 +166,7 @@ impl<A: Allocator> Error<A> {
         (kind, location)
     }
 
-    /// Want of memory, which has the unknown location.
+    /// Out of memory, at an unknown place.
     pub fn out_of_memory() -> Error<A>
         ensures kind { kind_of result ≡ MemoryKind }
         ensures location { view_of_location (location_of result) ≡ unknown }
@@ -165,7 +178,7 @@ impl<A: Allocator> Error<A> {
     }
 }
 
-/// OutOfMemory, at no place.
+/// OutOfMemory, at an unknown place.
 impl<A: Allocator> From<AllocError> for Error<A> {
     ghost use Rattle.kmip_ttlv_base.specs.Errors.{IsMemory};
 
@@ -176,7 +189,7 @@ impl<A: Allocator> From<AllocError> for Error<A> {
     }
 }
 
-/// OutOfMemory, at no place; what could not be kept is dropped.
+/// OutOfMemory, at an unknown place; the value that found no memory is dropped.
 impl<T: Drop, A: Allocator> From<AllocFailed<T>> for Error<A> {
     ghost use Rattle.kmip_ttlv_base.specs.Errors.{IsMemory};
 
@@ -215,7 +228,12 @@ impl<A: Allocator> From<SerdeError<A>> for ErrorKind<A> {
 }
 
 impl MalformedTtlvError {
-    /// An item that goes past the end of the structure around it: that end.
+    /// An item goes past the end of the structure around it: the offset of that end.
+    ///
+    /// ```
+    /// let field_end = ByteOffset(12);
+    /// assert!(rt; MalformedTtlvError::overflow(12u64) == MalformedTtlvError::Overflow { field_end });
+    /// ```
     pub fn overflow<T: Into<ByteOffset>>(field_end: T) -> MalformedTtlvError
         ensures { IsOverflow T.converts field_end result }
     {
@@ -226,8 +244,13 @@ impl MalformedTtlvError {
 }
 
 impl<A: Allocator> ErrorKind<A> {
-    /// The kind that a low-level refusal is. A text is copied into memory of `alloc`, and where that
-    /// is refused the kind is OutOfMemory.
+    /// The kind of a low-level error. A text in it is copied into memory of `alloc`; if that runs out, the kind
+    /// is OutOfMemory.
+    ///
+    /// ```
+    /// let low: types::Error = types::Error::InvalidTtlvTag(String::from_str(alloc, "XYZ")?);
+    /// let kind = ErrorKind::from_types(alloc, low); // SerdeError(InvalidTag("XYZ"))
+    /// ```
     pub fn from_types<B: Allocator>(alloc: A, error: types::Error<B>) -> ErrorKind<A>
         ensures { IsKindOf error result }
     {
@@ -272,7 +295,7 @@ impl<A: Allocator> ErrorKind<A> {
 }
 
 impl<A: Allocator> ErrorLocation<A> {
-    /// No place.
+    /// An unknown place.
     pub fn unknown() -> ErrorLocation<A>
         ensures { view_of_location result ≡ unknown }
     {
@@ -284,7 +307,7 @@ impl<A: Allocator> ErrorLocation<A> {
         }
     }
 
-    /// A place, of which each part is known or not. The parents are outermost first.
+    /// A place, of which each part may be known. The parents' tags are the outermost first.
     pub fn at(
         offset: Option<ByteOffset>,
         parent_tags: Option<Vec<TtlvTag, A>>,
@@ -302,7 +325,7 @@ impl<A: Allocator> ErrorLocation<A> {
         }
     }
 
-    /// Whether no part is known.
+    /// Whether no part of the place is known.
     pub fn is_unknown(&self) -> bool
         ensures { result ≡ is_nowhere (view_of_location self.now) }
     {
@@ -312,14 +335,14 @@ impl<A: Allocator> ErrorLocation<A> {
             && self.typ.is_none()
     }
 
-    /// The offset, in bytes from the first byte.
+    /// The offset in bytes from the first byte, if it is known.
     pub fn offset(&self) -> Option<ByteOffset>
         ensures { option_map (λ o. o.0) result ≡ (view_of_location self.now).offset }
     {
         self.offset
     }
 
-    /// The tags of the structures around, the outermost first.
+    /// The tags of the structures around, the outermost first; none if they aren't known.
     pub fn parent_tags(&self) -> &[TtlvTag]
         ensures { result.now ≡ (view_of_location self.now).parents }
     {
@@ -329,21 +352,21 @@ impl<A: Allocator> ErrorLocation<A> {
         }
     }
 
-    /// The item's tag.
+    /// The item's tag, if it is known.
     pub fn tag(&self) -> Option<TtlvTag>
         ensures { result ≡ (view_of_location self.now).tag }
     {
         self.tag
     }
 
-    /// The item's type.
+    /// The item's type, if it is known.
     pub fn typ(&self) -> Option<TtlvType>
         ensures { result ≡ (view_of_location self.now).typ }
     {
         self.typ
     }
 
-    /// The parts that `at` takes.
+    /// The four parts, as `at` takes them.
     pub fn into_parts(
         self,
     ) -> (
@@ -415,7 +438,7 @@ impl<A: Allocator> From<u64> for ErrorLocation<A> {
     }
 }
 
-/// The offset alone, or no place where it is the greatest number.
+/// The offset alone; an unknown place for the greatest number.
 impl<A: Allocator> From<usize> for ErrorLocation<A> {
     ghost from_gives = { λ x l. view_of_location l ≡ only_small_offset x };
 
@@ -457,7 +480,7 @@ impl<T, A: Allocator> From<&mut Cursor<T>> for ErrorLocation<A> {
     }
 }
 
-/// The same place, its parents in memory of the same allocator. An AllocError where memory is refused.
+/// The same place, its parents' tags in memory of the same allocator. Fails if that runs out.
 impl<A: Allocator + Clone> Clone for ErrorLocation<A> {
     ghost is_clone = { λ l m. view_of_location m ≡ view_of_location l };
 
@@ -492,7 +515,7 @@ impl<A: Allocator> fmt::Display for ErrorLocation<A> {
     }
 }
 
-/// The refusal in words, with its types, lengths, codes and fields.
+/// The error in words, with its types, lengths, codes and fields.
 impl fmt::Display for MalformedTtlvError {
     fn fmt<W: fmt::Write>(&self, f: &mut fmt::Formatter<W>) -> fmt::Result {
         match self {
@@ -524,7 +547,7 @@ impl fmt::Display for MalformedTtlvError {
     }
 }
 
-/// The refusal in words, with its names, tags and types.
+/// The error in words, with its names, tags and types.
 impl<A: Allocator> fmt::Display for SerdeError<A> {
     fn fmt<W: fmt::Write>(&self, f: &mut fmt::Formatter<W>) -> fmt::Result {
         match self {
@@ -546,7 +569,7 @@ impl<A: Allocator> fmt::Display for SerdeError<A> {
     }
 }
 
-/// The kind in words, and the place in brackets where it matters.
+/// The kind in words, and the place in brackets, except for OutOfMemory and ResponseSizeExceedsLimit.
 impl<A: Allocator> fmt::Display for Error<A> {
     fn fmt<W: fmt::Write>(&self, f: &mut fmt::Formatter<W>) -> fmt::Result {
         let location = &self.location;

@@ -1,5 +1,5 @@
-//! The parts that reading, writing and printing share: the low-level `types`, the refusals of
-//! `error`, and in `shape` what a user's type says of itself.
+//! What encoding, decoding and printing share: the low-level `types`, the errors in `error`, and in `shape`
+//! how a user's type describes itself.
 #![tactic(auto)]
 
 mod build;

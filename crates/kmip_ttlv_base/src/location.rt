@@ -9,7 +9,7 @@ ghost use Rattle.kmip_ttlv_base.specs.LocationTexts.{position_text, more_tags, p
 use crate::types::{ByteOffset, TtlvTag, TtlvType};
 use std::fmt;
 
-/// Writes the offset, where it is known. The answer is whether the next part is the first.
+/// Writes the offset, if it is known. Returns whether the next part is the first.
 pub fn write_position<W: fmt::Write>(
     f: &mut fmt::Formatter<W>,
     offset: Option<ByteOffset>,
@@ -24,8 +24,8 @@ pub fn write_position<W: fmt::Write>(
     Ok(false)
 }
 
-/// Writes the tags around, where there are any, after a comma where they are not the first part. The
-/// answer is whether the next part is the first.
+/// Writes the tags around, if there are any, after a comma if they aren't the first part. Returns whether the
+/// next part is the first.
 pub fn write_parents<W: fmt::Write>(
     f: &mut fmt::Formatter<W>,
     is_first: bool,
@@ -42,8 +42,8 @@ pub fn write_parents<W: fmt::Write>(
     Ok(false)
 }
 
-/// Writes the tag, where it is known, after a comma where it is not the first part. The answer is
-/// whether the next part is the first.
+/// Writes the tag, if it is known, after a comma if it isn't the first part. Returns whether the next part is
+/// the first.
 pub fn write_tag<W: fmt::Write>(
     f: &mut fmt::Formatter<W>,
     is_first: bool,
@@ -60,8 +60,8 @@ pub fn write_tag<W: fmt::Write>(
     Ok(false)
 }
 
-/// Writes the type, where it is known, after a comma where it is not the first part. The answer is
-/// whether no part was written.
+/// Writes the type, if it is known, after a comma if it isn't the first part. Returns whether no part was
+/// written.
 pub fn write_type<W: fmt::Write>(
     f: &mut fmt::Formatter<W>,
     is_first: bool,
@@ -78,14 +78,14 @@ pub fn write_type<W: fmt::Write>(
     Ok(false)
 }
 
-// A comma and a space, but not before the first part.
+// A comma and a space, except before the first part.
 fn write_separator<W: fmt::Write>(f: &mut fmt::Formatter<W>, is_first: bool) -> fmt::Result
     ensures { DisplaysOnOk W.write_str_gives f.old result (Some (if is_first then [] else codes ", ")) f.new }
 {
     f.write_str(if is_first { "" } else { ", " })
 }
 
-// Each tag after an angle bracket.
+// Each tag, after an angle bracket.
 fn write_more_tags<W: fmt::Write>(f: &mut fmt::Formatter<W>, tags: &[TtlvTag]) -> fmt::Result
     ensures { DisplaysOnOk W.write_str_gives f.old result (Some (more_tags tags.now)) f.new }
 {

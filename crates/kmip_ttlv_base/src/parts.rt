@@ -1,10 +1,19 @@
-//! The parts of which a user's `visit` is made: leaves and groups with their names as parameters.
+//! The parts of a user's `visit`: leaves and groups, with their names as parameters.
 //!
-//! With these a `visit` needs no proof of its own where it makes five calls or so, and ends in
-//! `?; Ok(())`. A larger message is told by several functions, each with a definition of the value
-//! that it tells, which is `unfoldable` and unfolded in that function alone. Where a field may be
-//! absent (`option`) or come often (`each`), the value is said by `joined`, and the function names
-//! the lemma `visited_joined` of proofs/Visiting.
+//! With these a `visit` needs no proof of its own if it makes five calls or so, and ends in
+//! `?; Ok(())`. Split a larger message into several functions, each with a definition of the value that it
+//! visits, which is `unfoldable` and unfolded in that function alone. If a field may be absent (`option`) or
+//! come often (`each`), define the value with `joined`, and let the function name the lemma
+//! `visited_joined` of proofs/Visiting.
+//!
+//! ```
+//! fn visit<V: Visitor>(&self, visitor: &mut V) -> Result<(), AllocError> {
+//!     begin_struct(visitor, "0xAAAAAA")?;
+//!     integer(visitor, "Transparent:0xBBBBBB", self.number)?;
+//!     end_struct(visitor, "0xAAAAAA")?;
+//!     Ok(())
+//! }
+//! ```
 
 ghost use Rattle.std.specs.Prelude.{OnOk, OnErr, map, option_map};
 ghost use Rattle.kmip_ttlv_base.specs.Values.{newtype_value, newtype_variant_value, unit_variant_value, seq_value};
@@ -18,6 +27,10 @@ use crate::visit::{Group, Leaf, Visitor};
 use std::alloc::AllocError;
 
 /// An Integer in a newtype of this name.
+///
+/// ```
+/// integer(visitor, "Transparent:0x420020", 8)?; // 42002002 00000004 00000008 00000000
+/// ```
 #[inline(always)]
 pub fn integer<V: Visitor>(
     visitor: &mut V,
@@ -34,6 +47,10 @@ pub fn integer<V: Visitor>(
 }
 
 /// A Long Integer in a newtype of this name.
+///
+/// ```
+/// long_integer(visitor, "Transparent:0x420020", 123_456_789_000_000_000)?; // 42002003 00000008 01B69B4B A5749200
+/// ```
 #[inline(always)]
 pub fn long_integer<V: Visitor>(
     visitor: &mut V,
@@ -49,7 +66,11 @@ pub fn long_integer<V: Visitor>(
     visitor.end(Group::Newtype { name })
 }
 
-/// A Big Integer, its bytes the highest first, in a newtype of this name.
+/// A Big Integer in a newtype of this name: two's complement, the highest byte first.
+///
+/// ```
+/// big_integer(visitor, "Transparent:0xAABBCC", b"\x80")?; // AABBCC04 00000008 FFFFFFFF FFFFFF80
+/// ```
 #[inline(always)]
 pub fn big_integer<V: Visitor>(
     visitor: &mut V,
@@ -66,6 +87,10 @@ pub fn big_integer<V: Visitor>(
 }
 
 /// An Enumeration in a newtype of this name.
+///
+/// ```
+/// enumeration(visitor, "Transparent:0x420020", 255)?; // 42002005 00000004 000000FF 00000000
+/// ```
 #[inline(always)]
 pub fn enumeration<V: Visitor>(
     visitor: &mut V,
@@ -82,6 +107,10 @@ pub fn enumeration<V: Visitor>(
 }
 
 /// A Boolean in a newtype of this name.
+///
+/// ```
+/// boolean(visitor, "Transparent:0x420020", true)?; // 42002006 00000008 00000000 00000001
+/// ```
 #[inline(always)]
 pub fn boolean<V: Visitor>(
     visitor: &mut V,
@@ -98,6 +127,11 @@ pub fn boolean<V: Visitor>(
 }
 
 /// A Text String in a newtype of this name.
+///
+/// ```
+/// text_string(visitor, "Transparent:0x420020", "Hello World")?;
+/// // 42002007 0000000B 48656C6C 6F20576F 726C6400 00000000
+/// ```
 #[inline(always)]
 pub fn text_string<V: Visitor>(
     visitor: &mut V,
@@ -114,6 +148,10 @@ pub fn text_string<V: Visitor>(
 }
 
 /// A Byte String in a newtype of this name.
+///
+/// ```
+/// byte_string(visitor, "Transparent:0x420020", &[1, 2, 3])?; // 42002008 00000003 01020300 00000000
+/// ```
 #[inline(always)]
 pub fn byte_string<V: Visitor>(
     visitor: &mut V,
@@ -129,7 +167,11 @@ pub fn byte_string<V: Visitor>(
     visitor.end(Group::Newtype { name })
 }
 
-/// A Date-Time, in seconds since 1970, in a newtype of this name.
+/// A Date-Time, in seconds since the start of 1970, in a newtype of this name.
+///
+/// ```
+/// date_time(visitor, "Transparent:0x420020", 0x47DA_67F8)?; // 42002009 00000008 00000000 47DA67F8
+/// ```
 #[inline(always)]
 pub fn date_time<V: Visitor>(
     visitor: &mut V,
@@ -146,6 +188,10 @@ pub fn date_time<V: Visitor>(
 }
 
 /// An Interval, in seconds, in a newtype of this name.
+///
+/// ```
+/// interval(visitor, "Transparent:0x420020", 864_000)?; // 4200200A 00000004 000D2F00 00000000
+/// ```
 #[inline(always)]
 pub fn interval<V: Visitor>(
     visitor: &mut V,
@@ -161,7 +207,11 @@ pub fn interval<V: Visitor>(
     visitor.end(Group::Newtype { name })
 }
 
-/// An Enumeration of the number that the variant's name is, under the tag that the name is.
+/// An Enumeration under the tag that the name is, of the number that the variant's name is.
+///
+/// ```
+/// unit_variant(visitor, "420028", "0x2")?; // 42002805 00000004 00000002 00000000
+/// ```
 #[inline(always)]
 pub fn unit_variant<V: Visitor>(
     visitor: &mut V,
@@ -176,6 +226,10 @@ pub fn unit_variant<V: Visitor>(
 }
 
 /// A value in a newtype of this name.
+///
+/// ```
+/// newtype(visitor, "Transparent:0x420020", &Leaf::I32(8))?; // 42002002 00000004 00000008 00000000
+/// ```
 #[inline(always)]
 pub fn newtype<V: Visitor, T: Serialize>(
     visitor: &mut V,
@@ -192,6 +246,11 @@ pub fn newtype<V: Visitor, T: Serialize>(
 }
 
 /// A value in a variant of these names.
+///
+/// ```
+/// let aes = Leaf::UnitVariant { name: "420028", variant: "0x00000003" };
+/// newtype_variant(visitor, "Override:0x42000B", "Transparent", &aes)?; // 42000B05 00000004 00000003 00000000
+/// ```
 #[inline(always)]
 pub fn newtype_variant<V: Visitor, T: Serialize>(
     visitor: &mut V,
@@ -221,7 +280,7 @@ pub fn each<V: Visitor, T: Serialize>(visitor: &mut V, values: &[T]) -> Result<(
     Ok(())
 }
 
-/// Values one after the other, as one value.
+/// Values one after the other, together one value.
 #[inline(always)]
 pub fn seq<V: Visitor, T: Serialize>(visitor: &mut V, values: &[T]) -> Result<(), AllocError>
     ensures told { OnOk result
@@ -233,7 +292,14 @@ pub fn seq<V: Visitor, T: Serialize>(visitor: &mut V, values: &[T]) -> Result<()
     visitor.end(Group::Seq)
 }
 
-/// A field that may be absent: nothing is told where it is.
+/// A field that may be absent. If it is, the visitor isn't called.
+///
+/// ```
+/// begin_struct(visitor, "0x420079")?;
+/// option(visitor, &self.unique_identifier)?;
+/// each(visitor, self.attribute_names)?;
+/// end_struct(visitor, "0x420079")?;
+/// ```
 #[inline(always)]
 pub fn option<V: Visitor, T: Serialize>(
     visitor: &mut V,
@@ -249,7 +315,16 @@ pub fn option<V: Visitor, T: Serialize>(
     }
 }
 
-/// What follows, up to its end, are values one after the other, and one value together.
+/// The start of values one after the other, which are together one value.
+///
+/// ```
+/// begin_newtype_variant(visitor, "Override:0x42000B", "Transparent")?;
+/// begin_seq(visitor)?;
+/// unit_variant(visitor, "420028", "0x1")?; // 42000B05 00000004 00000001 00000000
+/// unit_variant(visitor, "420028", "0x2")?; // 42002805 00000004 00000002 00000000
+/// end_seq(visitor)?;
+/// end_newtype_variant(visitor, "Override:0x42000B", "Transparent")?;
+/// ```
 #[inline(always)]
 pub fn begin_seq<V: Visitor>(visitor: &mut V) -> Result<(), AllocError>
     ensures told { OnOk result
@@ -259,7 +334,7 @@ pub fn begin_seq<V: Visitor>(visitor: &mut V) -> Result<(), AllocError>
     visitor.begin(Group::Seq)
 }
 
-/// The end of values that are one value together.
+/// The end of values that are together one value.
 #[inline(always)]
 pub fn end_seq<V: Visitor>(visitor: &mut V) -> Result<(), AllocError>
     ensures told { OnOk result
@@ -269,7 +344,7 @@ pub fn end_seq<V: Visitor>(visitor: &mut V) -> Result<(), AllocError>
     visitor.end(Group::Seq)
 }
 
-/// What follows, up to its end, is in a structure of this name.
+/// The start of a structure of this name: what follows, up to its end, is in it.
 #[inline(always)]
 pub fn begin_struct<V: Visitor>(visitor: &mut V, name: &'static str) -> Result<(), AllocError>
     ensures told { OnOk result
@@ -289,7 +364,13 @@ pub fn end_struct<V: Visitor>(visitor: &mut V, name: &'static str) -> Result<(),
     visitor.end(Group::Struct { name })
 }
 
-/// What follows, up to its end, is in a newtype of this name.
+/// The start of a newtype of this name: what follows, up to its end, is in it.
+///
+/// ```
+/// begin_newtype(visitor, "Transparent:0xAABBCC")?;
+/// Leaf::I32(3).visit(visitor)?; // AABBCC02 00000004 00000003 00000000
+/// end_newtype(visitor, "Transparent:0xAABBCC")?;
+/// ```
 #[inline(always)]
 pub fn begin_newtype<V: Visitor>(visitor: &mut V, name: &'static str) -> Result<(), AllocError>
     ensures told { OnOk result
@@ -309,7 +390,7 @@ pub fn end_newtype<V: Visitor>(visitor: &mut V, name: &'static str) -> Result<()
     visitor.end(Group::Newtype { name })
 }
 
-/// What follows, up to its end, is in a variant of these names.
+/// The start of a variant of these names, of one value: what follows, up to its end, is in it.
 #[inline(always)]
 pub fn begin_newtype_variant<V: Visitor>(
     visitor: &mut V,
@@ -337,7 +418,13 @@ pub fn end_newtype_variant<V: Visitor>(
     visitor.end(Group::NewtypeVariant { name, variant })
 }
 
-/// What follows, up to its end, are the fields of a variant of these names.
+/// The start of a variant of these names, of fields: what follows, up to its end, are its fields.
+///
+/// ```
+/// begin_tuple_variant(visitor, "Override:0xAABBCC", "Items")?; // AABBCC01 00000010
+/// integer(visitor, "Transparent:0xBBBBBB", 3)?; // BBBBBB02 00000004 00000003 00000000
+/// end_tuple_variant(visitor, "Override:0xAABBCC", "Items")?;
+/// ```
 #[inline(always)]
 pub fn begin_tuple_variant<V: Visitor>(
     visitor: &mut V,

@@ -1,5 +1,5 @@
-//! What users' types are made of: the data of a value, the shape that a type is read by, and the trait of
-//! types that are written. The trait of types that are read is in `kmip_ttlv_de`.
+//! What users' types are made of: the data of a value, the shape that a type is decoded by, and the trait of
+//! types that can be encoded. The trait of types that can be decoded is in `kmip_ttlv_de`.
 
 ghost use Rattle.std.specs.Prelude.{◌≡◌, IfOk, OnOk, OnErr};
 ghost use Rattle.kmip_ttlv_base.specs.Values.{Value, view};
@@ -9,8 +9,14 @@ use crate::build::data_of;
 use crate::visit::Visitor;
 use std::alloc::{AllocError, Allocator, Global};
 
-/// A value that is to be written, or that was read. A name is a tag where it is a number below 2^24,
-/// as `0x420020`. A leaf stands under the tag that a wrapper named `Transparent` gives it.
+/// A value to encode, or one that was decoded. A name is a tag if it is a number below 2^24, such as
+/// `0x420020`. A leaf has the tag that a wrapper, which is named `Transparent`, puts on it.
+///
+/// ```
+/// let inner = Box::new(alloc, Data::I32(8))?;
+/// let number = Data::Newtype { name: "Transparent:0x420020", inner };
+/// let bytes = to_vec(alloc, &number)?; // 42002002 00000004 00000008 00000000
+/// ```
 #[derive(Drop)]
 #[derive_where(Debug, PartialEq)]
 pub enum Data<A: Allocator = Global> {
@@ -24,7 +30,7 @@ pub enum Data<A: Allocator = Global> {
     I32(i32),
     /// An Enumeration.
     U32(u32),
-    /// A Long Integer. It is read from a Date-Time too.
+    /// A Long Integer. It is also decoded from a Date-Time.
     I64(i64),
     /// A Date-Time.
     U64(u64),
@@ -32,35 +38,35 @@ pub enum Data<A: Allocator = Global> {
     Interval(u32),
     /// A Text String.
     Text(String<A>),
-    /// A Byte String. It is read from a Big Integer too.
+    /// A Byte String. It is also decoded from a Big Integer.
     Bytes(Vec<u8, A>),
-    /// A Big Integer, written with its sign gone on with up to a multiple of eight bytes.
+    /// A Big Integer. It is encoded with its sign extended to a multiple of eight bytes.
     BigInteger(Vec<u8, A>),
-    /// What is read where an optional field is absent. It gives no item: writing refuses it.
+    /// What is decoded if an optional field is absent. It is no item and can't be encoded.
     None,
     /// The value in it.
     Some(Box<Data<A>, A>),
-    /// The values, one after the other. The first item uses a waiting tag up.
+    /// The values, one after the other. The first item uses a held tag up.
     Seq(Vec<Data<A>, A>),
     /// A Structure of the fields, under the tag that the name is.
     Struct {
         name: &'static str,
         fields: Vec<Data<A>, A>,
     },
-    /// A Structure of one field, under the tag that the name is. Where the name begins with
-    /// `Transparent:`, it is the value in it, for whose item the tag that the rest of the name is waits.
+    /// A Structure of one field, under the tag that the name is. If the name begins with `Transparent:`, it is
+    /// the value in it instead, for whose item the tag that the rest of the name is, is held.
     Newtype {
         name: &'static str,
         inner: Box<Data<A>, A>,
     },
-    /// An Enumeration of the number that the variant's name is, under the tag that the name is.
+    /// An Enumeration under the tag that the name is, of the number that the variant's name is.
     UnitVariant {
         name: &'static str,
         variant: &'static str,
     },
-    /// A Structure of one field, under the tag that the name is. Where the variant is named
-    /// `Transparent`, it is the value in it, for whose item that tag waits; and where the name begins
-    /// with `Override:`, which is no part of the tag, the tag takes the place of the item's own.
+    /// A Structure of one field, under the tag that the name is. If the variant is named `Transparent`, it is
+    /// the value in it instead, for whose item that tag is held; and if the name begins with `Override:`,
+    /// which is no part of the tag, that tag replaces the item's own.
     NewtypeVariant {
         name: &'static str,
         variant: &'static str,
@@ -72,27 +78,33 @@ pub enum Data<A: Allocator = Global> {
         variant: &'static str,
         fields: Vec<Data<A>, A>,
     },
-    /// A value of a Rust type that isn't written, by the type's name.
+    /// A value of a Rust type that can't be encoded, by the type's name.
     Unsupported(&'static str),
 }
 
-/// What a type is read by. It is finite: no shape contains itself.
+/// What a type is decoded by. It is finite: no shape contains itself.
+///
+/// ```
+/// let mut fields = Vec::new(alloc);
+/// fields.push(FieldShape { name: "0xBBBBBB", shape: Shape::I32 })?;
+/// let shape = Shape::Struct { name: "0xAAAAAA", fields, deny_unknown: false };
+/// ```
 #[derive(Drop)]
 #[derive_where(Debug, PartialEq)]
 #[cycle(shapes)]
 pub enum Shape<A: Allocator = Global> {
-    /// A Structure whose fields come in this order; with `deny_unknown` nothing may follow them.
+    /// A Structure whose fields come in this order. With `deny_unknown` nothing may follow them.
     Struct {
         name: &'static str,
         fields: Vec<FieldShape<A>, A>,
         deny_unknown: bool,
     },
-    /// As a field: none, where the next item has another tag than the field or there is no item; else
-    /// what the shape in it reads.
+    /// As a field: None if the next item has another tag than the field, or if there is no item; otherwise
+    /// what the shape in it decodes.
     Option(Box<Shape<A>, A>),
-    /// One item or more that the shape in it reads, as long as the next has the first one's tag and type.
+    /// One item or more, each decoded by the shape in it, as long as the next has the first one's tag and type.
     Seq(Box<Shape<A>, A>),
-    /// What the shape in it reads.
+    /// What the shape in it decodes.
     Newtype {
         name: &'static str,
         inner: Box<Shape<A>, A>,
@@ -120,25 +132,25 @@ pub enum Shape<A: Allocator = Global> {
     U32,
 }
 
-/// A field of a struct: its name is the name of its tag.
+/// A field of a struct. Its name is its tag.
 #[derive(Drop)]
 #[derive_where(Debug, PartialEq)]
 #[cycle(shapes)]
 pub struct FieldShape<A: Allocator = Global> {
-    /// The field's tag, as a number.
+    /// The field's tag, as a number in hexadecimal.
     pub name: &'static str,
-    /// What the field is read by.
+    /// What the field is decoded by.
     pub shape: Shape<A>,
 }
 
-/// A variant of an enum: its name is a rule, where it begins with `if `, or a number.
+/// A variant of an enum. Its name is a rule if it begins with `if `, otherwise a number.
 #[derive(Drop)]
 #[derive_where(Debug, PartialEq)]
 #[cycle(shapes)]
 pub struct VariantShape<A: Allocator = Global> {
     /// A rule or a number.
     pub name: &'static str,
-    /// What is read where this variant is chosen.
+    /// What is decoded if this variant is chosen.
     pub content: VariantContent<A>,
 }
 
@@ -147,26 +159,30 @@ pub struct VariantShape<A: Allocator = Global> {
 #[derive_where(Debug, PartialEq)]
 #[cycle(shapes)]
 pub enum VariantContent<A: Allocator = Global> {
-    /// Nothing: a number names it.
+    /// Nothing: the variant is chosen by its number.
     Unit,
-    /// What one shape reads from the item.
+    /// What one shape decodes from the item.
     Newtype(Box<Shape<A>, A>),
-    /// What these shapes read from the items of a Structure, and use up.
+    /// What these shapes decode from the items of a Structure, all of which they must use up.
     Tuple(Vec<Shape<A>, A>),
 }
 
-/// A type whose values are written.
+/// A type whose values can be encoded. `parts` has an example of `visit`.
 pub trait Serialize {
-    // The data that stands for a value.
+    // The value that this one is encoded as.
     ghost stated: { Self → Value };
 
-    /// Tells a visitor what this value is: each group and leaf of the data that stands for it, in their
-    /// order. It ends with the first error that the visitor answers, and with no other.
+    /// Calls a visitor with what this value is: each group and leaf of the data that stands for it, in their
+    /// order. Returns the first error that the visitor returns, and no other.
     fn visit<V: Visitor>(&self, visitor: &mut V) -> Result<(), AllocError>
         ensures told { OnOk result (Tells V.knows V.step (stated self.now) visitor.old visitor.new) }
         ensures stopped { OnErr result (V.stopped visitor.new) };
 
-    /// The data that stands for this value. An AllocError where memory is refused.
+    /// The data that stands for this value. Fails if memory runs out.
+    ///
+    /// ```
+    /// assert!(rt; Leaf::I32(8).to_data(alloc)? == Data::I32(8));
+    /// ```
     final fn to_data<A: Allocator + Copy>(&self, alloc: A) -> Result<Data<A>, AllocError>
     where
         Self: Sized,

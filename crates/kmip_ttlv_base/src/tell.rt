@@ -1,4 +1,4 @@
-//! What a leaf and data tell a visitor of themselves.
+//! How leaves and data call a visitor.
 
 ghost use Rattle.std.specs.Prelude.{OnOk, OnErr};
 ghost use Rattle.kmip_ttlv_base.specs.Values.{view, views};
@@ -28,7 +28,7 @@ impl<A: Allocator> Serialize for Data<A> {
     }
 }
 
-// What the data is.
+// The events of the data.
 #[cycle(tell)]
 fn tell<A: Allocator, V: Visitor>(value: &Data<A>, visitor: &mut V) -> Result<(), AllocError>
     ensures told { OnOk result (Tells V.knows V.step (view value.now) visitor.old visitor.new) }
@@ -66,7 +66,7 @@ fn tell<A: Allocator, V: Visitor>(value: &Data<A>, visitor: &mut V) -> Result<()
     }
 }
 
-// The group with this one value.
+// The events of the group with this one value.
 #[cycle(tell)]
 fn tell_one<A: Allocator, V: Visitor>(
     inner: &Data<A>,
@@ -81,7 +81,7 @@ fn tell_one<A: Allocator, V: Visitor>(
     visitor.end(group)
 }
 
-// The group of these values.
+// The events of the group of these values.
 #[cycle(tell)]
 fn tell_group<A: Allocator, V: Visitor>(
     values: &[Data<A>],
@@ -96,7 +96,7 @@ fn tell_group<A: Allocator, V: Visitor>(
     visitor.end(group)
 }
 
-// The values, one after the other.
+// The events of the values, one after the other.
 #[cycle(tell)]
 fn tell_each<A: Allocator, V: Visitor>(
     values: &[Data<A>],

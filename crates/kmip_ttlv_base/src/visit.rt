@@ -1,12 +1,12 @@
-//! A value tells a visitor what it is, one event after the other: the leaves, and where each group
-//! of values begins and ends. The tree that `Data` is need not be made for that.
+//! A value calls a visitor with one event after the other: the leaves, and where each group of values begins
+//! and ends. So the tree that `Data` is needn't be built.
 
 ghost use Rattle.std.specs.Prelude.{OnOk, OnErr};
 ghost use Rattle.kmip_ttlv_base.specs.Visits.{Event, alone, begun, ended, leaf_value, around, TellsOf};
 
 use std::alloc::AllocError;
 
-/// A value that contains no other: a variant of `Data` of that name.
+/// A value that contains no other: the variant of `Data` with the same name.
 #[derive(Clone, Copy, Debug, PartialEq, Eq)]
 pub enum Leaf<'a> {
     /// A Boolean.
@@ -31,18 +31,18 @@ pub enum Leaf<'a> {
     Bytes(&'a [u8]),
     /// A Big Integer.
     BigInteger(&'a [u8]),
-    /// What is no item: writing refuses it. A field that is absent tells nothing instead.
+    /// No item: it can't be encoded. For a field that is absent, call the visitor with nothing instead.
     None,
-    /// An Enumeration of the number that the variant's name is, under the tag that the name is.
+    /// An Enumeration under the tag that the name is, of the number that the variant's name is.
     UnitVariant {
         name: &'static str,
         variant: &'static str,
     },
-    /// A value of a Rust type that isn't written, by the type's name.
+    /// A value of a Rust type that can't be encoded, by the type's name.
     Unsupported(&'static str),
 }
 
-/// What contains other values: a variant of `Data` of that name, without these.
+/// A group of values: the variant of `Data` with the same name, without the values in it.
 #[derive(Clone, Copy, Debug, PartialEq, Eq)]
 pub enum Group {
     /// The value in it.
@@ -53,11 +53,11 @@ pub enum Group {
     Struct {
         name: &'static str,
     },
-    /// A Structure of one field, or a wrapper where the name begins with `Transparent:`.
+    /// A Structure of one field, or a wrapper if the name begins with `Transparent:`.
     Newtype {
         name: &'static str,
     },
-    /// A Structure of one field, or a wrapper where the variant is named `Transparent`.
+    /// A Structure of one field, or a wrapper if the variant is named `Transparent`.
     NewtypeVariant {
         name: &'static str,
         variant: &'static str,
@@ -69,18 +69,18 @@ pub enum Group {
     },
 }
 
-/// What is told of a value. An AllocError stops it, and whoever tells it goes no further then.
+/// Gets the events of a value. After an AllocError it gets no more.
 pub trait Visitor {
-    // What there is to know of what was told.
+    // What can be known of the events so far.
     ghost State: { Type 0 };
 
-    // Whether the visitor knows this.
+    // Whether this is known of the visitor.
     ghost knows: { Self → State → Type 0 };
 
-    // What there is to know after this event.
+    // What is known after this event.
     ghost step: { Event → State → State };
 
-    // What holds of a visitor that answered an error. A visitor that never does has an empty type here.
+    // What holds of a visitor that returned an error. One that never does has the empty type here.
     ghost stopped: { Self → Type 0 };
 
     /// A value that contains no other.
@@ -88,12 +88,12 @@ pub trait Visitor {
         ensures told { OnOk result (TellsOf knows step (alone (leaf_value leaf.entry)) self.old self.new) }
         ensures stopped { OnErr result (stopped self.new) };
 
-    /// What follows, up to its end, is in this group.
+    /// The start of a group: what follows, up to its end, is in it.
     fn begin(&mut self, group: Group) -> Result<(), AllocError>
         ensures told { OnOk result (TellsOf knows step (begun (around group)) self.old self.new) }
         ensures stopped { OnErr result (stopped self.new) };
 
-    /// The end of this group, the last that began.
+    /// The end of this group, the innermost open one.
     fn end(&mut self, group: Group) -> Result<(), AllocError>
         ensures told { OnOk result (TellsOf knows step (ended (around group)) self.old self.new) }
         ensures stopped { OnErr result (stopped self.new) };

@@ -1,4 +1,4 @@
--- `is_beyond` and `give_back` at a call: what each is passed, and what a caller has of it. Assumes `Logic`.
+-- Calls of `is_beyond` and `give_back`: what each is passed, and what the caller gets. Assumes `Logic`.
 use Rattle.std.proofs.Common.{◌≡◌, ℕ, ◌^◌, ◌<◌, List, [], ◌∷◌, refl, ap, w64}
 use seplogic.Ra.Ura.{Ura}
 use mathlib.Core.Bool.{Bool}

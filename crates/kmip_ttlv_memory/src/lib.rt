@@ -1,15 +1,15 @@
-//! An allocator with limits: on all that is held at one time, on each block, and, for tests, on one growth.
+//! An allocator with limits: on all memory in use, on each block, and, for tests, on one growth.
 //!
-//! That it is an allocator is proved. When it fails is shown by tests alone: the counts lie in cells, and no
-//! contract says what a cell holds, nor when an allocator fails.
+//! That it is an allocator is proved. When it fails is only tested: the counts are in cells, and no
+//! contract says what a cell holds, or when an allocator fails.
 #![tactic(auto)]
 
 use std::alloc::{AllocError, Allocator};
 use std::cell::Cell;
 
-/// Passes each call on to another allocator, but fails beyond its limits. Lend it as `&allocator`, which is an
-/// allocator itself. A call that runs on it returns out of memory where a limit is reached, and the values that
-/// it made so far give their memory back.
+/// Passes each call on to another allocator, but fails beyond its limits. Pass it as `&allocator`, which is an
+/// allocator itself. A call that uses it returns out of memory when a limit is reached, and the values that
+/// it made so far free their memory.
 ///
 /// ```
 /// let memory = BoundedAllocator::new(rt.alloc(), 1_048_576);
@@ -24,29 +24,45 @@ pub struct BoundedAllocator<B: Allocator> {
 struct Limits {
     // The bytes of the budget that are left.
     left: Cell<usize>,
-    // The bytes of the largest block.
+    // The size of the largest block, in bytes.
     largest: usize,
-    // How many growths come before the one that fails; below zero it wraps round.
+    // How many growths come before the one that fails; it wraps around below zero.
     before: Cell<u64>,
-    // Whether one failed.
+    // Whether a request failed.
     has_failed: Cell<bool>,
 }
 
 impl<B: Allocator> BoundedAllocator<B> {
-    /// Takes memory from `inner`, at most `budget` bytes at one time. What is given back can be taken again. A
-    /// vector that grows holds its old block and its new one for a moment.
+    /// Allocates from `inner`, at most `budget` bytes at a time. What is freed can be allocated again. A
+    /// vector that grows has its old block and its new one for a moment.
+    ///
+    /// ```
+    /// let memory = BoundedAllocator::new(rt.alloc(), 64);
+    /// let text = String::from_str(&memory, "Operation")?;
+    /// assert!(rt; memory.left() == 64 - text.capacity());
+    /// ```
     pub fn new(inner: B, budget: usize) -> BoundedAllocator<B> {
         BoundedAllocator::with(inner, budget, usize::MAX, u64::MAX)
     }
 
-    /// Takes memory from `inner`, in blocks of at most `largest` bytes each.
+    /// Allocates from `inner`, in blocks of at most `largest` bytes each.
+    ///
+    /// ```
+    /// let memory = BoundedAllocator::in_blocks(rt.alloc(), 8);
+    /// assert!(rt; String::from_str(&memory, "Operation").is_err() && memory.has_failed());
+    /// ```
     pub fn in_blocks(inner: B, largest: usize) -> BoundedAllocator<B> {
         BoundedAllocator::with(inner, usize::MAX, largest, u64::MAX)
     }
 
-    /// For tests: takes memory from `inner`, and fails once, at the growth behind the first `before`. A growth is
-    /// each request for a block: the first of a vector, and each larger one. A test counts `before` upwards from 0
-    /// and ends where nothing has failed: then it has seen its call fail at each of its growths in turn.
+    /// For tests: allocates from `inner`, and fails once, at the growth after the first `before`. Every request
+    /// for a block is a growth: the first one of a vector, and each larger one. A test counts `before` up from 0
+    /// and stops when nothing has failed: then its call has failed at each of its growths in turn.
+    ///
+    /// ```
+    /// let memory = BoundedAllocator::failing_after(rt.alloc(), 0);
+    /// assert!(rt; String::from_str(&memory, "Operation").is_err() && memory.has_failed());
+    /// ```
     pub fn failing_after(inner: B, before: u64) -> BoundedAllocator<B> {
         BoundedAllocator::with(inner, usize::MAX, usize::MAX, before)
     }
@@ -61,7 +77,7 @@ impl<B: Allocator> BoundedAllocator<B> {
         BoundedAllocator { inner, limits }
     }
 
-    /// Whether a request failed by a limit so far.
+    /// Whether any request has failed at a limit so far.
     pub fn has_failed(&self) -> bool {
         self.limits.has_failed.get()
     }
@@ -105,7 +121,7 @@ fn is_beyond(limits: &Limits, size: usize) -> bool {
     false
 }
 
-// Counts a block that is given back, and so one that `inner` didn't have.
+// Counts a block that is freed.
 fn give_back(limits: &Limits, size: usize) {
     limits.left.set(limits.left.get().saturating_add(size));
 }

@@ -1,4 +1,4 @@
--- The first pass: what is told of a value finds its first refusal, or the lengths of its structures.
+-- The first pass: the events of a value lead to its first error, or to the lengths of its structures.
 use Rattle.std.proofs.Common.{codes, ◌≡◌, ℕ, ◌+◌, ◌-◌, ◌<◌, ◌≤◌, ◌^◌, Bool, true, false, List, [], ◌∷◌, ◌++◌, length, set, Option, Some, None, Result, Ok, Err, ◌⊎◌, inl, inr, if◌then◌else◌, nat_lt, refl, sym, ap, ◌∙◌, subst, arith, append_assoc, append-nil}
 use Rattle.std.proofs.lemmas.Bool.Decides.{nat_tests}
 use Rattle.kmip_ttlv_types.specs.declared.typ.TtlvType.{TtlvType}
@@ -65,7 +65,7 @@ abbrev pub Finds : (A S : Type 0) (o : Option (List Tree)) (f : Fault) (w : Held
 Finds A S o f w p old nest (Ok g) = Found o w p old nest g
 Finds A S o f w p old nest (Err h) = Halts h o f (Overlong A S o f p.offset)
 
--- ---- refusals
+-- ---- errors
 
 reach_none : (o : Option (List Tree)) (f : Fault) (n : ℕ) → o ≡ None → reach o f n ≡ f.offset
 reach_none o f n e = ap (λ x. reach x f n) e
@@ -75,7 +75,7 @@ halt_finds A S k n o f w p old nest empty is =
     if_lt n (2 ^ 64) (Err (halted k n)) (Err too_long) (Finds A S o f w p old nest) (λ _. (empty, is))
     (λ far. inr (inr (omega (arith, far, reach_none o f p.offset empty, ap (λ x. x.offset) is))))
 
--- a refusal goes through what leaves refusals alone
+-- an error passes through what leaves errors as they are
 quiet : (run : Result Going Halt → Result Going Halt) (k : Kind) (n : ℕ) → ((h : Halt) → run (Err h) ≡ Err h) → run (halt_before k n) ≡ halt_before k n
 quiet run k n hs = if_lt n (2 ^ 64) (Err (halted k n)) (Err too_long) (λ x. run x ≡ x) (λ _. hs (halted k n)) (λ _. hs too_long)
 
@@ -111,13 +111,13 @@ left_structure : (o : Option ℕ) (below : Option (List Tree)) (w : Held) (ts : 
 left_structure None below w ts e = let k : None ≡ Some ts = e in absurd cc
 left_structure (Some t) below w ts e = left_node t below w ts e
 
--- what stops the content stops the structure
+-- the error of the content is that of the structure
 structure_halts : (A S whole : Type 0) (w : Held) (name : List ℕ) (t : ℕ) (o : Option (List Tree)) (f : Fault) (p : Place) (h : Halt) → take_tag w name ≡ Some t → Halts h o f (Overlong A S o f (p.offset + 8))
     → Halts h (one_structure w name o) (structure_fault w name p f) (Overlong A (structure_long w name whole S) (one_structure w name o) (structure_fault w name p f) p.offset)
 structure_halts A S whole w name t o f p too_long is long = structure_overlong A S whole w name t o f p is long
 structure_halts A S whole w name t o f p (halted k n) is h = (ap (λ x. x >>= λ u. one_node u o) is ∙ ap (one_node t) h.0, ap (λ x. under_name x name w p (λ _. f)) is ∙ h.1)
 
--- out of a structure, its content measured
+-- out of a structure whose content was measured
 leaves_structure : (A S : Type 0) (w : Held) (name : List ℕ) (t : ℕ) (o : Option (List Tree)) (f f0 : Fault) (p : Place) (old : List ℕ) (nest : List Open) (g : Going) → take_tag w name ≡ Some t → Measured o (inside p) g.place (old ++ 0 ∷ []) g.sizes
     → Finds A (structure_long w name (IsLongContent o f0) S) (one_structure w name o) (structure_fault w name p f) w p old nest (out_of (record { at = length old; start = p.offset + 8 } ∷ nest) g)
 leaves_structure A S w name t o f f0 p old nest g is m =
@@ -138,7 +138,7 @@ ends_structure A S w name t o f f0 p old nest fin (Ok g) is hs gs found =
     subst (Finds A (structure_long w name (IsLongContent o f0) S) (one_structure w name o) (structure_fault w name p f) w p old nest) (sym (gs g ∙ ap (λ os. out_of os g) found.nest_is))
     (leaves_structure A S w name t o f f0 p old nest g is found.measured)
 
--- a structure: run is what is told of its content, and fin its end
+-- a structure: `run` is the events of its content, and `fin` its end
 structure_at : (A S : Type 0) (k : Option ℕ) (w : Held) (name : List ℕ) (o : Option (List Tree)) (f f0 : Fault) (p : Place) (old : List ℕ) (nest : List Open) (run fin : Result Going Halt → Result Going Halt) → take_tag w name ≡ k
     → ((h : Halt) → run (Err h) ≡ Err h) → ((h : Halt) → fin (Err h) ≡ Err h) → ((g : Going) → fin (Ok g) ≡ out_of g.nest g) → p.offset + 8 ≤ f.offset
     → (p.offset + 8 < 2 ^ 64 → Finds A S o f Nothing (inside p) (old ++ 0 ∷ []) (record { at = length old; start = p.offset + 8 } ∷ nest) (run (Ok (from (inside p) Nothing (old ++ 0 ∷ []) (record { at = length old; start = p.offset + 8 } ∷ nest)))))
@@ -203,7 +203,7 @@ wrapper_at A S (Some t) w name hold o stop p old nest run fin is hu rs fs gs ih 
     subst (λ x. Finds A (Under x (λ t. S (hold t))) (x >>= λ t. o (hold t) >>= some_item) (under_name x name w p (λ t. within (o (hold t)) p (stop (hold t) p))) w p old nest r) (sym is)
     (ends_wrapper A (S (hold t)) (o (hold t)) (stop (hold t) p) (hold t) w p old nest fin (run (Ok (from p (hold t) old nest))) (hu t) fs gs (ih (hold t)))
 
--- what is told of a value, wherever it stands
+-- the events of a value, from any state
 abbrev pub FindsAll : (A : Type 0) (S : Held → Type 0) (o : Held → Option (List Tree)) (stop : Held → Place → Fault) → (Result Going Halt → Result Going Halt) → Type 0
 FindsAll A S o stop run = (u : Held) (p : Place) (old : List ℕ) (nest : List Open) → p.offset < 2 ^ 64 → Finds A (S u) (o u) (stop u p) u p old nest (run (Ok (from p u old nest)))
 
@@ -274,7 +274,7 @@ later_reach : (o : Option (List Tree)) (ts : List Tree) (f : Fault) (n : ℕ) �
 later_reach None ts f n = omega arith
 later_reach (Some r) ts f n = omega (arith, len_append ts r)
 
--- what stops the later values, behind these items of the first
+-- the error of the later values, after these items of the first
 later_halts : (A A' S : Type 0) (S' : List Tree → Type 0) (later : List Tree → Option (List Tree)) (here : Fault) (stop : List Tree → Fault) (p : Place) (ts : List Tree) (h : Halt) → Halts h (later ts) (stop ts) (Overlong A' (S' ts) (later ts) (stop ts) (p.offset + length (bytes_all ts)))
     → Halts h (followed (Some ts) later) (in_turn (Some ts) here stop) (Overlong (A ⊎ A') (S ⊎ After (Some ts) S') (followed (Some ts) later) (in_turn (Some ts) here stop) p.offset)
 later_halts A A' S S' later here stop p ts too_long long = long_up A' (A ⊎ A') (S' ts) (S ⊎ S' ts) (reach (later ts) (stop ts) (p.offset + length (bytes_all ts))) (reach (followed (Some ts) later) (stop ts) p.offset) (λ a. inr a) (λ s. inr s) (later_reach (later ts) ts (stop ts) p.offset) long

@@ -1,4 +1,4 @@
--- How long items are, and how trees stand in lists.
+-- How long items are, and trees in lists.
 use Rattle.std.proofs.Common.{◌≡◌, ℕ, ◌+◌, ◌≤◌, Bool, List, [], ◌∷◌, ◌++◌, length, length-append, append-nil, refl, ap, ◌∙◌, arith}
 use Rattle.std.specs.List.{AllByRecursion}
 use Rattle.std.proofs.Math.ListN.{length-replicate}
@@ -73,7 +73,7 @@ pub opened_append : (b : Bool) (ts us : List Tree) → opened_after b (ts ++ us)
 opened_append b [] us = refl
 opened_append b (t ∷ ts) us = opened_append (opened_by t) ts us
 
--- how far a place after items is
+-- the offset of the place after items
 pub place_len : (p q : Place) (ts : List Tree) → q ≡ place_after p ts → q.offset ≡ p.offset + length (bytes_all ts)
 unfolding place_after
 place_len p q ts e = ap (λ x. x.offset) e

@@ -1,4 +1,4 @@
--- What was measured, and what is too long, step by step.
+-- What is measured, and what is too long, step by step.
 use Rattle.std.proofs.Common.{◌≡◌, ℕ, ◌+◌, ◌-◌, ◌<◌, ◌≤◌, ◌^◌, Bool, true, false, List, [], ◌∷◌, ◌++◌, length, set, Option, Some, None, ◌⊎◌, inl, inr, refl, sym, ap, ap₂, ◌∙◌, subst, arith, append-nil}
 use Rattle.kmip_ttlv_types.specs.declared.typ.TtlvType.{TtlvType}
 use Rattle.kmip_ttlv_types.specs.ItemTypes.{pad_len}
@@ -77,7 +77,7 @@ node_reach : (t : ℕ) (o : Option (List Tree)) (f : Fault) (n : ℕ) → reach 
 node_reach t None f n = omega arith
 node_reach t (Some ts) f n = omega (arith, one_node_len t ts)
 
--- a structure that is too long, under the tag that its name was taken as
+-- a structure that is too long, under the tag that its name gave
 overlong_at : (A S whole : Type 0) (w : Held) (name : List ℕ) (t : ℕ) (o : Option (List Tree)) (f : Fault) (p : Place) → take_tag w name ≡ Some t → Overlong A (whole ⊎ S) (one_node t o) f p.offset → Overlong A (structure_long w name whole S) (one_structure w name o) (structure_fault w name p f) p.offset
 overlong_at A S whole w name t o f p is h = subst (λ k. Overlong A (Under k (λ _. whole ⊎ S)) (k >>= λ u. one_node u o) (under_name k name w p (λ _. f)) p.offset) (sym is) h
 
@@ -96,7 +96,7 @@ pub structure_too_long : (A S : Type 0) (w : Held) (name : List ℕ) (t : ℕ) (
 structure_too_long A S w name t o f f0 p q start mid is m long =
     overlong_at A S (IsLongContent o f0) w name t o f p is (inr (inl (inl (whole_reach o f0 p q start mid m long))))
 
--- what is too long in a structure's content
+-- a length in a structure's content is too long
 pub structure_overlong : (A S whole : Type 0) (w : Held) (name : List ℕ) (t : ℕ) (o : Option (List Tree)) (f : Fault) (p : Place) → take_tag w name ≡ Some t → Overlong A S o f (p.offset + 8)
     → Overlong A (structure_long w name whole S) (one_structure w name o) (structure_fault w name p f) p.offset
 structure_overlong A S whole w name t o f p is long =
@@ -106,7 +106,7 @@ far_content : (o : Option (List Tree)) (f : Fault) (n : ℕ) → n ≤ f.offset 
 far_content None f n h = h
 far_content (Some ts) f n h = omega arith
 
--- the offset ends at the structure's header
+-- the structure's header ends beyond the greatest offset
 pub header_too_far : (A S whole : Type 0) (w : Held) (name : List ℕ) (t : ℕ) (o : Option (List Tree)) (f : Fault) (p : Place) → take_tag w name ≡ Some t → p.offset + 8 ≤ f.offset → 2 ^ 64 ≤ p.offset + 8
     → Overlong A (structure_long w name whole S) (one_structure w name o) (structure_fault w name p f) p.offset
 header_too_far A S whole w name t o f p is least far =
@@ -138,6 +138,6 @@ wrapper_reach : (o : Option (List Tree)) (f : Fault) (p : Place) → reach o f p
 wrapper_reach None f p = omega arith
 wrapper_reach (Some ts) f p = wrapped_reach ts f p
 
--- what is too long in a wrapper
+-- a length in a wrapper is too long
 pub wrapper_overlong : (A S : Type 0) (o : Option (List Tree)) (f : Fault) (p : Place) → Overlong A S o f p.offset → Overlong A S (o >>= some_item) (within o p f) p.offset
 wrapper_overlong A S o f p long = long_up A A S S (reach o f p.offset) (reach (o >>= some_item) (within o p f) p.offset) (λ a. a) (λ s. s) (wrapper_reach o f p) long

@@ -1,4 +1,4 @@
--- What outputs were given, piece after piece.
+-- What outputs got, piece after piece.
 use Rattle.std.proofs.Common.{◌≡◌, ℕ, Bool, true, false, ◌+◌, ◌≤◌, List, [], ◌++◌, length, take, Option, Some, None, refl, sym, ap, ◌∙◌, arith, append_assoc, append-nil, length-append, subst}
 use Rattle.std.proofs.Math.Seq.{take-append-add}
 use Rattle.std.specs.Option.{is_some}
@@ -19,7 +19,7 @@ use Rattle.kmip_ttlv_ser.specs.Gathers.{Lent, Reached, Sends, IsGathered}
 use Rattle.kmip_ttlv_ser.specs.Outputs.{Before, IsGiven}
 use Rattle.kmip_ttlv_ser.proofs.Leaves.{place_len}
 
--- a front of a piece behind what was appended
+-- a beginning of a piece, after what was appended
 pub front_after : (a b c : Option (List ℕ)) (xs ys : List ℕ) → Appends a b xs → AppendsFront b c ys → AppendsFront a c (xs ++ ys)
 front_after None b c xs ys first front = record { count = 0; within = omega arith; appends = tt }
 front_after (Some xs0) None c xs ys first front = absurd first
@@ -30,19 +30,19 @@ front_after (Some xs0) (Some ys0) (Some zs0) xs ys first front = record {
   appends = front.appends ∙ ap (λ zs. zs ++ take front.count ys) first ∙ append_assoc xs0 xs (take front.count ys) ∙ ap (λ zs. xs0 ++ zs) (sym (take-append-add xs ys front.count));
 }
 
--- room that is too little for a piece behind what was given
+-- too little room for a piece, after others
 tight_after : (a b : Option ℕ) (xs ys : List ℕ) → UsesRoom a b (length xs) → IsTight b (length ys) → IsTight a (length (xs ++ ys))
 tight_after None b xs ys used tight = tt
 tight_after (Some before) None xs ys used tight = absurd used
 tight_after (Some before) (Some after) xs ys used tight = omega (arith, used, tight, length-append xs ys)
 
--- a sink that fails now
+-- a sink that fails at this piece
 pub fails_now : (start : Before) (sent piece : List ℕ) (held held' : Option (List ℕ)) (room : Option ℕ) (failure : Option Error) (failed : Bool) → failed ≡ is_some failure → failed ≡ false → IsGiven start sent held room failure → AppendsFront held held' piece → IsTight room (length piece)
     → AppendsFront start.held held' (sent ++ piece) × IsTight start.room (length (sent ++ piece))
 fails_now start sent piece held held' room (Some e) failed is not given front tight = let k : true ≡ false = sym is ∙ not in absurd cc
 fails_now start sent piece held held' room None failed is not given front tight = (front_after start.held held held' sent piece given.0 front, tight_after start.room room sent piece given.1 tight)
 
--- a sink that was given nothing
+-- a sink that got nothing yet
 pub given_nothing : (xs ys : List ℕ) (free room : ℕ) (failure : Option Error) → ys ≡ xs → free ≤ room → failure ≡ None → IsGiven record { held = Some xs; room = Some free } [] (Some ys) (Some room) failure
 given_nothing xs ys free room (Some e) same le none = let k : Some e ≡ None = none in absurd cc
 given_nothing xs ys free room None same le none = (same ∙ sym (append-nil xs), omega (arith, le))
@@ -63,7 +63,7 @@ pub write_fails : (before old new : Option (List ℕ)) (sent bytes : List ℕ) (
 write_fails before old new sent bytes (Some e) failed is not reached front = let k : true ≡ false = sym is ∙ not in absurd cc
 write_fails before old new sent bytes None failed is not reached front = front_after before old new sent bytes reached front
 
--- a piece that waits behind the others
+-- a piece that is buffered after the others
 pub waits_too : (start : Lent) (sent piece w w' : List ℕ) (name : GName) (contents : Option (List ℕ)) (failure : Option Error) → IsGathered start sent name contents w failure → w' ≡ w ++ piece → IsGathered start (sent ++ piece) name contents w' failure
 waits_too start sent piece w w' name contents failure g more = record {
   same = g.same;
@@ -72,7 +72,7 @@ waits_too start sent piece w w' name contents failure g more = record {
   reached = g.reached;
 }
 
--- nothing waits any more
+-- nothing is buffered any more
 pub flushed : (start : Lent) (sent w w' : List ℕ) (name name' : GName) (contents contents' : Option (List ℕ)) (failure failure' : Option Error) → IsGathered start sent name contents w failure → name' ≡ name → Sends contents contents' failure failure' w → w' ≡ [] → IsGathered start sent name' contents' w' failure'
 flushed start sent w w' name name' contents contents' failure failure' g same sends empty = record {
   same = same ∙ g.same;
@@ -81,7 +81,7 @@ flushed start sent w w' name name' contents contents' failure failure' g same se
   reached = subst (λ bs. Reached start.contents contents' bs failure') (sym g.parts) (sends start.contents g.front g.reached);
 }
 
--- a piece that is sent where nothing waits
+-- a piece that is written while nothing is buffered
 pub sent_too : (start : Lent) (sent piece w : List ℕ) (name : GName) (contents contents' : Option (List ℕ)) (failure failure' : Option Error) → IsGathered start sent name contents w failure → w ≡ [] → Sends contents contents' failure failure' piece → IsGathered start (sent ++ piece) name contents' w failure'
 sent_too start sent piece w name contents contents' failure failure' g empty sends =
     let whole : sent ≡ g.front = g.parts ∙ ap (λ bs. g.front ++ bs) empty ∙ append-nil g.front in
@@ -100,7 +100,7 @@ pub gathered_nothing : (start : Lent) (name : GName) (contents : Option (List �
 gathered_nothing start name contents w (Some e) same is empty none = let k : Some e ≡ None = none in absurd cc
 gathered_nothing start name contents w None same is empty none = record { same = same; front = []; parts = sym empty; reached = subst (λ c. Appends start.contents c []) (sym is) (appends_nothing start.contents) }
 
--- where nothing waits, all was sent
+-- if nothing is buffered, all was written
 pub whole_reached : (start : Lent) (sent w : List ℕ) (name : GName) (contents : Option (List ℕ)) (failure : Option Error) → IsGathered start sent name contents w failure → w ≡ [] → Reached start.contents contents sent failure
 whole_reached start sent w name contents failure g empty =
     let whole : sent ≡ g.front = g.parts ∙ ap (λ bs. g.front ++ bs) empty ∙ append-nil g.front in

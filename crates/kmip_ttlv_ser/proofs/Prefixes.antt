@@ -1,4 +1,4 @@
--- What prefixes leave, and what number follows them.
+-- What is left after prefixes, and the number that it is.
 use Rattle.std.proofs.Common.{◌≡◌, ℕ, ◌<◌, ◌++◌, List, [], ◌∷◌, Bool, true, false, ◌&&◌, Option, Some, None, option_map, MatchOption, Bor}
 use Rattle.std.proofs.Common.{take, drop, length, get_or, eqb, ◌==◌, if◌then◌else◌, codes, refl, sym, ap, ◌∙◌, subst, arith, append-nil, true≢false}
 use Rattle.std.proofs.Math.Logic.{⊎_elim}
@@ -46,7 +46,7 @@ lacks_prefix p s e = rw (← e) refl
 pub has_prefix : (p s rest : List ℕ) → true ≡ starts_with eqb s p → rest ≡ drop (length p) s → Some rest ≡ after_prefix p s
 has_prefix p s rest e is = rw (← e) (ap Some is)
 
--- bytes of the same length as a prefix of theirs
+-- bytes that are as long as their prefix
 pub whole_prefix : (b : Bool) (p s : List ℕ) → b ≡ starts_with eqb s p → length s ≡ length p → b ≡ bytes_eq s p
 whole_prefix true p s e same =
     let parts : s ≡ p ++ drop (length p) s = (starts_is Decides-eqb s p _ refl).0 (sym e) in
@@ -79,13 +79,13 @@ plain (a ∷ b ∷ rest) each =
     let other : ((a == 48) && (b == 120)) ≡ false = ap (λ t. (a == 48) && t) (ne_eqb b 120 (no_x b each.1.0)) ∙ and_false (a == 48) in
     ap (λ t. if t then without_0x rest else a ∷ b ∷ rest) other
 
--- digits alone are the number that they are
+-- digits alone are their number
 pub digits_number : (ds : List ℕ) (o : Option ℕ) → AllDigits 16 ds → o ≡ numeral ds → o ≡ number ds
 unfolding number
 digits_number ds o each is =
     is ∙ sym (ap numeral (ap without_leading_plus (plain ds each) ∙ without_leading_plus_none ds (no_plus ds each)))
 
--- and behind `0x` too
+-- and so they are after `0x`
 pub prefixed_number : (s ds : List ℕ) (o : Option ℕ) → true ≡ starts_with eqb s (codes "0x") → ds ≡ drop 2 s → AllDigits 16 ds → o ≡ numeral ds → o ≡ number s
 unfolding number
 prefixed_number s ds o begins rest each is =

@@ -1,4 +1,4 @@
--- A refusal stands no earlier than the place from which the value is written.
+-- An error isn't before the place at which the value begins.
 use Rattle.std.proofs.Common.{ℕ, ◌≤◌, Bool, true, false, List, Option, Some, None, codes, arith}
 use Rattle.kmip_ttlv_types.specs.Names.{tag_of, transparent_name}
 use Rattle.kmip_ttlv_types.specs.Trees.{Tree}

@@ -1,4 +1,4 @@
--- From what the first pass answers to what the calls answer.
+-- From what the first pass returns to what the calls return.
 use Rattle.std.proofs.Common.{◌≡◌, ℕ, ◌+◌, ◌≤◌, ◌^◌, Bool, true, false, List, [], ◌∷◌, ◌++◌, length, Option, Some, None, Result, Ok, Err, ◌<◌, ◌⊎◌, inl, inr, refl, sym, ap, ◌∙◌, subst, arith}
 use Rattle.std.specs.List.{AllByRecursion}
 use Rattle.kmip_ttlv_types.specs.declared.typ.TtlvType.{TtlvType}
@@ -27,7 +27,7 @@ use Rattle.kmip_ttlv_ser.specs.WriteAnswers.{IsTooLongFor, IsRefusedAs, IsFirstR
 use Rattle.kmip_ttlv_ser.proofs.Leaves.{place_len, below_is, fits_each, each_front, each_back}
 use Rattle.kmip_ttlv_ser.proofs.Parts.{some_same, split_of}
 
--- ---- a value that has items and a length too long: they don't fit
+-- ---- a value that has items, and a length that is too long: they don't fit
 
 abbrev Unfit : List Tree → Type 0
 Unfit ts = AllByRecursion Fits ts → ⊥
@@ -153,7 +153,7 @@ mutual
       let later = after_first (items v w) (λ us. HaveLongStructure vs (left_over w us)) s.here s.first_is h in
       λ each. long_structures_unfit vs (left_over w s.here) s.after s.later_is later (each_back s.here s.after (subst (AllByRecursion Fits) s.joined each))
 
--- ---- the answers
+-- ---- the results
 
 too_long_at : (v : Value) (p : Place) (o : Option (List Tree)) → items v Nothing ≡ o → Overlong (HasLongLeaf v) (HasLongStructure v Nothing) o (fault v Nothing p) p.offset → IsTooLongFor v p o
 too_long_at v p None e h = h

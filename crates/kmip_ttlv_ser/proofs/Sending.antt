@@ -1,4 +1,4 @@
--- The second pass: what is told of a value with items writes their bytes.
+-- The second pass: the events of a value that has items write their bytes.
 use Rattle.std.proofs.Common.{◌≡◌, ℕ, ◌+◌, Bool, true, false, List, [], ◌∷◌, ◌++◌, length, replicate, Option, Some, None, refl, sym, ap, ◌∙◌, subst, append_assoc, append-nil, arith}
 use Rattle.kmip_ttlv_types.specs.declared.typ.TtlvType.{TtlvType}
 use Rattle.kmip_ttlv_types.specs.declared.typ.TtlvType.TheVariants.{Structure, Enumeration, Integer, LongInteger, BigInteger, Boolean, TextString, ByteString, DateTime, Interval}
@@ -51,7 +51,7 @@ node_bytes_are t us old =
     ∙ ap (λ bs. old ++ (header t Structure (length bs) ++ bs)) (sym (below_is us))
     ∙ ap (λ bs. old ++ bs) (sym (append-nil (header t Structure (length (bytes_below (trees_of us))) ++ bytes_below (trees_of us))))
 
--- what emits these items, whatever was written before, and whatever plan follows
+-- this writes the bytes of these items, whatever was written before, and leaves whatever plan follows
 abbrev pub Does : {S : Type 0} → (Written S → Written S) → Held → Option (List Tree) → Type 0
 Does {S = S} k w o = (st : S) (ts : List Tree) (old plan rest : List ℕ) → o ≡ Some ts → plan ≡ sizes_all ts ++ rest → k (state st old plan w) ≡ state st (old ++ bytes_all ts) rest (left_over w ts)
 
@@ -123,7 +123,7 @@ mutual
       ∙ ap (λ u. state st (old ++ bytes_all (h.here ++ h.after)) rest u) (left_append w h.here h.after)
       ∙ ap (λ us. state st (old ++ bytes_all us) rest (left_over w us)) (sym h.joined)
 
--- ---- what the functions give
+-- ---- what the functions write
 
 pub leaf_bytes_are : (t : ℕ) (typ : TtlvType) (c old pad : List ℕ) → pad ≡ replicate (pad_len (length c)) 0 → ((old ++ header t typ (length c)) ++ c) ++ pad ≡ old ++ bytes_all (leaf t typ c ∷ [])
 unfolding leaf_bytes
@@ -151,7 +151,7 @@ big_integer_bytes_are t bs old n len =
 one_leaf_is : (w v : Held) (typ : TtlvType) (c : List ℕ) (t : ℕ) → w ≡ v → held_tag v ≡ Some t → one_leaf w typ c ≡ Some (leaf t typ c ∷ [])
 one_leaf_is w v typ c t same is = ap (λ u. one_leaf u typ c) same ∙ ap (λ o. o >>= λ u. Some (leaf u typ c ∷ [])) is
 
--- one item was given, under the tag that waited
+-- one item was written, under the tag that was held
 pub wrote_one : {S O : Type 0} (given : S → List ℕ → O → Type 0) (e : Emitter O) (s : Written S) (o : Option (List Tree)) (x : Tree) → o ≡ Some (x ∷ []) → given s.start (s.bytes ++ bytes_all (x ∷ [])) e.out → s.plan ≡ e.plan.now → Nothing ≡ e.held → HasWritten given e (wrote o s)
 wrote_one given e s o x is gave plan held = subst (λ k. HasWritten given e (wrote k s)) (sym is) record { gave = gave; plan_is = plan; held_is = held }
 
@@ -177,7 +177,7 @@ no_items w v t name vname same is none_is = rw (same, is, none_is) refl
 pub wrote_no_unit : {S O : Type 0} (given : S → List ℕ → O → Type 0) (e : Emitter O) (s : Written S) (name vname : List ℕ) (t : ℕ) → HasWritten given e s → take_tag e.held name ≡ Some t → number vname ≡ None → HasWritten given e (wrote (items (unit_variant_value name vname) s.held) s)
 wrote_no_unit given e s name vname t h is none_is = subst (λ k. HasWritten given e (wrote k s)) (sym (no_items s.held e.held t name vname h.held_is is none_is)) h
 
--- all that a value tells was given
+-- after all events of a value its bytes were written
 pub all_given : {S O : Type 0} (given : S → List ℕ → O → Type 0) (v : Value) (ts : List Tree) (start : S) (plan : List ℕ) (old new : Emitter O) → items v Nothing ≡ Some ts → plan ≡ sizes_all ts → given start [] old.out → old.plan.now ≡ plan → old.held ≡ Nothing
     → ((s : Written S) → HasWritten given old s → HasWritten given new (visited emit_step v s)) → given start (bytes_all ts) new.out
 all_given {S = S} given v ts start plan old new are planned empty plan_is held told =

@@ -21,7 +21,7 @@ use Rattle.kmip_ttlv_ser.proofs.Telling.{all_same}
 abbrev Sound : List Tree → Type 0
 Sound ts = AllByRecursion Fits ts → AllByRecursion IsSound ts
 
--- the tag that waits has three bytes
+-- the held tag has three bytes
 abbrev Small : Held → Type 0
 Small Nothing = Unit {0}
 Small (Plain t) = t < 2 ^ 24

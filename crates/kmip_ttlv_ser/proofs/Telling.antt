@@ -50,7 +50,7 @@ split_same (x ∷ xs) (y ∷ ys) a b len e =
     let s = split_same xs ys a b (omega (arith, len)) tail in
     (ap₂ (λ z zs. z ∷ zs) head s.0, s.1)
 
--- two headers, with what follows
+-- two headers, and what follows them
 same_header : (t u : ℕ) (p q : TtlvType) (m n : ℕ) (a b : List ℕ) → t < 2 ^ 24 → u < 2 ^ 24 → m < 2 ^ 32 → n < 2 ^ 32 → header t p m ++ a ≡ header u q n ++ b → (t ≡ u) × (p ≡ q) × (m ≡ n) × (a ≡ b)
 same_header t u p q m n a b ht hu hm hn e =
     let whole = split_same (header t p m) (header u q n) a b refl e in

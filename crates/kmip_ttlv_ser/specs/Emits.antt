@@ -11,7 +11,7 @@ use Rattle.kmip_ttlv_ser.specs.declared.held.Held.TheVariants.{Nothing, Plain}
 use Rattle.kmip_ttlv_ser.specs.declared.emitter.Emitter.{Emitter}
 use Rattle.kmip_ttlv_ser.specs.WrittenItems.{take_tag, held_over, without_override, is_wrapper, left_over, items}
 
--- what was written since the start, the lengths that are left, and the tag that waits
+-- what was written since the start, the lengths that are still to come, and the held tag
 pub record Written (S : Type 0) : Type 0 where
   pub start : S
   pub bytes : List ℕ
@@ -27,7 +27,7 @@ abbrev pub wrote : {S : Type 0} → Option (List Tree) → Written S → Written
 wrote None s = s
 wrote (Some ts) s = state s.start (s.bytes ++ bytes_all ts) s.plan (left_over s.held ts)
 
--- after a structure's header, its length the plan's first
+-- after a structure's header, whose length is the first of the plan
 abbrev pub header_of : {S : Type 0} → ℕ → List ℕ → Written S → Written S
 header_of t [] s = s
 header_of t (n ∷ rest) s = state s.start (s.bytes ++ header t Structure n) rest Nothing
@@ -37,22 +37,22 @@ abbrev pub began : {S : Type 0} → Option ℕ → Written S → Written S
 began None s = s
 began (Some t) s = header_of t s.plan s
 
--- after a wrapper's name was taken: its tag waits
+-- after a wrapper's name was taken: its tag is held
 abbrev pub waits : {S : Type 0} → Option ℕ → (ℕ → Held) → Written S → Written S
 waits None hold s = s
 waits (Some t) hold s = state s.start s.bytes s.plan (hold t)
 
--- the beginning of a newtype, by what follows `Transparent:` in its name
+-- the start of a newtype, by what follows `Transparent:` in its name
 abbrev pub began_newtype : {S : Type 0} → Option (List ℕ) → List ℕ → Written S → Written S
 began_newtype None name s = began (take_tag s.held name) s
 began_newtype (Some n) name s = waits (take_tag s.held n) Plain s
 
--- the beginning of a newtype variant, by whether it is a wrapper
+-- the start of a newtype variant, by whether it is a wrapper
 abbrev pub began_variant : {S : Type 0} → Bool → List ℕ → Written S → Written S
 began_variant true name s = waits (take_tag s.held (without_override name)) (held_over s.held name) s
 began_variant false name s = began (take_tag s.held (without_override (without_override name))) s
 
--- the beginning of a group
+-- the start of a group
 abbrev pub began_group : {S : Type 0} → Around → Written S → Written S
 began_group a_some s = s
 began_group a_seq s = s
@@ -61,13 +61,13 @@ began_group (a_newtype name) s = began_newtype (transparent_name name) name s
 began_group (a_newtype_variant name vname) s = began_variant (is_wrapper vname) name s
 began_group (a_tuple_variant name vname) s = began (take_tag s.held (without_override name)) s
 
--- what one event does
+-- what an event does to the state
 abbrev pub emit_step : {S : Type 0} → Event → Written S → Written S
 emit_step (alone v) s = wrote (items v s.held) s
 emit_step (begun a) s = began_group a s
 emit_step (ended a) s = s
 
--- the emitter gave its output these bytes, and has this left
+-- the emitter wrote these bytes to its output, and this is left
 pub record HasWritten {S O : Type 0} (given : S → List ℕ → O → Type 0) (e : Emitter O) (s : Written S) : Type 0 where
   pub gave : given s.start s.bytes e.out
   pub plan_is : s.plan ≡ e.plan.now

@@ -1,4 +1,4 @@
--- Where a value has no items: the first step that has none, and its place.
+-- The first error of a value that has no items, and its offset.
 use Rattle.std.specs.Prelude.{ℕ, ◌+◌, Bool, true, false, List, [], ◌∷◌, Option, Some, None, length, codes}
 use Rattle.kmip_ttlv_types.specs.declared.field.FieldType.{FieldType}
 use Rattle.kmip_ttlv_types.specs.declared.field.FieldType.TheVariants.{Tag, Typ, Value as Content}
@@ -17,31 +17,31 @@ use Rattle.kmip_ttlv_ser.specs.declared.held.Held.TheVariants.{Nothing, Plain, O
 use Rattle.kmip_ttlv_ser.specs.declared.held.Place.{Place}
 use Rattle.kmip_ttlv_ser.specs.WrittenItems.{take_tag, held_over, without_override, is_wrapper, left_over, items}
 
--- why a value is refused, and the number of bytes before the refused field
+-- why a value can't be encoded, and the number of bytes before the invalid field
 pub record Fault : Type 0 where
   pub kind : Kind
   pub offset : ℕ
 
--- the field that is due where no item is begun: a value after a structure's length, else a tag
+-- the field that is expected where no item has begun: a value after a structure's length, else a tag
 abbrev pub due : Bool → FieldType
 due true = Content
 due false = Tag
 
--- an item where no tag is held
+-- an item, while no tag is held
 abbrev pub no_tag : Bool → Kind
 no_tag opened = malformed (UnexpectedTtlvField (due opened) TypeAndLengthAndValue)
 
--- a tag, or the end of a wrapper, where a tag is held
+-- a tag, or the end of a wrapper, while a tag is held
 abbrev pub tag_unused : Kind
 tag_unused = malformed (UnexpectedTtlvField Typ Tag)
 
--- a held tag's three bytes stand before the field that comes next
+-- the bytes of a held tag, which come before the next field
 abbrev pub held_len : Held → ℕ
 held_len Nothing = 0
 held_len (Plain t) = 3
 held_len (Overriding t) = 3
 
--- whether the field last written is a structure's length, after a tree
+-- whether the last field written is a structure's length, after a tree
 abbrev mutual
   pub opened_by : Tree → Bool
   opened_by (leaf t typ content) = false
@@ -51,7 +51,7 @@ abbrev mutual
   opened_below b no_trees = b
   opened_below b (tree t ts) = opened_below (opened_by t) ts
 
--- the same after a list of trees, where it was b before
+-- the same after a list of trees, if it was b before
 abbrev pub opened_after : Bool → List Tree → Bool
 opened_after b [] = b
 opened_after b (t ∷ ts) = opened_after (opened_by t) ts
@@ -64,7 +64,7 @@ place_after p ts = record { offset = p.offset + length (bytes_all ts); opened = 
 abbrev pub inside : Place → Place
 inside p = record { offset = p.offset + 8; opened = true }
 
--- a refusal of the field that comes at a place, after the tag that waits
+-- an error at the field that comes next, after the held tag
 abbrev pub fault_at : Kind → Held → Place → Fault
 fault_at kind w p = record { kind = kind; offset = p.offset + held_len w }
 
@@ -73,28 +73,28 @@ abbrev pub name_kind : Option ℕ → List ℕ → Kind
 name_kind None name = mismatch (invalid_tag name)
 name_kind (Some n) name = tag_unused
 
--- what stops a named value: its name, or what follows under the tag
+-- the error of a named value: of its name, or of what follows under the tag
 abbrev pub under_name : Option ℕ → List ℕ → Held → Place → (ℕ → Fault) → Fault
 under_name None name w p below = fault_at (name_kind (tag_of name) name) w p
 under_name (Some t) name w p below = below t
 
--- what stops a structure: its name, or its content
+-- the error of a structure: of its name, or of its content
 abbrev pub structure_fault : Held → List ℕ → Place → Fault → Fault
 structure_fault w name p below = under_name (take_tag w name) name w p (λ t. below)
 
--- what stops a wrapper: its content, or that it gave no item
+-- the error of a wrapper: of its content, or that it has no item
 abbrev pub within : Option (List Tree) → Place → Fault → Fault
 within None p below = below
 within (Some ts) p below = record { kind = tag_unused; offset = p.offset + 3 }
 
--- what stops a newtype, by what follows `Transparent:` in its name
+-- the error of a newtype, by what follows `Transparent:` in its name
 abbrev pub newtype_fault :
     Option (List ℕ) → List ℕ → Held → Place → (Held → Option (List Tree)) → (Held → Place → Fault) → Fault
 newtype_fault None name w p its stop = structure_fault w name p (stop Nothing (inside p))
 newtype_fault (Some n) name w p its stop =
     under_name (take_tag w n) n w p (λ t. within (its (Plain t)) p (stop (Plain t) p))
 
--- what stops a newtype variant, by whether it is named `Transparent`
+-- the error of a newtype variant, by whether it is named `Transparent`
 abbrev pub variant_fault : Bool → List ℕ → Held → Place → (Held → Option (List Tree)) → (Held → Place → Fault) → Fault
 variant_fault true name w p its stop =
     let n = without_override name in
@@ -102,12 +102,12 @@ variant_fault true name w p its stop =
 variant_fault false name w p its stop =
     structure_fault w (without_override (without_override name)) p (stop Nothing (inside p))
 
--- the first value without items, or what follows
+-- the error of the first value if it has no items, else that of what follows
 abbrev pub in_turn : Option (List Tree) → Fault → (List Tree → Fault) → Fault
 in_turn None here later = here
 in_turn (Some ts) here later = later ts
 
--- the first refusal of a value that has no items
+-- the first error of a value that has no items
 abbrev mutual
   pub fault : Value → Held → Place → Fault
   fault (boolean_value b) w p = fault_at (no_tag p.opened) w p
@@ -133,7 +133,7 @@ abbrev mutual
       structure_fault w (without_override name) p (fault_in vs Nothing (inside p))
   fault (unsupported_value name) w p = fault_at (mismatch (unsupported_rust_type name)) w p
 
-  -- read only where a value has no items
+  -- used only if a value has no items
   pub fault_in : Values → Held → Place → Fault
   fault_in no_values w p = fault_at (no_tag p.opened) w p
   fault_in (value v vs) w p = in_turn (items v w) (fault v w p) (λ ts. fault_in vs (left_over w ts) (place_after p ts))

@@ -31,34 +31,34 @@ abbrev mutual
   HaveLongLeaf no_values = ⊥
   HaveLongLeaf (value v vs) = HasLongLeaf v ⊎ HaveLongLeaf vs
 
--- the bytes up to the first refusal, or to the end where there is none, after n earlier ones
+-- how many bytes there are up to the first error, or to the end if there is none, after n earlier ones
 abbrev pub reach : Option (List Tree) → Fault → ℕ → ℕ
 reach None stop n = stop.offset
 reach (Some ts) stop n = n + length (bytes_all ts)
 
--- the place where a structure's content begins, counted from there
+-- the place at which a structure's content begins, counted from there
 abbrev pub content_start : Place
 content_start = record { offset = 0; opened = true }
 
--- a structure's content, counted up to the first refusal, is too long
+-- a structure's content, counted up to the first error, is too long
 abbrev pub IsLongContent : Option (List Tree) → Fault → Type 0
 IsLongContent below stop = 2 ^ 32 ≤ reach below stop 0
 
--- a tag stands, and then this holds
+-- a tag was taken, and then this holds
 abbrev pub Under : Option ℕ → (ℕ → Type 0) → Type 0
 Under None inside = ⊥
 Under (Some t) inside = inside t
 
--- what follows, where there are items
+-- what follows, if there are items
 abbrev pub After : Option (List Tree) → (List Tree → Type 0) → Type 0
 After None later = ⊥
 After (Some ts) later = later ts
 
--- a structure under a name's tag: its own content is too long, or a structure inside
+-- a structure under a name's tag: its own content is too long, or that of a structure inside
 abbrev pub structure_long : Held → List ℕ → Type 0 → Type 0 → Type 0
 structure_long w name whole inside = Under (take_tag w name) (λ t. whole ⊎ inside)
 
--- a newtype, by what follows `Transparent:` in its name; whole says that its own structure is too long
+-- a newtype, by what follows `Transparent:` in its name; whole means that its own structure is too long
 abbrev pub newtype_long : Option (List ℕ) → List ℕ → Held → Type 0 → (Held → Type 0) → Type 0
 newtype_long None name w whole inside = structure_long w name whole (inside Nothing)
 newtype_long (Some n) name w whole inside = Under (take_tag w n) (λ t. inside (Plain t))
@@ -69,7 +69,7 @@ variant_long true name w whole inside = Under (take_tag w (without_override name
 variant_long false name w whole inside =
     structure_long w (without_override (without_override name)) whole (inside Nothing)
 
--- a structure, counted up to the first refusal, is too long
+-- a structure, counted up to the first error, is too long
 abbrev mutual
   pub HasLongStructure : Value → Held → Type 0
   HasLongStructure (some v) w = HasLongStructure v w
@@ -93,6 +93,6 @@ abbrev mutual
   HaveLongStructure (value v vs) w =
       HasLongStructure v w ⊎ After (items v w) (λ ts. HaveLongStructure vs (left_over w ts))
 
--- some length is too long, or the offset of the first refusal
+-- some length is too long, or the offset of the first error
 abbrev pub IsLong : Value → Place → Type 0
 IsLong v p = HasLongLeaf v ⊎ HasLongStructure v Nothing ⊎ (2 ^ 64 ≤ (fault v Nothing p).offset)

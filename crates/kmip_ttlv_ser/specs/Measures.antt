@@ -23,17 +23,17 @@ use Rattle.kmip_ttlv_base.specs.declared.error.Error.{Error}
 use Rattle.kmip_ttlv_base.specs.Visits.{Around, a_some, a_seq, a_struct, a_newtype, a_newtype_variant, a_tuple_variant}
 use Rattle.kmip_ttlv_base.specs.Visits.{Event, alone, begun, ended}
 
--- why it goes no further
+-- why it stops
 pub data Halt : Type 0 where
   too_long : Halt
   halted : Kind → ℕ → Halt
 
--- the same of the code's own refusal
+-- the same, of the code's own error
 abbrev pub halt_of : Refusal → Halt
 halt_of LengthOverflow = too_long
 halt_of (Refused cause offset) = halted (kind_of_cause cause) offset
 
--- how far it is: the structures that aren't ended come last first
+-- how far it is; of the open structures, the last opened comes first
 pub record Going : Type 0 where
   pub place : Place
   pub held : Held
@@ -44,28 +44,28 @@ pub record Going : Type 0 where
 abbrev pub from : Place → Held → List ℕ → List Open → Going
 from p w sizes nest = record { place = p; held = w; sizes = sizes; nest = nest }
 
--- the same of the code's own state
+-- the same, of the code's own state
 abbrev pub going : {A : Type 0} → Measurer A → Going
 going m = from m.place m.held m.sizes.items (reverse m.nest.items)
 
--- how far it is, or why it goes no further
+-- how far it is, or why it stopped
 abbrev pub known_by : Option Refusal → Going → Result Going Halt
 known_by None g = Ok g
 known_by (Some r) g = Err (halt_of r)
 
--- the same of the code's own state
+-- the same, of the code's own state
 abbrev pub known : {A : Type 0} → Measurer A → Result Going Halt
 known m = known_by m.refusal (going m)
 
--- a refusal of a field that n bytes stand before
+-- an error at a field that comes after n bytes
 abbrev pub halt_before : {T : Type 0} → Kind → ℕ → Result T Halt
 halt_before kind n = if nat_lt n (2 ^ 64) then Err (halted kind n) else Err too_long
 
--- a refusal of the field that comes next, after the tag that waits
+-- an error at the field that comes next, after the held tag
 abbrev pub halt_at : Kind → Held → Going → Result Going Halt
 halt_at kind w g = halt_before kind (g.place.offset + held_len w)
 
--- a place this far from the first byte, whose last field is a structure's length or not
+-- the place at this offset, and whether the last field is a structure's length
 abbrev pub place_at : ℕ → Bool → Place
 place_at n opened = record { offset = n; opened = opened }
 
@@ -76,21 +76,21 @@ after_item n g =
     then Ok (from (place_at (g.place.offset + n) false) Nothing g.sizes g.nest)
     else Err too_long
 
--- after a leaf whose content has this length, under the tag that waited
+-- after a leaf with content of this length, under the tag that was held
 abbrev pub after_leaf : Option ℕ → ℕ → Going → Result Going Halt
 after_leaf None len g = halt_at (no_tag g.place.opened) g.held g
 after_leaf (Some t) len g = if nat_lt len (2 ^ 32) then after_item (8 + len + pad_len len) g else Err too_long
 
--- under a tag that waits
+-- while this is held
 abbrev pub under : Held → Going → Going
 under w g = from g.place w g.sizes g.nest
 
--- after the leaf of a unit variant's number, where it is one
+-- after the leaf of a unit variant's number, if its name is one
 abbrev pub after_number : Option ℕ → List ℕ → Going → Result Going Halt
 after_number None vname g = halt_at (mismatch (invalid_variant vname)) g.held g
 after_number (Some n) vname g = after_leaf (held_tag g.held) 4 g
 
--- after a unit variant, where its enum's name was taken as a tag
+-- after a unit variant, if its enum's name was taken as a tag
 abbrev pub after_unit : Option ℕ → List ℕ → List ℕ → Going → Result Going Halt
 after_unit None name vname g = halt_at (name_kind (tag_of name) name) g.held g
 after_unit (Some t) name vname g = after_number (number vname) vname (under (Plain t) g)
@@ -113,11 +113,11 @@ after_alone none g = halt_at (mismatch (unsupported_rust_type (codes "None"))) g
 after_alone (unsupported_value name) g = halt_at (mismatch (unsupported_rust_type name)) g.held g
 after_alone _ g = Ok g
 
--- a structure that isn't ended: which it is, and where its content begins
+-- an open structure: its index among the lengths, and the offset at which its content begins
 abbrev pub begun_at : ℕ → ℕ → Open
 begun_at at start = record { at = at; start = start }
 
--- into a structure, where its name was taken as a tag
+-- into a structure, if its name was taken as a tag
 abbrev pub into : Option ℕ → List ℕ → Going → Result Going Halt
 into None name g = halt_at (name_kind (tag_of name) name) g.held g
 into (Some t) name g =
@@ -126,7 +126,7 @@ into (Some t) name g =
     (begun_at (length g.sizes) (g.place.offset + 8) ∷ g.nest))
     else Err too_long
 
--- into a wrapper, where its name was taken as a tag
+-- into a wrapper, if its name was taken as a tag
 abbrev pub wrapped : Option ℕ → List ℕ → (ℕ → Held) → Going → Result Going Halt
 wrapped None name w g = halt_at (name_kind (tag_of name) name) g.held g
 wrapped (Some t) name w g = Ok (under (w t) g)
@@ -152,7 +152,7 @@ into_group (a_newtype name) g = into_newtype (transparent_name name) name g
 into_group (a_newtype_variant name vname) g = into_variant (is_wrapper vname) name g
 into_group (a_tuple_variant name vname) g = into (take_tag g.held (without_override name)) (without_override name) g
 
--- out of a structure, whose length is noted; where none was entered nothing changes
+-- out of a structure, whose length is noted; nothing changes if none is open
 abbrev pub out_of : List Open → Going → Result Going Halt
 out_of [] g = Ok g
 out_of (o ∷ os) g =
@@ -185,18 +185,18 @@ out_of_group (a_newtype name) g = out_of_newtype (transparent_name name) g
 out_of_group (a_newtype_variant name vname) g = out_of_variant (is_wrapper vname) g
 out_of_group (a_tuple_variant name vname) g = out_of g.nest g
 
--- after what a visitor is told
+-- after an event
 abbrev pub after_event : Event → Going → Result Going Halt
 after_event (alone v) g = after_alone v g
 after_event (begun a) g = into_group a g
 after_event (ended a) g = out_of_group a g
 
--- the first refusal stays
+-- the first error stays
 abbrev pub measure_step : Event → Result Going Halt → Result Going Halt
 measure_step e (Err h) = Err h
 measure_step e (Ok g) = after_event e g
 
--- what the first pass answers of a value that is to be written at a place
+-- what the first pass returns for a value that is to be encoded at a place
 abbrev pub Plans : {A : Type 0} → Value → Place → Result (Plan A) (Error A) → Type 0
 Plans v p (Ok plan) = Measured (items v Nothing) p plan.end [] plan.sizes.items
 Plans v p (Err e) = Refuses v p e

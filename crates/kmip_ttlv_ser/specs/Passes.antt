@@ -17,7 +17,7 @@ use Rattle.kmip_ttlv_ser.specs.Sizes.{sizes_all}
 use Rattle.kmip_ttlv_ser.specs.Faults.{Fault, no_tag, tag_unused, place_after}
 use Rattle.kmip_ttlv_ser.specs.Lengths.{reach}
 
--- the kind that a cause is answered as
+-- the kind of error of a cause
 abbrev pub kind_of_cause : Cause → Kind
 kind_of_cause (NoTag opened) = no_tag opened
 kind_of_cause TagUnused = tag_unused
@@ -38,7 +38,7 @@ pub record Measured (o : Option (List Tree)) (p q : Place) (old new : List ℕ) 
   pub small : q.offset < 2 ^ 64
   pub kept : new ≡ old ++ sizes_all trees
 
--- the error that a refusal is answered as; its text may need memory
+-- the error that is returned for a `Refusal`; its text may need memory
 abbrev pub IsErrorOf : {A : Type 0} → Refusal → Error A → Type 0
 IsErrorOf LengthOverflow e = (view_of_kind (kind_of e) ≡ length_overflow) × (view_of_location (location_of e) ≡ unknown)
 IsErrorOf (Refused cause offset) e =

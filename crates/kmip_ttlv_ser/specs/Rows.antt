@@ -1,4 +1,4 @@
--- Values whose bytes, or whose first refusals, are computed here by the definitions themselves.
+-- Values whose bytes, or whose first errors, are computed here by the definitions themselves.
 use Rattle.std.specs.Prelude.{◌≡◌, ℕ, pos, true, false, List, [], ◌∷◌, Some, None, codes}
 use Rattle.kmip_ttlv_types.specs.Trees.{bytes_all}
 use Rattle.kmip_ttlv_base.specs.Errors.{Kind, mismatch, invalid_tag, invalid_variant, unsupported_rust_type}
@@ -10,11 +10,11 @@ use Rattle.kmip_ttlv_ser.specs.WrittenItems.{◌>>=◌, items}
 use Rattle.kmip_ttlv_ser.specs.Faults.{fault, no_tag, tag_unused}
 use Rattle.kmip_ttlv_ser.specs.WriteAnswers.{origin}
 
--- the value's items are these bytes
+-- the value's items have these bytes
 abbrev pub HasBytes : Value → List ℕ → Type 0
 HasBytes v bytes = (items v Nothing >>= λ ts. Some (bytes_all ts)) ≡ Some bytes
 
--- the value has no items: its first refusal and its offset
+-- the value has no items: its first error and that one's offset
 abbrev pub IsRefusedBy : Value → Kind → ℕ → Type 0
 IsRefusedBy v kind offset =
     (items v Nothing ≡ None) × (fault v Nothing origin ≡ record { kind = kind; offset = offset })
@@ -35,21 +35,21 @@ a_transparent_newtype =
     HasBytes (newtype_value (codes "Transparent:0xAABBCC") three)
     (0xAA ∷ 0xBB ∷ 0xCC ∷ 2 ∷ 0 ∷ 0 ∷ 0 ∷ 4 ∷ 0 ∷ 0 ∷ 0 ∷ 3 ∷ 0 ∷ 0 ∷ 0 ∷ 0 ∷ [])
 
--- the overriding tag stands in place of the unit variant's
+-- the overriding tag replaces the unit variant's
 abbrev pub an_overriding_wrapper : Type 0
 an_overriding_wrapper =
     HasBytes (newtype_variant_value (codes "Override:0x42000B") (codes "Transparent")
     (unit_variant_value (codes "420028") (codes "0x00000003")))
     (0x42 ∷ 0 ∷ 0x0B ∷ 5 ∷ 0 ∷ 0 ∷ 0 ∷ 4 ∷ 0 ∷ 0 ∷ 0 ∷ 3 ∷ 0 ∷ 0 ∷ 0 ∷ 0 ∷ [])
 
--- only the first element stands under the overriding tag
+-- only the first element has the overriding tag
 abbrev pub an_overriding_wrapper_over_two : Type 0
 an_overriding_wrapper_over_two =
     HasBytes (newtype_variant_value (codes "Override:0x42000B") (codes "Transparent") (seq_value two_modes))
     (0x42 ∷ 0 ∷ 0x0B ∷ 5 ∷ 0 ∷ 0 ∷ 0 ∷ 4 ∷ 0 ∷ 0 ∷ 0 ∷ 1 ∷ 0 ∷ 0 ∷ 0 ∷ 0
     ∷ 0x42 ∷ 0 ∷ 0x28 ∷ 5 ∷ 0 ∷ 0 ∷ 0 ∷ 4 ∷ 0 ∷ 0 ∷ 0 ∷ 2 ∷ 0 ∷ 0 ∷ 0 ∷ 0 ∷ [])
 
--- the prefix is taken off twice where the variant is a structure
+-- the prefix is removed twice if the variant is a structure
 abbrev pub a_doubled_prefix : Type 0
 a_doubled_prefix =
     HasBytes (newtype_variant_value (codes "Override:Override:0xAABBCC") (codes "X")
@@ -63,7 +63,7 @@ an_unsigned_number_of_64_bits =
     HasBytes (newtype_value (codes "Transparent:0xAABBCC") (u64_value 9223372036854775808))
     (0xAA ∷ 0xBB ∷ 0xCC ∷ 9 ∷ 0 ∷ 0 ∷ 0 ∷ 8 ∷ 0x80 ∷ 0 ∷ 0 ∷ 0 ∷ 0 ∷ 0 ∷ 0 ∷ 0 ∷ [])
 
--- its sign goes on with up to eight bytes
+-- its sign is extended to eight bytes
 abbrev pub a_negative_big_integer : Type 0
 a_negative_big_integer =
     HasBytes (newtype_value (codes "Transparent:0x420020") (big_integer_value (0x80 ∷ [])))
@@ -83,38 +83,38 @@ an_empty_structure = HasBytes (struct_value (codes "0x123456") no_values) (0x12 
 abbrev pub an_empty_sequence : Type 0
 an_empty_sequence = HasBytes (seq_value no_values) []
 
--- a field without a tag is refused behind the header of its structure
+-- a field without a tag is an error after the header of its structure
 abbrev pub a_bare_field : Type 0
 a_bare_field = IsRefusedBy (struct_value (codes "0xAABBCC") (value three no_values)) (no_tag true) 8
 
--- a value without a tag is refused at once
+-- a value without a tag is an error at once
 abbrev pub a_bare_value : Type 0
 a_bare_value = IsRefusedBy three (no_tag false) 0
 
--- a tag that no item takes is refused behind it
+-- a tag that no item takes is an error after it
 abbrev pub a_wrapper_over_nothing : Type 0
 a_wrapper_over_nothing = IsRefusedBy (newtype_value (codes "Transparent:0xAABBCC") (seq_value no_values)) tag_unused 3
 
--- the name of a unit variant is a number, or is refused behind the tag
+-- the name of a unit variant that is no number is an error after the tag
 abbrev pub a_variant_that_is_no_number : Type 0
 a_variant_that_is_no_number =
     IsRefusedBy (unit_variant_value (codes "0x42005C") (codes "Create")) (mismatch (invalid_variant (codes "Create")))
     3
 
--- the outer tag finds no item, as the inner wrapper takes one of its own
+-- the outer tag finds no item, because the inner wrapper takes a tag of its own
 abbrev pub a_wrapper_in_a_wrapper : Type 0
 a_wrapper_in_a_wrapper =
     IsRefusedBy (struct_value (codes "0xAAAAAA") (value (newtype_variant_value (codes "Override:0xBBBBBB")
     (codes "Transparent") three) (value (newtype_value (codes "Transparent:0xCCCCCC")
     (newtype_value (codes "Transparent:0xDDDDDD") (i32_value (pos 4)))) no_values))) tag_unused 27
 
--- the prefix is taken off once where the variant is a wrapper
+-- the prefix is removed once if the variant is a wrapper
 abbrev pub a_doubled_prefix_of_a_wrapper : Type 0
 a_doubled_prefix_of_a_wrapper =
     IsRefusedBy (newtype_variant_value (codes "Override:Override:0xAABBCC") (codes "Transparent") three)
     (mismatch (invalid_tag (codes "Override:0xAABBCC"))) 0
 
--- none gives no item, and is refused behind the tag
+-- `None` has no item, and is an error after the tag
 abbrev pub a_wrapper_over_none : Type 0
 a_wrapper_over_none =
     IsRefusedBy (newtype_value (codes "Transparent:0xAABBCC") none) (mismatch (unsupported_rust_type (codes "None")))

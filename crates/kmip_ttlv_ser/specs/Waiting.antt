@@ -1,4 +1,4 @@
--- The bytes that wait in a buffer.
+-- The bytes in a buffer.
 use Rattle.std.specs.Prelude.{ℕ, List, take}
 use Rattle.kmip_ttlv_ser.specs.declared.buffer.Buffer.{Buffer}
 

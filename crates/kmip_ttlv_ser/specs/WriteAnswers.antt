@@ -1,4 +1,4 @@
--- What the writer's calls answer.
+-- What the calls that encode values return.
 use Rattle.std.specs.Prelude.{◌≡◌, ℕ, Bool, true, false, List, ◌++◌, length, Option, Some, None, Result, Ok, Err}
 use Rattle.std.specs.Prelude.{IsErrAnd}
 use Rattle.std.specs.declared.vec.Vec.{Vec}
@@ -30,22 +30,22 @@ pub record IsWrittenAs (v : Value) (n : ℕ) (bytes : List ℕ) : Type 0 where
   pub fit : FitsAfter n trees
   pub bytes_are : bytes ≡ bytes_all trees
 
--- some length is too long: the items don't fit, or, where there are none, IsLong
+-- some length is too long: the items don't fit, or, if there are none, IsLong
 abbrev pub IsTooLongFor : Value → Place → Option (List Tree) → Type 0
 IsTooLongFor v p None = IsLong v p
 IsTooLongFor v p (Some ts) = ¬ (FitsAfter p.offset ts)
 
--- what LengthOverflow says of a value at a place
+-- what LengthOverflow means for a value at a place
 abbrev pub IsTooLong : Value → Place → Type 0
 IsTooLong v p = IsTooLongFor v p (items v Nothing)
 
--- the value has no items, and this is its first refusal
+-- the value has no items, and this is its first error
 pub record IsFirstRefusal (v : Value) (p : Place) (kind : Kind) (location : Location) : Type 0 where
   pub no_items : items v Nothing ≡ None
   pub kind_is : kind ≡ (fault v Nothing p).kind
   pub location_is : location ≡ only_offset (fault v Nothing p).offset
 
--- why a value is not written at a place
+-- why a value can't be encoded at a place
 abbrev pub IsRefusedAs : Value → Place → Kind → Location → Type 0
 IsRefusedAs v p out_of_memory location = location ≡ unknown
 IsRefusedAs v p length_overflow location = (location ≡ unknown) × IsTooLong v p
@@ -54,16 +54,16 @@ IsRefusedAs v p (mismatch e) location = IsFirstRefusal v p (mismatch e) location
 IsRefusedAs v p (io_error e) location = ⊥
 IsRefusedAs v p (exceeds_limit n) location = ⊥
 
--- why a value is refused at a place, as an error says it
+-- the same, by an error
 abbrev pub Refuses : {A : Type 0} → Value → Place → Error A → Type 0
 Refuses v p e = IsRefusedAs v p (view_of_kind (kind_of e)) (view_of_location (location_of e))
 
--- what `to_vec` answers
+-- what `to_vec` returns
 abbrev pub Writes : {A : Type 0} → Value → Result (Vec ℕ A) (Error A) → Type 0
 Writes v (Ok out) = IsWrittenAs v 0 out.items
 Writes v (Err e) = Refuses v origin e
 
--- the value's bytes, from the first one on, of which this is said
+-- this is true of the value's bytes, from the first one on
 pub record WrittenBytes (v : Value) (said : List ℕ → Type 0) : Type 0 where
   pub bytes : List ℕ
   pub written : IsWrittenAs v 0 bytes
@@ -73,28 +73,28 @@ pub record WrittenBytes (v : Value) (said : List ℕ → Type 0) : Type 0 where
 abbrev pub WrittenTo : Value → Option (List ℕ) → Option (List ℕ) → Type 0
 WrittenTo v old new = WrittenBytes v (Appends old new)
 
--- a writer failed, after a beginning of the value's bytes
+-- a writer failed after a beginning of the value's bytes
 abbrev pub PartlyWritten : Value → Option (List ℕ) → Option (List ℕ) → Type 0
 PartlyWritten v old new = WrittenBytes v (AppendsFront old new)
 
--- why a value is not written to a writer: it failed, or has what it had before
+-- why a value wasn't written to a writer: it failed, or has what it had before
 abbrev pub IsNotWritten : Value → Option (List ℕ) → Option (List ℕ) → Kind → Location → Type 0
 IsNotWritten v old new (io_error e) location = (location ≡ unknown) × PartlyWritten v old new
 IsNotWritten v old new kind location = IsRefusedAs v origin kind location × Keeps old new
 
--- what `to_writer` answers, and what the writer has then
+-- what `to_writer` returns, and what the writer has then
 abbrev pub WritesTo : {R A : Type 0} → Value → Option (List ℕ) → Option (List ℕ) → Result R (Error A) → Type 0
 WritesTo v old new (Ok x) = WrittenTo v old new
 WritesTo v old new (Err e) = IsNotWritten v old new (view_of_kind (kind_of e)) (view_of_location (location_of e))
 
--- what a serializer was given so far: the bytes of its accepted calls, whether the field last
--- written is a structure's length, and whether a call was refused
+-- what a serializer got so far: the bytes of the calls that succeeded, whether the last field written is a
+-- structure's length, and whether a call failed
 pub record Progress : Type 0 where
   pub bytes : List ℕ
   pub opened : Bool
   pub refused : Bool
 
--- what a serializer was given, without where it lies in memory
+-- the same, of the code's own state
 abbrev pub progress : {A : Type 0} → TtlvSerializer A → Progress
 progress s = record { bytes = s.out.items; opened = s.opened; refused = s.refused }
 
@@ -102,7 +102,7 @@ progress s = record { bytes = s.out.items; opened = s.opened; refused = s.refuse
 abbrev pub place_of : Progress → Place
 place_of s = record { offset = length s.bytes; opened = s.opened }
 
--- the value's items were appended, and opened says whether the field last written is a structure's length
+-- the value's items were appended, and opened says whether the last field written is a structure's length
 pub record AppendedTo (v : Value) (opened : Bool) (old new : List ℕ) (opened_then : Bool) : Type 0 where
   pub trees : List Tree
   pub are : items v Nothing ≡ Some trees
@@ -110,12 +110,12 @@ pub record AppendedTo (v : Value) (opened : Bool) (old new : List ℕ) (opened_t
   pub bytes_are : new ≡ old ++ bytes_all trees
   pub opened_is : opened_then ≡ opened_after opened trees
 
--- what appending a value to bytes answers; refused, it leaves them as they were
+-- what appending a value to bytes returns; an error leaves them as they were
 abbrev pub AppendsValue : {A : Type 0} → Value → Bool → List ℕ → List ℕ → Result Bool (Error A) → Type 0
 AppendsValue v opened old new (Ok then) = AppendedTo v opened old new then
 AppendsValue v opened old new (Err e) = Refuses v record { offset = length old; opened = opened } e × (new ≡ old)
 
--- the answer after a refused call
+-- the error after a call that failed
 pub record IsClosed {A : Type 0} (e : Error A) : Type 0 where
   pub kind : view_of_kind (kind_of e) ≡ malformed UnknownStructureLength
   pub location : view_of_location (location_of e) ≡ unknown
@@ -128,27 +128,27 @@ pub record Appended (v : Value) (old new : Progress) : Type 0 where
   pub appended :
       new ≡ record { bytes = old.bytes ++ bytes_all trees; opened = opened_after old.opened trees; refused = false }
 
--- the value was refused at the place reached, and the accepted bytes stay
+-- the value has an error at the place reached, and the earlier bytes stay
 pub record Refused {A : Type 0} (v : Value) (old new : Progress) (e : Error A) : Type 0 where
   pub why : Refuses v (place_of old) e
   pub bytes_stay : new.bytes ≡ old.bytes
   pub closed : new.refused ≡ true
 
--- what a serializer answers that refused a call before: no more than that, and it stays as it is
+-- what a serializer returns if a call failed before: that error, and it stays as it is
 pub record AnswersClosed {R A : Type 0} (old new : Progress) (r : Result R (Error A)) : Type 0 where
   pub refuses : IsErrAnd r IsClosed
   pub stays : new ≡ old
 
--- what `serialize` answers where no call was refused before
+-- what `serialize` returns if no call failed before
 abbrev pub AppendsItems : {R A : Type 0} → Value → Progress → Progress → Result R (Error A) → Type 0
 AppendsItems v old new (Ok x) = Appended v old new
 AppendsItems v old new (Err e) = Refused v old new e
 
--- what `serialize` answers, and what the serializer was given then
+-- what `serialize` returns, and what the serializer has then
 abbrev pub Serializes : {R A : Type 0} → Value → Progress → Progress → Result R (Error A) → Type 0
 Serializes v old new r = elim old.refused [ true ↦ AnswersClosed old new r | false ↦ AppendsItems v old new r ]
 
--- what `into_vec` answers: all bytes, unless a call was refused
+-- what `into_vec` returns: all bytes, unless a call failed
 abbrev pub GivesAll : {A : Type 0} → Progress → Result (Vec ℕ A) (Error A) → Type 0
 GivesAll s (Ok out) = (s.refused ≡ false) × (out.items ≡ s.bytes)
 GivesAll s (Err e) = (s.refused ≡ true) × IsClosed e

@@ -1,4 +1,4 @@
--- The items that a value is written as.
+-- The items that a value is encoded as.
 use Rattle.std.specs.Prelude.{ℕ, Bool, true, false, List, [], ◌∷◌, ◌++◌, Option, Some, None, bytes_eq}
 use Rattle.std.specs.Prelude.{codes}
 use Rattle.std.specs.Int.{w32, w64, to_be_bytes, cast_unsigned, from_bool}
@@ -17,13 +17,13 @@ use Rattle.kmip_ttlv_base.specs.Values.{unsupported_value, Values, no_values, va
 use Rattle.kmip_ttlv_ser.specs.declared.held.Held.{Held}
 use Rattle.kmip_ttlv_ser.specs.declared.held.Held.TheVariants.{Nothing, Plain, Overriding}
 
--- what a step gives, and then what the next one gives for it
+-- what a step gives, if anything, passed to the next one
 infixl 10 ◌>>=◌
 abbrev pub ◌>>=◌ : {A B : Type 0} → Option A → (A → Option B) → Option B
 None >>= f = None
 (Some x) >>= f = f x
 
--- the tag that stands after a name was taken
+-- the tag that a name gives when it is taken
 unfoldable pub take_tag : Held → List ℕ → Option ℕ
 take_tag Nothing name = tag_of name
 take_tag (Plain t) name = None
@@ -35,24 +35,24 @@ held_tag Nothing = None
 held_tag (Plain t) = Some t
 held_tag (Overriding t) = Some t
 
--- one leaf under the waiting tag
+-- one leaf under the held tag
 abbrev pub one_leaf : Held → TtlvType → List ℕ → Option (List Tree)
 one_leaf w typ content = held_tag w >>= λ t. Some (leaf t typ content ∷ [])
 
--- one structure of what is below
+-- one structure of these items
 abbrev pub one_node : ℕ → Option (List Tree) → Option (List Tree)
 one_node t below = below >>= λ ts. Some (node t (trees_of ts) ∷ [])
 
--- a structure under a name's tag, with what is below
+-- a structure of these items, under a name's tag
 abbrev pub one_structure : Held → List ℕ → Option (List Tree) → Option (List Tree)
 one_structure w name below = take_tag w name >>= λ t. one_node t below
 
--- a wrapper's content has to give an item
+-- a wrapper's content must give an item
 unfoldable pub some_item : List Tree → Option (List Tree)
 some_item [] = None
 some_item (t ∷ ts) = Some (t ∷ ts)
 
--- what waits after these items
+-- what is held after these items
 abbrev pub left_over : Held → List Tree → Held
 left_over w [] = w
 left_over w (t ∷ ts) = Nothing
@@ -61,7 +61,7 @@ left_over w (t ∷ ts) = Nothing
 abbrev pub without_override : List ℕ → List ℕ
 without_override name = elim (override_name name) [ None ↦ name | Some rest ↦ rest ]
 
--- the taken tag overrides where nothing was held before and the prefix was there
+-- the taken tag overrides if nothing was held before and the prefix was there
 unfoldable pub held_over : Held → List ℕ → ℕ → Held
 held_over Nothing name t = elim (override_name name) [ None ↦ Plain t | Some rest ↦ Overriding t ]
 held_over (Plain s) name t = Plain t
@@ -71,7 +71,7 @@ held_over (Overriding s) name t = Plain t
 unfoldable pub enumeration : ℕ → List ℕ → Option (List Tree)
 enumeration t variant = number variant >>= λ n. one_leaf (Plain t) Enumeration (to_be_bytes w32 n)
 
--- a newtype, by what follows `Transparent:` in its name; inside gives the items of its content
+-- a newtype, by what follows `Transparent:` in its name; `inside` gives the items of its content
 abbrev pub newtype_row : Option (List ℕ) → List ℕ → Held → (Held → Option (List Tree)) → Option (List Tree)
 newtype_row None name w inside = one_structure w name (inside Nothing)
 newtype_row (Some n) name w inside = take_tag w n >>= λ t. inside (Plain t) >>= some_item
@@ -85,7 +85,7 @@ abbrev pub variant_row : Bool → List ℕ → Held → (Held → Option (List T
 variant_row true name w inside = take_tag w (without_override name) >>= λ t. inside (held_over w name t) >>= some_item
 variant_row false name w inside = one_structure w (without_override (without_override name)) (inside Nothing)
 
--- the items of a value under a waiting tag, where it has any
+-- the items of a value under a held tag, if it has any
 abbrev mutual
   pub items : Value → Held → Option (List Tree)
   items (boolean_value b) w = one_leaf w Boolean (to_be_bytes w64 (from_bool b))
@@ -109,7 +109,7 @@ abbrev mutual
   items (tuple_variant_value name vname vs) w = one_structure w (without_override name) (items_in vs Nothing)
   items (unsupported_value name) w = None
 
-  -- values one after the other: the first that gives an item uses the waiting tag up
+  -- values one after the other: the first that gives an item uses the held tag up
   pub items_in : Values → Held → Option (List Tree)
   items_in no_values w = Some []
   items_in (value v vs) w = items v w >>= λ first. items_in vs (left_over w first) >>= λ rest. Some (first ++ rest)

@@ -1,11 +1,11 @@
-//! Bytes that wait, in memory of a fixed size.
+//! A buffer of fixed size.
 
 ghost use Rattle.std.specs.Prelude.{◌≡◌, ◌+◌, ◌≤◌, [], ◌++◌, length};
 
-/// How many bytes wait at most.
+/// How many bytes the buffer holds at most.
 pub const ROOM: usize = 8_192;
 
-/// The bytes that wait, in front of room for more.
+/// The buffered bytes, at the front of room for more.
 #[derive(Drop)]
 pub struct Buffer {
     bytes: [u8; 8_192],
@@ -16,7 +16,7 @@ pub struct Buffer {
 impl Buffer {
     ghost use Rattle.kmip_ttlv_ser.specs.Waiting.{waiting};
 
-    /// No bytes.
+    /// An empty buffer.
     pub fn new() -> Buffer
         ensures { waiting result ≡ [] }
     {
@@ -26,21 +26,21 @@ impl Buffer {
         }
     }
 
-    /// The bytes.
+    /// The buffered bytes.
     pub fn bytes(&self) -> &[u8]
         ensures { result.now ≡ waiting self.now }
     {
         &self.bytes[..self.len]
     }
 
-    /// How many more bytes there is room for.
+    /// How many more bytes fit.
     pub fn room(&self) -> usize
         ensures { result + length (waiting self.now) ≡ 8192 }
     {
         ROOM - self.len
     }
 
-    /// Puts a piece behind them.
+    /// Appends a piece.
     pub fn push(&mut self, piece: &[u8])
         requires { length (waiting self.old) + length piece.now ≤ 8192 }
         ensures { waiting self.new ≡ waiting self.old ++ piece.now }
@@ -50,7 +50,7 @@ impl Buffer {
         self.len = end;
     }
 
-    /// Lets them go.
+    /// Empties the buffer.
     pub fn clear(&mut self)
         ensures { waiting self.new ≡ [] }
     {

@@ -1,4 +1,4 @@
-//! The second pass: gives a value's bytes to an output, forward, by the lengths of the structures.
+//! The second pass: writes a value's bytes to an output, in order, with the lengths of the structures.
 
 ghost use Rattle.std.specs.Prelude.{◌≡◌, ℕ, List, [], ◌<◌, replicate, Some as SpecSome};
 ghost use Rattle.kmip_ttlv_types.specs.declared.typ.TtlvType.TheVariants.{BigInteger as SpecBigInteger};
@@ -27,7 +27,7 @@ use kmip_ttlv_types::numbers::sign_of;
 use kmip_ttlv_types::{TtlvTag, TtlvType};
 use std::alloc::AllocError;
 
-/// What gives the bytes of a value. The plan has the lengths of the structures that are to come.
+/// Writes the bytes of a value. The plan has the lengths of the structures that are still to come.
 #[derive(Drop)]
 pub struct Emitter<'a, O: Output> {
     out: O,
@@ -35,7 +35,7 @@ pub struct Emitter<'a, O: Output> {
     held: Held,
 }
 
-/// Gives an item's header: its tag, its type and its length (KMIP 1.0, section 9.1.1).
+/// Writes an item's header: its tag, its type and its length (KMIP 1.0, section 9.1.1).
 #[inline(always)]
 fn put_header<O: Output>(out: &mut O, tag: TtlvTag, typ: TtlvType, len: u64)
     ensures { Given O.given (header tag typ len) out.old out.new }
@@ -45,7 +45,7 @@ fn put_header<O: Output>(out: &mut O, tag: TtlvTag, typ: TtlvType, len: u64)
     out.give(&[a, b, c, typ.code(), d, e, f, g]);
 }
 
-/// Gives a leaf of a number of four bytes: header, content and four bytes of padding, in one piece.
+/// Writes a leaf of a number of four bytes: header, content and four bytes of padding, in one piece.
 #[inline(always)]
 #[tactic(auto, unfolding(kmip_ttlv_types::specs::Trees::leaf_bytes))]
 fn put_word<O: Output>(out: &mut O, tag: TtlvTag, typ: TtlvType, number: u32)
@@ -56,7 +56,7 @@ fn put_word<O: Output>(out: &mut O, tag: TtlvTag, typ: TtlvType, number: u32)
     out.give(&[a, b, c, typ.code(), 0, 0, 0, 4, d, e, f, g, 0, 0, 0, 0]);
 }
 
-/// Gives a leaf of a number of eight bytes: header and content, in one piece.
+/// Writes a leaf of a number of eight bytes: header and content, in one piece.
 #[inline(always)]
 #[tactic(auto, unfolding(kmip_ttlv_types::specs::Trees::leaf_bytes))]
 fn put_long<O: Output>(out: &mut O, tag: TtlvTag, typ: TtlvType, number: u64)
@@ -67,7 +67,7 @@ fn put_long<O: Output>(out: &mut O, tag: TtlvTag, typ: TtlvType, number: u64)
     out.give(&[a, b, c, typ.code(), 0, 0, 0, 8, d, e, f, g, h, i, j, k]);
 }
 
-/// Gives fewer than eight bytes of one value.
+/// Writes fewer than eight bytes, all of this value.
 #[inline(always)]
 fn put_filling<O: Output>(out: &mut O, byte: u8, count: usize)
     requires { count < 8 }
@@ -77,7 +77,7 @@ fn put_filling<O: Output>(out: &mut O, byte: u8, count: usize)
 }
 
 impl<'a, O: Output> Emitter<'a, O> {
-    /// A leaf under the tag that waits.
+    /// A leaf under the held tag.
     #[inline(always)]
     fn put_leaf(&mut self, typ: TtlvType, content: &[u8])
         ensures { Knows (HasWritten O.given)
@@ -93,7 +93,7 @@ impl<'a, O: Output> Emitter<'a, O> {
         self.held = Held::Nothing;
     }
 
-    /// A leaf of a number of four bytes under the tag that waits.
+    /// A leaf of a number of four bytes, under the held tag.
     #[inline(always)]
     fn put_four(&mut self, typ: TtlvType, number: u32)
         ensures { Knows (HasWritten O.given)
@@ -106,7 +106,7 @@ impl<'a, O: Output> Emitter<'a, O> {
         self.held = Held::Nothing;
     }
 
-    /// A leaf of a number of eight bytes under the tag that waits.
+    /// A leaf of a number of eight bytes, under the held tag.
     #[inline(always)]
     fn put_eight(&mut self, typ: TtlvType, number: u64)
         ensures { Knows (HasWritten O.given)
@@ -119,7 +119,7 @@ impl<'a, O: Output> Emitter<'a, O> {
         self.held = Held::Nothing;
     }
 
-    /// A big integer under the tag that waits, sign bytes in front up to a multiple of eight.
+    /// A Big Integer under the held tag, extended by sign bytes to a multiple of eight.
     #[inline(always)]
     fn put_big_integer(&mut self, bytes: &[u8])
         ensures { Knows (HasWritten O.given)
@@ -152,7 +152,7 @@ impl<'a, O: Output> Emitter<'a, O> {
         self.put_four(TtlvType::Enumeration, value);
     }
 
-    /// A structure's header, its length the next of the plan.
+    /// A structure's header. Its length is the next of the plan.
     #[inline(always)]
     fn put_structure(&mut self, name: &'static str)
         ensures { Knows (HasWritten O.given) (λ s. began (take_tag s.held name.now) s) self.old self.new }
@@ -168,7 +168,7 @@ impl<'a, O: Output> Emitter<'a, O> {
         self.held = Held::Nothing;
     }
 
-    /// The beginning of a wrapper: its tag waits.
+    /// The start of a wrapper: its tag is held.
     #[inline(always)]
     fn wait(&mut self, name: &'static str)
         ensures { Knows (HasWritten O.given)
@@ -179,7 +179,7 @@ impl<'a, O: Output> Emitter<'a, O> {
         }
     }
 
-    /// The beginning of a newtype: a wrapper where its name begins with `Transparent:`, else a structure.
+    /// The start of a newtype: a wrapper if its name begins with `Transparent:`, else a structure.
     #[inline(always)]
     fn begin_newtype(&mut self, name: &'static str)
         ensures { Knows (HasWritten O.given)
@@ -191,7 +191,7 @@ impl<'a, O: Output> Emitter<'a, O> {
         }
     }
 
-    /// The beginning of a newtype variant: a wrapper where it is named `Transparent`, else a structure.
+    /// The start of a newtype variant: a wrapper if it is named `Transparent`, else a structure.
     #[inline(always)]
     fn begin_variant(&mut self, name: &'static str, variant: &'static str)
         ensures { Knows (HasWritten O.given)
@@ -214,7 +214,7 @@ impl<'a, O: Output> Visitor for Emitter<'a, O> {
 
     ghost step = { emit_step };
 
-    // It never answers an error: an output keeps its failures.
+    // It never returns an error: an output keeps its failure.
     ghost stopped = { λ _. ⊥ };
 
     #[inline(always)]
@@ -257,7 +257,7 @@ impl<'a, O: Output> Visitor for Emitter<'a, O> {
     }
 }
 
-/// Gives a value's bytes to an output, by the lengths of its structures.
+/// Writes a value's bytes to an output, with the lengths of its structures.
 #[inline(always)]
 pub fn emit<T: Serialize, O: Output>(value: &T, plan: &[u32], out: O) -> O
     ensures { (ts : List Tree) (start : O.Start) → items (T.stated value.now) SpecNothing ≡ SpecSome ts

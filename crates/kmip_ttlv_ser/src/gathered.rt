@@ -1,4 +1,4 @@
-//! A writer that gets small pieces together, and long ones as they lie.
+//! A writer behind a buffer, which gathers small pieces. Long ones go to the writer directly.
 
 ghost use Rattle.std.specs.Prelude.{◌≡◌, ℕ, List, [], None as SpecNone};
 ghost use Rattle.kmip_ttlv_ser.specs.Waiting.{waiting};
@@ -10,7 +10,7 @@ use crate::output::Output;
 use kmip_ttlv_types::stream::Sink;
 use std::io::{Error, Write};
 
-/// A writer behind a buffer. Once a write failed, no further one is made.
+/// A writer behind a buffer. After a write failed, no other is made.
 #[derive(Drop)]
 pub struct Gathered<'w, W: Write> {
     writer: &'w mut W,
@@ -18,7 +18,7 @@ pub struct Gathered<'w, W: Write> {
     pub failure: Option<Error>,
 }
 
-/// Sends all of these bytes, unless a write failed before.
+/// Writes all of these bytes, unless a write failed before.
 fn send<W: Write>(writer: &mut W, failure: &mut Option<Error>, bytes: &[u8])
     ensures { Sends (W.contents writer.old) (W.contents writer.new) failure.old failure.new bytes.now }
 {
@@ -31,7 +31,7 @@ fn send<W: Write>(writer: &mut W, failure: &mut Option<Error>, bytes: &[u8])
 }
 
 impl<'w, W: Write> Gathered<'w, W> {
-    /// A writer, and nothing that waits. The buffer is lent, so that it stays where it lies.
+    /// A writer behind an empty buffer. The buffer is lent so that it isn't moved.
     pub fn new(writer: &'w mut W, buffer: &'w mut Buffer) -> Gathered<'w, W>
         ensures same_reference { result.writer.ghost_name ≡ writer.entry.ghost_name }
         ensures writer { result.writer.now ≡ writer.old }
@@ -46,7 +46,7 @@ impl<'w, W: Write> Gathered<'w, W> {
         }
     }
 
-    /// Sends what waits.
+    /// Writes what is buffered.
     pub fn flush(&mut self)
         ensures same_reference { self.new.writer.ghost_name ≡ self.old.writer.ghost_name }
         ensures sent { Sends (W.contents self.old.writer.now) (W.contents self.new.writer.now)

@@ -1,4 +1,4 @@
-//! The tag that waits for the next item, and the place that writing has reached.
+//! The tag that is held for the next item, and the place that encoding has reached.
 
 ghost use Rattle.std.specs.Prelude.{◌≡◌};
 ghost use Rattle.kmip_ttlv_ser.specs.WrittenItems.{take_tag, held_tag, held_over};
@@ -10,11 +10,11 @@ use kmip_ttlv_types::TtlvTag;
 /// The tag that the next item gets.
 #[derive(Clone, Copy)]
 pub enum Held {
-    /// No tag waits.
+    /// No tag is held.
     Nothing,
-    /// A tag that can't be taken again.
+    /// A tag under which no name can be taken.
     Plain(TtlvTag),
-    /// A tag that stands in place of the next name's tag.
+    /// A tag that replaces the tag of the next name.
     Overriding(TtlvTag),
 }
 
@@ -31,7 +31,7 @@ impl Held {
         }
     }
 
-    /// The bytes of the tag that waits, which stand before the field that comes next.
+    /// How many bytes the held tag takes, which come before the next field.
     #[inline(always)]
     pub fn len(&self) -> u64
         ensures { result ≡ held_len self.now }
@@ -43,7 +43,7 @@ impl Held {
         }
     }
 
-    /// The tag that stands after a name was taken.
+    /// The tag that a name gives when it is taken, if it can be.
     #[tactic(auto, unfolding(crate::specs::WrittenItems::take_tag))]
     #[inline(always)]
     pub fn take(&self, name: &str) -> Option<TtlvTag>
@@ -59,7 +59,7 @@ impl Held {
         }
     }
 
-    /// What waits for a wrapper's content: the taken tag overrides where nothing was held before
+    /// What is held for a wrapper's content: the tag that was taken. It overrides if nothing was held before
     /// and the wrapper's name begins with `Override:`.
     #[tactic(auto, unfolding(crate::specs::WrittenItems::held_over))]
     #[inline(always)]
@@ -76,8 +76,8 @@ impl Held {
     }
 }
 
-/// The place that writing has reached: the number of bytes written, and whether the field last
-/// written is a structure's length.
+/// The place that encoding has reached: the number of bytes written, and whether the last field written is a
+/// structure's length.
 #[derive(Clone, Copy)]
 pub struct Place {
     pub offset: u64,

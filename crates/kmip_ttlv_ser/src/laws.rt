@@ -1,4 +1,4 @@
-//! Laws of what is written. Each function does nothing: its contract is the law.
+//! Laws of encoding. Each is the contract of a function with an empty body.
 
 ghost use Rattle.std.specs.Prelude.{◌≡◌, ◌↔◌, ℕ, List, Some, map};
 ghost use Rattle.std.specs.List.{AllByRecursion};
@@ -17,32 +17,32 @@ ghost use Rattle.kmip_ttlv_ser.specs.Rows.{a_bare_value, a_wrapper_over_nothing,
 ghost use Rattle.kmip_ttlv_ser.specs.Rows.{a_wrapper_in_a_wrapper, a_doubled_prefix_of_a_wrapper};
 ghost use Rattle.kmip_ttlv_ser.specs.Rows.{a_wrapper_over_none, a_structure_named_transparent};
 
-/// Trees are told apart by their canonical bytes: tags of three bytes, lengths of four, and no leaf
-/// of type Structure.
+/// Trees with equal canonical bytes are equal, if their tags have three bytes, their lengths four, and no leaf
+/// has the type Structure.
 pub fn equal_bytes_have_equal_trees()
     ensures { (ts us : List Tree) → AllByRecursion IsSound ts → AllByRecursion IsSound us
         → bytes_all ts ≡ bytes_all us → ts ≡ us }
 {}
 
-/// The items of every accepted value are such trees.
+/// The items of every value that can be encoded are such trees.
 pub fn items_are_sound()
     ensures { (v : Value) (ts : List Tree) → items v Nothing ≡ Some ts → AllByRecursion Fits ts
         → AllByRecursion IsSound ts }
 {}
 
-/// Two accepted values give equal bytes exactly where their items are equal.
+/// Two values that can be encoded have equal bytes if and only if their items are equal.
 pub fn equal_bytes_have_equal_items()
     ensures { (v u : Value) (m n : ℕ) (bytes other : List ℕ) → IsWrittenAs v m bytes → IsWrittenAs u n other
         → (bytes ≡ other) ↔ (items v Nothing ≡ items u Nothing) }
 {}
 
-/// The bytes of an accepted value are split by its items: texts of theirs, one after the other.
+/// The bytes of a value that can be encoded are one encoding of each of its items, in order.
 pub fn written_bytes_are_split()
     ensures { (v : Value) (n : ℕ) (bytes : List ℕ) → (written : IsWrittenAs v n bytes)
         → Splits (map raw_of written.trees) bytes }
 {}
 
-/// Values of each kind of name, and their bytes by the definitions.
+/// Values with each kind of name, and their bytes, computed on the definitions.
 pub fn worked_values_have_bytes()
     ensures a_transparent_newtype { a_transparent_newtype }
     ensures an_overriding_wrapper { an_overriding_wrapper }
@@ -55,7 +55,7 @@ pub fn worked_values_have_bytes()
     ensures an_empty_sequence { an_empty_sequence }
 {}
 
-/// Values that are refused, with the kind and the offset, by the definitions.
+/// Values that can't be encoded, with the kind and the offset of the error, computed on the definitions.
 pub fn worked_values_are_refused()
     ensures a_bare_field { a_bare_field }
     ensures a_bare_value { a_bare_value }

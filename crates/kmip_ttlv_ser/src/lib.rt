@@ -1,10 +1,10 @@
-//! Writing: values as canonical TTLV bytes.
+//! Encoding: values as canonical TTLV bytes.
 //!
-//! A value tells two visitors what it is. The first (`measurer`) finds the first refusal with its
-//! place, or the length of each structure, in document order; the second (`emitter`) gives the bytes
-//! forward to an output: memory with room, or a writer behind a buffer. What a value is written as
-//! stands in specs/WrittenItems, its first refusal in specs/Faults, what the passes do at each event
-//! in specs/Measures and specs/Emits, and what the calls here answer in specs/WriteAnswers.
+//! A value calls two visitors. The first (`measurer`) finds the first error and its offset, or the length of
+//! each structure, in document order. The second (`emitter`) writes the bytes in order to an output: memory
+//! with room, or a writer behind a buffer. specs/WrittenItems defines what a value is encoded as,
+//! specs/Faults its first error, specs/Measures and specs/Emits what the passes do at each event, and
+//! specs/WriteAnswers what the calls return.
 #![tactic(auto)]
 
 mod buffer;

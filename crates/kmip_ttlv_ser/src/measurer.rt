@@ -1,4 +1,4 @@
-//! The first pass: finds the first refusal, or lists each structure's length.
+//! The first pass: finds the first error, or the length of each structure.
 
 ghost use Rattle.std.specs.Prelude.{◌≡◌, ◌+◌, ◌<◌, OnOk, reverse, None as SpecNone, Result as SpecResult};
 ghost use Rattle.kmip_ttlv_types.specs.ItemTypes.{pad_len};
@@ -22,7 +22,7 @@ use kmip_ttlv_base::visit::{Group, Leaf, Visitor};
 use kmip_ttlv_types::TtlvTag;
 use std::alloc::{AllocError, Allocator};
 
-/// How many bytes pad a leaf's content of this length.
+/// How many bytes of padding follow a leaf's content of this length.
 #[inline(always)]
 pub(crate) fn padding(len: u64) -> u64
     ensures value { result ≡ pad_len len }
@@ -31,15 +31,15 @@ pub(crate) fn padding(len: u64) -> u64
     (8 - len % 8) % 8
 }
 
-/// A structure that isn't ended: which it is, and where its content begins.
+/// An open structure: its index among the lengths, and the offset at which its content begins.
 #[derive(Clone, Copy)]
 pub struct Open {
     at: usize,
     start: u64,
 }
 
-/// What finds the first refusal: the place that is reached, the tag that waits, the lengths so far, the
-/// structures that aren't ended, and the refusal, behind which nothing is counted.
+/// Finds the first error: it has the place reached, the held tag, the lengths so far, the open structures, and
+/// the error, after which nothing is counted.
 #[derive(Drop)]
 pub struct Measurer<A: Allocator> {
     place: Place,
@@ -50,7 +50,7 @@ pub struct Measurer<A: Allocator> {
 }
 
 impl<A: Allocator> Measurer<A> {
-    /// Refuses the field that this many bytes stand before, and some more.
+    /// An error at the field that is `more` bytes behind the place reached.
     fn refuse(&mut self, cause: Cause, more: u64)
         requires { self.old.refusal ≡ SpecNone }
         ensures { known self.new ≡ halt_before (kind_of_cause cause) (self.old.place.offset + more) }
@@ -61,7 +61,7 @@ impl<A: Allocator> Measurer<A> {
         };
     }
 
-    /// A leaf whose content has this length.
+    /// A leaf with content of this length.
     #[inline(always)]
     fn item(&mut self, len: usize)
         requires { self.old.refusal ≡ SpecNone }
@@ -91,7 +91,7 @@ impl<A: Allocator> Measurer<A> {
         }
     }
 
-    /// A name that isn't taken: it is no tag, or a tag waits.
+    /// A name that can't be taken: it is no tag, or a plain tag is held.
     fn refuse_name(&mut self, name: &'static str)
         requires { self.old.refusal ≡ SpecNone }
         ensures { known self.new
@@ -121,7 +121,7 @@ impl<A: Allocator> Measurer<A> {
         self.item(4)
     }
 
-    /// Into a structure. The first makes room for several, so that most values take memory once.
+    /// Enters a structure. The first one reserves room for several, so that most values allocate once.
     #[inline(always)]
     fn enter(&mut self, name: &'static str) -> Result<(), AllocError>
         requires { self.old.refusal ≡ SpecNone }
@@ -151,7 +151,7 @@ impl<A: Allocator> Measurer<A> {
         Ok(())
     }
 
-    /// Into a wrapper: its tag waits.
+    /// Enters a wrapper: its tag is held.
     #[inline(always)]
     fn wrap(&mut self, name: &'static str)
         requires { self.old.refusal ≡ SpecNone }
@@ -164,7 +164,7 @@ impl<A: Allocator> Measurer<A> {
         }
     }
 
-    /// Into a newtype: a wrapper where its name begins with `Transparent:`, else a structure.
+    /// Enters a newtype: a wrapper if its name begins with `Transparent:`, else a structure.
     #[inline(always)]
     fn enter_newtype(&mut self, name: &'static str) -> Result<(), AllocError>
         requires { self.old.refusal ≡ SpecNone }
@@ -180,7 +180,7 @@ impl<A: Allocator> Measurer<A> {
         }
     }
 
-    /// Into a newtype variant: a wrapper where it is named `Transparent`, else a structure.
+    /// Enters a newtype variant: a wrapper if it is named `Transparent`, else a structure.
     #[inline(always)]
     fn enter_variant(&mut self, name: &'static str, variant: &'static str) -> Result<(), AllocError>
         requires { self.old.refusal ≡ SpecNone }
@@ -198,7 +198,7 @@ impl<A: Allocator> Measurer<A> {
         Ok(())
     }
 
-    /// Out of a wrapper, whose tag has to be used.
+    /// Leaves a wrapper, whose tag has to be used.
     #[inline(always)]
     fn unwrap(&mut self)
         requires { self.old.refusal ≡ SpecNone }
@@ -211,7 +211,7 @@ impl<A: Allocator> Measurer<A> {
         }
     }
 
-    /// Out of a structure, whose length is noted.
+    /// Leaves a structure, and notes its length.
     #[inline(always)]
     fn leave(&mut self)
         requires { self.old.refusal ≡ SpecNone }
@@ -231,7 +231,7 @@ impl<A: Allocator> Measurer<A> {
         }
     }
 
-    /// Out of a newtype.
+    /// Leaves a newtype.
     #[inline(always)]
     fn leave_newtype(&mut self, name: &'static str)
         requires { self.old.refusal ≡ SpecNone }
@@ -243,7 +243,7 @@ impl<A: Allocator> Measurer<A> {
         }
     }
 
-    /// Out of a newtype variant.
+    /// Leaves a newtype variant.
     #[inline(always)]
     fn leave_variant(&mut self, variant: &'static str)
         requires { self.old.refusal ≡ SpecNone }
@@ -326,15 +326,15 @@ impl<A: Allocator> Visitor for Measurer<A> {
     }
 }
 
-/// What the first pass finds of a value that isn't refused: the lengths of its structures in document
-/// order, and the place behind its last byte.
+/// What the first pass finds of a value without an error: the lengths of its structures in document order, and
+/// the place after its last byte.
 #[derive(Drop)]
 pub struct Plan<A: Allocator> {
     pub sizes: Vec<u32, A>,
     pub end: Place,
 }
 
-/// Measures a value that is to be written at this place.
+/// Measures a value that is to be encoded at this place.
 pub fn measure<A: Allocator + Copy, T: Serialize>(
     alloc: A,
     value: &T,

@@ -1,8 +1,8 @@
 //! The parts of names: what follows a prefix, the one variant that is a wrapper, and the numbers that
 //! names are.
 //!
-//! All of it is inlined and calls nothing, save on rare ways, so that the compiler computes it of the
-//! constant names that message types have.
+//! All of it is inlined and, except in rare cases, calls nothing. So the compiler evaluates it for the
+//! constant names of message types.
 
 ghost use Rattle.std.specs.Prelude.{◌≡◌, ◌<◌, ◌≤◌, eqb, option_map, IfSome};
 ghost use Rattle.std.specs.Str.Parse.{AllDigits};
@@ -31,7 +31,7 @@ fn begins(bytes: &[u8], prefix: &[u8]) -> bool
     true
 }
 
-/// What follows `Transparent:`, where a name begins with it.
+/// What follows `Transparent:`, if a name begins with it.
 #[inline(always)]
 pub(crate) fn transparent_name(name: &'static str) -> Option<&'static str>
     ensures { option_map (λ s. s.now) result ≡ transparent_name name.now }
@@ -45,7 +45,7 @@ pub(crate) fn transparent_name(name: &'static str) -> Option<&'static str>
     name.strip_prefix("Transparent:")
 }
 
-/// What follows `Override:`, where a name begins with it.
+/// What follows `Override:`, if a name begins with it.
 #[inline(always)]
 pub(crate) fn override_name(name: &'static str) -> Option<&'static str>
     ensures { option_map (λ s. s.now) result ≡ override_name name.now }
@@ -82,7 +82,7 @@ pub(crate) fn is_wrapper(variant: &str) -> bool
     begins(variant.as_bytes(), b"Transparent")
 }
 
-/// The value of a hexadecimal digit of either case, and 16 for any other byte.
+/// The value of a hexadecimal digit of either case; 16 for any other byte.
 #[inline(always)]
 fn value_of(byte: u8) -> u32
     ensures digit { result < 16 → result ≡ digit_value byte }
@@ -96,7 +96,7 @@ fn value_of(byte: u8) -> u32
     }
 }
 
-/// The number of at least one hexadecimal digit of either case, where it is below 2^32.
+/// The number that these hexadecimal digits of either case are: at least one digit, and below 2^32.
 #[inline(always)]
 fn numeral(digits: &[u8]) -> Option<u32>
     ensures value { result ≡ numeral digits.now }
@@ -115,7 +115,7 @@ fn numeral(digits: &[u8]) -> Option<u32>
     if at == 0 { None } else { Some(value) }
 }
 
-/// The number that a text is. Texts with a further `0x` or a `+` go the general way.
+/// The number that a text is. Texts with a second `0x`, or with a `+`, are left to the general function.
 #[inline(always)]
 pub(crate) fn number_of(text: &str) -> Option<u32>
     ensures { result ≡ number text.now }
@@ -132,7 +132,7 @@ pub(crate) fn number_of(text: &str) -> Option<u32>
     }
 }
 
-/// The tag that a name is.
+/// The tag that a name is, if it is one.
 #[tactic(auto, unfolding(kmip_ttlv_types::specs::Names::tag_of))]
 #[inline(always)]
 pub(crate) fn tag_of(name: &str) -> Option<TtlvTag>

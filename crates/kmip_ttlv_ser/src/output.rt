@@ -1,4 +1,4 @@
-//! Where the bytes of a value go: piece after piece, until one can't be taken.
+//! Where the bytes of a value go, piece after piece, until one fails.
 
 ghost use Rattle.std.specs.Prelude.{◌≡◌, ℕ, List, None as SpecNone};
 ghost use Rattle.kmip_ttlv_ser.specs.Outputs.{Given, IsGiven, Before};
@@ -6,20 +6,20 @@ ghost use Rattle.kmip_ttlv_ser.specs.Outputs.{Given, IsGiven, Before};
 use kmip_ttlv_types::stream::Sink;
 use std::io::Error;
 
-/// What takes the bytes of a value. Once it can't take a piece it takes no further one, and keeps why.
+/// Takes the bytes of a value. After a piece failed it takes no other, and keeps the error.
 pub trait Output: Drop {
-    // Where it stood before the first piece.
+    // What it was before the first piece.
     ghost Start: { Type 0 };
 
-    // Whether it was given these bytes since then.
+    // Whether it got these bytes since then.
     ghost given: { Start → List ℕ → Self → Type 0 };
 
-    /// Takes a piece, behind those that it has.
+    /// Takes a piece, after those that it has.
     fn give(&mut self, piece: &[u8])
         ensures { Given given piece.now self.old self.new };
 }
 
-/// A sink that each piece goes to as it comes.
+/// A sink that each piece is written to at once.
 #[derive(Drop)]
 pub struct Direct<S: Sink + Drop> {
     pub sink: S,
@@ -27,7 +27,7 @@ pub struct Direct<S: Sink + Drop> {
 }
 
 impl<S: Sink + Drop> Direct<S> {
-    /// A sink that was given nothing.
+    /// A sink that got nothing yet.
     pub fn new(sink: S) -> Direct<S>
         ensures sink { result.sink ≡ sink }
         ensures failure { result.failure ≡ SpecNone }

@@ -1,4 +1,4 @@
-//! Why the first pass refuses a value, and the error that is answered for it.
+//! Why the first pass stops at a value, and the error that is returned for it.
 
 ghost use Rattle.std.specs.Prelude.{◌≡◌, IfOk};
 ghost use Rattle.kmip_ttlv_base.specs.Errors.{view_of_kind};
@@ -8,32 +8,32 @@ use kmip_ttlv_base::error::{Error, ErrorKind, ErrorLocation, MalformedTtlvError,
 use kmip_ttlv_types::{ByteOffset, FieldType};
 use std::alloc::{AllocError, Allocator};
 
-/// What stops a value.
+/// Why a value can't be encoded.
 #[derive(Clone, Copy)]
 pub enum Cause {
-    /// An item where no tag waits; whether the field last written is a structure's length.
+    /// An item without a held tag; whether the last field written is a structure's length.
     NoTag(bool),
-    /// A tag, or the end of a wrapper, where a tag waits.
+    /// A tag, or the end of a wrapper, while a tag is held.
     TagUnused,
     /// A name that is no tag.
     InvalidTag(&'static str),
-    /// A unit variant that is no number.
+    /// The name of a unit variant that is no number.
     InvalidVariant(&'static str),
-    /// A value of a type that isn't written.
+    /// A value of a type that can't be encoded.
     UnsupportedType(&'static str),
 }
 
-/// Why a value is not written.
+/// Why a value isn't encoded, and where.
 #[derive(Clone, Copy)]
 pub enum Refusal {
-    /// A length is above 2^32 - 1, or all bytes are more than 2^64 - 1.
+    /// A length is above 2^32 - 1, or there are more than 2^64 - 1 bytes.
     LengthOverflow,
-    /// The offset is the number of bytes before the refused field.
+    /// The offset is the number of bytes before the invalid field.
     Refused { cause: Cause, offset: u64 },
 }
 
 impl Refusal {
-    /// The error that is answered. Only a name that is no tag takes memory.
+    /// The error that is returned. Only a name that is no tag needs memory.
     pub fn into_error<A: Allocator>(self, alloc: A) -> Error<A>
         ensures { IsErrorOf self result }
     {

@@ -1,4 +1,4 @@
-//! The calls that write values: `to_vec`, `to_writer` and `TtlvSerializer`.
+//! The calls that encode values: `to_vec`, `to_writer` and `TtlvSerializer`.
 
 ghost use Rattle.std.specs.Prelude.{◌≡◌, [], false};
 ghost use Rattle.kmip_ttlv_ser.specs.WriteAnswers.{Writes, WritesTo, progress, Serializes, GivesAll};
@@ -18,17 +18,23 @@ use std::alloc::{Allocator, Global};
 use std::io::Write;
 use std::mem;
 
-/// The canonical bytes of a value's items, one after the other (KMIP 1.0, section 9.1).
+/// Encodes a value: the canonical bytes of its items, in order (KMIP 1.0, section 9.1).
 ///
-/// Refused are, with the offset in bytes alone, counted to the refused field: a name that is no tag
-/// (InvalidTag), a unit variant that is no number (InvalidVariant), a value of a type that isn't
-/// written (UnsupportedRustType), an item without a tag and a tag without an item
-/// (UnexpectedTtlvField). The first of these in document order is answered. LengthOverflow, of
-/// unknown location, comes only where a length is above 2^32 - 1 or all bytes are more than
-/// 2^64 - 1, and OutOfMemory only where memory was refused.
+/// If the value has no encoding, the error is that of the first invalid field in document order, with its
+/// offset alone: the number of bytes before it. It is `InvalidTag` for a name that is no tag, `InvalidVariant`
+/// for a unit variant that is no number, `UnsupportedRustType` for a value of a type that can't be encoded,
+/// and `UnexpectedTtlvField` for an item without a tag or a tag without an item. It is `LengthOverflow`,
+/// without a place, only if a length is above 2^32 - 1 or there are more than 2^64 - 1 bytes, and
+/// `OutOfMemory` only if memory ran out.
 ///
-/// The call recurses as the value tells what it is: a stack of 8 MiB carries some 9,000 structures,
-/// sequences or options in one another.
+/// The call recurses into the value: a stack of 8 MiB carries some 9,000 structures, sequences or options
+/// within each other.
+///
+/// ```
+/// let inner = Box::new(alloc, Data::I32(8))?;
+/// let bytes = to_vec(alloc, &Data::Newtype { name: "Transparent:0x420020", inner })?;
+/// assert!(rt; bytes.as_slice() == b"\x42\0\x20\x02\0\0\0\x04\0\0\0\x08\0\0\0\0".as_slice());
+/// ```
 pub fn to_vec<A: Allocator + Copy, T: Serialize>(alloc: A, value: &T) -> Result<Vec<u8, A>, A>
     ensures { Writes (T.stated value.now) result }
 {
@@ -37,12 +43,18 @@ pub fn to_vec<A: Allocator + Copy, T: Serialize>(alloc: A, value: &T) -> Result<
     Ok(out)
 }
 
-/// Writes the bytes of `to_vec` to a writer, as it goes: no vector of them is made. Small pieces are
-/// gathered, up to 8,192 bytes on the stack, and long ones go out as they lie.
+/// Writes the bytes of `to_vec` to a writer as it goes, without a vector of them. Small pieces are gathered,
+/// up to 8,192 bytes on the stack, and long ones are written directly.
 ///
-/// It refuses as `to_vec` does, and the writer is as it was then. IoError, of unknown location,
-/// comes where the writer failed, or took no byte: it has received a beginning of the bytes.
-/// Interrupted calls are tried again, as often as a 64-bit count allows.
+/// It fails as `to_vec` does, and then nothing was written. It fails with `IoError`, without a place, if the
+/// writer fails or takes no byte, and then a beginning of the bytes was written. Interrupted writes are
+/// repeated, as often as a 64-bit count allows.
+///
+/// ```
+/// let mut writer = Vec::new(alloc);
+/// to_writer(alloc, &Data::Newtype { name: "Transparent:0x420020", inner }, &mut writer)?;
+/// assert!(rt; writer.as_slice() == b"\x42\0\x20\x02\0\0\0\x04\0\0\0\x08\0\0\0\0".as_slice());
+/// ```
 pub fn to_writer<A: Allocator + Copy, T: Serialize, W: Write>(
     alloc: A,
     value: &T,
@@ -64,11 +76,10 @@ pub fn to_writer<A: Allocator + Copy, T: Serialize, W: Write>(
     }
 }
 
-/// Writes values one after the other, until one is refused.
+/// Encodes values one after the other, until a call fails.
 ///
-/// After a refusal, want of memory too, each later call is refused with UnknownStructureLength, of
-/// unknown location. As a location (`ErrorLocation::from`) a serializer is the number of bytes of
-/// its accepted calls.
+/// After an error, out of memory included, each later call fails with `UnknownStructureLength`, without a
+/// place. Converted to an `ErrorLocation`, a serializer is the number of bytes of the calls that succeeded.
 #[derive(Drop)]
 pub struct TtlvSerializer<A: Allocator = Global> {
     alloc: A,
@@ -78,7 +89,7 @@ pub struct TtlvSerializer<A: Allocator = Global> {
 }
 
 impl<A: Allocator + Copy> TtlvSerializer<A> {
-    /// A serializer that was given nothing. Takes no memory.
+    /// An empty serializer. Doesn't allocate.
     pub fn new(alloc: A) -> TtlvSerializer<A>
         ensures { progress result ≡ record { bytes = []; opened = false; refused = false } }
     {
@@ -90,8 +101,8 @@ impl<A: Allocator + Copy> TtlvSerializer<A> {
         }
     }
 
-    /// Appends the items of a value, refused as by `to_vec`. Offsets, and what is due, count the
-    /// bytes of the calls that were accepted before.
+    /// Appends the items of a value. It fails as `to_vec` does, but offsets count the bytes of the earlier
+    /// calls too, and which field is expected depends on them.
     pub fn serialize<T: Serialize>(&mut self, value: &T) -> Result<(), A>
         ensures { Serializes (T.stated value.now) (progress self.old) (progress self.new) result }
     {
@@ -104,9 +115,9 @@ impl<A: Allocator + Copy> TtlvSerializer<A> {
         Ok(())
     }
 
-    /// All bytes that were appended. Takes no memory.
+    /// All bytes that were appended. Doesn't allocate.
     ///
-    /// UnknownStructureLength where a call was refused; nothing is handed back then.
+    /// Fails with `UnknownStructureLength` if a call failed before, and the bytes are lost.
     pub fn into_vec(self) -> Result<Vec<u8, A>, A>
         ensures { GivesAll (progress self) result }
     {
@@ -117,7 +128,7 @@ impl<A: Allocator + Copy> TtlvSerializer<A> {
     }
 }
 
-/// The number of bytes of the accepted calls. The serializer stays as it is.
+/// The number of bytes of the calls that succeeded. The serializer stays as it is.
 impl<A: Allocator, B: Allocator> From<&mut TtlvSerializer<B>> for ErrorLocation<A> {
     ghost use Rattle.std.specs.Prelude.{length};
     ghost use Rattle.kmip_ttlv_base.specs.Errors.{view_of_location, only_offset};
@@ -134,7 +145,7 @@ impl<A: Allocator, B: Allocator> From<&mut TtlvSerializer<B>> for ErrorLocation<
     }
 }
 
-/// The answer after a refused call.
+/// The error after a call that failed.
 fn closed<A: Allocator>() -> Error<A>
     ensures { IsClosed result }
 {
@@ -144,9 +155,9 @@ fn closed<A: Allocator>() -> Error<A>
     )
 }
 
-/// Appends a value's items, and gives whether the field last written is a structure's length.
+/// Appends a value's items, and returns whether the last field written is a structure's length.
 ///
-/// What refuses it is found first, and all room is made before the first byte is written.
+/// It finds any error first, and reserves all room before it writes the first byte.
 fn append<A: Allocator + Copy, T: Serialize>(
     alloc: A,
     value: &T,

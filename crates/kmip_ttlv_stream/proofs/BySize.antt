@@ -1,4 +1,4 @@
--- An error by size comes of a message's size alone.
+-- An error by size is only that of a message's size.
 use Rattle.std.proofs.Common.{◌≡◌, ℕ, Bool, List, inl, inr, Option, Result, Ok, Err, sym, ap, ◌∙◌, subst}
 use Rattle.std.specs.Prelude.{IfErr}
 use Rattle.kmip_ttlv_base.specs.declared.error.Error.{Error}
@@ -18,7 +18,7 @@ NotBySize _ = Unit {0}
 not_by_size : (k : Kind) (n : ℕ) → NotBySize k → k ≡ exceeds_limit n → ⊥
 not_by_size k n h is = subst NotBySize is h
 
--- what is wrong with bytes is no size
+-- an error of the bytes is none by size
 of_bytes_other : (k : Kind) (n : ℕ) → IsOfBytes k → k ≡ exceeds_limit n → ⊥
 of_bytes_other k n h is = subst IsOfBytes is h
 
@@ -53,7 +53,7 @@ stops_by_size can_fail limit old new kept e (over_limit head comes k) n is =
 stops_by_size can_fail limit old new kept e (in_body head mid m taken long size lacks) n is =
     absurd (lack_other can_fail mid m e n lacks.cause is)
 
--- a refusal by size comes only of a message that is larger than the limit
+-- an error by size is only returned for a message that is larger than the limit
 pub by_size : {T A : Type 0} (s : Form) (is_value : Value → T → Type 0) (can_fail : Bool) (limit : Option ℕ)
     (old new kept : Option (List ℕ)) (r : Result T (Error A))
     → Ends (SliceResult s is_value) can_fail limit old new kept r → IfErr r (IsBySize limit old new)

@@ -1,4 +1,4 @@
--- Where the bytes are known and reading them can't fail, what comes is determined.
+-- If the bytes are known and reading them can't fail, the result is determined.
 use Rattle.std.proofs.Common.{◌≡◌, ℕ, ◌+◌, ◌<◌, ◌≤◌, Bool, false, List, [], ◌++◌, ◌⊎◌, inl, inr, Option, None, Some, Result, Ok, Err, sym, ap, ◌∙◌, subst, length, take, drop, refl, arith, length-append, drop_at, take_all}
 use Rattle.std.proofs.lemmas.List.{take-append-le}
 use Rattle.std.specs.IoError.{error_kind}
@@ -17,7 +17,7 @@ use Rattle.kmip_ttlv_reader.specs.ReadResults.{seen, end_fault}
 use Rattle.kmip_ttlv_stream.specs.StreamMessages.{message_size, size_fault, type_fault, Forbids, HasSize, behind_header, behind_tag, ComesUntyped, IsIoFault, LackCause, no_memory, no_bytes, IsKept, ComesOver, Stops, in_header, of_no_type, over_limit, in_body, Gives, Ends, OrMemory, TakesFirst, Exactly}
 use Rattle.kmip_ttlv_stream.proofs.Fronts.{SameHeader, same_header, SameHeader-sym, HasSize-along, HasSize-least, HasSize-one, HasSize-allowed, HasSize-typed}
 
--- what was taken, and what is left
+-- the bytes that were read, and those that are left
 record Parts (bytes taken : List ℕ) (new : Option (List ℕ)) : Type 0 where
   left : List ℕ
   is_left : new ≡ Some left
@@ -91,7 +91,7 @@ seen_is e f kind place =
     ap (λ (k : Kind). let g : Fault = record { why = k; place = view_of_location (location_of e) } in g) kind
     ∙ ap (λ (l : Location). let g : Fault = record { why = f.why; place = l } in g) place
 
--- an early end as a fault
+-- an early end, as a fault
 ends_early : {A : Type 0} (fault : IoFault) (e : Error A) → IsIoFault fault e → error_kind fault ≡ UnexpectedEof
     → IsMemory e ⊎ (seen e ≡ end_fault)
 ends_early fault e io eof = inr (seen_is e end_fault (ap view_of_kind io.kind ∙ ap io_error eof) io.place)
@@ -215,7 +215,7 @@ ends_exact answers limit bytes new kept (Ok x) gives = gives_exact answers limit
 ends_exact answers limit bytes new kept (Err e) (inl gives) = gives_exact answers limit bytes new kept (Err e) gives
 ends_exact answers limit bytes new kept (Err e) (inr stops) = stops_exact answers limit bytes new kept e stops
 
--- what is answered of known bytes from a source that can't fail
+-- what is returned for known bytes of a source that can't fail
 pub exact : {T A : Type 0} (answers : List ℕ → Result T (Error A) → Type 0) (can_fail : Bool) (limit : Option ℕ)
     (old new kept : Option (List ℕ)) (r : Result T (Error A))
     → Ends answers can_fail limit old new kept r → can_fail ≡ false → (bytes : List ℕ) → old ≡ Some bytes

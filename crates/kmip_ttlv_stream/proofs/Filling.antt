@@ -1,4 +1,4 @@
--- Bytes that are due and do not come.
+-- Bytes that are due and don't come.
 use Rattle.std.proofs.Common.{ℕ, ◌<◌, Bool, List, Option}
 use Rattle.std.specs.declared.io.Error.{Error as IoFault}
 use Rattle.kmip_ttlv_types.specs.Streams.{ConsumesUpTo, Lacks}

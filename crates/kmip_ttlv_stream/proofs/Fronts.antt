@@ -9,7 +9,7 @@ use Rattle.kmip_ttlv_types.specs.Places.{tag_at, code_at, length_at}
 use Rattle.kmip_ttlv_types.specs.Streams.{Behind}
 use Rattle.kmip_ttlv_stream.specs.StreamMessages.{message_size, Allows, Forbids, IsTakenUpTo, HasSize, Comes}
 
--- the fields of the header are those of the whole
+-- the fields of the header are those of the whole message
 pub record SameHeader (xs ys : List ℕ) : Type 0 where
   pub tag : tag_at xs 0 ≡ tag_at ys 0
   pub code : code_at xs 0 ≡ code_at ys 0
@@ -35,7 +35,7 @@ same_header head rest long =
       size = cc;
     }
 
--- what is taken is as long for the whole as for its header
+-- as many bytes are read by the whole message as by its header alone
 pub HasSize-along : (limit : Option ℕ) (xs ys : List ℕ) (n : ℕ) → SameHeader xs ys → HasSize limit xs n
     → HasSize limit ys n
 HasSize-along limit xs ys n same h =
@@ -49,7 +49,7 @@ taken_least : (o : Option TtlvType) (limit : Option ℕ) (k n : ℕ) → IsTaken
 taken_least None limit k n h = absurd h
 taken_least (Some t) limit k n h = omega (arith, h.1)
 
--- at least the header is taken
+-- at least the header is read
 pub HasSize-least : (limit : Option ℕ) (xs : List ℕ) (n : ℕ) → HasSize limit xs n → 8 ≤ n
 HasSize-least limit xs n h = taken_least (type_of (code_at xs 0)) limit (length_at xs 0) n h
 
@@ -58,7 +58,7 @@ taken_one : (o : Option TtlvType) (limit : Option ℕ) (size m n : ℕ) → IsTa
 taken_one None limit size m n h k = absurd h
 taken_one (Some t) limit size m n h k = h.1 ∙ sym k.1
 
--- one length is taken
+-- only one number of bytes is read
 pub HasSize-one : (limit : Option ℕ) (xs : List ℕ) (m n : ℕ) → HasSize limit xs m → HasSize limit xs n → m ≡ n
 HasSize-one limit xs m n h k = taken_one (type_of (code_at xs 0)) limit (message_size xs) m n h k
 
@@ -71,7 +71,7 @@ taken_allowed : (o : Option TtlvType) (t : TtlvType) (limit : Option ℕ) (size 
 taken_allowed None t limit size n is h f = h
 taken_allowed (Some u) t limit size n is h f = allowed_forbidden limit size h.0 f
 
--- what is taken of a type's item is within the limit
+-- what is read of a message of known type is within the limit
 pub HasSize-allowed : (limit : Option ℕ) (xs : List ℕ) (t : TtlvType) (n : ℕ) → type_of (code_at xs 0) ≡ Some t
     → HasSize limit xs n → Forbids limit (message_size xs) → ⊥
 HasSize-allowed limit xs t n is h f = taken_allowed (type_of (code_at xs 0)) t limit (message_size xs) n is h f
@@ -80,11 +80,11 @@ taken_typed : (o : Option TtlvType) (limit : Option ℕ) (size n : ℕ) → o �
 taken_typed None limit size n is h = h
 taken_typed (Some t) limit size n is h = cc
 
--- nothing is taken of an item of no type
+-- nothing is read of a message of no type
 pub HasSize-typed : (limit : Option ℕ) (xs : List ℕ) (n : ℕ) → type_of (code_at xs 0) ≡ None → HasSize limit xs n → ⊥
 HasSize-typed limit xs n is h = taken_typed (type_of (code_at xs 0)) limit (message_size xs) n is h
 
--- a header, and behind it the body that it states
+-- a header, and then the body that it states
 pub comes_whole : (limit : Option ℕ) (a b c : Option (List ℕ)) (head message : List ℕ) (n : ℕ) → Consumes a b head
     → length head ≡ 8 → HasSize limit head n
     → Behind b c head message (n - 8) → Comes limit a c message
@@ -100,7 +100,7 @@ comes_whole limit a b c head message n taken long size body =
           (SameHeader-sym message head same) size);
     }
 
--- what an empty buffer has is what was taken
+-- a buffer that was empty has what was read
 pub header_came : (a b : Option (List ℕ)) (had head : List ℕ) (n : ℕ) → had ≡ [] → Behind a b had head n
     → Consumes a b head × (length head ≡ n)
 header_came a b had head n none more =

@@ -1,4 +1,4 @@
--- Why there is no message, and what is answered of one.
+-- Why there is no message, and what is returned for one.
 use Rattle.std.proofs.Common.{◌≡◌, ℕ, ◌+◌, ◌-◌, ◌≤◌, Bool, List, [], Option, None, Some, Result, Ok, Err, subst, arith, refl, inl, inr}
 use Rattle.kmip_ttlv_types.specs.Streams.{Behind}
 use Rattle.kmip_ttlv_base.specs.declared.error.Error.{Error}
@@ -29,7 +29,7 @@ stops_untyped can_fail limit old new had head seen e none more same untyped =
           (λ (l : List ℕ). IsUntyped l e) same untyped;
     } refl
 
--- the header has the code of no type, or the message is larger than the limit
+-- the header's code is no type's, or the message is larger than the limit
 pub stops_at_header : {A : Type 0} (can_fail : Bool) (limit : Option ℕ) (old new : Option (List ℕ))
     (had head seen : List ℕ) (e : Error A) → had ≡ [] → Behind old new had head 8
     → seen ≡ head → StopsAtHeader limit seen e → Stops can_fail limit old new (Some head) e
@@ -47,7 +47,7 @@ message_comes limit old mid new had head seen message n none more same size body
     comes_whole limit old mid new head message n came.0 came.1
     (subst (λ (l : List ℕ). HasSize limit l n) same size) body
 
--- the body did not come
+-- the body didn't come
 pub stops_in_body : {A : Type 0} (can_fail : Bool) (limit : Option ℕ) (old mid new kept : Option (List ℕ))
     (had head seen : List ℕ) (n : ℕ) (e : Error A) → had ≡ [] → Behind old mid had head 8
     → seen ≡ head → HasSize limit seen n → LacksBytes can_fail mid new (n - 8) e
@@ -59,7 +59,7 @@ stops_in_body can_fail limit old mid new kept had head seen n e none more same s
     in_body head mid (n - 8) came.0 came.1
     (subst (HasSize limit head) long (subst (λ (l : List ℕ). HasSize limit l n) same size)) lacks
 
--- what is answered of a message that came
+-- what is returned for a message that came
 pub ends_with : {T A : Type 0} (answers : List ℕ → Result T (Error A) → Type 0) (can_fail : Bool) (limit : Option ℕ)
     (old new : Option (List ℕ)) (message seen : List ℕ) (r : Result T (Error A))
     → Comes limit old new message → seen ≡ message → answers seen r

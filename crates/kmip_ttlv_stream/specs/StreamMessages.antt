@@ -1,4 +1,4 @@
--- Messages at the front of a stream: which bytes are taken, and what is answered.
+-- Messages at the front of a stream: which bytes are read, and what is returned.
 use Rattle.std.specs.Prelude.{◌≡◌, ℕ, ◌+◌, ◌<◌, ◌≤◌, ◌⊎◌, Bool, List, [], length, take, drop, Option, Some, None}
 use Rattle.std.specs.Prelude.{IfSome, IfErr, IfOk, Result, Ok, Err}
 use Rattle.std.specs.Io.KnownBytes.{Consumes}
@@ -30,7 +30,7 @@ pub record SliceResult {T A : Type 0} (s : Form) (is_value : Value → T → Typ
   pub refused : IfErr r (λ e. ErrorStands s bytes e)
   pub whole : IfErr r (λ e. BeginsWhole bytes → sort_of e ≡ early_end → ⊥)
 
--- how many bytes the message has that begins so: eight of header, and as many as it states
+-- how many bytes the message with this header has: eight, and as many as the header states
 abbrev pub message_size : List ℕ → ℕ
 message_size bytes = 8 + length_at bytes 0
 
@@ -43,34 +43,34 @@ abbrev pub Forbids : Option ℕ → ℕ → Type 0
 Forbids None n = ⊥
 Forbids (Some most) n = most < n
 
--- n bytes are taken of a message of this type and size: all of it, which no limit forbids; it has a type
+-- n bytes are read of a message of this type and size: all of it, if its type is known and the limit allows it
 abbrev pub IsTakenUpTo : Option TtlvType → Option ℕ → ℕ → ℕ → Type 0
 IsTakenUpTo None limit size n = ⊥
 IsTakenUpTo (Some t) limit size n = Allows limit size × (n ≡ size)
 
--- n bytes are taken of the message that begins so
+-- n bytes are read of the message with this header
 abbrev pub HasSize : Option ℕ → List ℕ → ℕ → Type 0
 HasSize limit bytes n = IsTakenUpTo (type_of (code_at bytes 0)) limit (message_size bytes) n
 
--- behind the header of the message that begins so, with its tag and type
+-- the place behind the header, with its tag and type
 abbrev pub behind_header : List ℕ → TtlvType → Location
 behind_header bytes t = record { offset = Some 8; parents = []; tag = Some (tag_at bytes 0); typ = Some t }
 
--- behind the tag of the message that begins so, where the code of its type stands
+-- the place behind the tag, where the type's code is
 abbrev pub behind_tag : List ℕ → Location
 behind_tag bytes = record { offset = Some 3; parents = []; tag = Some (tag_at bytes 0); typ = None }
 
--- the code of the message that begins so is that of no type
+-- the error kind for a header whose code is no type's
 abbrev pub untyped_kind : List ℕ → Kind
 untyped_kind bytes = malformed (malformeds.InvalidType (code_at bytes 0))
 
--- the message that begins so has the code of no type, and this error says so, behind the tag
+-- the header's code is no type's, and this is the error for it, behind the tag
 pub record IsUntyped {A : Type 0} (bytes : List ℕ) (e : Error A) : Type 0 where
   pub typ : type_of (code_at bytes 0) ≡ None
   pub kind : view_of_kind (kind_of e) ≡ untyped_kind bytes
   pub place : view_of_location (location_of e) ≡ behind_tag bytes
 
--- the message that begins so is larger than the limit, and this refusal says so
+-- the message with this header is larger than the limit, and this is the error for it
 pub record IsOver {A : Type 0} (limit : Option ℕ) (bytes : List ℕ) (e : Error A) : Type 0 where
   pub typ : TtlvType
   pub is_typ : type_of (code_at bytes 0) ≡ Some typ
@@ -83,47 +83,47 @@ pub record IsIoFault {A : Type 0} (fault : IoFault) (e : Error A) : Type 0 where
   pub kind : kind_of e ≡ kinds.IoError fault
   pub place : view_of_location (location_of e) ≡ unknown
 
--- memory was refused; or the stream ended within the next n bytes, or reading it failed, which it can
+-- memory ran out; or the stream ended within the next n bytes, or reading it failed, if it can
 pub data LackCause {A : Type 0} (can_fail : Bool) (old : Option (List ℕ)) (n : ℕ) (e : Error A)
     : Type 0 where
   no_memory : IsMemory e → LackCause can_fail old n e
   no_bytes : (fault : IoFault) → IsIoFault fault e → Lacks can_fail old n fault → LackCause can_fail old n e
 
--- n bytes are due, and did not come: at most so many were taken
+-- n bytes are due, and didn't come: at most so many were read
 pub record LacksBytes {A : Type 0} (can_fail : Bool) (old new : Option (List ℕ)) (n : ℕ) (e : Error A)
     : Type 0 where
   pub due : 0 < n
   pub within : ConsumesUpTo old new n
   pub cause : LackCause can_fail old n e
 
--- why no more than its header is taken of the message that begins so
+-- why no more than the header is read of the message with this header
 abbrev pub StopsAtHeader : {A : Type 0} → Option ℕ → List ℕ → Error A → Type 0
 StopsAtHeader limit head e = IsUntyped head e ⊎ IsOver limit head e
 
--- the bytes of one message were taken
+-- the bytes of one message were read
 pub record Comes (limit : Option ℕ) (old new : Option (List ℕ)) (message : List ℕ) : Type 0 where
   pub consumes : Consumes old new message
   pub size : HasSize limit message (length message)
 
--- the kept buffer, where there is one, holds these bytes
+-- the kept buffer, if there is one, holds these bytes
 abbrev pub IsKept : Option (List ℕ) → List ℕ → Type 0
 IsKept kept bytes = IfSome kept (λ b. b ≡ bytes)
 
--- a header was taken, of a message that is larger than the limit
+-- a header was read, of a message that is larger than the limit
 pub record ComesOver {A : Type 0} (limit : Option ℕ) (old new : Option (List ℕ)) (head : List ℕ) (e : Error A)
     : Type 0 where
   pub consumes : Consumes old new head
   pub length_is : length head ≡ 8
   pub over : IsOver limit head e
 
--- a header was taken that has the code of no type
+-- a header was read whose code is no type's
 pub record ComesUntyped {A : Type 0} (old new : Option (List ℕ)) (head : List ℕ) (e : Error A) : Type 0 where
   pub consumes : Consumes old new head
   pub length_is : length head ≡ 8
   pub untyped : IsUntyped head e
 
--- why there is no message: its header does not come; that has the code of no type; it is larger than the limit; its
--- body does not come
+-- why there is no message: its header didn't come; the header's code is no type's; the message is larger than the
+-- limit; its body didn't come
 pub data Stops {A : Type 0} (can_fail : Bool) (limit : Option ℕ) (old new kept : Option (List ℕ)) (e : Error A)
     : Type 0 where
   in_header : LacksBytes can_fail old new 8 e → Stops can_fail limit old new kept e
@@ -132,7 +132,7 @@ pub data Stops {A : Type 0} (can_fail : Bool) (limit : Option ℕ) (old new kept
   in_body : (head : List ℕ) (mid : Option (List ℕ)) (n : ℕ) → Consumes old mid head → length head ≡ 8
       → HasSize limit head (8 + n) → LacksBytes can_fail mid new n e → Stops can_fail limit old new kept e
 
--- a message was taken, and is kept where there is a buffer; this is answered of its bytes
+-- a message was read, and is kept if there is a buffer; this is returned for its bytes
 pub record Gives {T A : Type 0} (answers : List ℕ → Result T (Error A) → Type 0) (limit : Option ℕ)
     (old new kept : Option (List ℕ)) (r : Result T (Error A)) : Type 0 where
   pub message : List ℕ
@@ -140,50 +140,50 @@ pub record Gives {T A : Type 0} (answers : List ℕ → Result T (Error A) → T
   pub is_kept : IsKept kept message
   pub answer : answers message r
 
--- a message was taken, and its bytes are answered; or there is none
+-- a message was read, and this is returned for its bytes; or there is none
 abbrev pub Ends : {T A : Type 0} → (List ℕ → Result T (Error A) → Type 0) → Bool → Option ℕ
     → (old new kept : Option (List ℕ)) → Result T (Error A) → Type 0
 Ends answers can_fail limit old new kept (Ok x) = Gives answers limit old new kept (Ok x)
 Ends answers can_fail limit old new kept (Err e) =
     Gives answers limit old new kept (Err e) ⊎ Stops can_fail limit old new kept e
 
--- where this is a refusal by size, a header was taken that states this size, above the limit
+-- if this is an error by size, a header was read that states this size, above the limit
 abbrev pub IsBySize : {A : Type 0} → Option ℕ → (old new : Option (List ℕ)) → Error A → Type 0
 IsBySize limit old new e = (n : ℕ) → view_of_kind (kind_of e) ≡ exceeds_limit n
     → (head : List ℕ) × ComesOver limit old new head e × (n ≡ message_size head)
 
--- want of memory; or else this
+-- out of memory, or else this
 abbrev pub OrMemory : {T A : Type 0} → Result T (Error A) → Type 0 → Type 0
 OrMemory (Ok x) P = P
 OrMemory (Err e) P = IsMemory e ⊎ P
 
--- the first n bytes are taken and kept
+-- the first n bytes are read and kept
 pub record TakesFirst (bytes : List ℕ) (n : ℕ) (new kept : Option (List ℕ)) : Type 0 where
   pub left : new ≡ Some (drop n bytes)
   pub is_kept : IsKept kept (take n bytes)
 
--- a size above the limit, behind the header
+-- the error for a size above the limit, behind the header
 abbrev pub size_fault : List ℕ → TtlvType → Fault
 size_fault bytes t = record { why = exceeds_limit (message_size bytes); place = behind_header bytes t }
 
--- the code of no type, behind the tag
+-- the error for a code that is no type's, behind the tag
 abbrev pub type_fault : List ℕ → Fault
 type_fault bytes = record { why = untyped_kind bytes; place = behind_tag bytes }
 
--- what reading a message from these bytes comes to, by what they begin with; in place of each answer,
--- want of memory may come
+-- the result of reading a message from these bytes, by what they begin with; in place of each result, memory may
+-- run out
 pub record Exactly {T A : Type 0} (answers : List ℕ → Result T (Error A) → Type 0) (limit : Option ℕ) (bytes : List ℕ)
     (new kept : Option (List ℕ)) (r : Result T (Error A)) : Type 0 where
-  -- a header that is cut
+  -- the header is cut
   pub in_header : length bytes < 8 → IsFault end_fault r
-  -- the code of no type, whatever is to be read and whatever the limit
+  -- the code is no type's, whatever form and limit are
   pub untyped : 8 ≤ length bytes → type_of (code_at bytes 0) ≡ None
       → IsFault (type_fault bytes) r × OrMemory r (TakesFirst bytes 8 new kept)
-  -- a size above the limit
+  -- the size is above the limit
   pub over_limit : 8 ≤ length bytes → (t : TtlvType) → type_of (code_at bytes 0) ≡ Some t
       → Forbids limit (message_size bytes) → IsFault (size_fault bytes t) r × OrMemory r (TakesFirst bytes 8 new kept)
-  -- a body that is cut
+  -- the body is cut
   pub in_body : 8 ≤ length bytes → (n : ℕ) → HasSize limit bytes n → length bytes < n → IsFault end_fault r
-  -- a message
+  -- the message is there
   pub whole : 8 ≤ length bytes → (n : ℕ) → HasSize limit bytes n → n ≤ length bytes
       → OrMemory r (TakesFirst bytes n new kept × answers (take n bytes) r)

@@ -1,4 +1,4 @@
-//! The settings of reading from a stream: a limit, and a buffer that is kept from message to message.
+//! The settings of `from_reader`: a limit, and a buffer that is kept from message to message.
 
 ghost use Rattle.std.specs.Prelude.{◌≡◌, Some, None, [], option_map, is_some};
 ghost use Rattle.kmip_ttlv_stream.specs.Settings.{settings_of};
@@ -7,13 +7,17 @@ use std::alloc::{Allocator, Global};
 use std::fmt;
 
 /// How messages are read from a stream: up to which size, and whether their bytes are kept.
+///
+/// ```
+/// let config = Config::new(alloc).with_max_bytes(65_536).with_read_buf();
+/// ```
 #[derive(Drop)]
 pub struct Config<A: Allocator = Global> {
     pub(crate) limit: Option<u32>,
     pub(crate) buffer: Buffer<A>,
 }
 
-// The bytes of the last message; or no place where any could stay.
+// The bytes of the last message; or only the allocator, if they aren't kept.
 #[derive(Drop)]
 pub(crate) enum Buffer<A: Allocator> {
     Kept(Vec<u8, A>),
@@ -21,7 +25,7 @@ pub(crate) enum Buffer<A: Allocator> {
 }
 
 impl<A: Allocator> Config<A> {
-    /// No limit and no buffer. Takes no memory.
+    /// No limit and no buffer. Doesn't allocate.
     pub fn new(alloc: A) -> Config<A>
         ensures { settings_of result ≡ record { limit = None; kept = None } }
     {
@@ -31,7 +35,7 @@ impl<A: Allocator> Config<A> {
         }
     }
 
-    /// The size in bytes, header included, of the largest message that is read, if there is a limit.
+    /// The limit, if there is one: the size in bytes, header included, of the largest message that is read.
     pub fn max_bytes(&self) -> Option<u32>
         ensures { result ≡ (settings_of self.now).limit }
     {
@@ -55,7 +59,7 @@ impl<A: Allocator> Config<A> {
         }
     }
 
-    /// The same with this limit: larger messages are refused before their body is taken.
+    /// The same with this limit in bytes: a larger message is an error before its body is read.
     pub fn with_max_bytes(self, max_bytes: u32) -> Config<A>
         ensures { settings_of result ≡ record { limit = Some max_bytes; kept = (settings_of self).kept } }
     {
@@ -65,7 +69,7 @@ impl<A: Allocator> Config<A> {
         }
     }
 
-    /// The same with an empty buffer, which is kept from message to message. Takes no memory.
+    /// The same with an empty buffer, which is kept from message to message. Doesn't allocate.
     pub fn with_read_buf(self) -> Config<A>
         ensures { settings_of result ≡ record { limit = (settings_of self).limit; kept = Some [] } }
     {
@@ -77,7 +81,7 @@ impl<A: Allocator> Config<A> {
 }
 
 impl<A: Allocator + Copy> Config<A> {
-    /// The same limit, and an empty buffer where there is one. Takes no memory.
+    /// The same limit, and an empty buffer if there is one. Doesn't allocate.
     pub fn clone(&self) -> Config<A>
         ensures { settings_of result
             ≡ record { limit = (settings_of self.now).limit; kept = option_map (λ _. []) (settings_of self.now).kept } }
@@ -92,7 +96,7 @@ impl<A: Allocator + Copy> Config<A> {
     }
 }
 
-// The buffer without its bytes, or one that is new. Takes no memory.
+// The buffer without its bytes, or a new one. Doesn't allocate.
 fn emptied<A: Allocator>(buffer: Buffer<A>) -> Vec<u8, A>
     ensures { result.items ≡ [] }
 {
@@ -105,7 +109,7 @@ fn emptied<A: Allocator>(buffer: Buffer<A>) -> Vec<u8, A>
     }
 }
 
-/// The limit, and whether there is a buffer. Bytes of messages are not shown.
+/// The limit, and whether there is a buffer, without any bytes of messages.
 impl<A: Allocator> fmt::Debug for Config<A> {
     fn fmt<W: fmt::Write>(&self, f: &mut fmt::Formatter<W>) -> fmt::Result {
         let limit = self.limit;

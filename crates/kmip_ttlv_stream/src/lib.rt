@@ -1,7 +1,7 @@
-//! Reading one message from a stream of bytes, by the shape of its type.
+//! Decoding one message from a stream, by the form of its type.
 //!
-//! `from_reader` is the entry, and `Config` its settings. What is taken and answered is defined in
-//! specs/StreamMessages: the bytes of one message and none behind it, and of these what `from_slice` answers.
+//! `from_reader` is the call, `Config` its settings. specs/StreamMessages defines which bytes it reads, which are
+//! those of one message, and what it returns for them, which is the result of `from_slice`.
 #![tactic(auto)]
 
 ghost use Rattle.std.specs.Prelude.{◌≡◌, ℕ, List, Some, false, IfErr, IfOk};
@@ -15,43 +15,45 @@ use crate::config::Buffer;
 pub use crate::config::Config;
 use crate::take::take_message;
 use kmip_ttlv_base::error::Result;
-use kmip_ttlv_de::{Deserialize, from_slice};
+use kmip_ttlv_de::{Decode, from_slice};
 use kmip_ttlv_types::stream::Source;
 use std::alloc::Allocator;
 
-/// The value of one message from a stream: a Structure, by the shape of `T`.
+/// Decodes one message from a stream: a Structure, by the form of `T` (KMIP 1.0, section 9.1).
 ///
-/// Eight bytes are taken, the message's header. Its type is judged first, then the limit, and then as
-/// many bytes are taken as the header states. What `from_slice` returns of these bytes is returned. No
-/// byte behind the message is taken.
+/// It reads the eight bytes of the header, checks its type and then its size against the limit, and reads as
+/// many bytes as the header states, never more. The result is that of `from_slice` on these bytes, or one
+/// of these errors:
 ///
-/// Errors besides those of `from_slice`:
+/// - `InvalidType`, with the header's code, at offset 3 and with the header's tag: the code is no type's,
+///   whatever `T` and the limit are. Only the header was read.
+/// - `ResponseSizeExceedsLimit`, with the message's size, at offset 8 and with the header's tag and type: the
+///   message is larger than the limit. Only the header was read.
+/// - `IoError` of kind UnexpectedEof, without a place: the stream ends within the message.
+/// - `IoError` of the reader's kind, without a place: reading failed. Interrupted reads are repeated.
 ///
-/// - `InvalidType`, with the header's code, at offset 3 and with the header's tag: the code is that of no
-///   type. It comes whatever `T` is and whatever the limit, and only the header is taken.
-/// - `ResponseSizeExceedsLimit`, with the message's size: the message is larger than the limit.
-///   Behind its header, with its tag and type.
-/// - `IoError` of kind UnexpectedEof, of an unknown place: the stream ends within the message.
-/// - `IoError` of the reader's kind, of an unknown place: reading failed. Interrupted reads are tried
-///   again.
+/// Memory grows as bytes come. A kept buffer then holds the bytes that were read; if too few came, or memory ran
+/// out, it may hold any.
 ///
-/// Memory grows as bytes come, by pieces. A kept buffer holds the bytes that were taken; where they
-/// did not come, or memory was refused, it may hold any.
-pub fn from_reader<T: Deserialize<A>, S: Source, A: Allocator + Copy>(
+/// ```
+/// let mut config = Config::new(alloc).with_max_bytes(65_536).with_read_buf();
+/// let message: Request = from_reader(alloc, &mut reader, &mut config)?;
+/// ```
+pub fn from_reader<T: Decode<A>, S: Source, A: Allocator + Copy>(
     alloc: A,
     reader: &mut S,
     config: &mut Config<A>,
 ) -> Result<T, A>
-    // What is taken from the stream, and what is answered.
+    // Which bytes are read from the stream, and what is returned.
     ensures ends { Ends (SliceResult T.form T.is_value) S.can_fail (settings_of config.old).limit
         (S.left reader.old) (S.left reader.new) (settings_of config.new).kept result }
-    // A refusal by size comes only of a message that is larger than the limit.
+    // An error by size is only returned for a message that is larger than the limit.
     ensures limit { IfErr result (IsBySize (settings_of config.old).limit (S.left reader.old) (S.left reader.new)) }
-    // The same by cases, where the stream's bytes are known and reading them can't fail.
+    // The same by cases, if the stream's bytes are known and reading them can't fail.
     ensures exact { S.can_fail ≡ false → (bytes : List ℕ) → S.left reader.old ≡ Some bytes
         → Exactly (SliceResult T.form T.is_value) (settings_of config.old).limit bytes
         (S.left reader.new) (settings_of config.new).kept result }
-    // The limit stays, and there is a buffer afterwards exactly where there was one.
+    // The limit stays, and afterwards there is a buffer if and only if there was one.
     ensures config { KeepsSettings (settings_of config.old) (settings_of config.new) }
 {
     match &mut config.buffer {
@@ -63,8 +65,8 @@ pub fn from_reader<T: Deserialize<A>, S: Source, A: Allocator + Copy>(
     }
 }
 
-// Takes a message into the buffer, in place of what it held, and reads it.
-fn read_message<T: Deserialize<A>, S: Source, A: Allocator + Copy>(
+// Reads a message into the buffer, in place of what that held, and decodes it.
+fn read_message<T: Decode<A>, S: Source, A: Allocator + Copy>(
     alloc: A,
     reader: &mut S,
     limit: Option<u32>,

@@ -1,4 +1,4 @@
-//! Taking the bytes of one message from a stream.
+//! Reading the bytes of one message from a stream.
 
 ghost use Rattle.std.specs.Prelude.{◌≡◌, ◌≤◌, length, Some, IfOk, IfErr, OnOk};
 ghost use Rattle.kmip_ttlv_types.specs.Streams.{Behind};
@@ -15,8 +15,8 @@ use kmip_ttlv_base::types::{ByteOffset, TtlvType};
 use std::alloc::Allocator;
 use std::io;
 
-// The bytes of one message. Where the header has the code of no type, or states more than the limit
-// allows, it alone is taken.
+// Reads the bytes of one message. If the header's code is no type's, or the message is larger than the limit, only the
+// header is read.
 pub fn take_message<S: Source, A: Allocator>(
     reader: &mut S,
     limit: Option<u32>,
@@ -31,7 +31,7 @@ pub fn take_message<S: Source, A: Allocator>(
     take_more(reader, bytes, size - 8)
 }
 
-// How many bytes are taken of the message with this header.
+// How many bytes the message with this header has, if its type is known and the limit allows it.
 fn size_of<A: Allocator>(head: &[u8], limit: Option<u32>) -> Result<usize, A>
     requires { 8 ≤ length head.now }
     ensures ok { IfOk result (HasSize limit head.now) }
@@ -47,7 +47,7 @@ fn size_of<A: Allocator>(head: &[u8], limit: Option<u32>) -> Result<usize, A>
     }
 }
 
-// The error of a header with the code of no type, at the code.
+// The error for a header whose code is no type's, at the code.
 fn no_type<A: Allocator>(head: &[u8]) -> Error<A>
     requires { 8 ≤ length head.now }
     ensures kind { view_of_kind (kind_of result) ≡ untyped_kind head.now }
@@ -59,7 +59,7 @@ fn no_type<A: Allocator>(head: &[u8]) -> Error<A>
     )
 }
 
-// The refusal of a message of this size, behind its header.
+// The error for a message of this size, behind its header.
 fn too_large<A: Allocator>(head: &[u8], typ: TtlvType, size: usize) -> Error<A>
     requires { 8 ≤ length head.now }
     ensures kind { kind_of result ≡ TooLargeKind size }
@@ -71,7 +71,7 @@ fn too_large<A: Allocator>(head: &[u8], typ: TtlvType, size: usize) -> Error<A>
     )
 }
 
-// Takes so many bytes, behind those that the buffer has.
+// Reads `count` bytes and appends them to the buffer.
 fn take_more<S: Source, A: Allocator>(
     reader: &mut S,
     bytes: &mut Vec<u8, A>,
@@ -87,7 +87,7 @@ fn take_more<S: Source, A: Allocator>(
     }
 }
 
-// Reading's own refusal, which has no place.
+// The error if reading fails or the stream ends: it has no place.
 fn io_fault<A: Allocator>(fault: io::Error) -> Error<A>
     ensures { IsIoFault fault result }
 {

@@ -1,4 +1,4 @@
--- Over memory nothing fails but what is wrong with the bytes or the room.
+-- Reading from memory and writing into it fail only because of the bytes or the room.
 use Rattle.std.proofs.Common.{◌≡◌, ℕ, ◌<◌, ◌≤◌, ◌^◌, List, ◌∷◌, true, false, Option, Some, None, Result, Ok, Err, IsOk, length, ap, sym, arith, refl, inl, inr, ◌⊎◌, Global, get_or, ◌∙◌}
 use Rattle.std.specs.Prelude.{MatchResult}
 use Rattle.kmip_ttlv_types.specs.declared.error.Error.{Error}

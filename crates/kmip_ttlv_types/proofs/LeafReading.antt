@@ -21,7 +21,7 @@ use Rattle.kmip_ttlv_types.specs.Headers.{ReadsNumber}
 use Rattle.kmip_ttlv_types.specs.Primitives.{CanHaveLength, Skips, ReadsValue, ReadsLeaf, HasContent, StaysWithin, stated_length, stated_content, IsCut, HasWrongLength, HasWrongContent, length_and_content}
 use Rattle.kmip_ttlv_types.proofs.Taken.{ConsumesUpTo-after}
 
--- a fact of known bytes, from the part that was consumed and the part that is left
+-- a fact about known bytes, from the part that was consumed and the part that is left
 front_of : (a b : Option (List ℕ)) (bs : List ℕ) (P : List ℕ → Type 0) → Consumes a b bs → ((ys : List ℕ) → b ≡ Some ys → P (bs ++ ys)) → IfSome a P
 front_of None b bs P taken holds = tt
 front_of (Some x) None bs P taken holds = absurd taken
@@ -59,13 +59,13 @@ Consumes-nothing (Some x) (Some y) keeps = sym keeps
 nothing_taken : (a b : Option (List ℕ)) → Keeps a b → ConsumesUpTo a b 0
 nothing_taken a b keeps = record { bytes = []; within = le_refl 0; consumes = Consumes-nothing a b keeps }
 
--- no more was taken after the length than the content and the padding
+-- after the length nothing beyond content and padding was consumed
 pub within : (a b c : Option (List ℕ)) (n m : ℕ) → n < 2 ^ 32 → Consumes a b (to_be_bytes w32 n) → m ≤ n + pad_len n → ConsumesUpTo b c m → StaysWithin a c
 within a b c n m low taken most more =
     front_of a b (to_be_bytes w32 n) (λ xs. ConsumesUpTo a c (4 + stated_length xs + pad_len (stated_length xs))) taken (λ ys is.
     subst (λ k. ConsumesUpTo a c (4 + k + pad_len k)) (sym (stated n ys low)) (ConsumesUpTo-after a b c (to_be_bytes w32 n) m _ taken more (omega (arith, most))))
 
--- the length that was taken is there, and is not zero
+-- the length that was read is there, and isn't zero
 has_content : (a b : Option (List ℕ)) (n : ℕ) → n < 2 ^ 32 → Consumes a b (to_be_bytes w32 n) → 0 < n → IfSome a HasContent
 has_content a b n low taken some = front_of a b (to_be_bytes w32 n) HasContent taken (λ ys is. (omega arith, omega (arith, some, stated n ys low)))
 
@@ -130,7 +130,7 @@ module _ (typ : TtlvType) (cf : Bool) where
   length_lacks (Some x) e (inr (eof, short)) = inr (eof, inl short)
 
 module _ (T A : Type 0) (typ : TtlvType) (bytes_of : T → List ℕ) (tm cf : Bool) where
-  -- the length was refused
+  -- reading the length failed
   pub length_refused : (a b : Option (List ℕ)) (e : Error A) → ReadsNumber (to_be_bytes w32) 4 cf a b (Err e) → ReadsLeaf {T = T} typ bytes_of tm cf a b (Err e)
   length_refused a b (errors.IoError e) (lacks, upto) = (length_lacks typ cf a e lacks, within_length a b upto)
   length_refused a b (errors.InvalidTtlvTag text) h = absurd h
@@ -144,7 +144,7 @@ module _ (T A : Type 0) (typ : TtlvType) (bytes_of : T → List ℕ) (tm cf : Bo
   length_refused a b errors.LengthOverflow h = absurd h
 
   module _ (a b c : Option (List ℕ)) (n : ℕ) (low : n < 2 ^ 32) (taken : Consumes a b (to_be_bytes w32 n)) where
-    -- the content was refused
+    -- reading the content failed
     pub content_refused : (e : Error A) → ReadsValue {T = T} typ bytes_of tm cf b c n (Err e) → ReadsLeaf {T = T} typ bytes_of tm cf a c (Err e)
     content_refused (errors.IoError e) (can, lacks, upto) = (content_lacks typ cf a b n e low taken can lacks, within a b c n n low taken (omega arith) upto)
     content_refused (errors.InvalidTtlvValueLength expected actual t) (same, is, fixed, differs, keeps) =
@@ -160,7 +160,7 @@ module _ (T A : Type 0) (typ : TtlvType) (bytes_of : T → List ℕ) (tm cf : Bo
     content_refused errors.LengthOverflow h = absurd h
 
     module _ (d : Option (List ℕ)) (v : T) (read : Consumes b c (bytes_of v)) (long : length (bytes_of v) ≡ n) (valid : is_valid typ (bytes_of v) ≡ true) where
-      -- the padding was refused
+      -- reading the padding failed
       pub padding_refused : (P : Type 0) (e : Error A) → Skips {T = P} (pad_len n) cf c d (Err e) → ReadsLeaf {T = T} typ bytes_of tm cf a d (Err e)
       padding_refused P (errors.IoError e) (lacks, upto) = (
         padding_lacks typ cf a b c n (bytes_of v) e low taken read long valid lacks,

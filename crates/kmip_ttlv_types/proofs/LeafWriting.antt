@@ -32,7 +32,7 @@ pub front_written : {T A : Type 0} (xs : List ℕ) (a b : Option (List ℕ)) (r 
     → AppendsFront a b xs → IsTight r (length xs) → Writes xs a b r s result
 front_written xs a b r s result e is front tight = subst (Writes xs a b r s) (sym is) (front, tight)
 
--- the first part was refused
+-- the first part failed
 pub Writes-first : (T P : Type 0) {A : Type 0} (xs ys : List ℕ) (a b : Option (List ℕ)) (r s : Option ℕ) (e : Error A) → Writes {T = P} xs a b r s (Err e) → Writes {T = T} (xs ++ ys) a b r s (Err e)
 Writes-first T P xs ys a b r s (errors.IoError e) (front, tight) = (AppendsFront-first a b xs ys front, IsTight-le r _ _ tight (omega (arith, length-append xs ys)))
 Writes-first T P xs ys a b r s (errors.InvalidTtlvTag text) h = absurd h
@@ -46,7 +46,7 @@ Writes-first T P xs ys a b r s errors.OutOfMemory h = absurd h
 Writes-first T P xs ys a b r s errors.LengthOverflow h = absurd h
 
 module _ (xs : List ℕ) (a b : Option (List ℕ)) (r s : Option ℕ) (written : Appends a b xs) (used : UsesRoom r s (length xs)) where
-  -- the second part was written or refused
+  -- the second part was written, or failed
   pub Writes-second : {T A : Type 0} (ys : List ℕ) (c : Option (List ℕ)) (t : Option ℕ) (result : Result T (Error A)) → Writes ys b c s t result → Writes (xs ++ ys) a c r t result
   Writes-second ys c t (Ok p) (more, uses) = (Appends-trans a b c xs ys written more, subst (UsesRoom r t) (sym (length-append xs ys)) (UsesRoom-trans r s t _ _ used uses))
   Writes-second ys c t (Err (errors.IoError e)) (front, tight) = (AppendsFront-second a b c xs ys written front, IsTight-after r s _ _ _ used tight (omega (arith, length-append xs ys)))
@@ -60,7 +60,7 @@ module _ (xs : List ℕ) (a b : Option (List ℕ)) (r s : Option ℕ) (written :
   Writes-second ys c t (Err errors.OutOfMemory) h = absurd h
   Writes-second ys c t (Err errors.LengthOverflow) h = absurd h
 
--- what was written, or refused, where the length fits
+-- what was written, or the error, if the length fits
 pub WritesLong-fits : {T A : Type 0} (n : ℕ) → n < 2 ^ 32 → (xs : List ℕ) (a b : Option (List ℕ)) (r s : Option ℕ) (result : Result T (Error A)) → Writes xs a b r s result → WritesLong n xs a b r s result
 WritesLong-fits n low xs a b r s (Ok p) (written, uses) = (low, written, uses)
 WritesLong-fits n low xs a b r s (Err (errors.IoError e)) (front, tight) = (low, front, tight)
@@ -75,12 +75,12 @@ WritesLong-fits n low xs a b r s (Err errors.OutOfMemory) h = absurd h
 WritesLong-fits n low xs a b r s (Err errors.LengthOverflow) h = absurd h
 
 module _ (T A : Type 0) (n : ℕ) (low : n < 2 ^ 32) where
-  -- the first part was refused
+  -- the first part failed
   pub first_refused : (P : Type 0) (xs ys : List ℕ) (a b : Option (List ℕ)) (r s : Option ℕ) (e : Error A) → Writes {T = P} xs a b r s (Err e) → WritesLong {T = T} n (xs ++ ys) a b r s (Err e)
   first_refused P xs ys a b r s e h = WritesLong-fits {T = T} n low (xs ++ ys) a b r s (Err e) (Writes-first T P xs ys a b r s e h)
 
   module _ (xs : List ℕ) (a b : Option (List ℕ)) (r s : Option ℕ) (written : Appends a b xs) (used : UsesRoom r s (length xs)) where
-    -- the second part was refused
+    -- the second part failed
     pub second_refused : (P : Type 0) (ys zs : List ℕ) (c : Option (List ℕ)) (t : Option ℕ) (e : Error A) → WritesLong {T = P} n ys b c s t (Err e)
         → WritesLong {T = T} n (xs ++ (ys ++ zs)) a c r t (Err e)
     second_refused P ys zs c t (errors.IoError e) (small, front, tight) =
@@ -95,7 +95,7 @@ module _ (T A : Type 0) (n : ℕ) (low : n < 2 ^ 32) where
     second_refused P ys zs c t errors.InvalidStateMachineOperation h = absurd h
     second_refused P ys zs c t errors.OutOfMemory h = absurd h
 
-    -- the last part was written or refused
+    -- the last part was written, or failed
     pub last_part : (P : Type 0) (ys : List ℕ) (c : Option (List ℕ)) (t : Option ℕ) (result : Result P (Error A)) → Writes {T = P} ys b c s t result
         → WritesLong {T = P} n (xs ++ ys) a c r t result
     last_part P ys c t result h = WritesLong-fits n low (xs ++ ys) a c r t result (Writes-second xs a b r s written used ys c t result h)

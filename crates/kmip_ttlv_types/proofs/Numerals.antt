@@ -1,4 +1,4 @@
--- What hexadecimal digits read one by one give.
+-- The number of hexadecimal digits, read one by one.
 use Rattle.std.proofs.Common.{◌≡◌, ℕ, zero, suc, ◌+◌, ◌*◌, ◌^◌, ◌<◌, ◌≤◌, List, [], ◌∷◌, Bool, true, false, ◌&&◌, ltb, Some, None}
 use Rattle.std.proofs.Common.{length, take, get_or, refl, sym, ap, ◌∙◌, Decides, arith, subst}
 use Rattle.std.specs.Char.{digit_value}
@@ -35,7 +35,7 @@ digit_at (c ∷ cs) (suc i) each lt = digit_at cs i each.1 (omega (arith, lt))
 pub other_byte : (ds : List ℕ) (i : ℕ) → i < length ds → 16 ≤ digit_value (get_or ds i 0) → None ≡ numeral ds
 other_byte ds i lt other = is_none ds (λ each small. absurd (omega (arith, other, digit_at ds i each.1 lt)))
 
--- a front of digits that no further digit may follow
+-- a beginning of digits after which no digit may follow
 pub too_far : (ds : List ℕ) (i : ℕ) → i < length ds → 2 ^ 28 ≤ digits_value 16 (take i ds) → None ≡ numeral ds
 too_far ds i lt far = is_none ds (λ each small.
     absurd (omega (arith, far, small, digits_value_more 16 ds i lt, digits_value-take-le 16 ds (i + 1) (omega arith))))

@@ -1,4 +1,4 @@
--- Bytes that are added up to a multiple of eight.
+-- Bytes that extend others to a multiple of eight.
 use Rattle.std.proofs.Common.{◌≡◌, ℕ, ◌+◌, ◌<◌, List, ◌++◌, length, take, replicate, ap, ◌∙◌, arith, length-append}
 use Rattle.std.proofs.lemmas.List.{take-replicate, length-replicate}
 use Rattle.kmip_ttlv_types.specs.ItemTypes.{pad_len}

@@ -1,4 +1,4 @@
--- What stands at a place among bytes, and the items that split bytes.
+-- What is at an offset, and the items that split bytes.
 use Rattle.std.proofs.Common.{◌≡◌, ℕ, true, false, ◌&&◌, ltb, zero, suc, ◌+◌, ◌-◌, ◌^◌, ◌<◌, ◌≤◌, List, [], ◌∷◌, ◌++◌, length, get_or, take, drop, Some, refl, sym, ap, ◌∙◌, append_assoc, arith, add-zero}
 use Rattle.std.proofs.lemmas.Bool.{lt-ltb, ltb-true}
 use Rattle.std.proofs.Math.Seq.{take-add}
@@ -15,15 +15,15 @@ use Rattle.kmip_ttlv_types.specs.declared.typ.TtlvType.TheVariants.{BigInteger, 
 abbrev pub header_of : Raw → List ℕ
 header_of x = header x.tag x.typ (length x.content)
 
--- what stands at a place is what the rest begins with
+-- what is at an offset is what the rest of the bytes begins with
 at_rest : (w : List ℕ) (p i : ℕ) (r : List ℕ) → drop p w ≡ r → get_or w (p + i) 0 ≡ get_or r i 0
 at_rest w p i r e = sym (get_or-drop p w i 0) ∙ ap (λ (s : List ℕ). get_or s i 0) e
 
--- an item's text is as long as its size
+-- an encoding of an item is as long as its size
 pub text_length : (x : Raw) (text : List ℕ) → IsTextOf x text → length text ≡ size x.typ (length x.content)
 text_length x text t = ap length t.parts ∙ omega (arith, length-append x.content t.pad, t.pad_length)
 
--- a number from the four bytes that it is written by
+-- a number from the four bytes that encode it
 number_read : (a b c d n : ℕ) → n < 2 ^ 32 → a ≡ get_or (to_be_bytes w32 n) 0 0 → b ≡ get_or (to_be_bytes w32 n) 1 0 → c ≡ get_or (to_be_bytes w32 n) 2 0 → d ≡ get_or (to_be_bytes w32 n) 3 0 → from_be_bytes w32 (a ∷ b ∷ c ∷ d ∷ []) ≡ n
 number_read a b c d n lt ea eb ec ed = rw (ea, eb, ec, ed) (from_be_bytes-to_be_bytes_4 n lt)
 
@@ -31,7 +31,7 @@ number_read a b c d n lt ea eb ec ed = rw (ea, eb, ec, ed) (from_be_bytes-to_be_
 no_top_byte : (n : ℕ) → n < 2 ^ 24 → 0 ≡ get_or (to_be_bytes w32 n) 0 0
 no_top_byte n lt = omega arith
 
--- content stands behind the header
+-- content follows the header
 content_read : (w : List ℕ) (p n : ℕ) (h content pad rest : List ℕ) → drop p w ≡ (h ++ content ++ pad) ++ rest → length h ≡ 8 → length content ≡ n → take n (drop (p + 8) w) ≡ content
 content_read w p n h content pad rest e eight len =
     let grouped : (h ++ content ++ pad) ++ rest ≡ h ++ (content ++ (pad ++ rest)) = simp append_assoc in
@@ -63,7 +63,7 @@ code_fits Interval = omega arith
 plain_eight : (a b c d e f g h : ℕ) → a < 256 → b < 256 → c < 256 → d < 256 → e < 256 → f < 256 → g < 256 → h < 256 → all_below (a ∷ b ∷ c ∷ d ∷ e ∷ f ∷ g ∷ h ∷ []) ≡ true
 plain_eight a b c d e f g h ka kb kc kd ke kf kg kh = plain_both a (b ∷ c ∷ d ∷ e ∷ f ∷ g ∷ h ∷ []) ka (plain_both b (c ∷ d ∷ e ∷ f ∷ g ∷ h ∷ []) kb (plain_both c (d ∷ e ∷ f ∷ g ∷ h ∷ []) kc (plain_both d (e ∷ f ∷ g ∷ h ∷ []) kd (plain_both e (f ∷ g ∷ h ∷ []) ke (plain_both f (g ∷ h ∷ []) kf (plain_both g (h ∷ []) kg (plain_both h [] kh refl)))))))
 
--- a text's header is bytes
+-- the header of an encoding is bytes
 plain_text : (w : List ℕ) (p : ℕ) (x : Raw) → get_or w p 0 ≡ get_or (header_of x) 0 0 → get_or w (p + 1) 0 ≡ get_or (header_of x) 1 0 → get_or w (p + 2) 0 ≡ get_or (header_of x) 2 0 → get_or w (p + 3) 0 ≡ get_or (header_of x) 3 0 → get_or w (p + 4) 0 ≡ get_or (header_of x) 4 0 → get_or w (p + 5) 0 ≡ get_or (header_of x) 5 0 → get_or w (p + 6) 0 ≡ get_or (header_of x) 6 0 → get_or w (p + 7) 0 ≡ get_or (header_of x) 7 0 → is_plain w p ≡ true
 plain_text w p x a b c d e f g h = plain_eight (get_or w p 0) (get_or w (p + 1) 0) (get_or w (p + 2) 0) (get_or w (p + 3) 0) (get_or w (p + 4) 0) (get_or w (p + 5) 0) (get_or w (p + 6) 0) (get_or w (p + 7) 0) (omega arith) (omega arith) (omega arith) (omega (arith, code_fits x.typ)) (omega arith) (omega arith) (omega arith) (omega arith)
 
@@ -90,11 +90,11 @@ plain_is w p e =
     let k7 = plain_split (get_or w (p + 7) 0) [] k6.1 in
     record { b0 = k0.0; b1 = k1.0; b2 = k2.0; b4 = k4.0; b5 = k5.0; b6 = k6.0; b7 = k7.0 }
 
--- bytes are plain everywhere
+-- the bytes of a list are below 256 at every offset
 pub plain_bytes : (w : List ℕ) (p : ℕ) → ((i : ℕ) → get_or w i 0 < 256) → is_plain w p ≡ true
 plain_bytes w p fits = plain_eight (get_or w p 0) (get_or w (p + 1) 0) (get_or w (p + 2) 0) (get_or w (p + 3) 0) (get_or w (p + 4) 0) (get_or w (p + 5) 0) (get_or w (p + 6) 0) (get_or w (p + 7) 0) (fits p) (fits (p + 1)) (fits (p + 2)) (fits (p + 3)) (fits (p + 4)) (fits (p + 5)) (fits (p + 6)) (fits (p + 7))
 
--- a text that stands at a place is the item there
+-- the item whose encoding is at an offset is there
 pub item_at_text : (w : List ℕ) (p : ℕ) (x : Raw) (text rest : List ℕ) → p ≤ length w → drop p w ≡ text ++ rest → IsTextOf x text → ItemAt w p x
 item_at_text w p x text rest le e t =
     let r : drop p w ≡ (header_of x ++ x.content ++ t.pad) ++ rest = e ∙ ap (λ (s : List ℕ). s ++ rest) t.parts in
@@ -110,7 +110,7 @@ item_at_text w p x text rest le e t =
       there = rw len-is (omega (arith, text_length x text t, length-append text rest, ap length e, length-drop p w));
     }
 
--- items that follow one another from a place on stand there
+-- items whose encodings follow one another from an offset on are there
 pub items_at_splits : (w : List ℕ) (p e : ℕ) (xs : List Raw) (back : List ℕ) (bytes : List ℕ) → p ≤ length w → drop p w ≡ bytes ++ back → p + length bytes ≡ e → Splits xs bytes → ItemsAt w p e xs
 items_at_splits w p e [] back bytes le at len s = omega (arith, ap length s, len)
 items_at_splits w p e (x ∷ xs) back bytes le at len s =
@@ -156,7 +156,7 @@ items_in_order w p e (x ∷ xs) le items =
 abbrev pub raw_with : ℕ → TtlvType → List ℕ → Raw
 raw_with t y c = record { tag = t; typ = y; content = c }
 
--- the other way: items that stand there are the bytes, where these are bytes
+-- conversely: items that are there split the bytes, if these are below 256
 module _ (w : List ℕ) where
   header_at_item : (p : ℕ) (x : Raw) → ItemAt w p x → take 8 (drop p w) ≡ header_of x
   header_at_item p x item =
@@ -191,7 +191,7 @@ module _ (w : List ℕ) where
       let sum : e - p ≡ s + (e - (p + s)) = omega (arith, k.0) in
       (take s (drop p w), take (e - (p + s)) (drop (p + s) w), text_at_item p x items.0, ap (λ (n : ℕ). take n (drop p w)) sum ∙ take-add s (e - (p + s)) (drop p w) ∙ ap (λ (r : List ℕ). take s (drop p w) ++ take (e - (p + s)) r) (drop-drop s p w), splits_items_at (p + s) e xs items.0.there items.1)
 
--- one list of items stands from one place to another
+-- at most one list of items is from one offset to another
 pub type_of-code : (t : TtlvType) → type_of (code t) ≡ Some t
 type_of-code Structure = refl
 type_of-code Integer = refl

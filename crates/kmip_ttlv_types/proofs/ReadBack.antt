@@ -1,4 +1,4 @@
--- What was written is read back.
+-- A value that was written is read back.
 use Rattle.std.proofs.Common.{◌≡◌, ◌≢◌, ℕ, ◌+◌, ◌^◌, ◌<◌, List, [], ◌∷◌, ◌++◌, Bool, true, false, Option, Some, None, Result, Ok, Err, IfSome, length, take, drop, replicate, sym, ap, ◌∙◌, subst, arith, refl, le_refl, length-append, take_all, append_assoc, inl, inr, Global}
 use Rattle.std.proofs.lemmas.List.{take-append-le, length-replicate}
 use Rattle.std.specs.Prelude.{MatchResult}
@@ -29,7 +29,7 @@ content-valid Interval bytes h = h
 true_not_false : true ≡ false → ⊥
 true_not_false e = cc
 
--- two parts of one length each, in front of something, are one
+-- two parts that are each of one length, in front of others, are the same
 same_front : (xs ys zs ws : List ℕ) → length xs ≡ length ys → xs ++ zs ≡ ys ++ ws → xs ≡ ys
 same_front xs ys zs ws long e =
     sym (take-append-le (length xs) xs zs (le_refl _) ∙ take_all (length xs) xs (le_refl _))
@@ -41,7 +41,7 @@ same_rest [] (y ∷ ys) zs ws long e = absurd (omega (arith, long))
 same_rest (x ∷ xs) [] zs ws long e = absurd (omega (arith, long))
 same_rest (x ∷ xs) (y ∷ ys) zs ws long e = same_rest xs ys zs ws (omega (arith, long)) (ap (drop 1) e)
 
--- the length that was written is stated, and the content stands after it
+-- the length that was written is stated, and the content follows it
 module _ (content zeros rest : List ℕ) (low : length content < 2 ^ 32) where
   n_is : stated_length (((to_be_bytes w32 (length content) ++ content) ++ zeros) ++ rest) ≡ length content
   n_is = stated (length content) ((content ++ zeros) ++ rest) low

@@ -1,4 +1,4 @@
--- What several reads or writes, one after the other, did to known bytes.
+-- What several reads or writes in a row do to known bytes.
 use Rattle.std.proofs.Common.{◌≡◌, ℕ, ◌+◌, ◌-◌, ◌<◌, ◌≤◌, List, ◌++◌, Option, None, Some, Result, Ok, Err, IfOk, length, take, drop, sym, ap, ◌∙◌, subst, arith, take-add, take_all, length-append, length-drop, append-nil, drop_at, refl, le_refl, Bool, inl, inr, take-append-drop}
 use Rattle.std.proofs.lemmas.List.{take-append-le, take-take}
 use Rattle.std.specs.Io.{ReadsAtMost}
@@ -27,7 +27,7 @@ IsShort-at_end (Some x) (Some y) bs m taken end low =
     let same : x ≡ bs = taken ∙ ap (λ l. bs ++ l) end ∙ append-nil bs in
     subst (λ (l : List ℕ). length l < m) (sym same) low
 
--- what was read into the part stands after the front
+-- what was read into the part follows the front
 pub Consumes-in_place : {E : Type 0} (a b : Option (List ℕ)) (r : Result ℕ E) (front part rest : List ℕ) (at : ℕ) → length front ≡ at → ReadsAtMost r part
     → IfOk r (λ n. Consumes a b (take n part)) → IfOk r (λ n. Consumes a b (take n (drop at (front ++ (part ++ rest)))))
 Consumes-in_place a b (Ok n) front part rest at long fits read =
@@ -56,13 +56,13 @@ AppendsFront-second a b c xs ys first front = record {
   appends = subst (Appends a c) (sym (take-append_more xs ys front.count)) (Appends-trans a b c _ _ first front.appends);
 }
 
--- bytes of which too few came after others were taken
+-- after other bytes were consumed, too few followed
 pub IsShort-after : (a b : Option (List ℕ)) (bs : List ℕ) (m n : ℕ) → Consumes a b bs → IsShort b m → length bs + m ≤ n → IsShort a n
 IsShort-after None b bs m n taken short low = tt
 IsShort-after (Some x) None bs m n taken short low = absurd taken
 IsShort-after (Some x) (Some y) bs m n taken short low = omega (arith, ap (λ (l : List ℕ). length l) taken, length-append bs y, short)
 
--- bytes taken after others
+-- bytes consumed after others
 pub ConsumesUpTo-after : (a b c : Option (List ℕ)) (bs : List ℕ) (m n : ℕ) → Consumes a b bs → ConsumesUpTo b c m → length bs + m ≤ n → ConsumesUpTo a c n
 ConsumesUpTo-after a b c bs m n taken more low = record {
   bytes = bs ++ more.bytes;
@@ -70,13 +70,13 @@ ConsumesUpTo-after a b c bs m n taken more low = record {
   consumes = Consumes-trans a b c _ _ taken more.consumes;
 }
 
--- why more bytes did not come is why all of them did not
+-- why more bytes didn't come is why all of them didn't
 Lacks-after : (can_fail : Bool) (a b : Option (List ℕ)) (bs : List ℕ) (m n : ℕ) (e : _) → Consumes a b bs → Lacks can_fail b m e → length bs + m ≤ n
     → Lacks can_fail a n e
 Lacks-after can_fail a b bs m n e taken (inl fails) low = inl fails
 Lacks-after can_fail a b bs m n e taken (inr (eof, short)) low = inr (eof, IsShort-after a b bs m n taken short low)
 
--- some bytes were taken, and then more did not come
+-- some bytes were consumed, and then more didn't come
 pub TakesMore-after : (T : Type 0) {A : Type 0} (can_fail : Bool) (a b c : Option (List ℕ)) (xs ys zs : List ℕ) (m n k : ℕ) (e : Error A) → Behind a b xs ys m
     → TakesMore {T = T} can_fail b c ys zs n (Err e) → m + n ≤ k → TakesMore {T = T} can_fail a c xs zs k (Err e)
 TakesMore-after T can_fail a b c xs ys zs m n k (errors.IoError e) first (due, lacks, upto) low =
@@ -97,13 +97,13 @@ TakesMore-after T can_fail a b c xs ys zs m n k errors.LengthOverflow first h lo
 pub Behind-front : (a b : Option (List ℕ)) (xs ys : List ℕ) (m : ℕ) → Behind a b xs ys m → take (length xs) ys ≡ xs
 Behind-front a b xs ys m more = ap (take (length xs)) more.parts ∙ take-append-le (length xs) xs more.came (le_refl _) ∙ take_all (length xs) xs (le_refl _)
 
--- also where more is done behind them
+-- and so they do if more is appended
 pub Behind-kept : (a b : Option (List ℕ)) (xs ys zs : List ℕ) (m : ℕ) → Behind a b xs ys m → take (length ys) zs ≡ ys → take (length xs) zs ≡ xs
 Behind-kept a b xs ys zs m more kept =
     let short : length xs ≤ length ys = omega (arith, ap (λ (l : List ℕ). length l) more.parts, length-append xs more.came) in
     sym (take-take (length xs) (length ys) zs short) ∙ ap (take (length xs)) kept ∙ Behind-front a b xs ys m more
 
--- bytes that fill what stands behind those that were there
+-- bytes that fill what follows those that were there
 pub TakesMore-filled : (T : Type 0) {A : Type 0} (can_fail : Bool) (a b : Option (List ℕ)) (xs ys : List ℕ) (at n : ℕ) (r : Result T (Error A))
     → take at ys ≡ xs → length (drop at ys) ≡ n → 0 < n → FillsAll can_fail a b (drop at ys) r → TakesMore can_fail a b xs ys n r
 TakesMore-filled T can_fail a b xs ys at n (Ok v) front long due filled =

@@ -1,4 +1,4 @@
--- Numbers in hexadecimal digits of a fixed count.
+-- Numbers as a fixed count of hexadecimal digits.
 use Rattle.std.specs.Prelude.{ℕ, ◌/◌, ◌%◌, List, [], ◌∷◌, ◌++◌, true, codes}
 use Rattle.std.specs.Fmt.{digit_glyph, digits}
 

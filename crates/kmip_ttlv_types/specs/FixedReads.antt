@@ -1,4 +1,4 @@
--- What the readers of values of fixed length do among themselves.
+-- What the readers of values of fixed length have in common.
 use Rattle.std.specs.Prelude.{◌≡◌, ◌≢◌, ℕ, List, Bool, true, false, Option, Result, Ok, Err, refl}
 use Rattle.std.specs.Io.KnownBytes.{Consumes, Keeps}
 use Rattle.kmip_ttlv_types.specs.declared.error.Error.{Error}
@@ -9,13 +9,13 @@ use Rattle.kmip_ttlv_types.specs.Leaves.{is_valid}
 use Rattle.kmip_ttlv_types.specs.Streams.{ConsumesUpTo, Lacks}
 use Rattle.kmip_ttlv_types.specs.Primitives.{boolean_bytes}
 
--- these are the content of a Boolean
+-- these bytes are the content of a Boolean
 pub boolean_bytes-valid : (b : Bool) → is_valid Boolean (boolean_bytes b) ≡ true
 boolean_bytes-valid true = refl
 boolean_bytes-valid false = refl
 
 -- k bytes were read for a value of a type whose length is k; or n is another length, and nothing was
--- taken; or they did not come
+-- read; or the bytes didn't come
 abbrev pub ReadsFixed :
     {A : Type 0} → TtlvType → ℕ → (can_fail : Bool)
     → (old new : Option (List ℕ)) → ℕ → Result (List ℕ) (Error A) → Type 0

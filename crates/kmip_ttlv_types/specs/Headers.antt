@@ -1,4 +1,4 @@
--- What reading and writing the fields of a header did: a tag, a type's code, a length.
+-- What reading and writing the fields of a header do: a tag, a type's code, a length.
 use Rattle.std.specs.Prelude.{◌≡◌, ℕ, List, [], ◌∷◌, length, Bool, Option, None, Result, Ok, Err}
 use Rattle.std.specs.Io.KnownBytes.{Appends, Consumes}
 use Rattle.kmip_ttlv_types.specs.declared.error.Error.{Error}
@@ -7,7 +7,7 @@ use Rattle.kmip_ttlv_types.specs.declared.typ.TtlvType.{TtlvType}
 use Rattle.kmip_ttlv_types.specs.ItemTypes.{code, type_of}
 use Rattle.kmip_ttlv_types.specs.Streams.{AppendsFront, ConsumesUpTo, Lacks, UsesRoom, IsTight}
 
--- a number was read from the n bytes that it is written as, or they did not come
+-- a number was read from the n bytes that encode it, or they didn't come
 abbrev pub ReadsNumber :
     {A : Type 0} → (ℕ → List ℕ) → ℕ → Bool
     → Option (List ℕ) → Option (List ℕ) → Result ℕ (Error A) → Type 0
@@ -15,14 +15,14 @@ ReadsNumber bytes_of n can_fail old new (Ok number) = Consumes old new (bytes_of
 ReadsNumber bytes_of n can_fail old new (Err (errors.IoError e)) = Lacks can_fail old n e × ConsumesUpTo old new n
 ReadsNumber bytes_of n can_fail old new (Err _) = ⊥
 
--- a type was read from its code; or the byte that came is no type's code; or none came
+-- a type was read from its code; or the byte is no type's code; or none came
 abbrev pub ReadsType : {A : Type 0} → Bool → Option (List ℕ) → Option (List ℕ) → Result TtlvType (Error A) → Type 0
 ReadsType can_fail old new (Ok typ) = Consumes old new (code typ ∷ [])
 ReadsType can_fail old new (Err (errors.InvalidTtlvType c)) = Consumes old new (c ∷ []) × (type_of c ≡ None)
 ReadsType can_fail old new (Err (errors.IoError e)) = Lacks can_fail old 1 e × ConsumesUpTo old new 1
 ReadsType can_fail old new (Err _) = ⊥
 
--- these bytes were written; or a beginning of them, where there is no room or the writer failed
+-- these bytes were written; or a beginning of them, if there is no room or the writer failed
 abbrev pub Writes :
     {T A : Type 0} → List ℕ
     → (old new : Option (List ℕ)) → (room_old room_new : Option ℕ) → Result T (Error A) → Type 0

@@ -32,12 +32,12 @@ type_of n =
     if n == 9 then Some DateTime else
     if n == 10 then Some Interval else None
 
--- not the type of a leaf
+-- whether it is the type of a structure
 abbrev pub is_structure : TtlvType → Bool
 is_structure Structure = true
 is_structure _ = false
 
--- how long a value of this type is, if that is fixed
+-- how long a value of this type is, if all are equally long
 abbrev pub fixed_length : TtlvType → Option ℕ
 fixed_length Structure = None
 fixed_length Integer = Some 4
@@ -50,11 +50,11 @@ fixed_length ByteString = None
 fixed_length DateTime = Some 8
 fixed_length Interval = Some 4
 
--- the least number that makes n a multiple of eight
+-- the least number that extends n to a multiple of eight
 abbrev pub pad_len : ℕ → ℕ
 pad_len n = (8 - n % 8) % 8
 
--- how many bytes pad a value of this type and length: a structure is not padded
+-- how many bytes of padding follow a value of this type and length: none after a structure
 abbrev pub padding : TtlvType → ℕ → ℕ
 padding Structure n = 0
 padding typ n = pad_len n

@@ -1,4 +1,4 @@
--- Laws of the definitions, which the functions of the module `laws` promise.
+-- Laws of the definitions, which are the contracts of the module `laws`.
 use Rattle.std.specs.Prelude.{◌≡◌, ◌↔◌, ℕ, ◌+◌, ◌%◌, ◌^◌, ◌<◌, ◌≤◌, ◌⊎◌, IsOk, None, List, ◌∷◌, ◌++◌, length, replicate}
 use Rattle.std.specs.Prelude.{Bool, true, false, IsTrue, Option, Some, Result, Ok, Err, MatchResult}
 use Rattle.std.specs.declared.alloc.Global.{Global}
@@ -22,15 +22,15 @@ abbrev pub written_rest : TtlvType → List ℕ → List ℕ
 written_rest typ bytes =
     let content = content_of typ bytes in length_and_content content ++ replicate (pad_len (length content)) 0
 
--- why a whole leaf that is there is not read: reading failed, which it can; or memory was refused, where
--- it is taken for a content that is not empty
+-- why a whole leaf that is there isn't read: reading failed, if it can; or memory ran out, if the type
+-- allocates and the content isn't empty
 abbrev pub FailsToRead : {A : Type 0} → (takes_memory can_fail : Bool) → List ℕ → Error A → Type 0
 FailsToRead takes_memory can_fail content (IoError e) = IsTrue can_fail
 FailsToRead takes_memory can_fail content OutOfMemory = IsTrue takes_memory × (0 < length content)
 FailsToRead takes_memory can_fail content e = ⊥
 
--- whatever is read where a value was written, is that value: its bytes are those that were written, and
--- what follows is left
+-- where a value was written, a value with these bytes is read, and what follows is left; or reading
+-- fails for such a reason
 abbrev pub IsReadBack : {T : Type 0} → TtlvType → (T → List ℕ) → Bool → T → Type 0
 IsReadBack {T} typ bytes_of takes_memory v =
     length (content_of typ (bytes_of v)) < 2 ^ 32
@@ -40,7 +40,7 @@ IsReadBack {T} typ bytes_of takes_memory v =
     (λ w. (bytes_of w ≡ content_of typ (bytes_of v)) × (new ≡ Some rest))
     (FailsToRead takes_memory can_fail (content_of typ (bytes_of v)))
 
--- a whole leaf that is there, its padding of any value, is read, and what follows is left
+-- a whole leaf that is there, with padding of any value, is read, and what follows is left
 abbrev pub ReadsWholeLeaves : {T : Type 0} → TtlvType → (T → List ℕ) → Bool → Type 0
 ReadsWholeLeaves {T} typ bytes_of takes_memory =
     (content pad rest : List ℕ)
@@ -51,8 +51,8 @@ ReadsWholeLeaves {T} typ bytes_of takes_memory =
     → ReadsLeaf typ bytes_of takes_memory can_fail (Some ((length_and_content content ++ pad) ++ rest)) new result
     → MatchResult result (λ w. (bytes_of w ≡ content) × (new ≡ Some rest)) (FailsToRead takes_memory can_fail content)
 
--- a value was written into memory and read from there: it has the bytes that were written; or it is too
--- long to be written; or it is not, and memory was refused for its bytes or for the value that is read
+-- a value was written into memory and read back: it has the bytes that were written; or it is too long to
+-- be written; or it isn't, and memory ran out for its bytes or for the value that is read
 abbrev pub Rereads : {T A : Type 0} → TtlvType → (T → List ℕ) → T → Result T (Error A) → Type 0
 Rereads typ bytes_of v (Ok w) =
     (length (content_of typ (bytes_of v)) < 2 ^ 32) × (bytes_of w ≡ content_of typ (bytes_of v))
@@ -60,7 +60,7 @@ Rereads typ bytes_of v (Err LengthOverflow) = 2 ^ 32 ≤ length (content_of typ 
 Rereads typ bytes_of v (Err OutOfMemory) = length (content_of typ (bytes_of v)) < 2 ^ 32
 Rereads typ bytes_of v (Err _) = ⊥
 
--- a tag, a type or a length is read from memory that has its bytes; of a type the byte may be no code
+-- a tag, a type or a length is read from memory that has its bytes, unless a type's byte is no code
 abbrev pub ReadsHeaders : Type 0
 ReadsHeaders =
     ((bytes_of : ℕ → List ℕ) (n : ℕ) (there : List ℕ) (new : Option (List ℕ)) (result : Result ℕ (Error Global))
@@ -71,7 +71,7 @@ ReadsHeaders =
     → ReadsType false (Some (c ∷ rest)) new result
     → MatchResult result (λ t. code t ≡ c) (λ e. (e ≡ InvalidTtlvType c) × (type_of c ≡ None)))
 
--- bytes are written where there is room for them, and a leaf whose length fits
+-- bytes are written if there is room for them; those of a leaf, if its length fits too
 abbrev pub WritesWhereRoom : Type 0
 WritesWhereRoom =
     (bytes : List ℕ) (n : ℕ) (old new : Option (List ℕ)) (room : ℕ) (room_new : Option ℕ)
@@ -81,7 +81,7 @@ WritesWhereRoom =
     → Writes bytes old new (Some room) room_new result ⊎ WritesLong n bytes old new (Some room) room_new result
     → IsOk result
 
--- while deserializing, each field that is accepted is to be read
+-- while deserializing, `advance` returns true for each accepted field
 abbrev pub ReadsEachField : Type 0
 ReadsEachField =
     (s : State) (given : FieldType) (t : Step)
@@ -89,7 +89,7 @@ ReadsEachField =
     → step s given ≡ Some t
     → t.answer ≡ true
 
--- while serializing, a field that is accepted is not to be written exactly where it is a tag to be ignored
+-- while serializing, `advance` returns false for an accepted field if and only if it is a tag to be ignored
 abbrev pub SkipsIgnoredTags : Type 0
 SkipsIgnoredTags =
     (s : State) (given : FieldType) (t : Step)
@@ -97,11 +97,11 @@ SkipsIgnoredTags =
     → step s given ≡ Some t
     → (t.answer ≡ false) ↔ ((s.ignores ≡ true) × (s.due ≡ Typ) × (given ≡ Tag))
 
--- a content and its padding are a multiple of eight bytes
+-- content and its padding are a multiple of eight bytes
 abbrev pub PadsToEight : Type 0
 PadsToEight = (n : ℕ) → (n + pad_len n) % 8 ≡ 0
 
--- a leaf is a multiple of eight bytes: its tag, and what is written after it
+-- a leaf is its tag and what is written after it, together a multiple of eight bytes
 abbrev pub LeavesAreTagAndRest : Type 0
 LeavesAreTagAndRest =
     (tag : ℕ) (typ : TtlvType) (content : List ℕ)

@@ -7,7 +7,7 @@ use Rattle.kmip_ttlv_types.specs.declared.typ.TtlvType.TheVariants.{Structure, I
 use Rattle.kmip_ttlv_types.specs.declared.typ.TtlvType.TheVariants.{Enumeration, Boolean, TextString, ByteString}
 use Rattle.kmip_ttlv_types.specs.declared.typ.TtlvType.TheVariants.{DateTime, Interval}
 
--- whether these bytes are the content of a leaf of this type
+-- whether these bytes are valid content of a leaf of this type
 abbrev pub is_valid : TtlvType → List ℕ → Bool
 is_valid Structure content = false
 is_valid Integer content = length content == 4

@@ -10,13 +10,13 @@ use Rattle.kmip_ttlv_types.specs.declared.machine.TtlvStateMachineMode.{TtlvStat
 use Rattle.kmip_ttlv_types.specs.declared.machine.TtlvStateMachineMode.TheVariants.{Deserializing, Serializing}
 use Rattle.kmip_ttlv_types.specs.declared.machine.TtlvStateMachine.{TtlvStateMachine}
 
--- where a machine stands: the field that is due, and whether the next surplus tag is ignored
+-- the state of a machine: the field that is due, and whether the next surplus tag is ignored
 pub record State : Type 0 where
   pub mode : TtlvStateMachineMode
   pub due : FieldType
   pub ignores : Bool
 
--- the state that a machine is in
+-- the state of this machine
 abbrev pub state_of : TtlvStateMachine → State
 state_of m = record { mode = m.mode; due = m.due; ignores = m.ignores_tag }
 
@@ -24,7 +24,7 @@ state_of m = record { mode = m.mode; due = m.due; ignores = m.ignores_tag }
 abbrev pub start_state : TtlvStateMachineMode → State
 start_state mode = record { mode = mode; due = Tag; ignores = false }
 
--- the table: what is due after a field that is given where another or the same was due
+-- the table: which field is due after the given one; none if it isn't accepted where `due` is due
 abbrev pub next_due : TtlvStateMachineMode → (due given : FieldType) → Option FieldType
 next_due mode Tag Tag = Some Typ
 next_due mode Typ Typ = Some Length
@@ -40,16 +40,16 @@ abbrev pub is_surplus_tag : TtlvStateMachineMode → (due given : FieldType) →
 is_surplus_tag Serializing Typ Tag = true
 is_surplus_tag mode due given = false
 
--- such a tag is ignored where that was asked for
+-- such a tag is ignored if that was asked for
 abbrev pub is_ignored : State → FieldType → Bool
 is_ignored s given = s.ignores && is_surplus_tag s.mode s.due given
 
--- where the machine stands after a field, and what it answers: whether the field is to be written
+-- what `advance` returns, which is whether the field is to be written, and the state after it
 pub record Step : Type 0 where
   pub answer : Bool
   pub after : State
 
--- one step; none where the field is refused
+-- one step; none if the field isn't accepted
 abbrev pub step : State → FieldType → Option Step
 step s given =
     if is_ignored s given
@@ -58,14 +58,14 @@ step s given =
     (λ due. record { answer = true; after = record { mode = s.mode; due = due; ignores = s.ignores } })
     (next_due s.mode s.due given)
 
--- the machine made a step; or it refused, naming the field that is due and the one given, and stands where it stood
+-- the machine made a step; or the error names the field that is due and the one given, and the state stays
 abbrev pub Advances : {A : Type 0} → State → FieldType → State → Result Bool (Error A) → Type 0
 Advances old given new (Ok answer) = step old given ≡ Some record { answer = answer; after = new }
 Advances old given new (Err (UnexpectedTtlvField expected actual)) =
     (step old given ≡ None) × (expected ≡ old.due) × (actual ≡ given) × (new ≡ old)
 Advances old given new (Err _) = ⊥
 
--- the next surplus tag will be ignored; or, while deserializing, that is refused
+-- the next surplus tag will be ignored; or, while deserializing, that is an error
 abbrev pub Ignores : {T A : Type 0} → State → State → Result T (Error A) → Type 0
 Ignores old new (Ok done) = (old.mode ≡ Serializing) × (new ≡ record { mode = old.mode; due = old.due; ignores = true })
 Ignores old new (Err InvalidStateMachineOperation) = (old.mode ≡ Deserializing) × (new ≡ old)

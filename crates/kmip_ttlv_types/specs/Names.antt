@@ -1,4 +1,4 @@
--- What number a text names.
+-- Text that stands for a number.
 use Rattle.std.specs.Prelude.{ℕ, ◌^◌, Bool, true, List, [], ◌∷◌, Option, Some, None, if◌then◌else◌, nat_lt, ◌==◌, ◌&&◌}
 use Rattle.std.specs.Prelude.{option_and_then, length, drop, codes, eqb}
 use Rattle.std.specs.Prelude.{◌≡◌, Result, Ok, Err, string_bytes}
@@ -8,7 +8,7 @@ use Rattle.std.specs.Str.Parse.{digits_value, without_leading_plus}
 use Rattle.kmip_ttlv_types.specs.declared.error.Error.{Error}
 use Rattle.kmip_ttlv_types.specs.declared.error.Error.TheVariants.{InvalidTtlvTag, OutOfMemory}
 
--- what follows a prefix, where s has it
+-- what follows a prefix, if s begins with it
 abbrev pub after_prefix : List ℕ → List ℕ → Option (List ℕ)
 after_prefix prefix s = if starts_with eqb s prefix then Some (drop (length prefix) s) else None
 
@@ -23,7 +23,7 @@ abbrev pub all_digits : ℕ → List ℕ → Bool
 all_digits radix [] = true
 all_digits radix (c ∷ cs) = is_digit c radix && all_digits radix cs
 
--- the number of one hexadecimal digit or more, where it is below 2^32
+-- the number of one hexadecimal digit or more, if it is below 2^32
 abbrev pub numeral : List ℕ → Option ℕ
 numeral ds =
     if nat_lt 0 (length ds) && all_digits 16 ds && nat_lt (digits_value 16 ds) (2 ^ 32)
@@ -42,15 +42,15 @@ below_tag_limit n = if nat_lt n (2 ^ 24) then Some n else None
 unfoldable pub tag_of : List ℕ → Option ℕ
 tag_of name = option_and_then below_tag_limit (number name)
 
--- what follows "Transparent:", where a name begins with it
+-- what follows "Transparent:", if a name begins with it
 unfoldable pub transparent_name : List ℕ → Option (List ℕ)
 transparent_name name = after_prefix (codes "Transparent:") name
 
--- what follows "Override:", where a name begins with it
+-- what follows "Override:", if a name begins with it
 unfoldable pub override_name : List ℕ → Option (List ℕ)
 override_name name = after_prefix (codes "Override:") name
 
--- the tag that a text is; or a refusal with the whole text, where it is none, or want of memory for it
+-- the tag that a text is; or an error, if it is none: with the whole text, or out of memory for it
 abbrev pub IsNamed : {A : Type 0} → List ℕ → Result ℕ (Error A) → Type 0
 IsNamed s (Ok t) = tag_of s ≡ Some t
 IsNamed s (Err (InvalidTtlvTag text)) = (tag_of s ≡ None) × (string_bytes text ≡ s)

@@ -1,4 +1,4 @@
--- Items by the places where they stand among bytes, each place an offset from the first byte.
+-- Items by their offsets from the first byte.
 use Rattle.std.specs.Prelude.{◌≡◌, ℕ, Bool, true, ◌&&◌, ◌+◌, ◌≤◌, List, [], ◌∷◌, length, take, drop, slice_index}
 use Rattle.std.specs.Prelude.{nat_lt}
 use Rattle.std.specs.Int.{w32, from_be_bytes}
@@ -6,16 +6,16 @@ use Rattle.kmip_ttlv_types.specs.declared.typ.TtlvType.{TtlvType}
 use Rattle.kmip_ttlv_types.specs.ItemTypes.{code, padding}
 use Rattle.kmip_ttlv_types.specs.Items.{Raw}
 
--- the tag that is written at a place, in its first three bytes
+-- the tag in the header at an offset: its first three bytes
 abbrev pub tag_at : List ℕ → ℕ → ℕ
 tag_at bytes p =
     from_be_bytes w32 (0 ∷ slice_index bytes p ∷ slice_index bytes (p + 1) ∷ slice_index bytes (p + 2) ∷ [])
 
--- the type's code, in the fourth
+-- the type's code in it: the fourth
 abbrev pub code_at : List ℕ → ℕ → ℕ
 code_at bytes p = slice_index bytes (p + 3)
 
--- the length, in the next four
+-- the length in it: the last four
 abbrev pub length_at : List ℕ → ℕ → ℕ
 length_at bytes p =
     from_be_bytes w32 (
@@ -25,7 +25,7 @@ length_at bytes p =
     ∷ slice_index bytes (p + 7)
     ∷ [])
 
--- the bytes that an item takes
+-- how many bytes an item takes
 abbrev pub size : TtlvType → ℕ → ℕ
 size typ n = 8 + n + padding typ n
 
@@ -48,7 +48,7 @@ is_plain bytes p =
     ∷ slice_index bytes (p + 7)
     ∷ [])
 
--- the item at a place
+-- this whole item is at an offset
 pub record ItemAt (bytes : List ℕ) (p : ℕ) (x : Raw) : Type 0 where
   pub plain : is_plain bytes p ≡ true
   pub tag : x.tag ≡ tag_at bytes p
@@ -57,7 +57,7 @@ pub record ItemAt (bytes : List ℕ) (p : ℕ) (x : Raw) : Type 0 where
   pub content : x.content ≡ take (length_at bytes p) (drop (p + 8) bytes)
   pub there : p + size x.typ (length_at bytes p) ≤ length bytes
 
--- the items from one place to another
+-- these whole items are there, from one offset up to another
 abbrev pub ItemsAt : List ℕ → ℕ → ℕ → List Raw → Type 0
 ItemsAt bytes p e [] = p ≡ e
 ItemsAt bytes p e (x ∷ xs) = ItemAt bytes p x × ItemsAt bytes (p + size x.typ (length_at bytes p)) e xs

@@ -1,4 +1,4 @@
--- A leaf's value, and what reading and writing it did: its length, content and padding (KMIP 1.0, 9.1.1).
+-- A leaf's length, content and padding, and what reading and writing them do (KMIP 1.0, 9.1.1).
 use Rattle.std.specs.Prelude.{◌≡◌, ◌≢◌, ℕ, ◌+◌, ◌^◌, ◌≤◌, ◌<◌, List, [], ◌∷◌, ◌++◌, length, take, drop, replicate, Bool}
 use Rattle.std.specs.Prelude.{true, false, IsTrue, ◌⊎◌, nat_lt, if◌then◌else◌, Option, Some, IfSome, Result, Ok, Err}
 use Rattle.std.specs.Int.{w32, w64, to_be_bytes, from_be_bytes}
@@ -13,12 +13,12 @@ use Rattle.kmip_ttlv_types.specs.ItemTypes.{code, fixed_length, pad_len}
 use Rattle.kmip_ttlv_types.specs.Leaves.{is_valid}
 use Rattle.kmip_ttlv_types.specs.Streams.{AppendsFront, ConsumesUpTo, Lacks, UsesRoom, IsTight}
 
--- the byte that goes on with the sign of a two's complement
+-- the byte that extends the sign of a number in two's complement
 abbrev pub sign_byte : List ℕ → ℕ
 sign_byte [] = 0
 sign_byte (b ∷ bs) = if nat_lt b 128 then 0 else 255
 
--- the same number in a multiple of eight bytes
+-- the same number, extended to a multiple of eight bytes
 unfoldable pub sign_extended : List ℕ → List ℕ
 sign_extended bytes = replicate (pad_len (length bytes)) (sign_byte bytes) ++ bytes
 
@@ -43,14 +43,14 @@ leaf_rest typ content = code typ ∷ (length_and_content content ++ replicate (p
 abbrev pub CanHaveLength : TtlvType → ℕ → Type 0
 CanHaveLength typ n = IfSome (fixed_length typ) (λ k. n ≡ k)
 
--- the length of a content, or a refusal where four bytes can't hold it
+-- the length of content, or an error if four bytes can't hold it
 abbrev pub IsLengthOf : {A : Type 0} → List ℕ → Result ℕ (Error A) → Type 0
 IsLengthOf content (Ok n) = (n ≡ length content) × (n < 2 ^ 32)
 IsLengthOf content (Err errors.LengthOverflow) = 2 ^ 32 ≤ length content
 IsLengthOf content (Err _) = ⊥
 
--- bytes were written whose content is n bytes long; or nothing, as four bytes can't hold n; or a
--- beginning, where there is no room or the writer failed
+-- these bytes were written, whose content is n bytes long; or none, because four bytes can't hold n; or
+-- a beginning, if there is no room or the writer failed
 abbrev pub WritesLong :
     {T A : Type 0} → ℕ → List ℕ
     → (old new : Option (List ℕ)) → (room_old room_new : Option ℕ) → Result T (Error A) → Type 0
@@ -61,14 +61,14 @@ WritesLong n bytes old new room_old room_new (Err (errors.IoError e)) =
     (n < 2 ^ 32) × AppendsFront old new bytes × IsTight room_old (length bytes)
 WritesLong n bytes old new room_old room_new (Err _) = ⊥
 
--- n bytes of any value were taken, or they did not come
+-- n bytes of any value were read, or they didn't come
 abbrev pub Skips : {T A : Type 0} → ℕ → Bool → (old new : Option (List ℕ)) → Result T (Error A) → Type 0
 Skips n can_fail old new (Ok done) = (bytes : List ℕ) × (length bytes ≡ n) × Consumes old new bytes
 Skips n can_fail old new (Err (errors.IoError e)) = Lacks can_fail old n e × ConsumesUpTo old new n
 Skips n can_fail old new (Err _) = ⊥
 
--- a content of n bytes was read, which is a value; or n is no length of such a value, and nothing
--- was taken; or the content is no value; or it did not come; or memory was refused, where it is taken
+-- content of n bytes was read, and is a value; or no value has the length n, and nothing was read; or
+-- the content is no value; or it didn't come; or memory ran out, if any is needed
 abbrev pub ReadsValue :
     {T A : Type 0} → TtlvType → (T → List ℕ) → (takes_memory can_fail : Bool)
     → (old new : Option (List ℕ)) → ℕ → Result T (Error A) → Type 0
@@ -94,7 +94,7 @@ stated_length bytes = from_be_bytes w32 (take 4 bytes)
 abbrev pub stated_content : List ℕ → List ℕ
 stated_content bytes = take (stated_length bytes) (drop 4 bytes)
 
--- the bytes end within the length, the content or the padding, and nothing before that is wrong
+-- the bytes end within length, content or padding, and what is there before is valid
 abbrev pub IsCut : TtlvType → List ℕ → Type 0
 IsCut typ bytes =
     let n = stated_length bytes in
@@ -103,7 +103,7 @@ IsCut typ bytes =
     × ((length bytes < 4 + n)
     ⊎ ((is_valid typ (stated_content bytes) ≡ true) × (length bytes < 4 + n + pad_len n))))
 
--- the length is one that no value of the type has
+-- no value of the type has the length
 abbrev pub HasWrongLength : TtlvType → ℕ → ℕ → List ℕ → Type 0
 HasWrongLength typ expected actual bytes =
     (4 ≤ length bytes) × (stated_length bytes ≡ actual) × (fixed_length typ ≡ Some expected) × (actual ≢ expected)
@@ -114,23 +114,23 @@ HasWrongContent typ bytes =
     let n = stated_length bytes in
     CanHaveLength typ n × (4 + n ≤ length bytes) × (is_valid typ (stated_content bytes) ≡ false)
 
--- the length is there, and is not zero
+-- the length is there, and isn't zero
 abbrev pub HasContent : List ℕ → Type 0
 HasContent bytes = (4 ≤ length bytes) × (0 < stated_length bytes)
 
--- no more was taken than the length, the content and the padding
+-- nothing beyond length, content and padding was consumed
 abbrev pub StaysWithin : (old new : Option (List ℕ)) → Type 0
 StaysWithin old new = IfSome old (λ bytes. let n = stated_length bytes in ConsumesUpTo old new (4 + n + pad_len n))
 
--- a length, the content of that length, and padding of any value were taken
+-- length, content and padding of any value were consumed
 pub record ConsumesLeaf (old new : Option (List ℕ)) (content : List ℕ) : Type 0 where
   pub fits : length content < 2 ^ 32
   pub pad : List ℕ
   pub pad_length : length pad ≡ pad_len (length content)
   pub consumes : Consumes old new (length_and_content content ++ pad)
 
--- a leaf's length, content and padding were read, and the content is a value; or they are refused,
--- each refusal for what is there, and what was taken lies within them
+-- a leaf's length, content and padding were read, and the content is a value; or there is an error, which is
+-- true of what is there, and nothing beyond them was consumed
 abbrev pub ReadsLeaf :
     {T A : Type 0} → TtlvType → (T → List ℕ) → (takes_memory can_fail : Bool)
     → (old new : Option (List ℕ)) → Result T (Error A) → Type 0

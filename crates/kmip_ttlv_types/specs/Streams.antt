@@ -1,4 +1,4 @@
--- What a call over a reader or a writer did to its known bytes.
+-- What a call does to the known bytes of a reader or a writer.
 use Rattle.std.specs.Prelude.{◌≡◌, ℕ, ◌<◌, ◌≤◌, ◌+◌, List, ◌++◌, length, take, Bool, IsTrue, ◌⊎◌, IfSome, Option, None}
 use Rattle.std.specs.Prelude.{Some, Result, Ok, Err}
 use Rattle.std.specs.Io.KnownBytes.{Appends, Consumes}
@@ -10,13 +10,13 @@ use Rattle.kmip_ttlv_types.specs.declared.error.Error.TheVariants as errors
 use Rattle.kmip_ttlv_types.specs.declared.stream.Filled.{Filled}
 use Rattle.kmip_ttlv_types.specs.declared.stream.Filled.TheVariants.{Full, Ended, Failed}
 
--- some front of these bytes was appended
+-- some beginning of these bytes was appended
 pub record AppendsFront (old new : Option (List ℕ)) (bytes : List ℕ) : Type 0 where
   pub count : ℕ
   pub within : count ≤ length bytes
   pub appends : Appends old new (take count bytes)
 
--- some bytes were consumed, of which there are at most this many
+-- at most this many bytes were consumed
 pub record ConsumesUpTo (old new : Option (List ℕ)) (most : ℕ) : Type 0 where
   pub bytes : List ℕ
   pub within : length bytes ≤ most
@@ -26,25 +26,25 @@ pub record ConsumesUpTo (old new : Option (List ℕ)) (most : ℕ) : Type 0 wher
 abbrev pub IsShort : Option (List ℕ) → ℕ → Type 0
 IsShort known n = IfSome known (λ bytes. length bytes < n)
 
--- a buffer was filled by consumed bytes; or the input ended, and had fewer bytes than asked; or
--- reading failed, which it can
+-- a buffer was filled by the bytes that were consumed; or the input ended, and had fewer bytes; or
+-- reading failed, if it can
 abbrev pub Fills : Bool → Option (List ℕ) → Option (List ℕ) → Filled → List ℕ → Type 0
 Fills can_fail old new Full buf = Consumes old new buf
 Fills can_fail old new Ended buf = IsShort old (length buf) × ConsumesUpTo old new (length buf)
 Fills can_fail old new (Failed e) buf = IsTrue can_fail × ConsumesUpTo old new (length buf)
 
--- why n bytes did not come: the input ended too early, or reading failed, which it can
+-- why n bytes didn't come: the input ended too early, or reading failed, if it can
 abbrev pub Lacks : Bool → Option (List ℕ) → ℕ → IoFault → Type 0
 Lacks can_fail known n e = IsTrue can_fail ⊎ ((error_kind e ≡ UnexpectedEof) × IsShort known n)
 
--- a buffer was filled by consumed bytes, or they did not come
+-- a buffer was filled by the bytes that were consumed, or they didn't come
 abbrev pub FillsAll : {T A : Type 0} → Bool → Option (List ℕ) → Option (List ℕ) → List ℕ → Result T (Error A) → Type 0
 FillsAll can_fail old new buf (Ok v) = Consumes old new buf
 FillsAll can_fail old new buf (Err (errors.IoError e)) =
     Lacks can_fail old (length buf) e × ConsumesUpTo old new (length buf)
 FillsAll can_fail old new buf (Err _) = ⊥
 
--- n bytes were taken into memory; or they did not come; or memory was refused, where any is needed
+-- n bytes were read into memory; or they didn't come; or memory ran out, if any is needed
 abbrev pub Takes :
     {T A : Type 0} → (T → List ℕ) → Bool
     → Option (List ℕ) → Option (List ℕ) → ℕ → Result T (Error A) → Type 0
@@ -53,15 +53,15 @@ Takes items can_fail old new n (Err (errors.IoError e)) = Lacks can_fail old n e
 Takes items can_fail old new n (Err errors.OutOfMemory) = (0 < n) × ConsumesUpTo old new n
 Takes items can_fail old new n (Err _) = ⊥
 
--- n bytes were taken, and stand behind those that were there
+-- n bytes were read, and follow those that were there
 pub record Behind (old new : Option (List ℕ)) (had has : List ℕ) (n : ℕ) : Type 0 where
   pub came : List ℕ
   pub consumes : Consumes old new came
   pub count : length came ≡ n
   pub parts : has ≡ had ++ came
 
--- n bytes were taken behind those that were there; or they did not come; or memory was refused; each of
--- the two only where any are due
+-- n bytes were read, and follow those that were there; or they didn't come; or memory ran out; neither if
+-- n is zero
 abbrev pub TakesMore :
     {T A : Type 0} → Bool → (old new : Option (List ℕ)) → (had has : List ℕ) → ℕ → Result T (Error A) → Type 0
 TakesMore can_fail old new had has n (Ok v) = Behind old new had has n
@@ -70,12 +70,12 @@ TakesMore can_fail old new had has n (Err (errors.IoError e)) =
 TakesMore can_fail old new had has n (Err errors.OutOfMemory) = (0 < n) × ConsumesUpTo old new n
 TakesMore can_fail old new had has n (Err _) = ⊥
 
--- the room, where it is known, is less by at most n bytes
+-- the room, if it is known, is less by at most n bytes
 abbrev pub UsesRoom : Option ℕ → Option ℕ → ℕ → Type 0
 UsesRoom None new n = Unit {0}
 UsesRoom (Some before) None n = ⊥
 UsesRoom (Some before) (Some after) n = before ≤ after + n
 
--- there is no room for n bytes, or it is not known that there is
+-- there is no room for n bytes, or the room isn't known
 abbrev pub IsTight : Option ℕ → ℕ → Type 0
 IsTight room n = IfSome room (λ free. free < n)

@@ -1,4 +1,4 @@
--- Items as trees: their texts, their canonical bytes, and what fits (KMIP 1.0, 9.1.1).
+-- Items as trees: their encodings, their canonical bytes, and what fits (KMIP 1.0, 9.1.1).
 use Rattle.std.specs.Prelude.{◌≡◌, ℕ, ◌<◌, ◌^◌, true, List, [], ◌∷◌, ◌++◌, length, replicate}
 use Rattle.std.specs.List.{flat_map}
 use Rattle.kmip_ttlv_types.specs.declared.typ.TtlvType.{TtlvType}
@@ -45,12 +45,12 @@ abbrev mutual
 abbrev pub bytes_all : List Tree → List ℕ
 bytes_all ts = flat_map bytes ts
 
--- a tree's item, which contains the canonical bytes of what is in it
+-- the item that a tree is: its content is the canonical bytes of the trees in it
 abbrev pub raw_of : Tree → Raw
 raw_of (leaf tag typ content) = record { tag = tag; typ = typ; content = content }
 raw_of (node tag below) = record { tag = tag; typ = Structure; content = bytes_below below }
 
--- a tree fits where every length is below 2^32
+-- a tree fits if every length in it is below 2^32
 abbrev mutual
   pub Fits : Tree → Type 0
   Fits (leaf tag typ content) = length content < 2 ^ 32
@@ -60,7 +60,7 @@ abbrev mutual
   FitsBelow no_trees = Unit {0}
   FitsBelow (tree t ts) = Fits t × FitsBelow ts
 
--- the bytes are a text of the tree, with padding of any value
+-- the bytes encode the tree, with valid leaves and padding of any value
 abbrev mutual
   pub IsTreeText : Tree → List ℕ → Type 0
   IsTreeText (leaf tag typ content) bytes =
@@ -75,12 +75,12 @@ abbrev mutual
   AreTreeTexts (tree t ts) bytes =
       (text : List ℕ) × (rest : List ℕ) × (bytes ≡ text ++ rest) × IsTreeText t text × AreTreeTexts ts rest
 
--- not a leaf
+-- the tree is a structure
 abbrev pub IsStructure : Tree → Type 0
 IsStructure (leaf tag typ content) = ⊥
 IsStructure (node tag below) = Unit {0}
 
--- no structure is empty
+-- no structure in the tree is empty
 abbrev mutual
   pub HasNoEmpty : Tree → Type 0
   HasNoEmpty (leaf tag typ content) = Unit {0}

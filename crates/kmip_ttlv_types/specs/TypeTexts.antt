@@ -1,4 +1,4 @@
--- How types are printed, and what is answered for a code.
+-- How types are printed, and what `try_from` returns for a code.
 use Rattle.std.specs.Prelude.{◌≡◌, ℕ, List, codes, Some, None, Result, Ok, Err}
 use Rattle.kmip_ttlv_types.specs.declared.typ.TtlvType.{TtlvType}
 use Rattle.kmip_ttlv_types.specs.declared.typ.TtlvType.TheVariants.{Structure, Integer, LongInteger, BigInteger}
@@ -21,7 +21,7 @@ type_text ByteString = codes "ByteString (0x08)"
 type_text DateTime = codes "DateTime (0x09)"
 type_text Interval = codes "Interval (0x0A)"
 
--- the type of the code, or a refusal that names a code without type
+-- the type with this code, or an error with the code if there is none
 abbrev pub IsTypeOf : {A : Type 0} → ℕ → Result TtlvType (Error A) → Type 0
 IsTypeOf c (Ok t) = type_of c ≡ Some t
 IsTypeOf c (Err e) = (type_of c ≡ None) × (e ≡ InvalidTtlvType c)

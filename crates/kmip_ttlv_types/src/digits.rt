@@ -1,4 +1,4 @@
-//! Numbers as hexadecimal digits of a fixed count.
+//! Numbers as a fixed count of hexadecimal digits.
 
 ghost use Rattle.std.specs.Prelude.{◌≡◌, ◌<◌, ◌++◌, Some, codes};
 ghost use Rattle.std.specs.Fmt.{DisplaysOnOk};

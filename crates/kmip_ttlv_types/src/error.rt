@@ -1,4 +1,4 @@
-//! Why a low-level call refuses.
+//! The errors of low-level calls.
 
 ghost use Rattle.std.specs.Prelude.{◌≡◌};
 ghost use Rattle.kmip_ttlv_types.specs.declared.error.Error.TheVariants.{OutOfMemory, IoError};
@@ -8,22 +8,22 @@ use crate::typ::TtlvType;
 use std::alloc::{AllocError, AllocFailed, Allocator, Global};
 use std::io;
 
-/// Why a low-level call refuses. It doesn't say where: `kmip_ttlv_base::error` adds the place.
+/// An error of a low-level call. It doesn't say where: `kmip_ttlv_base::error` adds the place.
 #[derive(Drop)]
 #[derive_where(Debug)]
 pub enum Error<A: Allocator = Global> {
     /// The reader or the writer failed, or the input ended too early (kind UnexpectedEof).
     IoError(io::Error),
-    /// A text is no tag: the whole text.
+    /// This text, which is given whole, is no tag.
     InvalidTtlvTag(String<A>),
-    /// A field that the state machine does not accept now.
+    /// A field that the state machine doesn't accept now.
     UnexpectedTtlvField {
         expected: FieldType,
         actual: FieldType,
     },
-    /// No call answers this: each type from 01 to 0A is supported.
+    /// Never returned: each type from 01 to 0A is supported.
     UnsupportedTtlvType(u8),
-    /// The code of no type.
+    /// This byte is no type's code.
     InvalidTtlvType(u8),
     /// A length, in bytes, that no value of this type has.
     InvalidTtlvValueLength {
@@ -31,13 +31,13 @@ pub enum Error<A: Allocator = Global> {
         actual: u32,
         typ: TtlvType,
     },
-    /// Bytes that are no value of this type.
+    /// The content is no value of this type.
     InvalidTtlvValue(TtlvType),
-    /// A call that the state machine's mode rules out.
+    /// A call that the state machine's mode doesn't allow.
     InvalidStateMachineOperation,
-    /// Memory was refused.
+    /// Memory ran out.
     OutOfMemory,
-    /// A length that four bytes can't hold.
+    /// A length doesn't fit into four bytes.
     LengthOverflow,
 }
 
@@ -59,7 +59,7 @@ impl<A: Allocator> From<AllocError> for Error<A> {
     }
 }
 
-/// OutOfMemory; what could not be kept is dropped.
+/// OutOfMemory; the value that found no memory is dropped.
 impl<T: Drop, A: Allocator> From<AllocFailed<T>> for Error<A> {
     ghost from_gives = { λ _ e. e ≡ OutOfMemory };
 

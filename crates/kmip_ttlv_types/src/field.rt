@@ -1,4 +1,4 @@
-//! The fields of an item, and places among bytes.
+//! The fields of an item, and byte offsets.
 
 ghost use Rattle.std.specs.Prelude.{◌≡◌, ◌≢◌, ◌-◌, ◌^◌, Some, MatchResult};
 ghost use Rattle.std.specs.Io.Cursor.{cursor_position};
@@ -18,7 +18,7 @@ pub enum FieldType {
     Typ,
     /// The four bytes of the length.
     Length,
-    /// The content with its padding: of a Structure, the items in it.
+    /// The content with its padding; of a Structure, the items in it.
     Value,
     /// A leaf's length and value at once.
     LengthAndValue,
@@ -51,11 +51,11 @@ impl fmt::Display for FieldType {
     }
 }
 
-/// A place among bytes: the offset, in bytes, from the first byte.
+/// An offset in bytes, counted from the first byte.
 #[derive(Clone, Copy, Debug, PartialEq, Eq)]
 pub struct ByteOffset(pub u64);
 
-/// The number of bytes before this place.
+/// The number of bytes before this offset.
 impl Deref for ByteOffset {
     type Target = u64;
 
@@ -66,7 +66,7 @@ impl Deref for ByteOffset {
     }
 }
 
-/// The place after so many bytes.
+/// The offset after this number of bytes.
 impl From<u64> for ByteOffset {
     ghost from_gives = { λ n o. o.0 ≡ n };
 
@@ -75,7 +75,7 @@ impl From<u64> for ByteOffset {
     }
 }
 
-/// The place after so many bytes.
+/// The offset after this number of bytes.
 impl From<&u64> for ByteOffset {
     ghost from_gives = { λ n o. o.0 ≡ n.now };
 
@@ -107,7 +107,7 @@ impl TryFrom<usize> for ByteOffset {
 
     ghost try_from_gives = { λ n r. MatchResult r (λ o. (o.0 ≡ n) × (n ≢ 2 ^ 64 - 1)) (λ _. n ≡ 2 ^ 64 - 1) };
 
-    /// Every number is an offset but the greatest, which is refused.
+    /// The offset after this number of bytes. Fails for the greatest number alone.
     fn try_from(offset: usize) -> Result<ByteOffset, ()> {
         let offset = offset as u64;
         if offset == u64::MAX {

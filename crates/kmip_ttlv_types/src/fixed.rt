@@ -16,6 +16,12 @@ use crate::typ::TtlvType;
 use std::ops::Deref;
 
 /// A signed number of four bytes (KMIP 1.0, section 9.1.1.4).
+///
+/// ```
+/// let mut out = Vec::new(alloc);
+/// TtlvInteger(8).write(&mut out)?;
+/// assert!(rt; out.as_slice() == b"\x02\0\0\0\x04\0\0\0\x08\0\0\0\0".as_slice());
+/// ```
 #[derive(Clone, Copy, Debug, PartialEq, Eq)]
 pub struct TtlvInteger(pub i32);
 
@@ -61,6 +67,12 @@ impl SerializableTtlvType for TtlvInteger {
 }
 
 /// A signed number of eight bytes (KMIP 1.0, section 9.1.1.4).
+///
+/// ```
+/// let mut out = Vec::new(alloc);
+/// TtlvLongInteger(123_456_789_000_000_000).write(&mut out)?;
+/// assert!(rt; out.as_slice() == b"\x03\0\0\0\x08\x01\xB6\x9B\x4B\xA5\x74\x92\0".as_slice());
+/// ```
 #[derive(Clone, Copy, Debug, PartialEq, Eq)]
 pub struct TtlvLongInteger(pub i64);
 
@@ -105,7 +117,13 @@ impl SerializableTtlvType for TtlvLongInteger {
     }
 }
 
-/// An unsigned number of four bytes that names a choice (KMIP 1.0, section 9.1.1.4).
+/// An unsigned number of four bytes that stands for a choice (KMIP 1.0, section 9.1.1.4).
+///
+/// ```
+/// let mut out = Vec::new(alloc);
+/// TtlvEnumeration(255).write(&mut out)?;
+/// assert!(rt; out.as_slice() == b"\x05\0\0\0\x04\0\0\0\xFF\0\0\0\0".as_slice());
+/// ```
 #[derive(Clone, Copy, Debug, PartialEq, Eq)]
 pub struct TtlvEnumeration(pub u32);
 
@@ -151,6 +169,12 @@ impl SerializableTtlvType for TtlvEnumeration {
 }
 
 /// True or false: the number 1 or 0 in eight bytes (KMIP 1.0, section 9.1.1.4).
+///
+/// ```
+/// let mut out = Vec::new(alloc);
+/// TtlvBoolean(true).write(&mut out)?;
+/// assert!(rt; out.as_slice() == b"\x06\0\0\0\x08\0\0\0\0\0\0\0\x01".as_slice());
+/// ```
 #[derive(Clone, Copy, Debug, PartialEq, Eq)]
 pub struct TtlvBoolean(pub bool);
 
@@ -201,6 +225,12 @@ impl SerializableTtlvType for TtlvBoolean {
 
 /// A time: the signed number of seconds since the start of 1970, in eight bytes (KMIP 1.0, section
 /// 9.1.1.4).
+///
+/// ```
+/// let mut out = Vec::new(alloc);
+/// TtlvDateTime(0x47DA_67F8).write(&mut out)?;
+/// assert!(rt; out.as_slice() == b"\x09\0\0\0\x08\0\0\0\0\x47\xDA\x67\xF8".as_slice());
+/// ```
 #[derive(Clone, Copy, Debug, PartialEq, Eq)]
 pub struct TtlvDateTime(pub i64);
 
@@ -246,6 +276,12 @@ impl SerializableTtlvType for TtlvDateTime {
 }
 
 /// A span of time: an unsigned number of seconds in four bytes (KMIP 1.0, section 9.1.1.4).
+///
+/// ```
+/// let mut out = Vec::new(alloc);
+/// TtlvInterval(864_000).write(&mut out)?;
+/// assert!(rt; out.as_slice() == b"\x0A\0\0\0\x04\0\x0D\x2F\0\0\0\0\0".as_slice());
+/// ```
 #[derive(Clone, Copy, Debug, PartialEq, Eq)]
 pub struct TtlvInterval(pub u32);
 
@@ -290,7 +326,7 @@ impl SerializableTtlvType for TtlvInterval {
     }
 }
 
-// Takes the four bytes of a value of a type whose length is four.
+// Reads a value of a type whose length is four bytes. Any other stated length is an error.
 fn read_word<S: Source>(src: &mut S, value_len: u32, typ: TtlvType) -> Result<[u8; 4]>
     ensures { ReadsFixed typ 4 S.can_fail (S.left src.old) (S.left src.new) value_len result }
 {
@@ -306,7 +342,7 @@ fn read_word<S: Source>(src: &mut S, value_len: u32, typ: TtlvType) -> Result<[u
     Ok(bytes)
 }
 
-// Takes the eight bytes of a value of a type whose length is eight.
+// Reads a value of a type whose length is eight bytes. Any other stated length is an error.
 fn read_long<S: Source>(src: &mut S, value_len: u32, typ: TtlvType) -> Result<[u8; 8]>
     ensures { ReadsFixed typ 8 S.can_fail (S.left src.old) (S.left src.new) value_len result }
 {

@@ -14,7 +14,7 @@ use std::fmt;
 use std::marker::Model;
 use std::ops::Deref;
 
-/// The length of an item's value in bytes, padding not counted (KMIP 1.0, section 9.1.1.3).
+/// The length of an item's value in bytes, without padding (KMIP 1.0, section 9.1.1.3).
 #[derive(Clone, Copy, PartialEq, Eq, Hash)]
 pub struct TtlvLength(u32);
 
@@ -38,9 +38,14 @@ impl TtlvLength {
         TtlvLength(n)
     }
 
-    /// Takes the four bytes of a length.
+    /// Reads the four bytes of a length.
     ///
-    /// IoError where they don't come: of the kind UnexpectedEof where the input ends before that.
+    /// Fails with `IoError` if they can't be read: of kind `UnexpectedEof` if the input ends too early.
+    ///
+    /// ```
+    /// let mut source = MemorySource(b"\0\0\0\x04\0\0\0\x08");
+    /// assert!(rt; TtlvLength::read(&mut source)? == TtlvLength::new(4));
+    /// ```
     pub fn read<S: Source>(src: &mut S) -> Result<TtlvLength, Error>
         ensures { ReadsNumber (to_be_bytes w32) 4 S.can_fail (S.left src.old) (S.left src.new) result }
     {
@@ -51,7 +56,13 @@ impl TtlvLength {
 
     /// Writes the four bytes of the length.
     ///
-    /// IoError where that fails; a beginning may have been written.
+    /// Fails with `IoError` if the sink does; a beginning may have been written.
+    ///
+    /// ```
+    /// let mut out = Vec::new(alloc);
+    /// TtlvLength::new(4).write(&mut out)?;
+    /// assert!(rt; out.as_slice() == b"\0\0\0\x04".as_slice());
+    /// ```
     pub fn write<S: Sink>(&self, dst: &mut S) -> Result<(), Error>
         ensures { Writes (to_be_bytes w32 self.now)
             (S.held dst.old) (S.held dst.new) (S.room dst.old) (S.room dst.new) result }
@@ -91,7 +102,7 @@ impl fmt::Debug for TtlvLength {
     }
 }
 
-/// Uppercase digits without leading zeros; a width and a fill by zeros are kept.
+/// Uppercase digits without leading zeros; a width and a fill by zeros are as for numbers.
 impl fmt::UpperHex for TtlvLength {
     fn fmt<W: fmt::Write>(&self, f: &mut fmt::Formatter<W>) -> fmt::Result
         ensures { WritesOnOk W.write_str_gives f.old result (digits 16 true self.now) f.new }
@@ -100,7 +111,7 @@ impl fmt::UpperHex for TtlvLength {
     }
 }
 
-/// What `{:X}` and its kin print of a length: its number.
+/// The number that `{:X}` and its kin print of a length.
 impl fmt::HasDigits for TtlvLength {
     ghost word = { λ n. Some n };
 

@@ -1,10 +1,10 @@
 //! The parts of the TTLV encoding: tags, types and lengths of items, the values of leaves, and the
-//! order of an item's fields. A user can stand on these alone, over any reader and any writer.
+//! order of an item's fields. They can be used on their own, with any reader and any writer.
 //!
-//! The wire is that of OASIS KMIP 1.0, section 9.1. Definitions that every layer above speaks of
-//! stand in specs/: the types of items, what a leaf may hold, items with their texts, trees with
-//! their canonical bytes, names of tags, and what reading and writing do to a stream. `stream` has
-//! what bytes come from and go to, `laws` the laws that a user may rest on.
+//! The wire format is that of OASIS KMIP 1.0, section 9.1. specs/ has the definitions that all layers above
+//! use: the types of items, which content is valid for a leaf, items and the bytes that encode them, trees
+//! with their canonical bytes, names of tags, and what reading and writing do to a stream. `stream` has what
+//! bytes are read from and written to, `laws` the laws that a proof over these calls can use.
 #![tactic(auto)]
 
 mod digits;
@@ -37,5 +37,5 @@ pub use strings::{TtlvBigInteger, TtlvByteString, TtlvTextString};
 pub use tag::TtlvTag;
 pub use typ::TtlvType;
 
-/// What a low-level call answers.
+/// The result of a low-level call.
 pub type Result<T, A = Global> = std::result::Result<T, Error<A>>;

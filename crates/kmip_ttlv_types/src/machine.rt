@@ -1,4 +1,4 @@
-//! The order of an item's fields, as a machine that accepts or refuses each.
+//! A state machine for the order of an item's fields.
 
 ghost use Rattle.std.specs.Prelude.{◌≡◌};
 ghost use Rattle.kmip_ttlv_types.specs.Machine.{state_of, start_state, next_due, is_ignored, Advances, Ignores};
@@ -16,11 +16,18 @@ pub enum TtlvStateMachineMode {
     Serializing,
 }
 
-/// Accepts the fields of items in their order, tag, type, length, value, and refuses any other.
+/// Accepts the fields of items in their order: tag, type, length, value. Any other field is an error.
 ///
-/// After a value comes the tag of the next item; the value of a Structure is the items in it, so
-/// where a value is due a tag may come too. While serializing, type, length and value may be given at
-/// once; while deserializing, length and value may.
+/// After a value comes the tag of the next item. The value of a Structure is the items in it, so a tag is
+/// accepted in place of a value. While serializing, type, length and value may be given at once; while
+/// deserializing, length and value may.
+///
+/// ```
+/// let mut machine = TtlvStateMachine::new(TtlvStateMachineMode::Serializing);
+/// assert!(rt; machine.advance(FieldType::Tag)?);
+/// assert!(rt; machine.advance(FieldType::Tag).is_err());
+/// assert!(rt; machine.advance(FieldType::TypeAndLengthAndValue)?);
+/// ```
 #[derive(Clone, Copy, Debug, PartialEq, Eq)]
 pub struct TtlvStateMachine {
     mode: TtlvStateMachineMode,
@@ -29,7 +36,7 @@ pub struct TtlvStateMachine {
 }
 
 impl TtlvStateMachine {
-    /// A machine at the start of an item: a tag is due.
+    /// A machine at the start of an item: it expects a tag.
     pub fn new(mode: TtlvStateMachineMode) -> TtlvStateMachine
         ensures { state_of result ≡ start_state mode }
     {
@@ -40,11 +47,11 @@ impl TtlvStateMachine {
         }
     }
 
-    /// Accepts a field. The answer is false where the field is a tag that is ignored, and so is not
-    /// to be written; else it is true.
+    /// Accepts a field. Returns false if it is a tag that is ignored, and so isn't to be written; otherwise
+    /// true.
     ///
-    /// UnexpectedTtlvField, with the field that is due and the one that was given, where the field
-    /// is refused. The machine then stands where it stood.
+    /// Fails with `UnexpectedTtlvField`, which has the expected field and the given one, if the field isn't
+    /// accepted. The state then stays as it was.
     pub fn advance(&mut self, next: FieldType) -> Result<bool>
         ensures { Advances (state_of self.old) next (state_of self.new) result }
     {
@@ -64,9 +71,16 @@ impl TtlvStateMachine {
         }
     }
 
-    /// From now on, the next tag that comes where a type is due is ignored.
+    /// From now on, ignores the next tag that is given where a type is expected.
     ///
-    /// InvalidStateMachineOperation while deserializing.
+    /// Fails with `InvalidStateMachineOperation` while deserializing.
+    ///
+    /// ```
+    /// machine.advance(FieldType::Tag)?;
+    /// machine.ignore_next_tag()?;
+    /// assert!(rt; !machine.advance(FieldType::Tag)?);
+    /// assert!(rt; machine.advance(FieldType::TypeAndLengthAndValue)?);
+    /// ```
     pub fn ignore_next_tag(&mut self) -> Result<()>
         ensures { Ignores (state_of self.old) (state_of self.new) result }
     {
@@ -87,7 +101,7 @@ impl TtlvStateMachine {
         self.ignores_tag = false;
     }
 
-    // Whether a field is the tag to be ignored.
+    // Whether the field is a tag that is ignored.
     fn ignores(&self, next: FieldType) -> bool
         ensures { result ≡ is_ignored (state_of self.now) next }
     {
@@ -102,7 +116,7 @@ impl TtlvStateMachine {
             )
     }
 
-    // The field that is due after this one, where this one is accepted.
+    // The field that is expected after this one, if this one is accepted.
     fn due_after(&self, next: FieldType) -> Option<FieldType>
         ensures { let s = state_of self.now in result ≡ next_due s.mode s.due next }
     {

@@ -1,4 +1,4 @@
-//! Names that stand for numbers.
+//! Text that stands for a number.
 
 ghost use Rattle.std.specs.Prelude.{◌≡◌, ◌<◌, ◌≤◌};
 ghost use Rattle.std.specs.Char.{digit_value};
@@ -15,7 +15,7 @@ fn without_prefixes(text: &str) -> &str
     rest
 }
 
-/// A text without a leading `+`.
+/// The text without a leading `+`.
 fn without_plus(text: &str) -> &str
     ensures { result.now ≡ without_leading_plus text.now }
 {
@@ -25,7 +25,7 @@ fn without_plus(text: &str) -> &str
     }
 }
 
-/// The value of a hexadecimal digit of either case, and 16 for any other byte.
+/// The value of a hexadecimal digit of either case; 16 for any other byte.
 fn value_of(byte: u8) -> u32
     ensures digit { result < 16 → result ≡ digit_value byte }
     ensures other { 16 ≤ result → 16 ≤ digit_value byte }
@@ -38,7 +38,7 @@ fn value_of(byte: u8) -> u32
     }
 }
 
-/// The number of at least one hexadecimal digit of either case, where it is below 2^32.
+/// The number that these hexadecimal digits of either case are: at least one digit, and below 2^32.
 fn numeral(digits: &[u8]) -> Option<u32>
     ensures { result ≡ numeral digits.now }
 {
@@ -55,8 +55,13 @@ fn numeral(digits: &[u8]) -> Option<u32>
     if at == 0 { None } else { Some(value) }
 }
 
-/// The number that a text is: any count of leading `0x`, then a `+` or none, then at least one
-/// hexadecimal digit of either case and nothing else. It is below 2^32. Takes no memory.
+/// The number that a text is: any count of leading `0x`, then a `+` or none, then at least one hexadecimal
+/// digit of either case. `None` for any other text, and from 2^32 on. Doesn't allocate.
+///
+/// ```
+/// assert_eq!(rt; number("0xFFFFFFFF"), Some(u32::MAX));
+/// assert_eq!(rt; number("100000000"), None);
+/// ```
 #[tactic(auto, unfolding(crate::specs::Names::number))]
 pub fn number(text: &str) -> Option<u32>
     ensures { result ≡ number text.now }

@@ -1,4 +1,4 @@
-//! Numbers of the bytes that they are written as, the highest byte first.
+//! Numbers from the bytes that encode them, the highest byte first.
 
 ghost use Rattle.std.specs.Prelude.{◌≡◌, ◌<◌, ◌^◌, length};
 ghost use Rattle.std.specs.Int.{w32, w64, to_be_bytes, from_be_bytes, bytes_high_first, cast_unsigned};
@@ -41,7 +41,11 @@ pub(crate) fn signed_long_of(bytes: &[u8; 8]) -> i64
     long_of(bytes).cast_signed()
 }
 
-/// The number of a slice of four bytes.
+/// The number that four bytes encode, the highest first.
+///
+/// ```
+/// assert_eq!(rt; number_of_four(b"\x00\x00\x00\xFF"), 255);
+/// ```
 pub fn number_of_four(bytes: &[u8]) -> u32
     requires { length bytes.now ≡ 4 }
     ensures { result ≡ from_be_bytes w32 bytes.now }
@@ -49,7 +53,11 @@ pub fn number_of_four(bytes: &[u8]) -> u32
     u32::from_be_bytes([bytes[0], bytes[1], bytes[2], bytes[3]])
 }
 
-/// The number of a slice of eight bytes.
+/// The number that eight bytes encode, the highest first.
+///
+/// ```
+/// assert_eq!(rt; number_of_eight(b"\x01\xB6\x9B\x4B\xA5\x74\x92\x00"), 123_456_789_000_000_000);
+/// ```
 pub fn number_of_eight(bytes: &[u8]) -> u64
     requires { length bytes.now ≡ 8 }
     ensures { result ≡ from_be_bytes w64 bytes.now }
@@ -59,7 +67,12 @@ pub fn number_of_eight(bytes: &[u8]) -> u64
     ])
 }
 
-/// The byte that goes on with the sign of a two's complement (KMIP 1.0, section 9.1.1.4).
+/// The byte that extends the sign of a number in two's complement (KMIP 1.0, section 9.1.1.4).
+///
+/// ```
+/// assert_eq!(rt; sign_of(b"\x80"), 0xFF);
+/// assert_eq!(rt; sign_of(b"\x7F\x00\x00\x00\x00\x00\x01"), 0);
+/// ```
 pub fn sign_of(bytes: &[u8]) -> u8
     ensures { result ≡ sign_byte bytes.now }
 {

@@ -1,7 +1,16 @@
-//! What stands at a place among bytes, where an item may begin: its header, its size, its content, and whether
-//! content is that of a leaf (KMIP 1.0, section 9.1.1). A place is an offset from the first byte.
+//! What is at an offset where an item may begin: its header, its size, its content, and whether content is valid
+//! for a leaf (KMIP 1.0, section 9.1.1). A position is an offset from the first byte.
 //!
-//! Nothing here takes memory or refuses: what is asked first, and what is wrong, each reader says for itself.
+//! Nothing here allocates or fails. Each reader decides what it checks first, and which error it returns.
+//!
+//! ```
+//! let bytes = b"\x42\0\x20\x02\0\0\0\x04\0\0\0\x08\0\0\0\0";
+//! assert_eq!(rt; tag_at(bytes, 0), TtlvTag::from([0x42, 0x00, 0x20]));
+//! assert_eq!(rt; type_at(bytes, 0), Some(TtlvType::Integer));
+//! assert_eq!(rt; length_at(bytes, 0), 4);
+//! assert_eq!(rt; end_of(bytes, 0, TtlvType::Integer, 4), Some(16));
+//! assert!(rt; content_at(bytes, 0, 4) == b"\0\0\0\x08".as_slice());
+//! ```
 
 ghost use Rattle.std.specs.Prelude.{◌≡◌, ◌+◌, ◌<◌, ◌≤◌, length, take, drop, IfSome, IfNone};
 ghost use Rattle.kmip_ttlv_types.specs.declared.typ.TtlvType.TheVariants.{Boolean as TheBoolean};
@@ -14,7 +23,7 @@ use crate::tag::TtlvTag;
 use crate::typ::TtlvType;
 use std::str;
 
-/// The tag that stands at a place, in its first three bytes.
+/// The tag of the item at `pos`: the first three bytes of its header.
 #[inline]
 pub fn tag_at(bytes: &[u8], pos: usize) -> TtlvTag
     requires { pos + 3 ≤ length bytes.now }
@@ -23,7 +32,7 @@ pub fn tag_at(bytes: &[u8], pos: usize) -> TtlvTag
     TtlvTag::of_bytes(bytes[pos], bytes[pos + 1], bytes[pos + 2])
 }
 
-/// The type whose code stands at a place, in its fourth byte, if it is that of one.
+/// The type of the item at `pos`, if the fourth byte of its header is a type's code.
 #[inline]
 pub fn type_at(bytes: &[u8], pos: usize) -> Option<TtlvType>
     requires { pos + 4 ≤ length bytes.now }
@@ -32,7 +41,7 @@ pub fn type_at(bytes: &[u8], pos: usize) -> Option<TtlvType>
     TtlvType::from_code(bytes[pos + 3])
 }
 
-/// The length that stands at a place, in the next four bytes: that of the item's content, in bytes.
+/// The length of the item at `pos`, the last four bytes of its header: that of its content, in bytes.
 #[inline]
 pub fn length_at(bytes: &[u8], pos: usize) -> u32
     requires { pos + 8 ≤ length bytes.now }
@@ -46,7 +55,7 @@ pub fn length_at(bytes: &[u8], pos: usize) -> u32
     ])
 }
 
-// How many bytes pad content of so many.
+// How many bytes of padding follow content of `n` bytes.
 #[inline]
 fn padding_of(typ: TtlvType, n: usize) -> usize
     ensures { result ≡ padding typ n }
@@ -57,7 +66,11 @@ fn padding_of(typ: TtlvType, n: usize) -> usize
     }
 }
 
-/// How many bytes an item takes whose content has `n`: with its header and its padding.
+/// How many bytes an item takes whose content has `n`, with its header and its padding.
+///
+/// ```
+/// assert_eq!(rt; size_of(TtlvType::TextString, 11), 24);
+/// ```
 #[inline]
 pub fn size_of(typ: TtlvType, n: u32) -> usize
     ensures { result ≡ size typ n }
@@ -66,7 +79,7 @@ pub fn size_of(typ: TtlvType, n: u32) -> usize
     8 + n + padding_of(typ, n)
 }
 
-/// The place behind an item whose content has `n` bytes, if all of it is there.
+/// The offset behind the item at `pos`, whose content has `n` bytes, if all of it is there.
 #[inline]
 pub fn end_of(bytes: &[u8], pos: usize, typ: TtlvType, n: u32) -> Option<usize>
     requires { pos ≤ length bytes.now }
@@ -80,7 +93,7 @@ pub fn end_of(bytes: &[u8], pos: usize, typ: TtlvType, n: u32) -> Option<usize>
     Some(pos + taken)
 }
 
-/// The content of an item, where it is there: the `n` bytes behind the header, without their padding.
+/// The content of the item at `pos`: the `n` bytes behind its header, without padding.
 #[inline]
 pub fn content_at(bytes: &[u8], pos: usize, n: u32) -> &[u8]
     requires { pos + 8 + n ≤ length bytes.now }
@@ -89,7 +102,7 @@ pub fn content_at(bytes: &[u8], pos: usize, n: u32) -> &[u8]
     &bytes[pos + 8..pos + 8 + n as usize]
 }
 
-/// How long a value of this type is, in bytes, if that is fixed.
+/// How long a value of this type is, in bytes, if all are equally long.
 #[inline]
 pub fn fixed_length(typ: TtlvType) -> Option<u32>
     ensures { result ≡ fixed_length typ }
@@ -102,7 +115,7 @@ pub fn fixed_length(typ: TtlvType) -> Option<u32>
     }
 }
 
-// Whether these are the eight bytes of 0 or 1.
+// Whether these are eight bytes, of the number 0 or 1.
 #[inline]
 fn is_boolean(content: &[u8]) -> bool
     ensures { result ≡ is_valid TheBoolean content.now }
@@ -110,7 +123,12 @@ fn is_boolean(content: &[u8]) -> bool
     content.len() == 8 && number_of_eight(content) < 2
 }
 
-/// Whether these bytes are the content of a leaf of this type. No content is that of a structure.
+/// Whether these bytes are valid content of a leaf of this type. No content is valid for a structure.
+///
+/// ```
+/// assert!(rt; is_valid(TtlvType::Boolean, b"\0\0\0\0\0\0\0\x01"));
+/// assert!(rt; !is_valid(TtlvType::Boolean, b"\0\0\0\0\0\0\0\x02"));
+/// ```
 #[inline]
 pub fn is_valid(typ: TtlvType, content: &[u8]) -> bool
     ensures { result ≡ is_valid typ content.now }

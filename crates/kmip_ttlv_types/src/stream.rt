@@ -1,10 +1,10 @@
-//! Bytes that come from a reader or from memory, and go to a writer or into memory.
+//! Bytes are read from a reader or from memory, and written to a writer or into memory.
 //!
-//! A call over a reader or a writer that is interrupted is tried again, as often as a 64-bit count
+//! A call of a reader or a writer that is interrupted is repeated, as often as a 64-bit count
 //! allows. A reader or a writer can fail at any time; memory that has the bytes, or the room,
-//! cannot, and the contracts of `Source` and `Sink` tell the two apart. A slice, a cursor or a vector
-//! that is handed over as a reader or a writer counts as one; `MemorySource`, `MemoryCursor` and
-//! `MemorySink` are the memory that cannot fail.
+//! can't. The contracts of `Source` and `Sink` tell the two apart. A slice, a cursor or a vector
+//! that is passed as a reader or a writer counts as one; `MemorySource`, `MemoryCursor` and
+//! `MemorySink` are the memory that can't fail.
 
 ghost use Rattle.std.specs.Prelude.{◌≡◌, ℕ, List, Bool, true, false, Option, None, Some, ◌<◌, ◌≤◌, ◌-◌, ◌+◌, ◌^◌};
 ghost use Rattle.std.specs.Prelude.{length, take, drop, IfOk, IfErr, OnOk, OnErr, min, max, vec_len, vec_items, vec_capacity};
@@ -21,38 +21,38 @@ use std::io::{AsBytes, Cursor, ErrorKind, Read, Write};
 /// How filling a buffer ended.
 #[derive(Drop)]
 pub enum Filled {
-    /// Each byte of the buffer came.
+    /// The buffer is full.
     Full,
-    /// The input ended before that.
+    /// The input ended before the buffer was full.
     Ended,
-    /// Reading failed before that.
+    /// Reading failed before the buffer was full.
     Failed(io::Error),
 }
 
-/// What bytes come from: any reader, or memory.
+/// What bytes are read from: any reader, or memory.
 pub trait Source {
-    // The bytes that are left, where they are known.
+    // The bytes that are left, if they are known.
     ghost left: { Self → Option (List ℕ) };
 
     // Whether a call can fail though the bytes are there.
     ghost can_fail: { Bool };
 
-    /// Fills the buffer as bytes come. Where that fails, some may have been taken.
+    /// Fills the buffer with the next bytes. If that fails, some may have been consumed.
     fn fill(&mut self, buf: &mut [u8]) -> Filled
         ensures { Fills can_fail (left self.old) (left self.new) result buf.new };
 }
 
-/// What bytes go to: any writer, or memory.
+/// What bytes are written to: any writer, or memory.
 pub trait Sink {
-    // The bytes that it was given, where they are known.
+    // The bytes that it received, if they are known.
     ghost held: { Self → Option (List ℕ) };
 
-    // How many more bytes it surely takes, where that is known.
+    // How many more bytes it has room for, if that is known.
     ghost room: { Self → Option ℕ };
 
-    /// Gives all of the bytes. Where that fails, a beginning of them may have been given.
+    /// Writes all of the bytes. If that fails, a beginning of them may have been written.
     ///
-    /// A writer that takes no byte is an error of the kind WriteZero.
+    /// A writer that takes no byte is an error of kind `WriteZero`.
     fn send(&mut self, bytes: &[u8]) -> io::Result<()>
         ensures ok { OnOk result (Appends (held self.old) (held self.new) bytes.now) }
         ensures err { OnErr result (AppendsFront (held self.old) (held self.new) bytes.now) }
@@ -80,7 +80,13 @@ impl<W: Write> Sink for W {
     }
 }
 
-/// Bytes in memory, as a source: it gives bytes as long as they are there.
+/// Bytes in memory, as a source. What was read is taken off the front of the slice.
+///
+/// ```
+/// let mut source = MemorySource(b"\x42\0\x20\x02");
+/// let tag = TtlvTag::read(&mut source)?;
+/// assert!(rt; source.0 == b"\x02".as_slice());
+/// ```
 #[derive(Drop)]
 pub struct MemorySource<'a>(pub &'a [u8]);
 
@@ -101,7 +107,14 @@ impl Source for MemorySource<'_> {
     }
 }
 
-/// A vector, as a sink: it takes bytes as long as it has room, and where it has none it grows.
+/// A vector, as a sink: bytes are appended, and the vector grows if it has no room.
+///
+/// ```
+/// let mut sink = MemorySink(Vec::with_capacity(alloc, 16)?);
+/// TtlvTag::from([0x42, 0x00, 0x20]).write(&mut sink)?;
+/// TtlvInteger(8).write(&mut sink)?;
+/// assert!(rt; sink.0.as_slice() == b"\x42\0\x20\x02\0\0\0\x04\0\0\0\x08\0\0\0\0".as_slice());
+/// ```
 #[derive(Drop)]
 pub struct MemorySink<A: Allocator = Global>(pub Vec<u8, A>);
 
@@ -110,15 +123,21 @@ impl<A: Allocator> Sink for MemorySink<A> {
 
     ghost room = { λ s. Some (vec_capacity s.0 - vec_len s.0) };
 
-    /// An error of the kind OutOfMemory where there is no room and growth is refused.
+    /// An error of kind `OutOfMemory` if there is no room and the vector can't grow.
     fn send(&mut self, bytes: &[u8]) -> io::Result<()> {
         self.0.extend_from_slice(bytes)?;
         Ok(())
     }
 }
 
-/// A cursor over bytes in memory. It is a source, which gives bytes as long as they are there; over a
-/// lent slice it is a sink too, which takes bytes, from its position on, as long as there is room.
+/// A cursor over bytes in memory. It is a source, from its position on. Over a borrowed mutable slice it is
+/// a sink too, from its position on, with the slice's length as its limit.
+///
+/// ```
+/// let mut source = MemoryCursor(Cursor::new(b"\x42\0\x20\x02".as_slice()));
+/// let tag = TtlvTag::read(&mut source)?;
+/// assert_eq!(rt; source.0.position(), 3);
+/// ```
 #[derive(Drop)]
 pub struct MemoryCursor<T>(pub Cursor<T>);
 
@@ -145,7 +164,7 @@ impl Sink for MemoryCursor<&mut [u8]> {
 
     ghost room = { λ c. Some (length (cursor_inner c.0).now - cursor_position c.0) };
 
-    /// An error of the kind WriteZero where there is no room for all of the bytes.
+    /// An error of kind `WriteZero` if there isn't room for all of the bytes: those that fit are written.
     fn send(&mut self, bytes: &[u8]) -> io::Result<()> {
         if bytes.is_empty() {
             return Ok(());
@@ -161,7 +180,7 @@ impl Sink for MemoryCursor<&mut [u8]> {
     }
 }
 
-// The bytes from a position on: none where it is past the end.
+// The bytes from an offset on; none if it is past the end.
 fn rest_from(all: &[u8], at: u64) -> &[u8]
     ensures rest { result.now ≡ drop at all.now }
     ensures len { length result.now ≡ length all.now - at }
@@ -170,7 +189,7 @@ fn rest_from(all: &[u8], at: u64) -> &[u8]
     &all[start..]
 }
 
-/// One read. Interrupted, it tries again, as often as a 64-bit count allows.
+/// One read. If it is interrupted, it is repeated, as often as a 64-bit count allows.
 pub fn read_some<R: Read>(reader: &mut R, buf: &mut [u8]) -> io::Result<usize>
     ensures bound { ReadsAtMost result buf.new }
     ensures ok { IfOk result (λ n. Consumes (R.remaining reader.old) (R.remaining reader.new) (take n buf.new)) }
@@ -190,7 +209,7 @@ pub fn read_some<R: Read>(reader: &mut R, buf: &mut [u8]) -> io::Result<usize>
     Err(io::Error::from(ErrorKind::Interrupted))
 }
 
-/// One write. Interrupted, it tries again, as often as a 64-bit count allows.
+/// One write. If it is interrupted, it is repeated, as often as a 64-bit count allows.
 pub fn write_some<W: Write>(writer: &mut W, bytes: &[u8]) -> io::Result<usize>
     ensures bound { WritesAtMost result bytes.now }
     ensures ok { IfOk result (λ n. Appends (W.contents writer.old) (W.contents writer.new) (take n bytes.now)) }
@@ -209,7 +228,7 @@ pub fn write_some<W: Write>(writer: &mut W, bytes: &[u8]) -> io::Result<usize>
     Err(io::Error::from(ErrorKind::Interrupted))
 }
 
-// One read into `buf` from `at` on.
+// One read into `buf`, from the index `at` on.
 fn read_at<R: Read>(reader: &mut R, buf: &mut [u8], at: usize) -> io::Result<usize>
     requires { at < length buf.old }
     ensures front { take at buf.new ≡ take at buf.old }
@@ -222,7 +241,7 @@ fn read_at<R: Read>(reader: &mut R, buf: &mut [u8], at: usize) -> io::Result<usi
     read_some(reader, &mut buf[at..])
 }
 
-// Fills `buf` as bytes come from a reader.
+// Fills `buf` from a reader.
 fn fill_from<R: Read>(reader: &mut R, buf: &mut [u8]) -> Filled
     ensures { Fills true (R.remaining reader.old) (R.remaining reader.new) result buf.new }
 {
@@ -237,7 +256,7 @@ fn fill_from<R: Read>(reader: &mut R, buf: &mut [u8]) -> Filled
     Filled::Full
 }
 
-// Writes all of `bytes`, or a front of them where the writer fails or takes no byte.
+// Writes all of `bytes`, or a beginning of them if the writer fails or takes no byte.
 fn send_to<W: Write>(writer: &mut W, bytes: &[u8]) -> io::Result<()>
     ensures ok { OnOk result (Appends (W.contents writer.old) (W.contents writer.new) bytes.now) }
     ensures err { OnErr result (AppendsFront (W.contents writer.old) (W.contents writer.new) bytes.now) }
@@ -255,8 +274,13 @@ fn send_to<W: Write>(writer: &mut W, bytes: &[u8]) -> io::Result<()>
 
 /// Fills the buffer.
 ///
-/// IoError of the kind UnexpectedEof where the input ends before that, and of the reader's kind
-/// where reading fails.
+/// Fails with `IoError`: of kind `UnexpectedEof` if the input ends too early, of the reader's kind if reading
+/// fails.
+///
+/// ```
+/// let mut header = [0u8; 8];
+/// fill_all(&mut source, &mut header)?;
+/// ```
 pub fn fill_all<S: Source>(source: &mut S, buf: &mut [u8]) -> Result<(), Error>
     ensures { FillsAll S.can_fail (S.left source.old) (S.left source.new) buf.new result }
 {
@@ -267,18 +291,18 @@ pub fn fill_all<S: Source>(source: &mut S, buf: &mut [u8]) -> Result<(), Error>
     }
 }
 
-/// The most bytes, 65,536, that are taken at once, and the most for which memory is asked where nothing came yet.
+/// The most bytes, 65,536, that are read at once, and the most that are allocated before any came.
 pub const PIECE: usize = 65_536;
 
-// For how many bytes memory is asked behind `len` bytes that came, where `due` are still to come: as many
-// as came, so that few moves are made, but a piece at least, and never more than are due.
+// How many bytes to allocate behind `len` bytes that came, if `due` are still to come: as many as came, so
+// that they are moved rarely, but at least a piece, and never more than are due.
 fn room_to_ask(len: usize, due: usize) -> usize
     ensures { result ≡ min (max len PIECE) due }
 {
     len.max(PIECE).min(due)
 }
 
-// Memory for a piece of those that are due, behind the bytes; where there is none yet, more is asked for.
+// Makes sure of room for the next piece of the `due` bytes. A vector without that room grows by `room_to_ask`.
 fn reserve_piece<A: Allocator>(bytes: &mut Vec<u8, A>, due: usize) -> Result<(), AllocError>
     ensures items { bytes.new.items ≡ bytes.old.items }
     ensures room { OnOk result (vec_len bytes.new + min due PIECE ≤ vec_capacity bytes.new) }
@@ -292,7 +316,7 @@ fn reserve_piece<A: Allocator>(bytes: &mut Vec<u8, A>, due: usize) -> Result<(),
     Ok(())
 }
 
-// `more` zeros behind the bytes, of `due` that will stand there.
+// Appends `more` zeros, to be overwritten by the next of the `due` bytes.
 fn grow<A: Allocator>(bytes: &mut Vec<u8, A>, more: usize, due: usize) -> Result<(), AllocError>
     requires { more ≤ min due PIECE }
     ensures len { OnOk result (vec_len bytes.new ≡ vec_len bytes.old + more) }
@@ -302,7 +326,7 @@ fn grow<A: Allocator>(bytes: &mut Vec<u8, A>, more: usize, due: usize) -> Result
     bytes.resize(bytes.len() + more, 0)
 }
 
-// Fills the bytes from `at` on.
+// Fills the vector from the index `at` on.
 fn fill_rest<S: Source, A: Allocator>(
     source: &mut S,
     bytes: &mut Vec<u8, A>,
@@ -317,8 +341,7 @@ fn fill_rest<S: Source, A: Allocator>(
     fill_all(source, &mut all[at..])
 }
 
-// Takes so many bytes, of `due` that are still to come, behind those that are there, in memory that grows at
-// most once.
+// Reads `count` bytes, of `due` that are still to come, and appends them. The vector grows at most once.
 fn append_piece<S: Source, A: Allocator>(
     source: &mut S,
     bytes: &mut Vec<u8, A>,
@@ -336,14 +359,19 @@ fn append_piece<S: Source, A: Allocator>(
     fill_rest(source, bytes, at)
 }
 
-/// Takes `count` bytes, behind those that are there, in memory that grows as they come.
+/// Reads `count` bytes and appends them to `bytes`, which grows as they come.
 ///
-/// Memory is asked for at most 65,536 bytes beyond twice those that are there, whatever `count` is, and
-/// never for more than `count` asks.
+/// It allocates at most 65,536 bytes more than twice those that are there, whatever `count` is, and never
+/// more than `count` bytes need.
 ///
-/// IoError of the kind UnexpectedEof where the input ends before that, and of the reader's kind
-/// where reading fails; OutOfMemory where memory is refused. Then any bytes may stand behind those
-/// that were there.
+/// Fails with `IoError`, of kind `UnexpectedEof` if the input ends too early and of the reader's kind if
+/// reading fails, or with `OutOfMemory`. Any bytes may then follow those that were there.
+///
+/// ```
+/// let mut bytes = Vec::from_slice(alloc, b"\x42\0\x20")?;
+/// append_bytes(&mut MemorySource(b"\x02\0\0\0\x04"), &mut bytes, 5)?;
+/// assert!(rt; bytes.as_slice() == b"\x42\0\x20\x02\0\0\0\x04".as_slice());
+/// ```
 pub fn append_bytes<S: Source, A: Allocator>(
     source: &mut S,
     bytes: &mut Vec<u8, A>,
@@ -362,11 +390,16 @@ pub fn append_bytes<S: Source, A: Allocator>(
     Ok(())
 }
 
-/// Takes `len` bytes, in memory that grows as they come: at most 65,536 bytes beyond twice those that came,
-/// and never more than `len`.
+/// Reads `len` bytes into a vector that grows as they come. It allocates at most 65,536 bytes more than twice
+/// those that came, and never more than `len`.
 ///
-/// IoError of the kind UnexpectedEof where the input ends before that, and of the reader's kind
-/// where reading fails; OutOfMemory where memory is refused.
+/// Fails with `IoError`, of kind `UnexpectedEof` if the input ends too early and of the reader's kind if
+/// reading fails, or with `OutOfMemory`.
+///
+/// ```
+/// let mut source = MemorySource(b"\x01\x02\x03\xFF");
+/// assert!(rt; take_bytes(alloc, &mut source, 3)?.as_slice() == b"\x01\x02\x03".as_slice());
+/// ```
 pub fn take_bytes<S: Source, A: Allocator>(
     alloc: A,
     source: &mut S,

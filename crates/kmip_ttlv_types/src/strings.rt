@@ -18,19 +18,25 @@ use crate::typ::TtlvType;
 use std::alloc::{AllocError, Allocator, Global};
 use std::ops::Deref;
 
-// The length of a content.
+// The length of this content, if four bytes can hold it.
 fn length_of(content: &[u8]) -> Result<u32>
     ensures { IsLengthOf content.now result }
 {
     u32::try_from(content.len()).map_err(|_| Error::LengthOverflow)
 }
 
-/// A text in UTF-8 (KMIP 1.0, section 9.1.1.4).
+/// UTF-8 text (KMIP 1.0, section 9.1.1.4).
+///
+/// ```
+/// let mut out = Vec::new(alloc);
+/// TtlvTextString(String::from_str(alloc, "Hello World")?).write(&mut out)?;
+/// assert!(rt; out.as_slice() == b"\x07\0\0\0\x0BHello World\0\0\0\0\0".as_slice());
+/// ```
 #[derive(Drop)]
 #[derive_where(Debug)]
 pub struct TtlvTextString<A: Allocator = Global>(pub String<A>);
 
-/// The same text, in memory of the same allocator. An AllocError where memory is refused.
+/// The same text, in memory of the same allocator. Fails if that runs out.
 impl<A: Allocator + Clone> Clone for TtlvTextString<A> {
     ghost is_clone = { λ s t. string_bytes t.0 ≡ string_bytes s.0 };
 
@@ -85,11 +91,17 @@ impl<A: Allocator> SerializableTtlvType for TtlvTextString<A> {
 }
 
 /// Any bytes (KMIP 1.0, section 9.1.1.4).
+///
+/// ```
+/// let mut out = Vec::new(alloc);
+/// TtlvByteString(Vec::from_slice(alloc, &[1, 2, 3])?).write(&mut out)?;
+/// assert!(rt; out.as_slice() == b"\x08\0\0\0\x03\x01\x02\x03\0\0\0\0\0".as_slice());
+/// ```
 #[derive(Drop)]
 #[derive_where(Debug)]
 pub struct TtlvByteString<A: Allocator = Global>(pub Vec<u8, A>);
 
-/// The same bytes, in memory of the same allocator. An AllocError where memory is refused.
+/// The same bytes, in memory of the same allocator. Fails if that runs out.
 impl<A: Allocator + Clone> Clone for TtlvByteString<A> {
     ghost is_clone = { λ s t. vec_items t.0 ≡ vec_items s.0 };
 
@@ -140,13 +152,19 @@ impl<A: Allocator> SerializableTtlvType for TtlvByteString<A> {
 }
 
 /// A signed number of any length: its two's complement, the highest byte first (KMIP 1.0, section
-/// 9.1.1.4). It is read as it stands. It is written with its sign gone on with up to a multiple of
-/// eight bytes, which are counted in its length.
+/// 9.1.1.4). It is read as it is. When it is written, its sign is extended to a multiple of eight
+/// bytes, and its length counts them all.
+///
+/// ```
+/// let mut out = Vec::new(alloc);
+/// TtlvBigInteger(Vec::from_slice(alloc, b"\x80")?).write(&mut out)?;
+/// assert!(rt; out.as_slice() == b"\x04\0\0\0\x08\xFF\xFF\xFF\xFF\xFF\xFF\xFF\x80".as_slice());
+/// ```
 #[derive(Drop)]
 #[derive_where(Debug)]
 pub struct TtlvBigInteger<A: Allocator = Global>(pub Vec<u8, A>);
 
-/// The same bytes, in memory of the same allocator. An AllocError where memory is refused.
+/// The same bytes, in memory of the same allocator. Fails if that runs out.
 impl<A: Allocator + Clone> Clone for TtlvBigInteger<A> {
     ghost is_clone = { λ s t. vec_items t.0 ≡ vec_items s.0 };
 
@@ -172,7 +190,7 @@ impl<A: Allocator> HasTtlvType for TtlvBigInteger<A> {
     ghost TTLV_TYPE = { BigInteger };
 }
 
-// How many sign bytes go before these, up to a multiple of eight.
+// How many sign bytes extend these to a multiple of eight.
 fn sign_count(bytes: &[u8]) -> usize
     ensures count { result ≡ pad_len (length bytes.now) }
     ensures small { result < 8 }
@@ -180,14 +198,14 @@ fn sign_count(bytes: &[u8]) -> usize
     (8 - bytes.len() % 8) % 8
 }
 
-// How many bytes there are with the sign bytes.
+// How many bytes these are with their sign bytes.
 fn extended_length(bytes: &[u8]) -> usize
     ensures { result ≡ length (sign_extended bytes.now) }
 {
     sign_count(bytes) + bytes.len()
 }
 
-// Writes a length, and as many bytes: sign bytes, and then the bytes.
+// Writes the length `count`, then as many bytes: sign bytes, and these.
 fn write_extended<S: Sink>(dst: &mut S, count: u32, bytes: &[u8]) -> Result<()>
     requires { count ≡ length (sign_extended bytes.now) }
     ensures { Writes (length_and_content (sign_extended bytes.now))

@@ -20,6 +20,11 @@ use std::marker::Model;
 use std::ops::Deref;
 
 /// The tag of an item: a number of three bytes (KMIP 1.0, section 9.1.1.1).
+///
+/// ```
+/// let tag = TtlvTag::from([0x42, 0x00, 0x20]);
+/// assert_eq!(rt; *tag, 0x42_0020);
+/// ```
 #[derive(Clone, Copy, PartialEq, Eq, Hash)]
 pub struct TtlvTag(u32);
 
@@ -36,7 +41,12 @@ impl Model for TtlvTag {
 }
 
 impl TtlvTag {
-    /// The tag of a number below 2^24, and none from there on.
+    /// The tag with this number, if it is below 2^24.
+    ///
+    /// ```
+    /// assert!(rt; TtlvTag::from_number(0xFF_FFFF).is_some());
+    /// assert!(rt; TtlvTag::from_number(0x100_0000).is_none());
+    /// ```
     pub fn from_number(n: u32) -> Option<TtlvTag>
         ensures some { IfSome result (λ t. t ≡ n) }
         ensures none { IfNone result (2 ^ 24 ≤ n) }
@@ -48,7 +58,7 @@ impl TtlvTag {
         }
     }
 
-    // The tag of three bytes, the highest first: as `From`, without an array of them.
+    // The tag of three bytes, the highest first: as `From`, but without an array of them.
     #[inline(always)]
     pub(crate) fn of_bytes(a: u8, b: u8, c: u8) -> TtlvTag
         ensures { result ≡ from_be_bytes w32 (0 ∷ a ∷ b ∷ c ∷ []) }
@@ -56,7 +66,13 @@ impl TtlvTag {
         TtlvTag(u32::from_be_bytes([0, a, b, c]))
     }
 
-    /// The tag that a name is, where it is one. Takes no memory.
+    /// The tag that a text is: its number, as `number` reads it, if that is below 2^24. Doesn't allocate.
+    ///
+    /// ```
+    /// let tag = TtlvTag::from([0x42, 0x00, 0xAA]);
+    /// assert!(rt; TtlvTag::from_name("0x4200AA") == Some(tag));
+    /// assert!(rt; TtlvTag::from_name("XYZ").is_none());
+    /// ```
     #[tactic(auto, unfolding(crate::specs::Names::tag_of))]
     pub fn from_name(name: &str) -> Option<TtlvTag>
         ensures { result ≡ tag_of name.now }
@@ -64,10 +80,15 @@ impl TtlvTag {
         TtlvTag::from_number(number(name)?)
     }
 
-    /// The tag that a text is: a number, as `number` reads it, below 2^24.
+    /// The tag that a text is: its number, as `number` reads it, below 2^24.
     ///
-    /// InvalidTtlvTag with the whole text where it is none, or OutOfMemory where memory for that text is
-    /// refused.
+    /// Fails with `InvalidTtlvTag` and the whole text if it is none, or with `OutOfMemory` if there is no memory
+    /// for that text.
+    ///
+    /// ```
+    /// let tag = TtlvTag::from_str(alloc, "0x4200AA")?;
+    /// assert!(rt; TtlvTag::from_str(alloc, "0x1000000").is_err());
+    /// ```
     pub fn from_str<A: Allocator>(alloc: A, text: &str) -> Result<TtlvTag, Error<A>>
         ensures { IsNamed text.now result }
     {
@@ -78,6 +99,10 @@ impl TtlvTag {
     }
 
     /// The six uppercase hexadecimal digits of the tag, in ASCII.
+    ///
+    /// ```
+    /// assert!(rt; TtlvTag::from([0xAB, 0xCD, 0xEF]).digits() == *b"ABCDEF");
+    /// ```
     pub fn digits(self) -> [u8; 6]
         ensures digits { result ≡ six_digits self }
         ensures ascii { IsAscii result }
@@ -85,9 +110,14 @@ impl TtlvTag {
         six_of(self.0)
     }
 
-    /// Takes the three bytes of a tag.
+    /// Reads the three bytes of a tag.
     ///
-    /// IoError where they don't come: of the kind UnexpectedEof where the input ends before that.
+    /// Fails with `IoError` if they can't be read: of kind `UnexpectedEof` if the input ends too early.
+    ///
+    /// ```
+    /// let mut source = MemorySource(b"\x42\0\x20\x02\0\0\0\x04");
+    /// assert!(rt; TtlvTag::read(&mut source)? == TtlvTag::from([0x42, 0x00, 0x20]));
+    /// ```
     pub fn read<S: Source>(src: &mut S) -> Result<TtlvTag, Error>
         ensures { ReadsNumber (bytes_high_first 3) 3 S.can_fail (S.left src.old) (S.left src.new) result }
     {
@@ -98,7 +128,13 @@ impl TtlvTag {
 
     /// Writes the three bytes of the tag.
     ///
-    /// IoError where that fails; a beginning may have been written.
+    /// Fails with `IoError` if the sink does; a beginning may have been written.
+    ///
+    /// ```
+    /// let mut out = Vec::new(alloc);
+    /// TtlvTag::from([0x42, 0x00, 0x20]).write(&mut out)?;
+    /// assert!(rt; out.as_slice() == b"\x42\0\x20".as_slice());
+    /// ```
     pub fn write<S: Sink>(&self, dst: &mut S) -> Result<(), Error>
         ensures { Writes (bytes_high_first 3 self.now)
             (S.held dst.old) (S.held dst.new) (S.room dst.old) (S.room dst.new) result }
@@ -185,7 +221,7 @@ impl fmt::Debug for TtlvTag {
     }
 }
 
-/// Uppercase digits without leading zeros; a width and a fill by zeros are kept.
+/// Uppercase digits without leading zeros; a width and a fill by zeros are as for numbers.
 impl fmt::UpperHex for TtlvTag {
     fn fmt<W: fmt::Write>(&self, f: &mut fmt::Formatter<W>) -> fmt::Result
         ensures { WritesOnOk W.write_str_gives f.old result (digits 16 true self.now) f.new }
@@ -194,7 +230,7 @@ impl fmt::UpperHex for TtlvTag {
     }
 }
 
-/// What `{:X}` and its kin print of a tag: its number.
+/// The number that `{:X}` and its kin print of a tag.
 impl fmt::HasDigits for TtlvTag {
     ghost word = { λ n. Some n };
 

@@ -10,6 +10,11 @@ use crate::stream::{Sink, Source, fill_all};
 use std::fmt;
 
 /// The type of an item (KMIP 1.0, section 9.1.1.2). Its code is one byte on the wire.
+///
+/// ```
+/// assert_eq!(rt; TtlvType::from_code(0x0A), Some(TtlvType::Interval));
+/// assert_eq!(rt; TtlvType::Interval.code(), 0x0A);
+/// ```
 #[derive(Clone, Copy, Debug, PartialEq, Eq)]
 pub enum TtlvType {
     /// Code 01: items, one after the other.
@@ -20,22 +25,22 @@ pub enum TtlvType {
     LongInteger,
     /// Code 04: a signed number of any length.
     BigInteger,
-    /// Code 05: an unsigned number of four bytes that names a choice.
+    /// Code 05: an unsigned number of four bytes that stands for a choice.
     Enumeration,
     /// Code 06: true or false, in eight bytes.
     Boolean,
-    /// Code 07: a text in UTF-8.
+    /// Code 07: UTF-8 text.
     TextString,
     /// Code 08: any bytes.
     ByteString,
     /// Code 09: seconds since the start of 1970, a signed number of eight bytes.
     DateTime,
-    /// Code 0A: a span of seconds, an unsigned number of four bytes.
+    /// Code 0A: a number of seconds, unsigned, of four bytes.
     Interval,
 }
 
 impl TtlvType {
-    /// The type of a code from 01 to 0A.
+    /// The type with this code, if it is from 01 to 0A.
     pub fn from_code(code: u8) -> Option<TtlvType>
         ensures { result ≡ type_of code }
     {
@@ -54,7 +59,7 @@ impl TtlvType {
         }
     }
 
-    /// The code that stands for this type on the wire.
+    /// The type's code on the wire.
     pub fn code(self) -> u8
         ensures { result ≡ code self }
     {
@@ -72,10 +77,15 @@ impl TtlvType {
         }
     }
 
-    /// Takes the byte of a type's code.
+    /// Reads the byte of a type's code.
     ///
-    /// InvalidTtlvType with that byte where it is no type's code; IoError where none comes: of the
-    /// kind UnexpectedEof where the input ends.
+    /// Fails with `InvalidTtlvType` and the byte if it is no type's code, or with `IoError` if it can't be read:
+    /// of kind `UnexpectedEof` at the end of the input.
+    ///
+    /// ```
+    /// let mut source = MemorySource(b"\x0A\0\0\0\x04");
+    /// assert_eq!(rt; TtlvType::read(&mut source)?, TtlvType::Interval);
+    /// ```
     pub fn read<S: Source>(src: &mut S) -> Result<TtlvType, Error>
         ensures { ReadsType S.can_fail (S.left src.old) (S.left src.new) result }
     {
@@ -86,7 +96,13 @@ impl TtlvType {
 
     /// Writes the byte of the type's code.
     ///
-    /// IoError where that fails.
+    /// Fails with `IoError` if the sink does.
+    ///
+    /// ```
+    /// let mut out = Vec::new(alloc);
+    /// TtlvType::Interval.write(&mut out)?;
+    /// assert!(rt; out.as_slice() == b"\x0A".as_slice());
+    /// ```
     pub fn write<S: Sink>(&self, dst: &mut S) -> Result<(), Error>
         ensures { Writes (code self.now ∷ [])
             (S.held dst.old) (S.held dst.new) (S.room dst.old) (S.room dst.new) result }
@@ -101,9 +117,9 @@ impl TryFrom<u8> for TtlvType {
 
     ghost try_from_gives = { λ c r. IsTypeOf c r };
 
-    /// The type of a code.
+    /// The type with this code.
     ///
-    /// InvalidTtlvType for every code but 01 to 0A.
+    /// Fails with `InvalidTtlvType` and the code if it isn't from 01 to 0A.
     fn try_from(code: u8) -> Result<TtlvType, Error> {
         TtlvType::from_code(code).ok_or(Error::InvalidTtlvType(code))
     }
@@ -120,7 +136,7 @@ impl From<TtlvType> for [u8; 1] {
     }
 }
 
-/// The name, and the code in brackets, as `Integer (0x02)`.
+/// The name, and the code in brackets: `Integer (0x02)`.
 impl fmt::Display for TtlvType {
     ghost output = { λ t. Some (type_text t) };
 

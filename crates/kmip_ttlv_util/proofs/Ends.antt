@@ -13,7 +13,7 @@ use Rattle.kmip_ttlv_util.proofs.Longest.{Tells, tells}
 use Rattle.kmip_ttlv_util.proofs.Reading.{Reads}
 
 module _ (beginning : ℕ → ℕ → List ℕ) (prefix : List ℕ) where
-  -- the parts that stand in front of what is left, and their lines
+  -- the parts before the rest of a text, and their lines
   pub record Standing (s out : List ℕ) (depth : ℕ) (rest : List ℕ) : Type 0 where
     pub parts : List Part
     pub front : List ℕ
@@ -25,7 +25,7 @@ module _ (beginning : ℕ → ℕ → List ℕ) (prefix : List ℕ) where
   pub standing_start : (s : List ℕ) → Standing s [] 0 s
   standing_start s = record { parts = []; front = []; stand = (refl, refl); lines = refl; split = refl }
 
-  -- what stands behind a letter ends where the rest begins
+  -- what follows a letter ends where the rest begins
   behind_front : (typ : TtlvType) (after shown rest : List ℕ) → StandsBehind typ after shown rest → (f : List ℕ) × (after ≡ f ++ rest)
   behind_front Structure after shown rest h = ([], sym h.1)
   behind_front Integer after shown rest h = ([], sym h.1)
@@ -46,14 +46,14 @@ module _ (beginning : ℕ → ℕ → List ℕ) (prefix : List ℕ) where
       let f = behind_front typ h.0 shown rest h.3 in
       (take n s ++ (letter typ ∷ f.0), sym (take-append-drop n s) ∙ ap (λ (t : List ℕ). take n s ++ t) (h.2 ∙ ap (λ (t : List ℕ). letter typ ∷ t) f.1) ∙ sym (append_assoc (take n s) (letter typ ∷ f.0) rest))
 
-  -- one part more behind others
+  -- one more part after others
   all_more : (ps : List Part) (depth : ℕ) (s : List ℕ) (deep : ℕ) (rest : List ℕ) → StandAll prefix depth s ps deep rest → (p : Part) (r : List ℕ) → Stands prefix deep rest p r → StandAll prefix depth s (ps ++ (p ∷ [])) (depth_behind deep p) r
   all_more [] depth s deep rest h p r here =
       let one = subst (λ (d : ℕ). Stands prefix d rest p r) h.0 here in
       (r, subst (λ (t : List ℕ). Stands prefix depth t p r) h.1 one, (ap (λ (d : ℕ). depth_behind d p) h.0, refl))
   all_more (q ∷ qs) depth s deep rest h p r here = (h.0, h.1, all_more qs (depth_behind depth q) h.0 deep rest h.2 p r here)
 
-  -- and its line behind theirs
+  -- and its line after theirs
   lines_more : (ps : List Part) (depth : ℕ) (s : List ℕ) (deep : ℕ) (rest : List ℕ) → StandAll prefix depth s ps deep rest → (p : Part) → part_lines beginning depth (ps ++ (p ∷ [])) ≡ part_lines beginning depth ps ++ part_line beginning deep p
   lines_more [] depth s deep rest h p = append-nil (part_line beginning depth p) ∙ ap (λ (d : ℕ). part_line beginning d p) (sym h.0)
   lines_more (q ∷ qs) depth s deep rest h p =
@@ -93,6 +93,6 @@ module _ (beginning : ℕ → ℕ → List ℕ) (prefix : List ℕ) where
         written = text;
       }
 
-  -- no whole part stands there
+  -- there is no whole part
   pub standing_ends : (s out now : List ℕ) (depth : ℕ) (rest : List ℕ) (used : ℕ) → Standing s out depth rest → Reads (step beginning prefix depth rest) out now None → used ≡ length s - length rest → EndsAt beginning prefix s now used depth
   standing_ends s out now depth rest used k reads count = ends_by s out now depth rest used (step beginning prefix depth rest) (tells beginning prefix depth rest) k reads count

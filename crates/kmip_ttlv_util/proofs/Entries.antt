@@ -1,4 +1,4 @@
--- Entries at places.
+-- Entries at offsets.
 use Rattle.std.proofs.Common.{Bor, ◌≡◌, ◌≢◌, ℕ, ◌+◌, ◌<◌, ◌≤◌, Bool, true, false, ◌&&◌, cond, eqb, leb, List, length, take, drop, get_or, Option, Some, None, refl, sym, ap, subst, ◌∙◌, arith, add-zero}
 use Rattle.std.specs.Int.{w32, from_be_bytes}
 use Rattle.std.proofs.lemmas.List.{get_or-take, get_or-drop, length-take-le, length-drop}
@@ -15,7 +15,7 @@ module _ (w : List ℕ) (p : ℕ) where
   cell : (i : ℕ) → i < 8 → get_or (take 8 (drop p w)) i 0 ≡ get_or w (p + i) 0
   cell i lt = get_or-take 8 (drop p w) i 0 lt ∙ get_or-drop p w i 0
 
-  -- an entry's tag, code and length are those at its place
+  -- an entry's tag, code and length are those at its offset
   pub entry_tag : tag_at (entry_at w p).header 0 ≡ tag_at w p
   unfolding entry_at
   entry_tag = rw (cell 0 (omega arith), cell 1 (omega arith), cell 2 (omega arith), add-zero) refl
@@ -30,7 +30,7 @@ module _ (w : List ℕ) (p : ℕ) where
   unfolding entry_at
   entry_length = rw (cell 4 (omega arith), cell 5 (omega arith), cell 6 (omega arith), cell 7 (omega arith)) refl
 
--- an entry has its eight header bytes
+-- an entry takes at least the eight bytes of its header
 pub extent_least : (t : TtlvType) (n : ℕ) → 8 ≤ extent t n
 extent_least Structure n = omega arith
 extent_least Integer n = omega arith
@@ -43,7 +43,7 @@ extent_least ByteString n = omega arith
 extent_least DateTime n = omega arith
 extent_least Interval n = omega arith
 
--- of a leaf, the whole
+-- a leaf's entry takes all of it
 pub extent_leaf : (t : TtlvType) (n : ℕ) → t ≢ Structure → extent t n ≡ size t n
 extent_leaf Structure n ne = absurd (ne refl)
 extent_leaf Integer n ne = refl
@@ -56,7 +56,7 @@ extent_leaf ByteString n ne = refl
 extent_leaf DateTime n ne = refl
 extent_leaf Interval n ne = refl
 
--- what is kept tells whether content is valid
+-- what is kept shows whether content is valid
 fine_is : (t : TtlvType) (n : ℕ) (content : List ℕ) → t ≢ Structure → length content ≡ n → is_fine t n (detail_of t content) ≡ is_valid t content
 fine_is Structure n content ne len = absurd (ne refl)
 fine_is Integer n content ne len = ap (λ (m : ℕ). eqb m 4) (sym len)
@@ -69,7 +69,7 @@ fine_is ByteString n content ne len = refl
 fine_is DateTime n content ne len = ap (λ (m : ℕ). eqb m 8) (sym len)
 fine_is Interval n content ne len = ap (λ (m : ℕ). eqb m 4) (sym len)
 
--- a value only of an enumeration
+-- a value is kept only of an enumeration
 pub kept_none : (t : TtlvType) (d : Detail) → t ≢ Enumeration → kept t d ≡ None
 kept_none Structure d ne = refl
 kept_none Integer d ne = refl
@@ -86,26 +86,26 @@ kept_none Interval d ne = refl
 pub kept_enumeration : (content : List ℕ) → is_valid Enumeration content ≡ true → kept Enumeration (detail_of Enumeration content) ≡ Some (from_be_bytes w32 content)
 kept_enumeration content valid = rw valid refl
 
--- a type is read where its bytes are there and its content is valid
+-- a type is read if its bytes are there and its content is valid
 test_true : (a b : ℕ) (c : Bool) (t : TtlvType) → a ≤ b → c ≡ true → cond (leb a b && c) (Some t) None ≡ Some t
 test_true a b c t le e = rw (le-leb a b le, e) refl
 
--- not where bytes are missing
+-- not if bytes are missing
 test_order : (a b : ℕ) (c : Bool) (t : TtlvType) → b < a → cond (leb a b && c) (Some t) None ≡ None
 test_order a b c t lt = rw (lt-leb a b lt) refl
 
--- not where content is invalid
+-- not if content is invalid
 test_false : (b c : Bool) (t : TtlvType) → c ≡ false → cond (b && c) (Some t) None ≡ None
 test_false true c t e = rw e refl
 test_false false c t e = refl
 
 module _ (w : List ℕ) (p : ℕ) where
-  -- what the type's code decides
+  -- the type's code decides
   read_at : (o : Option TtlvType) → type_of (code_at w p) ≡ o → type_read (length w) p (entry_at w p) ≡ type_if (length w) p (entry_at w p) o
   unfolding type_read
   read_at o e = ap (type_if (length w) p (entry_at w p)) (ap type_of (entry_code w p) ∙ e)
 
-  -- an entry of no type is not read
+  -- an entry of unknown type is not read
   pub read_none : type_of (code_at w p) ≡ None → type_read (length w) p (entry_at w p) ≡ None
   read_none e = read_at None e
 
@@ -117,7 +117,7 @@ module _ (w : List ℕ) (p : ℕ) where
       by None e = read_at None e
       by (Some t) e = read_at (Some t) e ∙ test_order (p + extent t (length_at (entry_at w p).header 0)) (length w) _ t (omega (arith, extent_least t (length_at (entry_at w p).header 0)))
 
-  -- where the bytes of its content are missing
+  -- nor one whose content isn't all there
   pub read_missing : (t : TtlvType) (n : ℕ) → type_of (code_at w p) ≡ Some t → t ≢ Structure → n ≡ length_at w p → length w < p + size t n → type_read (length w) p (entry_at w p) ≡ None
   read_missing t n code-is ne len lt =
       let same : extent t (length_at (entry_at w p).header 0) ≡ size t n = ap (extent t) (entry_length w p ∙ sym len) ∙ extent_leaf t n ne in
@@ -130,25 +130,25 @@ module _ (w : List ℕ) (p : ℕ) where
       let here : p + size t (length_at w p) ≤ length w = subst (λ (m : ℕ). p + size t m ≤ length w) len le in
       ap (detail_at w p) code-is ∙ rw (le-leb (p + size t (length_at w p)) (length w) here) (ap (λ (m : ℕ). detail_of t (take m (drop (p + 8) w))) (sym len))
 
-  -- what is kept tells whether that content is valid
+  -- what is kept shows whether that content is valid
   fine_here : (t : TtlvType) (n : ℕ) → type_of (code_at w p) ≡ Some t → t ≢ Structure → n ≡ length_at w p → p + size t n ≤ length w → is_fine t (length_at (entry_at w p).header 0) (entry_at w p).detail ≡ is_valid t (take n (drop (p + 8) w))
   fine_here t n code-is ne len le =
       let long : n ≤ length (drop (p + 8) w) = omega (arith, length-drop (p + 8) w) in
       ap (is_fine t (length_at (entry_at w p).header 0)) (detail_here t n code-is len le)
       ∙ fine_is t (length_at (entry_at w p).header 0) (take n (drop (p + 8) w)) ne (length-take-le n (drop (p + 8) w) long ∙ len ∙ sym (entry_length w p))
 
-  -- an entry of invalid content is not read
+  -- an entry with invalid content is not read
   pub read_invalid : (t : TtlvType) (n : ℕ) → type_of (code_at w p) ≡ Some t → t ≢ Structure → n ≡ length_at w p → p + size t n ≤ length w → is_valid t (take n (drop (p + 8) w)) ≡ false → type_read (length w) p (entry_at w p) ≡ None
   read_invalid t n code-is ne len le bad =
       read_at (Some t) code-is ∙ test_false _ _ t (fine_here t n code-is ne len le ∙ bad)
 
-  -- a leaf whose valid content is there is read
+  -- a leaf with valid content that is all there is read
   pub read_leaf : (t : TtlvType) (n : ℕ) → type_of (code_at w p) ≡ Some t → t ≢ Structure → n ≡ length_at w p → p + size t n ≤ length w → is_valid t (take n (drop (p + 8) w)) ≡ true → type_read (length w) p (entry_at w p) ≡ Some t
   read_leaf t n code-is ne len le good =
       let same : extent t (length_at (entry_at w p).header 0) ≡ size t n = ap (extent t) (entry_length w p ∙ sym len) ∙ extent_leaf t n ne in
       read_at (Some t) code-is ∙ test_true (p + extent t (length_at (entry_at w p).header 0)) (length w) _ t (omega arith) (fine_here t n code-is ne len le ∙ good)
 
-  -- a structure whose header is there is read
+  -- a structure is read if its header is there
   pub read_structure : type_of (code_at w p) ≡ Some Structure → p + 8 ≤ length w → type_read (length w) p (entry_at w p) ≡ Some Structure
   read_structure code-is le = read_at (Some Structure) code-is ∙ test_true (p + 8) (length w) true Structure le refl
 

@@ -1,4 +1,4 @@
--- Texts that a trim leaves, whatever stands behind them, and the end of a line that is trimmed.
+-- Texts that trimming leaves alone, whatever follows them, and the trimmed end of a line.
 use Rattle.std.proofs.Common.{◌≡◌, ◌≢◌, ◌⊎◌, inl, inr, ℕ, zero, suc, ◌+◌, ◌-◌, ◌<◌, Bool, true, false, ◌&&◌, cond, eqb, List, [], ◌∷◌, ◌++◌, length, replicate, Option, Some, None, refl, sym, ap, subst, ◌∙◌, arith, append_assoc, append-nil, length-append}
 use Rattle.std.specs.Prelude.{codes, ◌^◌, IfSome, nat_le}
 use Rattle.std.specs.Borrow.{Bor}
@@ -29,12 +29,12 @@ Solid t = Ends t × IsUtf8 t
 abbrev pub IsFirm : List ℕ → Type 0
 IsFirm t = (t ≡ []) ⊎ Solid t
 
--- a firm text is text
+-- a firm text is UTF-8
 pub firm_utf8 : (t : List ℕ) → IsFirm t → IsUtf8 t
 firm_utf8 t (inl e) = subst IsUtf8 (sym e) IsUtf8-nil
 firm_utf8 t (inr f) = f.1
 
--- a visible character stays, with all in front of it
+-- a visible character stays, with everything before it
 drop_keeps : (zs : List ℕ) (c : ℕ) (ys : List ℕ) → Visible c → drop_trailing_whitespace (zs ++ (c ∷ ys)) ≡ zs ++ (c ∷ drop_trailing_whitespace ys)
 drop_keeps [] c ys v = rw (visible_dark c v) refl
 drop_keeps (z ∷ zs) c ys v =
@@ -42,7 +42,7 @@ drop_keeps (z ∷ zs) c ys v =
     let some : length (drop_trailing_whitespace (zs ++ (c ∷ ys))) ≢ 0 = λ h. omega (arith, h, ap length k, length-append zs (c ∷ drop_trailing_whitespace ys)) in
     stays_on (is_whitespace z) (length (drop_trailing_whitespace (zs ++ (c ∷ ys)))) z (drop_trailing_whitespace (zs ++ (c ∷ ys))) some ∙ ap (λ (r : List ℕ). z ∷ r) k
 
--- a trim leaves what ends with a visible character
+-- trimming leaves what ends with a visible character
 keeps : (q more : List ℕ) → Ends q → IsUtf8 q → trim_end (q ++ more) ≡ q ++ trim_end more
 unfolding trim_end
 keeps q more e utf8 =
@@ -58,22 +58,22 @@ keeps q more e utf8 =
     ∙ encodes-append (chars q) (drop_trailing_whitespace ys)
     ∙ ap (λ (s : List ℕ). s ++ encode_utf8_all (drop_trailing_whitespace ys)) (encodes-chars q utf8)
 
--- and an empty text
+-- and an empty text stays empty
 pub firm_keeps : (q more : List ℕ) → IsFirm q → trim_end (q ++ more) ≡ q ++ trim_end more
 firm_keeps q more (inl e) = rw e refl
 firm_keeps q more (inr f) = keeps q more f.0 f.1
 
--- nothing is left of nothing
+-- nothing is left of an empty text
 pub trim_nil : trim_end [] ≡ []
 unfolding trim_end
 trim_nil = ap (λ (s : List ℕ). encode_utf8_all (drop_trailing_whitespace s)) chars-nil
 
--- a line feed is dropped
+-- a trailing line feed is dropped
 drop_feed : (xs : List ℕ) → drop_trailing_whitespace (xs ++ (10 ∷ [])) ≡ drop_trailing_whitespace xs
 drop_feed [] = refl
 drop_feed (x ∷ xs) = ap (λ (r : List ℕ). cond (is_whitespace x && eqb (length r) 0) [] (x ∷ r)) (drop_feed xs)
 
--- a space in front of what is left, if anything is
+-- a space before a text, unless it is empty
 abbrev spaced : List ℕ → List ℕ
 spaced [] = []
 spaced (c ∷ s) = 32 ∷ c ∷ s
@@ -82,7 +82,7 @@ spaced_some : (s : List ℕ) → length s ≢ 0 → spaced s ≡ 32 ∷ s
 spaced_some [] some = absurd (some refl)
 spaced_some (c ∷ s) some = refl
 
--- of the characters
+-- the same for characters
 drop_spaced : (d : List ℕ) → encode_utf8_all (cond (true && eqb (length d) 0) [] (32 ∷ d)) ≡ spaced (encode_utf8_all d)
 unfolding encode
 drop_spaced [] = refl
@@ -121,7 +121,7 @@ trim_pending q true shown firm utf8 =
     firm_keeps q (codes ", Data: " ++ (shown ++ (10 ∷ []))) firm
     ∙ ap (λ (s : List ℕ). q ++ s) (keeps (codes ", Data:") (32 ∷ (shown ++ (10 ∷ []))) colon_ends colon_utf8 ∙ ap (λ (s : List ℕ). codes ", Data:" ++ s) (trim_spaced shown utf8) ∙ last_spaced (trim_end shown))
 
--- what is still to be written, by whether anything is
+-- the pending end of a line, if there is one
 pub is_pending : (pending : Bool) (shown : List ℕ) → pending ≡ true → codes ", Data: " ++ (shown ++ (10 ∷ [])) ≡ pending_text pending shown
 is_pending true shown e = refl
 is_pending false shown e = absurd cc
@@ -136,19 +136,19 @@ is_last true [] trimmed e same some = absurd (some refl)
 is_last true (c ∷ s) trimmed e same some = rw (← same) refl
 is_last false s trimmed e same some = absurd cc
 
--- what is still to be written is text
+-- the pending end of a line is UTF-8
 pub pending_utf8 : (pending : Bool) (shown : List ℕ) → IsUtf8 shown → IsUtf8 (pending_text pending shown)
 unfolding is_utf8 chars encode
 pending_utf8 false shown utf8 = IsUtf8-nil
 pending_utf8 true shown utf8 = IsUtf8-append (codes ", Data: ") (shown ++ (10 ∷ [])) (IsUtf8-from_is_utf8 (codes ", Data: ") refl) (IsUtf8-append shown (10 ∷ []) utf8 (IsUtf8-from_is_utf8 (10 ∷ []) refl))
 
--- a firm text has nothing to trim
+-- trimming leaves a firm text alone
 pub firm_trimmed : (q : List ℕ) → IsFirm q → trim_end q ≡ q
 firm_trimmed q firm = ap trim_end (sym (append-nil q)) ∙ firm_keeps q [] firm ∙ ap (λ (s : List ℕ). q ++ s) trim_nil ∙ append-nil q
 
 -- ---- the beginnings of lines
 
--- a text behind another
+-- a text after another
 pub solid_behind : (xs t : List ℕ) → IsUtf8 xs → Solid t → Solid (xs ++ t)
 solid_behind xs t utf8 s = (ends_behind xs t s.0, IsUtf8-append xs t utf8 s.1)
 
@@ -157,7 +157,7 @@ visible_ascii : (ds : List ℕ) → AllVisible ds → IsAscii ds
 visible_ascii [] all = IsAscii-nil
 visible_ascii (d ∷ ds) all = IsAscii-cons d ds all.0.below (visible_ascii ds all.1)
 
--- so some of them are a solid text
+-- so one or more of them are a solid text
 seen : (d : ℕ) (ds : List ℕ) → AllVisible (d ∷ ds) → Solid (d ∷ ds)
 seen d ds all = (last_visible d ds all, IsUtf8-from_ascii (d ∷ ds) (visible_ascii (d ∷ ds) all))
 
@@ -170,7 +170,7 @@ hex_solid : (n : ℕ) → Solid (hex_padded 4 n)
 unfolding at_least
 hex_solid n = seen 48 _ (record { above = omega arith; below = omega arith }, (record { above = omega arith; below = omega arith }, zeros_visible (4 - length (hex_upper n)) (hex_upper n) (hex_visible n)))
 
--- behind a name
+-- after a name
 tag_solid : (name : Option (Bor (List ℕ))) (tag : ℕ) → IfSome name (λ s. IsUtf8 s.now) → Solid (tag_named (option_map (λ s. s.now) name) tag)
 unfolding is_utf8 chars encode
 tag_solid None tag text = hex_solid tag
@@ -221,11 +221,11 @@ module _ (names : ℕ → Option (List ℕ)) (tag : ℕ) (solid : Solid (tag_nam
   pub typed_solid : (indentation : Indentation) (depth : ℕ) (typ : TtlvType) → depth < 2 ^ 64 → Solid (typ_part (indented indentation names) depth tag typ)
   typed_solid indentation depth typ small = solid_behind (indented indentation names depth tag) _ ((beginning_solid indentation depth small).1) (type_solid typ)
 
--- a tag behind a name that was found
+-- a tag with the name that was found
 pub named_solid : (names : ℕ → Option (List ℕ)) (name : Option (Bor (List ℕ))) (tag : ℕ) → option_map (λ s. s.now) name ≡ names tag → IfSome name (λ s. IsUtf8 s.now) → Solid (tag_named (names tag) tag)
 named_solid names name tag same text = subst (λ (o : Option (List ℕ)). Solid (tag_named o tag)) same (tag_solid name tag text)
 
--- names that have the same name for a tag begin its line alike
+-- names that agree on a tag give its line the same beginning
 pub same_beginning : (names names' : ℕ → Option (List ℕ)) (indentation : Indentation) (depth tag : ℕ) → names tag ≡ names' tag → indented indentation names depth tag ≡ indented indentation names' depth tag
 unfolding bounded_part
 same_beginning names names' Full depth tag same = ap (λ (o : Option (List ℕ)). indent depth ++ (codes "Tag: " ++ tag_named o tag)) same

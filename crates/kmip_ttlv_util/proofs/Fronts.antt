@@ -1,4 +1,4 @@
--- Fronts of texts.
+-- Beginnings of texts.
 use Rattle.std.proofs.Common.{◌≡◌, ℕ, zero, suc, ◌+◌, ◌-◌, ◌*◌, ◌<◌, ◌≤◌, Bool, true, false, cond, ltb, leb, List, [], ◌∷◌, ◌++◌, length, take, drop, get_or, Some, None, refl, sym, ap, subst, ◌∙◌, arith}
 use Rattle.std.proofs.Common.{◌⊎◌, inl, inr}
 use Rattle.std.specs.List.{prefix_len}
@@ -20,28 +20,28 @@ hex_ascii d h = by (cases_lt d 128)
     by (inl lt) = lt
     by (inr le) = let k : is_hex d ≡ false = rw (lt-leb d 57 (omega arith), lt-leb d 70 (omega arith), and_right (leb 48 d) false refl, and_right (leb 65 d) false refl) refl in absurd cc
 
--- one more digit in front
+-- one more leading digit
 ascii_step : (d : ℕ) (s : List ℕ) (n : ℕ) (b : Bool) → is_hex d ≡ b → ((i : ℕ) → get_or (take n s) i 0 < 128) → (i : ℕ) → get_or (take (cond b (1 + n) 0) (d ∷ s)) i 0 < 128
 ascii_step d s n false h more i = omega arith
 ascii_step d s n true h more zero = let e : 1 + n ≡ suc n = omega arith in rw e (hex_ascii d h)
 ascii_step d s n true h more (suc i) = let e : 1 + n ≡ suc n = omega arith in rw e (more i)
 
--- the digits in front are ASCII
+-- leading digits are ASCII
 front_ascii : (s : List ℕ) (i : ℕ) → get_or (take (prefix_len is_hex s) s) i 0 < 128
 front_ascii [] i = omega arith
 front_ascii (d ∷ s) i = ascii_step d s (prefix_len is_hex s) (is_hex d) refl (front_ascii s) i
 
--- a front with one more
+-- a front that is longer by one
 within_step : (n m : ℕ) (b : Bool) → n ≤ m → cond b (1 + n) 0 ≤ suc m
 within_step n m true le = omega arith
 within_step n m false le = omega arith
 
--- a front lies within the text
+-- a front is within the text
 front_within : (q : ℕ → Bool) (s : List ℕ) → prefix_len q s ≤ length s
 front_within q [] = omega arith
 front_within q (d ∷ s) = within_step (prefix_len q s) (length s) (q d) (front_within q s)
 
--- a text may be cut behind its digits
+-- a text can be cut after its leading digits
 pub hex_boundary : (s : List ℕ) (n : ℕ) → IsUtf8 s → n ≡ prefix_len is_hex s → IsCharBoundary s n
 hex_boundary s n utf8 is = subst (λ (m : ℕ). IsCharBoundary s m) (sym is) (IsCharBoundary-from_take s (prefix_len is_hex s) utf8 (front_within is_hex s) (IsUtf8-from_ascii (take (prefix_len is_hex s) s) (front_ascii s)))
 
@@ -55,15 +55,15 @@ letter_ascii c t h = by (cases_lt c 128)
         let k : type_of_letter c ≡ None = rw (ne_eqb c 91 (omega arith), ne_eqb c 105 (omega arith), ne_eqb c 108 (omega arith), ne_eqb c 73 (omega arith), ne_eqb c 101 (omega arith), ne_eqb c 98 (omega arith), ne_eqb c 116 (omega arith), ne_eqb c 111 (omega arith), ne_eqb c 100 (omega arith), ne_eqb c 110 (omega arith)) refl in
         absurd cc
 
--- a text may be cut behind a letter
+-- a text can be cut after a letter
 pub letter_boundary : (s : List ℕ) (c : ℕ) (t : TtlvType) → IsUtf8 s → 0 < length s → c ≡ get_or s 0 0 → type_of_letter c ≡ Some t → IsCharBoundary s 1
 letter_boundary s c t utf8 some is h = IsCharBoundary-after_ascii s 0 utf8 some (omega (arith, letter_ascii c t h))
 
--- a value before a colon
+-- without a colon there is no value
 pub value_none : (s : List ℕ) (n : ℕ) → n ≡ length s → value_up_to s n ≡ None
 value_none s n e = let off : ltb n (length s) ≡ false = le-ltb n (length s) (omega arith) in rw (off, and_right (ltb 0 n) false refl) refl
 
--- an empty value is none
+-- an empty value counts as none
 pub value_empty : (s : List ℕ) (n : ℕ) → n ≡ 0 → value_up_to s n ≡ None
 value_empty s n e = let off : ltb 0 n ≡ false = le-ltb 0 n (omega arith) in rw off refl
 
@@ -86,13 +86,13 @@ indent_parts (suc d) (suc n) lt =
     let same : suc n - (suc d + 1) ≡ n - (d + 1) = omega arith in
     ap (λ (k : ℕ). 32 ∷ 32 ∷ ((indent d ++ (32 ∷ 32 ∷ [])) ++ indent k)) same ∙ ap (λ (s : List ℕ). 32 ∷ 32 ∷ s) (indent_parts d n (omega (arith, lt)))
 
--- fewer levels are in front of more
+-- fewer levels are the beginning of more
 front_levels : (d n : ℕ) → d ≤ n → take (2 * d) (indent n) ≡ indent d
 front_levels zero n le = refl
 front_levels (suc d) zero le = absurd (omega arith)
 front_levels (suc d) (suc n) le = let e : 2 * suc d ≡ suc (suc (2 * d)) = omega arith in rw e (ap (λ (s : List ℕ). 32 ∷ 32 ∷ s) (front_levels d n (omega arith)))
 
--- so up to sixteen levels are in front of those that are lent
+-- so up to sixteen levels are the beginning of the table of spaces
 pub spaces_front : (d : ℕ) → d ≤ 16 → take (2 * d) SPACES ≡ indent d
 spaces_front d le = front_levels d 16 le
 

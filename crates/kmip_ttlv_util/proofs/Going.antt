@@ -1,4 +1,4 @@
--- The loop that reads a diagnostic and writes its lines: what was written, and what is still to be written of the last line.
+-- The loop that reads a diagnostic and writes its lines: what was written, and the pending end of the last line.
 use Rattle.std.proofs.Common.{◌≡◌, ℕ, zero, suc, ◌+◌, ◌-◌, ◌<◌, Bool, true, false, Bor, List, [], ◌∷◌, ◌++◌, length, cond, Option, Some, None, inl, inr, refl, sym, ap, subst, ◌∙◌, arith, append_assoc, append-nil}
 use Rattle.std.specs.Str.{IsUtf8, trim_end}
 use Rattle.std.proofs.lemmas.Str.{IsUtf8-append}
@@ -20,7 +20,7 @@ abbrev pub text_of : Step → List ℕ
 text_of (reads_on w d r) = w
 text_of (stops_with w) = w
 
--- what was read, from where it goes on
+-- what was read, given where it goes on
 read_by : (t : Step) (before now w r : List ℕ) (d : ℕ) (x : ℕ × Bor (List ℕ)) → t ≡ reads_on w d r → now ≡ before ++ w → x.0 ≡ d → x.1.now ≡ r → Reads t before now (Some x)
 read_by t before now w r d x is n deep left = subst (λ (u : Step). Reads u before now (Some x)) (sym is) (n, deep, left)
 
@@ -44,7 +44,7 @@ module _ (beginning : ℕ → ℕ → List ℕ) (depth tag : ℕ) where
   value_begins true x y = line_begins Enumeration x
   value_begins false x y = begins_same (typ_part beginning depth tag Enumeration)
 
-  -- what is written of an item begins with its tag and type
+  -- what is written for an item begins with its tag and type
   data_begins : (typ : TtlvType) (s : List ℕ) → Begins (typ_part beginning depth tag typ) (text_of (data_step beginning depth tag typ s))
   data_begins typ [] = begins_same (typ_part beginning depth tag typ)
   data_begins Structure (c ∷ s) = line_begins Structure []
@@ -69,7 +69,7 @@ module _ (beginning : ℕ → ℕ → List ℕ) (depth tag : ℕ) where
   letter_begins (c ∷ s) = type_begins s (type_of_letter c)
 
 module _ (beginning : ℕ → ℕ → List ℕ) (prefix s : List ℕ) where
-  -- a text was written, and behind it stands what is pending
+  -- a text was written, and a line's end is pending
   pub record Going (p : List ℕ) (pending : Bool) (shown : List ℕ) (depth : ℕ) (rest : List ℕ) : Type 0 where
     pub reading : Reading beginning prefix s (p ++ pending_text pending shown) depth rest
     pub standing : Standing beginning prefix s (p ++ pending_text pending shown) depth rest
@@ -91,7 +91,7 @@ module _ (beginning : ℕ → ℕ → List ℕ) (prefix s : List ℕ) where
   goes_close p shown pending depth rest x left g is deep at =
       goes p p shown shown pending pending depth rest x g (read_by _ _ _ [] left (depth - 1) x is (sym (append-nil (p ++ pending_text pending shown))) deep at) g.firm g.utf8
 
-  -- a line that is begun behind what was pending
+  -- a line that begins after what was pending
   begun_firm : (p shown b : List ℕ) (pending : Bool) → IsFirm p → IsUtf8 shown → Solid b → IsFirm ((p ++ pending_text pending shown) ++ b)
   begun_firm p shown b pending firm utf8 solid = inr (solid_behind (p ++ pending_text pending shown) b (IsUtf8-append p (pending_text pending shown) (firm_utf8 p firm) (pending_utf8 pending shown utf8)) solid)
 
@@ -103,7 +103,7 @@ module _ (beginning : ℕ → ℕ → List ℕ) (prefix s : List ℕ) where
       let before = p ++ pending_text pending shown in
       goes p (before ++ b) shown shows pending true depth rest x g (read_by _ _ _ (line beginning depth tag typ shows) x.1.now x.0 x is (append_assoc before b (pending_text true shows)) refl refl) (begun_firm p shown b pending g.firm g.utf8 solid) utf8
 
-  -- where no whole part stands
+  -- there is no whole part
   pub record Stopped (p shown w : List ℕ) (pending : Bool) (depth : ℕ) (rest : List ℕ) (used : ℕ) : Type 0 where
     pub lines : (p ++ pending_text pending shown) ++ w ≡ undiag_lines beginning prefix s
     pub ends : EndsAt beginning prefix s (undiag_lines beginning prefix s) used depth
@@ -118,7 +118,7 @@ module _ (beginning : ℕ → ℕ → List ℕ) (prefix s : List ℕ) where
         ends = subst (λ (t : List ℕ). EndsAt beginning prefix s t used depth) all (standing_ends beginning prefix s before (before ++ w) depth rest used g.standing reads count);
       }
 
-  -- nothing is written of what stands there: the line that is pending is the last
+  -- nothing is written for what follows: the pending line is the last
   pub last_trimmed : (p shown : List ℕ) (pending : Bool) (depth : ℕ) (rest : List ℕ) (used : ℕ) → Going p pending shown depth rest → Stopped p shown [] pending depth rest used → p ++ last_text pending (trim_end shown) ≡ trim_end (undiag_lines beginning prefix s)
   last_trimmed p shown pending depth rest used g k =
       sym (trim_pending p pending shown g.firm g.utf8) ∙ ap trim_end (sym (append-nil (p ++ pending_text pending shown)) ∙ k.lines)
@@ -127,7 +127,7 @@ module _ (beginning : ℕ → ℕ → List ℕ) (prefix s : List ℕ) where
   last_utf8 p shown pending depth rest used g k =
       subst IsUtf8 (sym (append-nil (p ++ pending_text pending shown)) ∙ k.lines) (IsUtf8-append p (pending_text pending shown) (firm_utf8 p g.firm) (pending_utf8 pending shown g.utf8))
 
-  -- a line is begun, and is the last
+  -- a line begins, and is the last
   pub begun_trimmed : (p shown b : List ℕ) (pending : Bool) (depth : ℕ) (rest : List ℕ) (used : ℕ) → Going p pending shown depth rest → Solid b → Stopped p shown b pending depth rest used → (p ++ pending_text pending shown) ++ b ≡ trim_end (undiag_lines beginning prefix s)
   begun_trimmed p shown b pending depth rest used g solid k =
       sym (firm_trimmed ((p ++ pending_text pending shown) ++ b) (begun_firm p shown b pending g.firm g.utf8 solid)) ∙ ap trim_end k.lines
@@ -135,9 +135,9 @@ module _ (beginning : ℕ → ℕ → List ℕ) (prefix s : List ℕ) where
   pub begun_utf8 : (p shown b : List ℕ) (pending : Bool) (depth : ℕ) (rest : List ℕ) (used : ℕ) → Going p pending shown depth rest → Solid b → Stopped p shown b pending depth rest used → IsUtf8 (undiag_lines beginning prefix s)
   begun_utf8 p shown b pending depth rest used g solid k = subst IsUtf8 k.lines (firm_utf8 _ (begun_firm p shown b pending g.firm g.utf8 solid))
 
-  -- ---- where writing fails, a beginning was written
+  -- ---- if writing fails, a beginning was written
 
-  -- what is written in the end
+  -- what will be written in the end
   all_by : (out : List ℕ) (depth : ℕ) (rest : List ℕ) (t : Step) (most : ℕ) → step beginning prefix depth rest ≡ t → length rest < most → out ++ undiag_from beginning most prefix depth rest ≡ undiag_from beginning (suc (length s)) prefix 0 s → (tail : List ℕ) × (out ++ (text_of t ++ tail) ≡ undiag_from beginning (suc (length s)) prefix 0 s)
   all_by out depth rest t zero e lt lines = absurd (omega arith)
   all_by out depth rest (reads_on w d r) (suc m) e lt lines =
@@ -156,12 +156,12 @@ module _ (beginning : ℕ → ℕ → List ℕ) (prefix s : List ℕ) where
       let lines : undiag_lines beginning prefix s ≡ q ++ (z ++ k.0) = sym (whole beginning prefix s _ (k.1)) ∙ sym (append_assoc out (text_of t) k.0) ∙ ap (λ (l : List ℕ). l ++ k.0) parts ∙ append_assoc q z k.0 in
       record { more = trim_end (z ++ k.0); is = sym (ap trim_end lines ∙ firm_keeps q (z ++ k.0) firm) }
 
-  -- nothing of the part was written
+  -- nothing was written for the part
   pub leads_same : (p shown : List ℕ) (pending : Bool) (depth : ℕ) (rest : List ℕ) → Going p pending shown depth rest → Front p
   leads_same p shown pending depth rest g =
       leads p shown pending depth rest (step beginning prefix depth rest) g refl p _ (append_assoc p (pending_text pending shown) (text_of (step beginning prefix depth rest))) g.firm
 
-  -- a front of it was written
+  -- a front of what it gives was written
   leads_by : (p shown b : List ℕ) (pending : Bool) (depth : ℕ) (rest : List ℕ) (t : Step) → Going p pending shown depth rest → step beginning prefix depth rest ≡ t → Begins b (text_of t) → Solid b → Front ((p ++ pending_text pending shown) ++ b)
   leads_by p shown b pending depth rest t g is k solid =
       let before = p ++ pending_text pending shown in

@@ -17,7 +17,7 @@ use Rattle.kmip_ttlv_util.specs.Outlines.{hex_upper}
 
 -- ---- the table
 
--- the table has the two digits of each byte below a limit
+-- the table has the two digits of every byte below a limit
 abbrev are_pairs : ℕ → Bool
 are_pairs zero = true
 are_pairs (suc b) = (eqb (get_or PAIRS (b * 2) 0) (digit_glyph true (b / 16)) && eqb (get_or PAIRS (b * 2 + 1) 0) (digit_glyph true (b % 16))) && are_pairs b
@@ -30,7 +30,7 @@ below (suc n) b t h =
       | inr ge ↦ let e : b ≡ n = omega arith in let a = and_l _ (are_pairs n) t in rw e (eqb→eq _ _ (and_l _ _ a), eqb→eq _ _ (and_r _ _ a))
     ]
 
--- so the two digits of a byte stand there
+-- so the two digits of a byte are in it
 pub PAIRS_at : (b : ℕ) → b < 256 → (get_or PAIRS (b * 2) 0 ≡ digit_glyph true (b / 16)) × (get_or PAIRS (b * 2 + 1) 0 ≡ digit_glyph true (b % 16))
 PAIRS_at b h = below 256 b tt h
 
@@ -45,7 +45,7 @@ eight_same a b c d e f g h i j k l m n o p p1 p2 p3 p4 p5 p6 p7 p8 = cc
 digit_at : (x m n : ℕ) → x ≡ digit_glyph true m → m ≡ n → x ≡ digit_glyph true n
 digit_at x m n e h = e ∙ ap (digit_glyph true) h
 
--- the digits of four bytes are those of the number
+-- the digits of four bytes are those of their number
 pub pairs_eight : (n : ℕ) → n < 2 ^ 32
     → get_or PAIRS (n / 16777216 * 2) 0 ∷ get_or PAIRS (n / 16777216 * 2 + 1) 0 ∷ get_or PAIRS (n / 65536 % 256 * 2) 0 ∷ get_or PAIRS (n / 65536 % 256 * 2 + 1) 0
     ∷ get_or PAIRS (n / 256 % 256 * 2) 0 ∷ get_or PAIRS (n / 256 % 256 * 2 + 1) 0 ∷ get_or PAIRS (n % 256 * 2) 0 ∷ get_or PAIRS (n % 256 * 2 + 1) 0 ∷ [] ≡ last_digits 8 n
@@ -63,7 +63,7 @@ pairs_eight n small =
 
 -- ---- the last digits
 
--- so many digits
+-- there are this many digits
 pub last_length : (k n : ℕ) → length (last_digits k n) ≡ k
 unfolding last_digits
 last_length zero n = refl
@@ -100,20 +100,20 @@ last_drop (suc w) (suc m) n le =
     let e : suc w - suc m ≡ w - m = omega arith in
     rw (e, drop-append-le (w - m) (last_digits w (n / 16)) (digit_glyph true (n % 16) ∷ []) (omega (arith, last_length w (n / 16)))) (ap (λ (s : List ℕ). s ++ (digit_glyph true (n % 16) ∷ [])) (last_drop w m (n / 16) (omega arith)))
 
--- so the end of eight digits is those
+-- so the end of the eight digits
 pub end_of : (start size n : ℕ) (eight : List ℕ) → start + size ≡ 8 → eight ≡ last_digits 8 n → take size (drop start eight) ≡ last_digits size n
 end_of start size n eight all is =
     let few : length (drop start eight) ≤ size = omega (arith, length-drop start eight, ap length is, last_length 8 n) in
     let begins : start ≡ 8 - size = omega arith in
     take_all size (drop start eight) few ∙ ap (drop start) is ∙ ap (λ (k : ℕ). drop k (last_digits 8 n)) begins ∙ last_drop 8 size n (omega arith)
 
--- and so are six of the eight, one by one
+-- and six of the eight, one by one
 pub six_of : (eight : List ℕ) (n : ℕ) → eight ≡ last_digits 8 n
     → get_or eight 2 0 ∷ get_or eight 3 0 ∷ get_or eight 4 0 ∷ get_or eight 5 0 ∷ get_or eight 6 0 ∷ get_or eight 7 0 ∷ [] ≡ last_digits 6 n
 unfolding last_digits
 six_of eight n is = rw is refl
 
--- and what is shown of a number, where that is six
+-- and the shown digits of a number, if there are six
 pub six_shown : (least count n : ℕ) (eight : List ℕ) → eight ≡ last_digits 8 n → count ≡ 6 → last_digits count n ≡ at_least least (hex_upper n)
     → get_or eight 2 0 ∷ get_or eight 3 0 ∷ get_or eight 4 0 ∷ get_or eight 5 0 ∷ get_or eight 6 0 ∷ get_or eight 7 0 ∷ [] ≡ at_least least (hex_upper n)
 six_shown least count n eight is six shown = six_of eight n is ∙ ap (λ (k : ℕ). last_digits k n) (sym six) ∙ shown
@@ -123,13 +123,13 @@ pub two_of : (eight : List ℕ) (n : ℕ) → eight ≡ last_digits 8 n → get_
 unfolding last_digits
 two_of eight n is = rw is refl
 
--- a digit more of a number that has fewer is a zero
+-- an additional digit of a number with fewer is a zero
 front_zero : (m n : ℕ) → n < 16 ^ m → last_digits (suc m) n ≡ 48 ∷ last_digits m n
 unfolding last_digits
 front_zero zero n small = let e : n % 16 ≡ 0 = omega arith in rw e refl
 front_zero (suc m) n small = ap (λ (s : List ℕ). s ++ (digit_glyph true (n % 16) ∷ [])) (front_zero m (n / 16) (omega (arith, pow-suc 16 m)))
 
--- and so are more
+-- and so are several
 pub padded : (w m n : ℕ) → m ≤ w → n < 16 ^ m → replicate (w - m) 48 ++ last_digits m n ≡ last_digits w n
 padded zero zero n le small = refl
 padded zero (suc m) n le small = absurd (omega arith)
@@ -144,7 +144,7 @@ padded (suc w) m n le small =
 
 -- ---- all digits
 
--- all digits of a number, in front of others
+-- all digits of a number, before others
 onto : (i j n : ℕ) (acc : List ℕ) → j < i → (0 < j → 16 ^ j ≤ n) → n < 16 ^ suc j → digits_onto i 16 true n acc ≡ last_digits (suc j) n ++ acc
 unfolding last_digits
 onto zero j n acc lt lo hi = absurd (omega arith)
@@ -159,12 +159,12 @@ onto (suc i) (suc j) n acc lt lo hi =
     pow_some zero = omega arith
     pow_some (suc k) = omega (arith, pow_some k, pow-suc 16 k)
 
--- all digits of a number with so many are its last ones
+-- all digits of a number are its last ones, of that count
 pub hex_is : (j n : ℕ) → j < 64 → (0 < j → 16 ^ j ≤ n) → n < 16 ^ suc j → hex_upper n ≡ last_digits (suc j) n
 unfolding digits
 hex_is j n lt lo hi = onto 64 j n [] lt lo hi ∙ append-nil (last_digits (suc j) n)
 
--- and so many there are
+-- and there are that many
 pub hex_count : (j n : ℕ) → j < 64 → (0 < j → 16 ^ j ≤ n) → n < 16 ^ suc j → suc j ≡ length (hex_upper n)
 hex_count j n lt lo hi = sym (ap length (hex_is j n lt lo hi) ∙ last_length (suc j) n)
 
@@ -175,7 +175,7 @@ pub record Digits (n : ℕ) : Type 0 where
   pub low : 0 < more → 16 ^ more ≤ n
   pub high : n < 16 ^ suc more
 
--- one of four bytes has at most eight
+-- a four-byte number has at most eight
 pub has_digits : (n : ℕ) → n < 2 ^ 32 → Digits n
 has_digits n small =
     elim (cases_lt n 16) [
@@ -206,7 +206,7 @@ has_digits n small =
 
 -- ---- what is written of a number
 
--- the digits of a number, with zeros in front up to so many
+-- the digits of a number, with leading zeros up to a width
 pub shown_digits : (least total n : ℕ) → n < 2 ^ 32 → (length (hex_upper n) < least → total ≡ least) → (least ≤ length (hex_upper n) → total ≡ length (hex_upper n)) → last_digits total n ≡ at_least least (hex_upper n)
 unfolding at_least
 shown_digits least total n small short long =
@@ -222,12 +222,12 @@ shown_digits least total n small short long =
           ap (λ (k : ℕ). last_digits k n) (long ge ∙ sym count) ∙ sym is ∙ ap (λ (k : ℕ). replicate k 48 ++ hex_upper n) (sym none)
     ]
 
--- a number has no fewer digits than that
+-- a number with enough digits is not padded
 not_padded : (least : ℕ) (ds : List ℕ) → least ≤ length ds → at_least least ds ≡ ds
 unfolding at_least
 not_padded least ds le = let none : least - length ds ≡ 0 = omega arith in rw none refl
 
--- more of them are those of a quotient and fewer
+-- the last digits are those of a quotient, then fewer
 pub last_split : (w j n : ℕ) → j ≤ w → last_digits w n ≡ last_digits (w - j) (n / 16 ^ j) ++ last_digits j n
 unfolding last_digits
 last_split w zero n le = let a : w - 0 ≡ w = omega arith in let b : n / 1 ≡ n = omega arith in rw (a, b) (sym (append-nil (last_digits w n)))
@@ -244,7 +244,7 @@ last_low n =
     eight_same _ _ _ _ _ _ _ _ _ _ _ _ _ _ _ _ (ap (digit_glyph true) (omega arith)) (ap (digit_glyph true) (omega arith)) (ap (digit_glyph true) (omega arith)) (ap (digit_glyph true) (omega arith))
     (ap (digit_glyph true) (omega arith)) (ap (digit_glyph true) (omega arith)) (ap (digit_glyph true) (omega arith)) (ap (digit_glyph true) (omega arith))
 
--- the digits of a number of more than four bytes
+-- the digits of a number that needs more than four bytes
 pub wide_digits : (n : ℕ) → 2 ^ 32 ≤ n → n < 2 ^ 64 → at_least 1 (hex_upper (n / 4294967296)) ++ last_digits 8 (n % 4294967296) ≡ at_least 6 (hex_upper n)
 wide_digits n low high =
     let hi = n / 4294967296 in
@@ -261,9 +261,9 @@ wide_digits n low high =
     ap (λ (s : List ℕ). s ++ last_digits 8 (n % 4294967296)) (not_padded 1 (hex_upper hi) (omega (arith, c1)) ∙ first) ∙ ap (λ (s : List ℕ). last_digits (suc k) hi ++ s) (last_low n)
     ∙ ap (λ (j : ℕ). last_digits j (n / 4294967296) ++ last_digits 8 n) (sym rest) ∙ sym (last_split (suc (k + 8)) 8 n (omega arith)) ∙ sym all ∙ sym (not_padded 6 (hex_upper n) (omega (arith, c2)))
 
--- ---- digits that are read
+-- ---- parsing digits
 
--- one more digit in front of a text
+-- one more leading digit of a text
 pub front_more : (s : List ℕ) (n number value : ℕ) → n < length s → value < 16 → digit_glyph true value ≡ get_or s n 0 → (n ≤ 8 → take n s ≡ last_digits n number) → (n ≤ 8 → number < 16 ^ n) → n + 1 ≤ 8
     → (take (n + 1) s ≡ last_digits (n + 1) ((number * 16 % 4294967296 + value) % 4294967296)) × ((number * 16 % 4294967296 + value) % 4294967296 < 16 ^ (n + 1))
 unfolding last_digits
@@ -280,7 +280,7 @@ front_more s n number value lt small is before fits few =
     ∙ ap (λ (k : ℕ). last_digits n k ++ (digit_glyph true value ∷ [])) (sym front) ∙ ap (λ (d : ℕ). last_digits n ((number * 16 + value) / 16) ++ (digit_glyph true d ∷ [])) (sym end) in
     (text ∙ ap (λ (k : ℕ). last_digits k (number * 16 + value)) (sym next) ∙ ap (last_digits (n + 1)) (sym all), omega (arith, all, within, pow-suc 16 n, ap (λ (k : ℕ). 16 ^ k) next))
 
--- one digit is always there
+-- a number has at least one digit
 pub one_digit : (n : ℕ) → n < 2 ^ 32 → at_least 1 (hex_upper n) ≡ hex_upper n
 one_digit n small = let d = has_digits n small in not_padded 1 (hex_upper n) (omega (arith, hex_count d.more n (omega (arith, d.few)) d.low d.high))
 
@@ -288,11 +288,11 @@ one_digit n small = let d = has_digits n small in not_padded 1 (hex_upper n) (om
 pub two_ascii : (b : ℕ) → b < 256 → IsAscii (digit_glyph true (b / 16) ∷ digit_glyph true (b % 16) ∷ [])
 two_ascii b small = IsAscii-cons (digit_glyph true (b / 16)) (digit_glyph true (b % 16) ∷ []) (glyph_ascii (b / 16) (omega arith)) (IsAscii-cons (digit_glyph true (b % 16)) [] (glyph_ascii (b % 16) (omega arith)) IsAscii-nil)
 
--- six digits behind `0x` are ASCII
+-- `0x` and six digits are ASCII
 pub prefixed_ascii : (n : ℕ) → IsAscii (48 ∷ 120 ∷ last_digits 6 n)
 prefixed_ascii n = IsAscii-cons 48 (120 ∷ last_digits 6 n) (omega arith) (IsAscii-cons 120 (last_digits 6 n) (omega arith) (last_ascii 6 n))
 
--- and behind `Tag: ` too
+-- with `Tag: ` before them too
 pub tagged_ascii : (n : ℕ) → IsAscii (84 ∷ 97 ∷ 103 ∷ 58 ∷ 32 ∷ 48 ∷ 120 ∷ last_digits 6 n)
 tagged_ascii n = IsAscii-append (84 ∷ 97 ∷ 103 ∷ 58 ∷ 32 ∷ []) (48 ∷ 120 ∷ last_digits 6 n) front (prefixed_ascii n)
   where

@@ -13,7 +13,7 @@ use Rattle.std.proofs.lemmas.Bool.{le-leb, lt-leb}
 use Rattle.kmip_ttlv_util.specs.Lines.{tag_part, data_part, depth_mark, bounded_part}
 use Rattle.kmip_ttlv_util.specs.Pretty.{value_shown, data_shown, pretty_line}
 
--- where there are no entries none is found
+-- in an empty list nothing is found
 none_found : (test : ℕ → Bool) (es : List (ℕ × Bor (List ℕ))) → length es ≡ 0 → option_map (λ s. s.now) (lookup test es) ≡ None
 none_found test [] e = refl
 none_found test (x ∷ es) e = absurd (omega arith)
@@ -61,12 +61,12 @@ line_front names depth tag typ content =
     let shut = codes ", Data:" ++ (data_shown typ content ++ (10 ∷ [])) in
     ((codes ", Type: " ++ type_text typ) ++ shut, sym (append_assoc (tag_part names depth tag) (codes ", Type: " ++ type_text typ) shut))
 
--- a line in few structures is indented as any
+-- a line in at most 64 structures is fully indented
 pub bounded_low : (names : ℕ → Option (List ℕ)) (depth tag : ℕ) → depth ≤ 64 → tag_part names depth tag ≡ bounded_part names depth tag
 unfolding bounded_part
 bounded_low names depth tag low = rw (le-leb depth 64 low) refl
 
--- one in more has their number
+-- a line in more has their number
 pub bounded_deep : (names : ℕ → Option (List ℕ)) (depth tag : ℕ) → 64 < depth → depth_mark depth ++ tag_part names 0 tag ≡ bounded_part names depth tag
 unfolding bounded_part
 bounded_deep names depth tag deep = rw (lt-leb depth 64 deep) refl

@@ -1,4 +1,4 @@
--- What is read back of any text is that of its longest list of parts.
+-- Any text is read back as its longest list of parts.
 use Rattle.std.proofs.Common.{◌≡◌, ◌≢◌, ℕ, zero, suc, ◌+◌, ◌<◌, Bool, true, false, not, ◌&&◌, cond, eqb, ltb, List, [], ◌∷◌, ◌++◌, length, take, drop, Option, Some, None, refl, sym, ap, subst, ◌∙◌, arith, append_assoc, length-append}
 use Rattle.std.specs.Prelude.{Result, Ok, Err, IfOk, string_bytes}
 use Rattle.std.proofs.Common.{String}
@@ -24,7 +24,7 @@ use Rattle.kmip_ttlv_util.proofs.Letters.{letter_type}
 abbrev other : ℕ → Bool
 other b = not (eqb b 58)
 
--- no colon stands before the first
+-- there is no colon before the first
 no_colon : (xs : List ℕ) → NoColon (take (prefix_len other xs) xs)
 no_colon [] = tt
 no_colon (x ∷ xs) = by (eqb x 58) refl (no_colon xs)
@@ -36,7 +36,7 @@ no_colon (x ∷ xs) = by (eqb x 58) refl (no_colon xs)
         let one : 1 + prefix_len other xs ≡ suc (prefix_len other xs) = omega arith in
         rw one (ne, more)
 
--- a colon stands at the first
+-- after that comes a colon
 at_colon : (xs : List ℕ) → prefix_len other xs < length xs → drop (prefix_len other xs) xs ≡ 58 ∷ drop (prefix_len other xs + 1) xs
 at_colon [] lt = absurd (omega arith)
 at_colon (x ∷ xs) lt = by (eqb x 58) refl (at_colon xs) lt
@@ -48,18 +48,18 @@ at_colon (x ∷ xs) lt = by (eqb x 58) refl (at_colon xs) lt
         let two : suc (prefix_len other xs) + 1 ≡ suc (prefix_len other xs + 1) = omega arith in
         rw (one, two) (more (omega arith))
 
--- a value without a colon ends at the first
+-- a value without a colon ends at the first colon
 span : (ds s : List ℕ) → NoColon ds → prefix_len other (ds ++ (58 ∷ s)) ≡ length ds
 span [] s all = refl
 span (d ∷ ds) s all = let k = span ds s all.1 in rw (ne_eqb d 58 all.0) (omega (arith, k))
 
 module _ (beginning : ℕ → ℕ → List ℕ) (prefix : List ℕ) where
-  -- what a step tells of the part in front
+  -- what a step shows of the next part
   abbrev pub Tells : ℕ → List ℕ → Step → Type 0
   Tells depth s (reads_on w d r) = (p : Part) × Stands prefix depth s p r × (d ≡ depth_behind depth p) × (w ≡ part_line beginning depth p)
   Tells depth s (stops_with w) = ((p : Part) (more : List ℕ) → Stands prefix depth s p more → ⊥) × (w ≡ unfinished beginning prefix depth s)
 
-  -- in front of a text that begins with no `]`
+  -- of a text that doesn't begin with `]`
   module _ (depth : ℕ) (s : List ℕ) (open_ : (r : List ℕ) → s ≡ 93 ∷ r → ⊥) where
     abbrev digits_end : ℕ
     digits_end = prefix_len is_hex s
@@ -96,7 +96,7 @@ module _ (beginning : ℕ → ℕ → List ℕ) (prefix : List ℕ) where
     whole : (tag : ℕ) (typ : TtlvType) (c : ℕ) (r shown more : List ℕ) (d : ℕ) → tag_in_front prefix s ≡ Some tag → drop digits_end s ≡ c ∷ r → type_of_letter c ≡ Some typ → StandsBehind typ r shown more → d ≡ depth_behind depth (item_part tag typ shown) → Tells depth s (reads_on (line beginning depth tag typ shown) d more)
     whole tag typ c r shown more d some at is behind deep = (item_part tag typ shown, (r, some, at ∙ ap (λ (x : ℕ). x ∷ r) (letter_type c typ is), behind), deep, refl)
 
-    -- nothing stands behind a letter at the end of the text
+    -- at the end of the text nothing follows a letter
     none_behind : (typ : TtlvType) (shown more : List ℕ) → StandsBehind typ [] shown more → ⊥
     none_behind Structure shown more h = omega (arith, ap length h.1, h.2)
     none_behind Enumeration shown more h = omega (arith, ap length h.2, length-append shown (58 ∷ more))
@@ -109,7 +109,7 @@ module _ (beginning : ℕ → ℕ → List ℕ) (prefix : List ℕ) where
     none_behind DateTime shown more h = omega (arith, ap length h.1, h.2)
     none_behind Interval shown more h = omega (arith, ap length h.1, h.2)
 
-    -- an enumeration's value, or none
+    -- no value of an enumeration
     no_value : (r : List ℕ) → (ltb 0 (prefix_len other r) && ltb (prefix_len other r) (length r)) ≡ false → (shown more : List ℕ) → StandsBehind Enumeration r shown more → ⊥
     no_value r off shown more h =
         let n-is : prefix_len other r ≡ length shown = ap (prefix_len other) h.2 ∙ span shown more h.1 in
@@ -169,7 +169,7 @@ module _ (beginning : ℕ → ℕ → List ℕ) (prefix : List ℕ) where
     tag_tells None rest is at = no_tag is
     tag_tells (Some tag) rest is at = letter_tells tag rest is at
 
-  -- no part stands at the end of a text
+  -- there is no part at the end of a text
   no_end : (depth : ℕ) (p : Part) (more : List ℕ) → Stands prefix depth [] p more → ⊥
   no_end depth close_part more h = let k = h.1 in absurd cc
   no_end depth (item_part tag typ shown) more h = let k = h.1 in absurd cc
@@ -178,17 +178,17 @@ module _ (beginning : ℕ → ℕ → List ℕ) (prefix : List ℕ) where
   shut_none : (c : ℕ) (s : List ℕ) → eqb c 93 ≡ true → tag_in_front prefix (c ∷ s) ≡ None
   shut_none c s e = rw e refl
 
-  -- no part stands at a surplus `]`
+  -- a surplus `]` is no part
   no_shut : (c : ℕ) (s : List ℕ) → eqb c 93 ≡ true → (p : Part) (more : List ℕ) → Stands prefix zero (c ∷ s) p more → ⊥
   no_shut c s e close_part more h = omega (arith, h.0)
   no_shut c s e (item_part tag typ shown) more h = let k = h.1 in let l = shut_none c s e in absurd cc
 
-  -- what a step at `]` tells
+  -- what a step at `]` shows
   close_tells : (depth c : ℕ) (s : List ℕ) → eqb c 93 ≡ true → Tells depth (c ∷ s) (close_step depth s)
   close_tells zero c s e = (no_shut c s e, rw (shut_none c s e) refl)
   close_tells (suc d) c s e = (close_part, (omega arith, ap (λ (x : ℕ). x ∷ s) (eqb-true c 93 e)), omega arith, refl)
 
-  -- what any step tells
+  -- what any step shows
   pub tells : (depth : ℕ) (s : List ℕ) → Tells depth s (step beginning prefix depth s)
   unfolding step
   tells depth [] = (no_end depth, refl)
@@ -202,7 +202,7 @@ module _ (beginning : ℕ → ℕ → List ℕ) (prefix : List ℕ) where
 
   -- ---- the whole text
 
-  -- one part more in front
+  -- one more part before others
   more_parts : (depth : ℕ) (s w : List ℕ) (d : ℕ) (r text : List ℕ) → Tells depth s (reads_on w d r) → Longest beginning prefix d r text → Longest beginning prefix depth s (w ++ text)
   more_parts depth s w d r text t k =
       let l = subst (λ (n : ℕ). Longest beginning prefix n r text) t.2 k in
@@ -215,7 +215,7 @@ module _ (beginning : ℕ → ℕ → List ℕ) (prefix : List ℕ) where
         written = ap (λ (x : List ℕ). x ++ text) t.3 ∙ ap (λ (x : List ℕ). part_line beginning depth t.0 ++ x) l.written ∙ sym (append_assoc (part_line beginning depth t.0) (part_lines beginning (depth_behind depth t.0) l.parts) (unfinished beginning prefix l.deep l.rest));
       }
 
-  -- what is written is that of the longest list of parts
+  -- what is written are the lines of the longest list of parts
   longest : (most depth : ℕ) (s : List ℕ) → length s < most → Longest beginning prefix depth s (undiag_from beginning most prefix depth s)
   longest zero depth s lt = absurd (omega arith)
   longest (suc most) depth s lt = by (step beginning prefix depth s) refl (tells depth s) (step_shorter beginning prefix depth s) (λ d r le. longest most d r le)
@@ -224,12 +224,12 @@ module _ (beginning : ℕ → ℕ → List ℕ) (prefix : List ℕ) where
       by (reads_on w d r) e t sh more = subst (λ (x : List ℕ). Longest beginning prefix depth s x) (sym (lines_of beginning most prefix depth s (reads_on w d r) e)) (more_parts depth s w d r (undiag_from beginning most prefix d r) t (more d r (omega (arith, sh.0))))
       by (stops_with w) e t sh more = subst (λ (x : List ℕ). Longest beginning prefix depth s x) (sym (lines_of beginning most prefix depth s (stops_with w) e)) record { parts = []; deep = depth; rest = s; stand = (refl, refl); no_more = t.0; written = t.1 }
 
--- so is an answer, trimmed
+-- so is the trimmed result
 reads_longest : (names : ℕ → Option (List ℕ)) (prefix s answer : List ℕ) → answer ≡ undiag names prefix s → ReadsLongest names prefix s answer
 unfolding undiag undiag_lines
 reads_longest names prefix s answer is = (undiag_from (tag_part names) (suc (length s)) prefix 0 s, longest (tag_part names) prefix (suc (length s)) 0 s (omega arith), is)
 
--- and where a call answers that
+-- and what a call returns
 pub longest_ok : {A E : Type 0} (names : ℕ → Option (List ℕ)) (prefix given s : List ℕ) (r : Result (String A) E) → given ≡ prefix → IfOk r (λ x. string_bytes x ≡ undiag names given s) → IfOk r (λ x. ReadsLongest names prefix s (string_bytes x))
 longest_ok names prefix given s (Ok x) same is = reads_longest names prefix s (string_bytes x) (is ∙ ap (λ (p : List ℕ). undiag names p s) same)
 longest_ok names prefix given s (Err e) same is = tt

@@ -1,4 +1,4 @@
--- The loop of a printer: what is written, with what is left to write, is the whole text.
+-- The loop of a printer: what is written and what is left to write are the whole text.
 use Rattle.std.proofs.Common.{◌≡◌, ℕ, suc, ◌+◌, ◌-◌, ◌*◌, ◌<◌, ◌≤◌, ◌/◌, Bool, true, false, List, [], ◌∷◌, ◌++◌, length, None, refl, sym, ap, subst, ◌∙◌, arith, append_assoc}
 use Rattle.std.specs.Prelude.{reverse}
 use Rattle.std.proofs.lemmas.List.{length-reverse}
@@ -14,7 +14,7 @@ use Rattle.kmip_ttlv_util.proofs.Entries.{extent_least}
 use Rattle.kmip_ttlv_util.proofs.Rest.{place, text_from, count_from, text_start, count_start, text_reads, count_reads, text_unreadable, count_unreadable, text_closes, count_closes, text_over, count_over, text_past, count_past}
 use Rattle.kmip_ttlv_util.proofs.Stack.{deeper}
 
--- what is written, with what is left to write, is the text; and so for the count
+-- what is written and what is left to write are the whole text; likewise for the count
 pub record Walking (style : Style) (closed : Bool) (bytes out : List ℕ) (count : ℕ) (s : Place) : Type 0 where
   pub text : out ++ text_from style closed bytes (suc (length bytes) - count) s ≡ told style closed (length bytes) (trace closed bytes)
   pub counts : count + count_from style closed bytes (suc (length bytes) - count) s ≡ length (trace closed bytes)
@@ -22,19 +22,19 @@ pub record Walking (style : Style) (closed : Bool) (bytes out : List ℕ) (count
   pub within : s.pos ≤ length bytes
   pub depth : s.endless + length s.ends ≤ count
 
--- the answer
+-- the result
 pub record Written (style : Style) (closed : Bool) (bytes out : List ℕ) (count : ℕ) : Type 0 where
   pub text : out ≡ told style closed (length bytes) (trace closed bytes)
   pub counts : count ≡ length (trace closed bytes)
   pub bounded : count ≤ length bytes / 8 + 1
 
--- opening a structure goes on behind its header
+-- opening a structure moves on past its header
 opened_pos : (b : Bool) (p n : ℕ) (es : List ℕ) (k : ℕ) (z : Bool) → (opened b p n es k z).pos ≡ p
 opened_pos true p n es k z = refl
 opened_pos false p n [] k z = refl
 opened_pos false p n (e ∷ es) k z = refl
 
--- a step goes on behind the entry
+-- a step moves on past the entry
 pub after_pos : (closed : Bool) (s : Place) (t : TtlvType) (n : ℕ) → (after closed s t n).pos ≡ s.pos + extent t n
 unfolding after
 after_pos closed s Structure n = opened_pos (has_end closed n) (s.pos + 8) n (left_at s.pos s.ends) s.endless s.loose
@@ -48,7 +48,7 @@ after_pos closed s ByteString n = refl
 after_pos closed s DateTime n = refl
 after_pos closed s Interval n = refl
 
--- the measure falls
+-- the measure decreases
 pub smaller : (closed : Bool) (bytes : List ℕ) (s t u : Place) (i : Item) (xs ys zs : List ℕ) → t ≡ s → IsItem bytes t.pos i → u ≡ after closed t i.typ i.length → s.ends ≡ reverse xs → t.ends ≡ reverse ys → length zs ≤ length ys + 1 → 2 * (length bytes - u.pos) + length zs < 2 * (length bytes - s.pos) + length xs
 smaller closed bytes s t u i xs ys zs same item goes xs-are ys-are le =
     let at : u.pos ≡ i.next = ap (λ (v : Place). v.pos) goes ∙ after_pos closed t i.typ i.length ∙ sym item.next in

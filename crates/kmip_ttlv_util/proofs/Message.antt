@@ -38,11 +38,11 @@ kept_is Interval content valid = refl
 
 -- ---- the text
 
--- the mark of an item is what the style writes of its entry
+-- an item's mark is what the style writes for its entry
 pub item_mark : (prefix bytes : List ℕ) (depth p : ℕ) (i : Item) → IsItem bytes p i → mark prefix i.tag i.typ i.value ≡ (diag_style prefix).item depth p (entry_at bytes p) i.typ
 item_mark prefix bytes depth p i item = rw (item.tag, item.value) refl
 
--- what a diagnostic writes of leaves and of openings
+-- what a diagnostic has for leaves and for openings of structures
 diag_drawing : List ℕ → Drawing
 diag_drawing prefix = record { of_leaf = λ depth tag typ content. mark prefix tag typ (value_of typ content); of_node = λ depth tag. mark prefix tag Structure None }
 
@@ -62,7 +62,7 @@ mutual
   drawn_diag prefix depth (leaf tag typ content) = refl
   drawn_diag prefix depth (node tag below) = ap (λ (r : List ℕ). mark prefix tag Structure None ++ (r ++ (93 ∷ []))) (drawn_diags prefix (suc depth) below)
 
-  -- and of several
+  -- and of several outlines
   drawn_diags : (prefix : List ℕ) (depth : ℕ) (ts : Trees) → drawn_all (diag_drawing prefix) (93 ∷ []) depth ts ≡ diag_all prefix (outlines_of ts)
   drawn_diags prefix depth no_trees = refl
   drawn_diags prefix depth (tree t ts) = ap (λ (r : List ℕ). r ++ drawn_all (diag_drawing prefix) (93 ∷ []) depth ts) (drawn_diag prefix depth t) ∙ ap (λ (r : List ℕ). diag prefix (outline_of t) ++ r) (drawn_diags prefix depth ts)
@@ -77,7 +77,7 @@ message_text prefix closed w t h root none = message_told (diag_style prefix) (d
 abbrev AreBytes : List ℕ → Type 0
 AreBytes bs = (i : ℕ) → get_or bs i 0 < 256
 
--- a front of bytes is bytes
+-- a beginning of bytes is bytes
 bytes_left : (xs ys : List ℕ) → AreBytes (xs ++ ys) → AreBytes xs
 bytes_left xs ys all i = by (cases_lt i (length xs))
   where
@@ -115,19 +115,19 @@ kept_fits DateTime content valid all = tt
 kept_fits Interval content valid all = tt
 
 mutual
-  -- a message's outline is one
+  -- a message's outline is an outline
   is_outline : (t : Tree) (text : List ℕ) → IsTreeText t text → AreBytes text → IsOutline (outline_of t)
   is_outline (leaf tag typ content) text h all = (h.1.tag_fits, kept_fits typ content h.0 (content_bytes (raw_with tag typ content) text h.1 all))
   is_outline (node tag ts) text h all = (h.1.tag_fits, are_outlines ts h.0 h.2 (content_bytes (raw_with tag Structure h.0) text h.1 all))
 
-  -- and those in it
+  -- and so are those in it
   are_outlines : (ts : Trees) (text : List ℕ) → AreTreeTexts ts text → AreBytes text → AreOutlines (outlines_of ts)
   are_outlines no_trees text h all = tt
   are_outlines (tree t ts) text h all =
       let both : AreBytes (h.0 ++ h.1) = subst AreBytes h.2 all in
       (is_outline t h.0 h.3 (bytes_left h.0 h.1 both), are_outlines ts h.1 h.4 (bytes_right h.0 h.1 both))
 
--- the text of one outline and of no other
+-- the diagnostic is that of one outline and of no other
 pub exact : (prefix : List ℕ) (closed : Bool) (w text : List ℕ) → AreBytes w → text ≡ hostile prefix closed (length w) (trace closed w) → IsExact prefix closed w text
 exact prefix closed w text all is t h root none =
     let e : text ≡ diag prefix (outline_of t) = is ∙ message_text prefix closed w t h root none in
@@ -136,12 +136,12 @@ exact prefix closed w text all is t h root none =
       only = λ o io. ((λ f. diag_one prefix o (outline_of t) io (is_outline t w h all) (sym f ∙ e)), (λ f. e ∙ ap (diag prefix) (sym f)));
     }
 
--- so where a call answers that text
+-- so is what a call returns
 pub exact_ok : {A E : Type 0} (prefix given : List ℕ) (closed : Bool) (w : List ℕ) (r : Result (String A × ℕ) E) → AreBytes w → given ≡ prefix → IfOk r (λ x. string_bytes x.0 ≡ hostile given closed (length w) (trace closed w)) → IfOk r (λ x. IsExact prefix closed w (string_bytes x.0))
 exact_ok prefix given closed w (Ok x) all same is = exact prefix closed w (string_bytes x.0) all (is ∙ ap (λ (p : List ℕ). hostile p closed (length w) (trace closed w)) same)
 exact_ok prefix given closed w (Err e) all same is = tt
 
--- bytes at each index are bytes
+-- if every number is below 256, the list is bytes
 pub each_byte : (bs : List ℕ) → ((i : ℕ) → i < length bs → get_or bs i 0 < 256) → AreBytes bs
 each_byte bs each i = by (cases_lt i (length bs))
   where

@@ -1,4 +1,4 @@
--- What stands in front of a text that is read back: its next part.
+-- The next part of a text that is read back.
 use Rattle.std.proofs.Common.{◌≡◌, ◌≢◌, ℕ, zero, suc, ◌-◌, ◌<◌, Bool, true, false, cond, eqb, List, [], ◌∷◌, length, drop, Option, Some, None, refl, ap, ◌∙◌, arith}
 use Rattle.std.specs.List.{prefix_len}
 use Rattle.std.proofs.lemmas.Bool.{eqb-true}
@@ -38,7 +38,7 @@ module _ (beginning : ℕ → ℕ → List ℕ) where
   data_no_value [] depth tag typ is some value = absurd (some refl)
   data_no_value (c ∷ s) depth tag typ is some value = rw is (chosen_none _ depth tag _ _ value)
 
-  -- a `]` in front
+  -- a leading `]`
   close_is : (prefix s r : List ℕ) (depth : ℕ) → s ≡ 93 ∷ r → step beginning prefix depth s ≡ close_step depth r
   unfolding step
   close_is prefix s r depth e = rw e refl
@@ -57,14 +57,14 @@ module _ (beginning : ℕ → ℕ → List ℕ) where
   pick_none true o t f e same = same refl
   pick_none false o t f e same = ap f e
 
-  -- a tag in front
+  -- a leading tag
   pub step_tag : (prefix s : List ℕ) (depth tag : ℕ) → tag_in_front prefix s ≡ Some tag → step beginning prefix depth s ≡ letter_step beginning depth tag (drop (prefix_len is_hex s) s)
   unfolding step
   step_tag prefix [] depth tag e = absurd cc
   step_tag prefix (c ∷ s) depth tag e =
       pick_some (eqb c 93) _ tag (close_step depth s) (tag_step beginning depth (drop (prefix_len is_hex (c ∷ s)) (c ∷ s))) e
 
-  -- none, and no close of an open structure
+  -- no tag, and no close of an open structure
   pub step_no_tag : (prefix s : List ℕ) (depth : ℕ) → tag_in_front prefix s ≡ None → ((rest : List ℕ) → s ≡ 93 ∷ rest → depth ≡ 0) → step beginning prefix depth s ≡ stops_with []
   unfolding step
   step_no_tag prefix [] depth e shut = refl
@@ -72,7 +72,7 @@ module _ (beginning : ℕ → ℕ → List ℕ) where
       pick_none (eqb c 93) _ (close_step depth s) (tag_step beginning depth (drop (prefix_len is_hex (c ∷ s)) (c ∷ s))) e
       (λ h. ap (λ (d : ℕ). close_step d s) (shut s (ap (λ (a : ℕ). a ∷ s) (eqb-true c 93 h))))
 
-  -- a letter behind them
+  -- a letter after the tag
   pub letter_is : (depth tag : ℕ) (s r : List ℕ) (typ : TtlvType) → front_type s ≡ Some (typ, r) → letter_step beginning depth tag s ≡ data_step beginning depth tag typ r
   letter_is depth tag [] r typ e = absurd cc
   letter_is depth tag (c ∷ s) r typ e = by (type_of_letter c) e

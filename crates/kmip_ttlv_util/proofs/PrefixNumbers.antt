@@ -20,7 +20,7 @@ unfolding six_digits last_digits
 six_last n =
     six_same _ _ _ _ _ _ _ _ _ _ _ _ (ap (digit_glyph true) (omega arith)) (ap (digit_glyph true) (omega arith)) (ap (digit_glyph true) (omega arith)) (ap (digit_glyph true) (omega arith)) (ap (digit_glyph true) (omega arith)) (ap (digit_glyph true) (omega arith))
 
--- the digits behind those that are left out
+-- the digits after those that are omitted
 pub behind : (r tag n : ℕ) (text : List ℕ) → r ≤ 6 → n ≡ tag → drop r (six_digits tag) ≡ text → last_digits (6 - r) n ≡ text
 behind r tag n text few is h =
     let back : 6 - (6 - r) ≡ r = omega arith in
@@ -36,7 +36,7 @@ glyph_same a b ha hb = by (ltb a 10) (ltb b 10) refl refl
     by false true p q e = omega (arith, ltb-false _ _ p, ltb-true _ _ q, e)
     by false false p q e = omega arith
 
--- lists whose fronts are as long
+-- lists whose beginnings have the same length
 front_same : (xs ys ends more : List ℕ) → length xs ≡ length ys → xs ++ ends ≡ ys ++ more → (xs ≡ ys) × (ends ≡ more)
 front_same [] [] ends more n e = (refl, e)
 front_same [] (y ∷ ys) ends more n e = absurd (omega arith)
@@ -76,13 +76,13 @@ module _ (text : List ℕ) (count number shift tag : ℕ) (few : count ≤ 6) (i
       six_last tag ∙ last_split 6 (6 - count) tag (omega arith) ∙ ap (λ (n : ℕ). last_digits n (tag / 16 ^ (6 - count)) ++ last_digits (6 - count) tag) others
       ∙ ap (λ (n : ℕ). last_digits count (tag / n) ++ last_digits (6 - count) tag) power ∙ ap (λ (s : List ℕ). last_digits count (tag / 2 ^ shift) ++ s) end
 
-  -- a quotient that is the prefix's number
+  -- if the quotient is the prefix's number, its digits are omitted
   pub left_prefix : tag / 2 ^ shift ≡ number → drop count (six_digits tag) ≡ stripped text (six_digits tag)
   left_prefix e =
       stripped_some text (six_digits tag) count (sym (ap length is ∙ last_length count number))
       (first_digits ∙ ap (λ (n : ℕ). last_digits count n ++ drop count (six_digits tag)) e ∙ ap (λ (s : List ℕ). s ++ drop count (six_digits tag)) (sym is))
 
-  -- one that is not
+  -- if it isn't, nothing is omitted
   pub left_nothing : tag / 2 ^ shift ≢ number → six_digits tag ≡ stripped text (six_digits tag)
   left_nothing ne =
       stripped_none text (six_digits tag) (λ rest e.
@@ -98,7 +98,7 @@ module _ (text : List ℕ) (count number shift tag : ℕ) (few : count ≤ 6) (i
           let quotient : tag / 2 ^ shift < 2 ^ (4 * count) = shr_below tag (4 * count) shift bound in
           omega (arith, quotient, four_bits count)
 
--- a number in front of digits leaves them as they are
+-- a number before the last digits doesn't change them
 last_add : (k a b : ℕ) → last_digits k (a * 16 ^ k + b) ≡ last_digits k b
 unfolding last_digits
 last_add zero a b = refl
@@ -109,7 +109,7 @@ last_add (suc k) a b =
     ap (λ (n : ℕ). last_digits k n ++ (digit_glyph true ((a * 16 ^ suc k + b) % 16) ∷ [])) front ∙ ap (λ (s : List ℕ). s ++ (digit_glyph true ((a * 16 ^ suc k + b) % 16) ∷ [])) (last_add k a (b / 16))
     ∙ ap (λ (d : ℕ). last_digits k (b / 16) ++ (digit_glyph true d ∷ [])) end
 
--- the tag of a prefix's digits and of others
+-- the tag made of a prefix's digits and others
 module _ (text : List ℕ) (count number others low : ℕ) (six : count + others ≡ 6) (is : text ≡ last_digits count number) (small : number < 16 ^ count) (few : low < 16 ^ others) where
   -- it has three bytes
   pub joined_fits : number * 2 ^ (4 * others) + low < 2 ^ 24
@@ -119,7 +119,7 @@ module _ (text : List ℕ) (count number others low : ℕ) (six : count + others
       let bits : number * 2 ^ (4 * others) ≡ number * 16 ^ others = ap (λ (n : ℕ). number * n) (four_bits others) in
       omega (arith, bound, all, bits, few)
 
-  -- and these digits
+  -- and has these digits
   pub joined_digits : text ++ last_digits others low ≡ six_digits (number * 2 ^ (4 * others) + low)
   joined_digits =
       let t = number * 16 ^ others + low in

@@ -25,7 +25,7 @@ pub hex_none : [] ≡ hex_bytes []
 unfolding hex_bytes
 hex_none = refl
 
--- those before a byte, the byte's, and those behind it
+-- the digits before a byte, the byte's, and those after it
 pub hex_parts : (xs : List ℕ) (i : ℕ) → i < length xs → (hex_bytes (take i xs) ++ two_digits (get_or xs i 0)) ++ hex_bytes (drop (i + 1) xs) ≡ hex_bytes xs
 unfolding hex_bytes
 hex_parts xs i lt =
@@ -46,7 +46,7 @@ module _ (names : ℕ → Option (List ℕ)) where
   same_line depth tag DateTime b c e = ap (pretty_line names depth tag DateTime) (e (λ h. cc))
   same_line depth tag Interval b c e = ap (pretty_line names depth tag Interval) (e (λ h. cc))
 
-  -- the line of an item, with the warning, is what the style writes of its entry
+  -- the line of an item, with the warning, is what the style writes for its entry
   pub item_line : (closed : Bool) (bytes wording : List ℕ) (depth p : ℕ) (i : Item) → IsItem bytes p i
       → pretty_line names depth i.tag i.typ i.content.now ++ warning closed i.typ i.length ≡ (pretty_style names closed bytes wording).item depth p (entry_at bytes p) i.typ
   item_line closed bytes wording depth p i item =
@@ -72,12 +72,12 @@ module _ (names : ℕ → Option (List ℕ)) where
   no_warning closed DateTime n ne = refl
   no_warning closed Interval n ne = refl
 
-  -- nor has a structure with an end of its own
+  -- nor has a structure with its own end
   closed_warning : (closed : Bool) (n : ℕ) → has_end closed n ≡ true → warning closed Structure n ≡ []
   unfolding warning
   closed_warning closed n own = rw own refl
 
-  -- what is written of leaves and of openings
+  -- what a readable text has for leaves and for openings of structures
   pretty_drawing : Drawing
   pretty_drawing = record { of_leaf = λ depth tag typ content. pretty_line names depth tag typ content; of_node = λ depth tag. pretty_line names depth tag Structure [] }
 
@@ -114,7 +114,7 @@ module _ (names : ℕ → Option (List ℕ)) where
   pub message_pretty : (closed : Bool) (w text : List ℕ) → IsPrinted names closed w text → IsPretty names closed w text
   message_pretty closed w text (wording, is) t h root none = is ∙ message_told (pretty_style names closed w wording) pretty_drawing closed w (pretty_draws closed w wording) t h root none ∙ drawn_pretty 0 t
 
-  -- so where a call answers that text
+  -- so is what a call returns
   pub pretty_ok : {A E : Type 0} (closed : Bool) (w : List ℕ) (r : Result (String A) E) → IfOk r (λ x. IsPrinted names closed w (string_bytes x)) → IfOk r (λ x. IsPretty names closed w (string_bytes x))
   pretty_ok closed w (Ok x) is = message_pretty closed w (string_bytes x) is
   pretty_ok closed w (Err e) is = tt

@@ -1,4 +1,4 @@
--- A diagnostic text is read back as its outline's lines.
+-- A diagnostic is read back as its outline's lines.
 use Rattle.std.proofs.Common.{◌≡◌, ◌≢◌, ℕ, zero, suc, ◌+◌, ◌/◌, ◌%◌, ◌<◌, ◌≤◌, ◌^◌, Bool, true, false, not, ◌&&◌, cond, eqb, ltb, List, [], ◌∷◌, ◌++◌, length, take, drop, Option, Some, None, refl, sym, ap, subst, ◌∙◌, arith, append_assoc, append-nil, length-append}
 use Rattle.std.specs.List.{AllByRecursion, prefix_len, position_or_len}
 use Rattle.std.proofs.Common.{◌⊎◌, inl, inr}
@@ -23,7 +23,7 @@ use Rattle.kmip_ttlv_util.specs.ReadBack.{shown, lines, Begins, AllBegin, AllsBe
 use Rattle.kmip_ttlv_util.proofs.Texts.{stripped_some}
 use Rattle.kmip_ttlv_util.proofs.Unique.{AllDigits, hex_digits, glyph_digit, step_1, step_2, step_3, step_4, step_5, step_6}
 
--- a number has a digit
+-- a number has at least one digit
 pub hex_some : (n : ℕ) → n < 2 ^ 32 → 0 < length (hex_upper n)
 hex_some n small = (digits_is_IsNumeral 16 true (omega arith) (omega arith) n (omega arith)).0.0
 
@@ -43,7 +43,7 @@ module _ (beginning : ℕ → ℕ → List ℕ) where
       by true e = let lt : d < 10 = ltb-true d 10 e in rw (le-ltb (48 + d) 48 (omega arith), lt-ltb (48 + d) 58 (omega arith)) (omega arith)
       by false e = let le : 10 ≤ d = ltb-false d 10 e in rw (le-ltb (55 + d) 48 (omega arith), le-ltb (55 + d) 58 (omega arith), le-ltb (55 + d) 65 (omega arith), lt-ltb (55 + d) 91 (omega arith)) (omega arith)
 
-  -- a digit is no lower than 0
+  -- a digit is not below `0`
   glyph_low : (d : ℕ) → d < 16 → 48 ≤ digit_glyph true d
   glyph_low d small = by (ltb d 10) refl
     where
@@ -62,7 +62,7 @@ module _ (beginning : ℕ → ℕ → List ℕ) where
   abbrev AllHex : List ℕ → Type 0
   AllHex ds = AllByRecursion (λ d. is_hex d ≡ true) ds
 
-  -- six digits are
+  -- six digits are hexadecimal
   six_hex : (n : ℕ) → AllHex (six_digits n)
   unfolding six_digits
   six_hex n = (glyph_hex (n / 1048576 % 16) (omega arith), (glyph_hex (n / 65536 % 16) (omega arith), (glyph_hex (n / 4096 % 16) (omega arith), (glyph_hex (n / 256 % 16) (omega arith), (glyph_hex (n / 16 % 16) (omega arith), (glyph_hex (n % 16) (omega arith), tt))))))
@@ -72,7 +72,7 @@ module _ (beginning : ℕ → ℕ → List ℕ) where
   unfolding six_digits
   six_value n small = rw (glyph_value (n / 1048576 % 16) (omega arith), glyph_value (n / 65536 % 16) (omega arith), glyph_value (n / 4096 % 16) (omega arith), glyph_value (n / 256 % 16) (omega arith), glyph_value (n / 16 % 16) (omega arith), glyph_value (n % 16) (omega arith)) (omega (arith, step_1 n, step_2 n, step_3 n, step_4 n, step_5 n, step_6 n small))
 
-  -- a digit has a value below sixteen
+  -- a digit's value is below sixteen
   glyph_is : (d : ℕ) → d < 16 → is_digit (digit_glyph true d) 16 ≡ true
   glyph_is d small = rw (glyph_value d small, lt-ltb d 16 small) refl
 
@@ -80,7 +80,7 @@ module _ (beginning : ℕ → ℕ → List ℕ) where
   both_true : (a b : Bool) → a ≡ true → b ≡ true → (a && b) ≡ true
   both_true a b e f = rw (e, f) refl
 
-  -- six digits have
+  -- six digits' values are
   six_all_digits : (n : ℕ) → all_digits 16 (six_digits n) ≡ true
   unfolding six_digits
   six_all_digits n = both_true _ _ (glyph_is (n / 1048576 % 16) (omega arith)) (both_true _ _ (glyph_is (n / 65536 % 16) (omega arith)) (both_true _ _ (glyph_is (n / 4096 % 16) (omega arith)) (both_true _ _ (glyph_is (n / 256 % 16) (omega arith)) (both_true _ _ (glyph_is (n / 16 % 16) (omega arith)) (both_true _ _ (glyph_is (n % 16) (omega arith)) refl)))))
@@ -89,7 +89,7 @@ module _ (beginning : ℕ → ℕ → List ℕ) where
   numeral_is : (ds : List ℕ) (n : ℕ) → 0 < length ds → all_digits 16 ds ≡ true → digits_value 16 ds ≡ n → n < 2 ^ 24 → numeral ds ≡ Some n
   numeral_is ds n some all is small = rw (lt-ltb 0 (length ds) some, all, is, lt-ltb n (2 ^ 32) (omega arith)) refl
 
-  -- a name of digits is its tag
+  -- digits are the name of a tag
   named : (a b n : ℕ) (ds : List ℕ) → a ≢ 43 → b ≢ 120 → all_digits 16 (a ∷ b ∷ ds) ≡ true → digits_value 16 (a ∷ b ∷ ds) ≡ n → n < 2 ^ 24 → tag_of (48 ∷ 120 ∷ a ∷ b ∷ ds) ≡ Some n
   unfolding tag_of number
   named a b n ds plus x all is small =
@@ -113,7 +113,7 @@ module _ (beginning : ℕ → ℕ → List ℕ) where
       by (inl h) = omega (arith, e, h, low)
       by (inr h) = omega (arith, e, h, g.0)
 
-  -- six digits name their tag
+  -- six digits are the name of their tag
   pub six_tag : (n : ℕ) → n < 2 ^ 24 → tag_of (48 ∷ 120 ∷ six_digits n) ≡ Some n
   unfolding six_digits
   six_tag n small = named (digit_glyph true (n / 1048576 % 16)) (digit_glyph true (n / 65536 % 16)) n _ (glyph_ne (n / 1048576 % 16) 43 (omega arith) (inl (omega arith))) (glyph_ne (n / 65536 % 16) 120 (omega arith) (inr (omega arith))) (six_all_digits n) (six_value n small) small
@@ -245,7 +245,7 @@ module _ (beginning : ℕ → ℕ → List ℕ) where
   leaf_data depth tag DateTime (Some n) c s k = absurd k
   leaf_data depth tag Interval (Some n) c s k = absurd k
 
-  -- a part and what is left
+  -- a part and the rest
   undiag_goes : (f : ℕ) (prefix : List ℕ) (depth : ℕ) (s w : List ℕ) (d : ℕ) (r : List ℕ) → step beginning prefix depth s ≡ reads_on w d r → undiag_from beginning (suc f) prefix depth s ≡ w ++ undiag_from beginning f prefix d r
   unfolding undiag_from
   undiag_goes f prefix depth s w d r e = rw e refl
@@ -296,20 +296,20 @@ module _ (beginning : ℕ → ℕ → List ℕ) where
         ∙ ap (λ (r : List ℕ). lines beginning depth o ++ r) (backs os prefix depth f s some io.1 st.1)
         ∙ sym (append_assoc (lines beginning depth o) (lines_all beginning depth os) (undiag_from beginning f prefix depth s))
 
-  -- nothing is left
+  -- nothing is left of an empty text
   undiag_end : (f : ℕ) (prefix : List ℕ) → undiag_from beginning f prefix 0 [] ≡ []
   unfolding undiag_from step
   undiag_end zero prefix = refl
   undiag_end (suc f) prefix = refl
 
-  -- a whole message's text, before it is trimmed
+  -- the lines of a whole message, before trimming
   pub read_message : (tag : ℕ) (below : Outlines) (prefix : List ℕ) (f : ℕ) → IsOutline (node_outline tag below) → AllBegin prefix (node_outline tag below) → undiag_from beginning (parts (node_outline tag below) f) prefix 0 (diag prefix (node_outline tag below)) ≡ lines beginning 0 (node_outline tag below)
   read_message tag below prefix f io st =
       ap (undiag_from beginning (parts (node_outline tag below) f) prefix 0) (sym (append-nil (diag prefix (node_outline tag below))))
       ∙ node_back tag below prefix 0 f [] io.0 (starts prefix tag st.0) (backs below prefix 1 (suc f) (93 ∷ []) (omega arith) io.1 st.1)
       ∙ ap (λ (r : List ℕ). lines beginning 0 (node_outline tag below) ++ r) (undiag_end f prefix) ∙ append-nil (lines beginning 0 (node_outline tag below))
 
-  -- ---- the text is enough turns
+  -- ---- the text has enough characters for all turns
 
   -- a mark is not empty
   mark_some : (prefix : List ℕ) (tag : ℕ) (typ : TtlvType) (v : Option ℕ) → 1 ≤ length (mark prefix tag typ v)
@@ -321,7 +321,7 @@ module _ (beginning : ℕ → ℕ → List ℕ) where
     is : g ≡ m left
     enough : g ≤ left + n
 
-  -- how long a structure's text is
+  -- the length of a structure's diagnostic
   node_size : (prefix : List ℕ) (tag : ℕ) (below : Outlines) → length (diag prefix (node_outline tag below)) ≡ length (mark prefix tag Structure None) + length (diag_all prefix below) + 1
   node_size prefix tag below = omega (arith, length-append (mark prefix tag Structure None) (diag_all prefix below ++ (93 ∷ [])), length-append (diag_all prefix below) (93 ∷ []))
 

@@ -1,4 +1,4 @@
--- The loop that reads a diagnostic text.
+-- The loop that reads a diagnostic.
 use Rattle.std.proofs.Common.{◌≡◌, ℕ, zero, suc, ◌+◌, ◌<◌, ◌≤◌, Bool, true, false, cond, eqb, Bor, List, [], ◌∷◌, ◌++◌, length, take, drop, Option, Some, None, refl, sym, ap, ◌∙◌, arith, append_assoc}
 use Rattle.std.specs.List.{prefix_len, position_or_len}
 use Rattle.std.proofs.lemmas.List.{length-drop}
@@ -8,7 +8,7 @@ use Rattle.kmip_ttlv_types.specs.Names.{tag_of}
 use Rattle.kmip_ttlv_util.specs.Letters.{is_hex, type_of_letter}
 use Rattle.kmip_ttlv_util.specs.Undiag.{Step, reads_on, stops_with, close_step, data_step, type_step, letter_step, tag_step, step, written_by, undiag_from, undiag_lines}
 
--- what was written with a part, the depth and the text that is left
+-- what was written with a part, the depth and the rest of the text
 abbrev pub Reads : Step → List ℕ → List ℕ → Option (ℕ × Bor (List ℕ)) → Type 0
 Reads (reads_on w d r) before now (Some x) = (now ≡ before ++ w) × (x.0 ≡ d) × (x.1.now ≡ r)
 Reads (reads_on w d r) before now None = ⊥
@@ -16,7 +16,7 @@ Reads (stops_with w) before now (Some x) = ⊥
 Reads (stops_with w) before now None = now ≡ before ++ w
 
 module _ (beginning : ℕ → ℕ → List ℕ) where
-  -- what is written, with the lines that are left
+  -- what is written, and the lines that are left
   pub record Reading (prefix s out : List ℕ) (depth : ℕ) (rest : List ℕ) : Type 0 where
     pub most : ℕ
     pub enough : length rest < most
@@ -27,12 +27,12 @@ module _ (beginning : ℕ → ℕ → List ℕ) where
   pub reading_start : (prefix s : List ℕ) → Reading prefix s [] 0 s
   reading_start prefix s = record { most = suc (length s); enough = omega arith; lines = refl; shallow = omega arith }
 
-  -- a part is not empty, and goes down one level at most
+  -- a part is not empty, and opens at most one structure
   abbrev pub Shorter : ℕ → List ℕ → Step → Type 0
   Shorter depth s (reads_on w d r) = (length r < length s) × (d + length r ≤ depth + length s)
   Shorter depth s (stops_with w) = Unit {0}
 
-  -- in a longer text too
+  -- a part of a text is shorter than a longer text too
   longer : (depth : ℕ) (r s : List ℕ) (t : Step) → length r ≤ length s → Shorter depth r t → Shorter depth s t
   longer depth r s (reads_on w d q) le h = (omega (arith, h.0), omega (arith, h.1))
   longer depth r s (stops_with w) le h = tt
@@ -85,7 +85,7 @@ module _ (beginning : ℕ → ℕ → List ℕ) where
   close_shorter zero c s = tt
   close_shorter (suc d) c s = (omega arith, omega arith)
 
-  -- either of two
+  -- one of two
   either : (depth : ℕ) (s : List ℕ) (b : Bool) (t u : Step) → Shorter depth s t → Shorter depth s u → Shorter depth s (cond b t u)
   either depth s true t u p q = p
   either depth s false t u p q = q
@@ -99,7 +99,7 @@ module _ (beginning : ℕ → ℕ → List ℕ) where
       either depth (c ∷ s) (eqb c 93) _ _ (close_shorter depth c s)
       (longer depth (drop n (c ∷ s)) (c ∷ s) _ (omega (arith, length-drop n (c ∷ s))) (tag_shorter depth (drop n (c ∷ s)) (tag_of (48 ∷ 120 ∷ (prefix ++ take n (c ∷ s))))))
 
-  -- the lines by the first part
+  -- the lines, given the first part
   pub lines_of : (most : ℕ) (prefix : List ℕ) (depth : ℕ) (s : List ℕ) (t : Step) → step beginning prefix depth s ≡ t → undiag_from beginning (suc most) prefix depth s ≡ written_by t (λ d r. undiag_from beginning most prefix d r)
   unfolding undiag_from
   lines_of most prefix depth s t e = ap (λ (u : Step). written_by u (λ d r. undiag_from beginning most prefix d r)) e
@@ -132,7 +132,7 @@ module _ (beginning : ℕ → ℕ → List ℕ) where
       by zero lt lines = absurd (omega arith)
       by (suc m) lt lines = goes_by prefix s out now depth rest x (step beginning prefix depth rest) m refl (step_shorter prefix depth rest) lt lines w.shallow reads
 
-  -- no whole part stands there
+  -- there is no whole part
   stops_by : (prefix s out now : List ℕ) (depth : ℕ) (rest : List ℕ) (t : Step) (m : ℕ) → step beginning prefix depth rest ≡ t → out ++ undiag_from beginning (suc m) prefix depth rest ≡ undiag_from beginning (suc (length s)) prefix 0 s → Reads t out now None → now ≡ undiag_from beginning (suc (length s)) prefix 0 s
   stops_by prefix s out now depth rest (reads_on w d r) m e lines reads = absurd reads
   stops_by prefix s out now depth rest (stops_with w) m e lines reads = reads ∙ ap (λ (l : List ℕ). out ++ l) (sym (lines_of m prefix depth rest (stops_with w) e)) ∙ lines
@@ -145,7 +145,7 @@ module _ (beginning : ℕ → ℕ → List ℕ) where
       by zero lt lines = absurd (omega arith)
       by (suc m) lt lines = stops_by prefix s out now depth rest (step beginning prefix depth rest) m refl lines reads
 
-  -- what was written
+  -- all that was written
   pub whole : (prefix s now : List ℕ) → now ≡ undiag_from beginning (suc (length s)) prefix 0 s → now ≡ undiag_lines beginning prefix s
   unfolding undiag_lines
   whole prefix s now e = e

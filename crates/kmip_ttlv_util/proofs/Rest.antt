@@ -1,4 +1,4 @@
--- The text and the count of what a walk has left.
+-- The text and the count of the rest of a walk.
 use Rattle.std.proofs.Common.{◌≡◌, ◌≢◌, ℕ, zero, suc, ◌+◌, ◌<◌, ◌≤◌, Bool, true, false, cond, eqb, List, [], ◌∷◌, ◌++◌, length, Option, Some, None, refl, ap, ◌∙◌, arith, append_assoc, append-nil}
 use Rattle.std.proofs.lemmas.Bool.{eq-eqb, ne_eqb, lt-ltb, le-ltb}
 use Rattle.kmip_ttlv_types.specs.declared.typ.TtlvType.{TtlvType}
@@ -11,12 +11,12 @@ use Rattle.kmip_ttlv_util.specs.Entries.{Entry, entry_at, type_read}
 abbrev pub place : ℕ → List ℕ → ℕ → Bool → Place
 place p es k z = record { pos = p; ends = es; endless = k; loose = z }
 
--- a walk in no structure that ends reads on
+-- in no structure with an end, an entry follows
 pub ready_root : (p k : ℕ) (z : Bool) → Ready (place p [] k z)
 unfolding turn left_at
 ready_root p k z = record { turns = refl; left = refl }
 
--- and so does one before the end
+-- so it does before an end
 pub ready_before : (p e : ℕ) (es : List ℕ) (k : ℕ) (z : Bool) → p < e → Ready (place p (e ∷ es) k z)
 unfolding turn left_at
 ready_before p e es k z lt =
@@ -28,14 +28,14 @@ ready_before p e es k z lt =
     by true = refl
     by false = rw (le-ltb e p (omega arith)) refl
 
--- and one whose ends may be passed
+-- and if ends may be passed
 pub ready_loose : (p e : ℕ) (es : List ℕ) (k : ℕ) → e ≢ p → Ready (place p (e ∷ es) k true)
 unfolding turn left_at
 ready_loose p e es k ne =
     let off : eqb e p ≡ false = ne_eqb e p ne in
     record { turns = rw off refl; left = rw off refl }
 
--- either list is no longer
+-- one of two lists, neither of them longer
 shorter_by : (b : Bool) (xs : List ℕ) (f : ℕ) (fs : List ℕ) → length xs ≤ length fs → length (cond b xs (f ∷ fs)) ≤ length (f ∷ fs)
 shorter_by true xs f fs le = omega arith
 shorter_by false xs f fs le = omega arith
@@ -46,7 +46,7 @@ unfolding left_at
 shorter q [] = omega arith
 shorter q (f ∷ fs) = shorter_by (eqb f q) (left_at q fs) f fs (shorter q fs)
 
--- nothing closes there
+-- nothing closes here
 pub ready_closes : (shut : List ℕ) (p : ℕ) (es : List ℕ) → left_at p es ≡ es → closes shut p es ≡ []
 unfolding left_at closes
 ready_closes shut p [] h = refl
@@ -65,17 +65,17 @@ module _ (style : Style) (closed : Bool) (bytes : List ℕ) where
   pub count_from : ℕ → Place → ℕ
   count_from f s = length (entries_from f closed bytes s)
 
-  -- what is left before the first byte
+  -- at the first byte the whole text is left to write
   pub text_start : text_from (suc (length bytes)) start ≡ told style closed (length bytes) (trace closed bytes)
   unfolding text_from told trace
   text_start = refl
 
-  -- and how many entries
+  -- and all entries are left
   pub count_start : 0 + count_from (suc (length bytes)) start ≡ length (trace closed bytes)
   unfolding count_from trace
   count_start = omega arith
 
-  -- the entries from one that comes
+  -- the entries from the next one on
   reads_entries : (f : ℕ) (s : Place) (o : Option TtlvType) → turn s ≡ entry_follows → type_read (length bytes) s.pos (entry_at bytes s.pos) ≡ o → entries_from (suc f) closed bytes s ≡ entries_by entry_follows (entry_at bytes s.pos) o (λ t. entries_from f closed bytes (after closed s t (length_at (entry_at bytes s.pos).header 0)))
   unfolding entries_from
   reads_entries f s o turns is = rw (turns, is) refl
@@ -90,13 +90,13 @@ module _ (style : Style) (closed : Bool) (bytes : List ℕ) where
   unfolding count_from
   count_unreadable f s ready is = ap length (reads_entries f s None ready.turns is)
 
-  -- what is written of an entry and of the others
+  -- what is written for an entry and for the others
   pub text_reads : (f : ℕ) (s : Place) (t : TtlvType) → Ready s → type_read (length bytes) s.pos (entry_at bytes s.pos) ≡ Some t
       → text_from (suc f) s ≡ style.item (s.endless + length s.ends) s.pos (entry_at bytes s.pos) t ++ text_from f (after closed s t (length_at (entry_at bytes s.pos).header 0))
   unfolding text_from told_from
   text_reads f s t ready is = rw (reads_entries f s (Some t) ready.turns is) (rw (ready_closes style.close s.pos s.ends ready.left, is, ready.left) refl)
 
-  -- of an unreadable one
+  -- for an unreadable one
   pub text_unreadable : (f : ℕ) (s : Place) → Ready s → type_read (length bytes) s.pos (entry_at bytes s.pos) ≡ None → text_from (suc f) s ≡ style.unreadable
   unfolding text_from told_from
   text_unreadable f s ready is = rw (reads_entries f s None ready.turns is) (rw (ready_closes style.close s.pos s.ends ready.left, is) refl)
@@ -113,7 +113,7 @@ module _ (style : Style) (closed : Bool) (bytes : List ℕ) where
   unfolding left_at
   same_left p es = rw (eq-eqb p p refl) refl
 
-  -- one close more
+  -- one more close
   more_closes : (p : ℕ) (es : List ℕ) → closes style.close p (p ∷ es) ≡ style.close ++ closes style.close p es
   unfolding closes
   more_closes p es = rw (eq-eqb p p refl) refl
@@ -124,25 +124,25 @@ module _ (style : Style) (closed : Bool) (bytes : List ℕ) where
   same_entries zero p e es k z = refl
   same_entries (suc f) p e es k z = rw (same_turn p e es k z, same_left p (e ∷ es)) refl
 
-  -- what is written has one close more
+  -- what is written has one more close
   same_told : (p e : ℕ) (es : List ℕ) (k : ℕ) (z : Bool) (xs : List Entry) → told_from style closed (length bytes) (place p (p ∷ e ∷ es) k z) xs ≡ style.close ++ told_from style closed (length bytes) (place p (e ∷ es) k z) xs
   unfolding told_from after
   same_told p e es k z [] = rw (same_turn p e es k z, more_closes p (e ∷ es)) (append_assoc style.close (closes style.close p (e ∷ es)) (end_text style (turn (place p (e ∷ es) k z))))
   same_told p e es k z (x ∷ xs) = rw (more_closes p (e ∷ es), same_left p (e ∷ es)) (append_assoc style.close (closes style.close p (e ∷ es)) _)
 
-  -- so where a structure closes
+  -- so it has when a structure closes
   pub text_closes : (f p e : ℕ) (es : List ℕ) (k : ℕ) (z : Bool) → text_from f (place p (p ∷ e ∷ es) k z) ≡ style.close ++ text_from f (place p (e ∷ es) k z)
   unfolding text_from
   text_closes f p e es k z = ap (told_from style closed (length bytes) (place p (p ∷ e ∷ es) k z)) (same_entries f p e es k z) ∙ same_told p e es k z (entries_from f closed bytes (place p (e ∷ es) k z))
 
-  -- the count stays
+  -- the count is unchanged
   pub count_closes : (f p e : ℕ) (es : List ℕ) (k : ℕ) (z : Bool) → count_from f (place p (p ∷ e ∷ es) k z) ≡ count_from f (place p (e ∷ es) k z)
   unfolding count_from
   count_closes f p e es k z = ap length (same_entries f p e es k z)
 
   -- ---- the walk ends
 
-  -- no entry comes where the walk ends
+  -- no entry follows when the walk ends
   no_entries : (f : ℕ) (s : Place) → turn s ≢ entry_follows → entries_from f closed bytes s ≡ []
   unfolding entries_from
   no_entries zero s ne = refl
@@ -163,7 +163,7 @@ module _ (style : Style) (closed : Bool) (bytes : List ℕ) where
   unfolding text_from told_from closes
   text_over f p k z = rw (no_entries f (place p (p ∷ []) k z) (λ h. let m = last_turn p k z in cc)) (rw (last_turn p k z, eq-eqb p p refl) (append-nil (style.close ++ []) ∙ append-nil style.close))
 
-  -- no entry more
+  -- no more entries
   pub count_over : (f p k : ℕ) (z : Bool) → count_from f (place p (p ∷ []) k z) ≡ 0
   unfolding count_from
   count_over f p k z = ap length (no_entries f (place p (p ∷ []) k z) (λ h. let m = last_turn p k z in cc))
@@ -180,7 +180,7 @@ module _ (style : Style) (closed : Bool) (bytes : List ℕ) where
       let ne : e ≢ p = omega arith in
       rw (no_entries f (place p (e ∷ es) k false) (λ h. let m = past_turn p e es k lt in cc)) (rw (past_turn p e es k lt, ne_eqb e p ne) refl)
 
-  -- no entry more either
+  -- no more entries either
   pub count_past : (f p e : ℕ) (es : List ℕ) (k : ℕ) → e < p → count_from f (place p (e ∷ es) k false) ≡ 0
   unfolding count_from
   count_past f p e es k lt = ap length (no_entries f (place p (e ∷ es) k false) (λ h. let m = past_turn p e es k lt in cc))

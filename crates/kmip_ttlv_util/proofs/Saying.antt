@@ -1,4 +1,4 @@
--- The loop of a printer over any sink, and what comes of it.
+-- The loop of a printer over any sink, and its result.
 use Rattle.std.proofs.Common.{◌≡◌, ℕ, List, [], ◌++◌, sym, ap, subst, ◌∙◌}
 use Rattle.std.specs.Prelude.{Option, Result, Ok, Err, OnOk, OnErr}
 use Rattle.std.specs.Borrow.{GName}
@@ -8,14 +8,14 @@ use Rattle.kmip_ttlv_types.specs.Streams.{AppendsFront}
 use Rattle.kmip_ttlv_types.proofs.Taken.{AppendsFront-second}
 use Rattle.kmip_ttlv_util.specs.Pieces.{SomeText, WritesText, Moves}
 
--- a text of this kind, of which this is said, by cases
+-- a text of this kind, with this property, by cases
 module _ {T E : Type 0} where
-  -- a text where the call succeeds
+  -- if the call succeeds
   pub ok_some : (r : Result T E) (kind said said' : List ℕ → Type 0) (t : List ℕ) → OnOk r (said t) → kind t → ((s : List ℕ) → said s → said' s) → OnOk r (SomeText kind said')
   ok_some (Ok x) kind said said' t h is f = record { text = t; is = is; holds = f t h }
   ok_some (Err e) kind said said' t h is f = tt
 
-  -- and where it fails
+  -- if it fails
   pub err_some : (r : Result T E) (kind said said' : List ℕ → Type 0) (t : List ℕ) → OnErr r (said t) → kind t → ((s : List ℕ) → said s → said' s) → OnErr r (SomeText kind said')
   err_some (Ok x) kind said said' t h is f = tt
   err_some (Err e) kind said said' t h is f = record { text = t; is = is; holds = f t h }
@@ -28,14 +28,14 @@ module _ {T E : Type 0} where
   err_map (Ok x) P Q h f = tt
   err_map (Err e) P Q h f = f h
 
-  -- a text of one kind is of another
+  -- a text of one kind is of another kind
   pub written_as : (r : Result T E) (kind kind' : List ℕ → Type 0) (old new : Option (List ℕ)) → WritesText kind old new r → ((t : List ℕ) → kind t → kind' t) → WritesText kind' old new r
   written_as (Ok x) kind kind' old new w f = record { text = w.text; is = f w.text w.is; holds = w.holds }
   written_as (Err e) kind kind' old new w f = record { text = w.text; is = f w.text w.is; holds = w.holds }
 
--- sinks, by what was added to them
+-- sinks, by what was appended to them
 module _ {X : Type 0} (adds breaks : X → List ℕ → X → Type 0) where
-  -- a text and what is left of the whole
+  -- if appending a beginning of a text failed, appending the text failed
   pub breaks_rest : ((a b : X) (s t : List ℕ) → breaks a s b → breaks a (s ++ t) b) → (a b : X) (s rest whole : List ℕ) → breaks a s b → s ++ rest ≡ whole → breaks a whole b
   breaks_rest first a b s rest whole h is = subst (λ (t : List ℕ). breaks a t b) is (first a b s rest h)
 
@@ -53,12 +53,12 @@ module _ {X : Type 0} (adds breaks : X → List ℕ → X → Type 0) where
     pub err_same : (r : Result T E) (a b : X) (s t : List ℕ) → OnErr r (breaks a s b) → s ≡ t → OnErr r (breaks a t b)
     err_same r a b s t h is = subst (λ (u : List ℕ). OnErr r (breaks a u b)) is h
 
-    -- it failed
+    -- the call failed
     pub err_now : (r : Result T E) (a b : X) (s : List ℕ) → breaks a s b → OnErr r (breaks a s b)
     err_now (Ok x) a b s h = tt
     err_now (Err e) a b s h = h
 
-    -- a text behind one that was added
+    -- a text after one that was appended
     pub ok_then : ((a b c : X) (s t : List ℕ) → adds a s b → adds b t c → adds a (s ++ t) c) → (r : Result T E) (a b c : X) (s t : List ℕ) → adds a s b → OnOk r (adds b t c) → OnOk r (adds a (s ++ t) c)
     ok_then both (Ok x) a b c s t p q = both a b c s t p q
     ok_then both (Err e) a b c s t p q = tt
@@ -67,13 +67,13 @@ module _ {X : Type 0} (adds breaks : X → List ℕ → X → Type 0) where
     err_then second (Ok x) a b c s t p q = tt
     err_then second (Err e) a b c s t p q = second a b c s t p q
 
--- a string that had nothing is the text that was added
+-- an empty string becomes the text that was appended
 pub from_none : (kind : List ℕ → Type 0) (old new : List ℕ) → SomeText kind (λ t. new ≡ old ++ t) → old ≡ [] → kind new
 from_none kind old new s none = subst kind (sym (s.holds ∙ ap (λ (o : List ℕ). o ++ s.text) none)) s.is
 
--- ---- a writer behind a buffer
+-- ---- a buffered writer
 
--- where nothing waited, what was added was sent or waits
+-- if the buffer was empty, what was added was sent or is buffered
 pub piece_moves : (a a' b : Option (List ℕ)) (w t v : List ℕ) → Moves a' b w t v → a' ≡ a → w ≡ [] → Moves a b [] t v
 piece_moves a a' b w t v m same none = record {
   sent = m.sent;
@@ -89,7 +89,7 @@ piece_fails kind m n a a' b w s same none = record {
   holds = subst (λ (x : Option (List ℕ)). AppendsFront x b s.text) same (subst (λ (x : List ℕ). AppendsFront a' b (x ++ s.text)) none s.holds.1);
 }
 
--- what waited at the end is sent
+-- what is buffered at the end is sent
 pub piece_ends : {T E : Type 0} (r : Result T E) (kind : List ℕ → Type 0) (m n : GName) (a a' b c : Option (List ℕ)) (w v : List ℕ) → SomeText kind (λ t. (n ≡ m) × Moves a' b w t v) → a' ≡ a → w ≡ [] → OnOk r (Appends b c v) → OnErr r (AppendsFront b c v) → WritesText kind a c r
 piece_ends (Ok x) kind m n a a' b c w v s same none ok err =
     let k = piece_moves a a' b w s.text v s.holds.1 same none in

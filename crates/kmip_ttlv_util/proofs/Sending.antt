@@ -1,4 +1,4 @@
--- What a writer behind a buffer is sent.
+-- What is sent to a buffered writer.
 use Rattle.std.proofs.Common.{◌≡◌, ℕ, List, [], ◌++◌, sym, ap, ◌∙◌, append-nil}
 use Rattle.std.specs.Prelude.{Option, Result, Ok, Err, OnOk, OnErr}
 use Rattle.std.specs.Io.KnownBytes.{Appends}
@@ -8,7 +8,7 @@ use Rattle.kmip_ttlv_types.proofs.Taken.{AppendsFront-second}
 use Rattle.kmip_ttlv_util.specs.Pieces.{Moves}
 
 module _ {T E : Type 0} where
-  -- what waited, and then a piece
+  -- what was buffered, then a piece
   pub sent_behind : (r : Result T E) (a b c : Option (List ℕ)) (w piece v : List ℕ) → Appends a b w → v ≡ [] → OnOk r (Appends b c piece) → OnOk r (Moves a c w piece v)
   sent_behind (Ok x) a b c w piece v p none q = record {
     sent = w ++ piece;

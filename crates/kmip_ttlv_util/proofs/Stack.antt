@@ -1,4 +1,4 @@
--- A stack's list, from its last element on.
+-- A stack as a list, from its last element to its first.
 use Rattle.std.proofs.Common.{◌≡◌, ◌≢◌, ℕ, suc, ◌+◌, ◌-◌, ◌<◌, ◌≤◌, Bool, true, false, List, [], ◌∷◌, ◌++◌, length, take, get_or, Some, None, refl, sym, ap, ◌∙◌, arith}
 use Rattle.std.specs.Prelude.{reverse}
 use Rattle.std.specs.List.{slice_get}
@@ -28,7 +28,7 @@ last_some xs e is =
     let all : xs ≡ take (length xs - 1) xs ++ (get_or xs (length xs - 1) 0 ∷ []) = sym (take_all (length xs) xs (omega arith)) ∙ ap (λ (n : ℕ). take n xs) (sym one) ∙ take_more xs (length xs - 1) 0 lt in
     ap reverse all ∙ reverse-append (take (length xs - 1) xs) (get_or xs (length xs - 1) 0 ∷ []) ∙ ap (λ (x : ℕ). x ∷ reverse (take (length xs - 1) xs)) (get_or_from_slice_get xs (length xs - 1) e 0 is)
 
--- an end that is put on the stack
+-- an end that is pushed
 pub pushed : (xs : List ℕ) (e : ℕ) → reverse (xs ++ (e ∷ [])) ≡ e ∷ reverse xs
 pushed xs e = reverse-append xs (e ∷ [])
 
@@ -36,7 +36,7 @@ pushed xs e = reverse-append xs (e ∷ [])
 pub comes_root : (p : ℕ) (xs : List ℕ) (k : ℕ) (z : Bool) → slice_get xs (length xs - 1) ≡ None → Ready (place p (reverse xs) k z)
 comes_root p xs k z e = rw (last_none xs e) (ready_root p k z)
 
--- an item comes before the end
+-- an entry follows before the end
 pub comes_read : (p e : ℕ) (xs : List ℕ) (k : ℕ) (z : Bool) → slice_get xs (length xs - 1) ≡ Some e → e ≢ p → (z ≡ true) ⊎ (p ≤ e) → Ready (place p (reverse xs) k z)
 comes_read p e xs k z is ne (inl t) = rw (last_some xs e is, t) (ready_loose p e (reverse (take (length xs - 1) xs)) k ne)
 comes_read p e xs k z is ne (inr le) = rw (last_some xs e is) (ready_before p e (reverse (take (length xs - 1) xs)) k z (omega arith))
@@ -87,7 +87,7 @@ step_opens closed s t n next ends ready is to own ends-are =
     let at : next ≡ s.pos + 8 = to ∙ ap (λ (u : TtlvType). s.pos + extent u n) is in
     rw (is, ready.left, own) (ap (λ (l : List ℕ). place next l s.endless s.loose) ends-are ∙ ap (λ (q : ℕ). place q ((q + n) ∷ s.ends) s.endless s.loose) at)
 
--- an empty structure within others stays open as long as the innermost
+-- an empty structure in others stays open as long as the innermost of them
 pub step_empty : (closed : Bool) (s : Place) (t : TtlvType) (n next : ℕ) (xs : List ℕ) (e : ℕ) → Ready s → t ≡ Structure → next ≡ s.pos + extent t n → has_end closed n ≡ false → s.ends ≡ reverse xs → slice_get xs (length xs - 1) ≡ Some e → place next (reverse (xs ++ (e ∷ []))) s.endless true ≡ after closed s t n
 unfolding after
 step_empty closed s t n next xs e ready is to none ends-are top =
@@ -97,7 +97,7 @@ step_empty closed s t n next xs e ready is to none ends-are top =
     let new : reverse (xs ++ (e ∷ [])) ≡ e ∷ e ∷ below = pushed xs e ∙ ap (λ (l : List ℕ). e ∷ l) (last_some xs e top) in
     rw (is, ready.left, none, old) (ap (λ (l : List ℕ). place next l s.endless true) new ∙ ap (λ (q : ℕ). place q (e ∷ e ∷ below) s.endless true) at)
 
--- one within no structure that ends stays open to the end of input
+-- one that is in no structure with an end stays open to the end of the input
 pub step_endless : (closed : Bool) (s : Place) (t : TtlvType) (n next k : ℕ) (xs : List ℕ) → Ready s → t ≡ Structure → next ≡ s.pos + extent t n → has_end closed n ≡ false → s.ends ≡ reverse xs → slice_get xs (length xs - 1) ≡ None → k ≡ s.endless + 1 → place next (reverse xs) k true ≡ after closed s t n
 unfolding after
 step_endless closed s t n next k xs ready is to none ends-are top more =
@@ -106,7 +106,7 @@ step_endless closed s t n next k xs ready is to none ends-are top more =
     let one : k ≡ suc s.endless = omega arith in
     rw (is, ready.left, none, old) (ap (λ (l : List ℕ). place next l k true) (ap reverse (last_none xs top)) ∙ ap (λ (q : ℕ). place q [] k true) at ∙ ap (λ (m : ℕ). place (s.pos + 8) [] m true) one)
 
--- how deep it is past a step
+-- the depth after a step
 pub deeper : (closed : Bool) (s : Place) (t : TtlvType) (n : ℕ) → Ready s → (after closed s t n).endless + length (after closed s t n).ends ≤ s.endless + length s.ends + 1
 unfolding after
 deeper closed s t n ready = rw ready.left (by t)

@@ -1,4 +1,4 @@
--- Texts of tags.
+-- Tags with and without a prefix.
 use Rattle.std.proofs.Common.{◌≡◌, ℕ, List, ◌++◌, Bool, true, false, drop, length, refl, ap}
 use Rattle.std.specs.Prelude.{nat_eq}
 use Rattle.std.specs.List.{starts_with}
@@ -12,12 +12,12 @@ stripped_some p s n e h =
     let begins : starts_with nat_eq s p ≡ true = (starts_is Decides-eqb s p (starts_with nat_eq s p) refl).1 _ h in
     rw begins (ap (λ k. drop k s) e)
 
--- a test that never holds
+-- a test that never succeeds
 bool_false : (b : Bool) → (b ≡ true → ⊥) → b ≡ false
 bool_false true never = absurd (never refl)
 bool_false false never = refl
 
--- one that does not
+-- a text that does not
 pub stripped_none : (p s : List ℕ) → ((rest : List ℕ) → s ≡ p ++ rest → ⊥) → s ≡ stripped p s
 stripped_none p s none =
     let off : starts_with nat_eq s p ≡ false = bool_false _ (λ t. none _ ((starts_is Decides-eqb s p (starts_with nat_eq s p) refl).0 t)) in

@@ -1,4 +1,4 @@
--- Lines trimmed at the end: where the last character is visible, a trim takes the line feed alone.
+-- Lines trimmed at the end: after a visible last character, trimming drops only the line feed.
 use Rattle.std.proofs.Common.{◌≡◌, ◌≢◌, ℕ, zero, suc, ◌+◌, ◌-◌, ◌/◌, ◌%◌, ◌<◌, ◌≤◌, Bool, true, false, ◌&&◌, cond, eqb, ltb, List, [], ◌∷◌, ◌++◌, length, get_or, Option, Some, None, refl, sym, ap, subst, ◌∙◌, arith, append_assoc, append-nil, length-append}
 use Rattle.std.specs.Prelude.{codes, Result, Ok, Err, IfOk, string_bytes}
 use Rattle.std.proofs.Common.{String}
@@ -30,12 +30,12 @@ pub record Visible (c : ℕ) : Type 0 where
 pub visible_dark : (c : ℕ) → Visible c → is_whitespace c ≡ false
 visible_dark c v = rw (le-ltb c 14 (omega (arith, v.above)), lt-ltb 8 c (omega (arith, v.above)), ne_eqb c 32 (omega (arith, v.above)), ne_eqb c 133 (omega (arith, v.below)), ne_eqb c 160 (omega (arith, v.below)), ne_eqb c 5760 (omega (arith, v.below)), le-ltb 8191 c (omega (arith, v.below)), ne_eqb c 8232 (omega (arith, v.below)), ne_eqb c 8233 (omega (arith, v.below)), ne_eqb c 8239 (omega (arith, v.below)), ne_eqb c 8287 (omega (arith, v.below)), ne_eqb c 12288 (omega (arith, v.below))) refl
 
--- a character before others is kept
+-- a character that others follow is kept
 pub stays_on : (b : Bool) (n z : ℕ) (rest : List ℕ) → n ≢ 0 → cond (b && eqb n 0) [] (z ∷ rest) ≡ z ∷ rest
 stays_on true n z rest ne = rw (ne_eqb n 0 ne) refl
 stays_on false n z rest ne = refl
 
--- dropping white space drops the line feed alone
+-- dropping white space drops only the line feed
 drop_end : (zs : List ℕ) (c : ℕ) → Visible c → drop_trailing_whitespace (zs ++ (c ∷ 10 ∷ [])) ≡ zs ++ (c ∷ [])
 drop_end [] c v = rw (visible_dark c v) refl
 drop_end (z ∷ zs) c v =
@@ -54,7 +54,7 @@ ascii_two c lt zero = lt
 ascii_two c lt (suc zero) = omega arith
 ascii_two c lt (suc (suc i)) = omega arith
 
--- what stands before an ASCII character is UTF-8
+-- what precedes an ASCII character is UTF-8
 pub front_utf8 : (xs : List ℕ) (c : ℕ) → IsUtf8 (xs ++ (c ∷ 10 ∷ [])) → c < 128 → IsUtf8 xs
 front_utf8 xs c utf8 lt =
     let bs = xs ++ (c ∷ 10 ∷ []) in
@@ -63,7 +63,7 @@ front_utf8 xs c utf8 lt =
     let cell : get_or bs (length xs) 0 < 128 = omega (arith, is) in
     subst IsUtf8 (take_at xs (c ∷ 10 ∷ []) (length xs) refl) (IsUtf8-take bs (length xs) utf8 (IsCharBoundary-before_ascii bs (length xs) (omega (arith, length-append xs (c ∷ 10 ∷ []))) cell))
 
--- a trim takes the line feed alone
+-- trimming drops only the line feed
 trim_line : (xs : List ℕ) (c : ℕ) → IsUtf8 (xs ++ (c ∷ 10 ∷ [])) → Visible c → trim_end (xs ++ (c ∷ 10 ∷ [])) ≡ xs ++ (c ∷ [])
 unfolding trim_end
 trim_line xs c utf8 v =
@@ -83,7 +83,7 @@ pub record Ends (text : List ℕ) : Type 0 where
   pub is : text ≡ front ++ (last ∷ [])
   pub visible : Visible last
 
--- a text behind another
+-- a text after another
 pub ends_behind : (xs text : List ℕ) → Ends text → Ends (xs ++ text)
 ends_behind xs text e = record { front = xs ++ e.front; last = e.last; is = ap (λ (s : List ℕ). xs ++ s) e.is ∙ sym (append_assoc xs e.front (e.last ∷ [])); visible = e.visible }
 
@@ -98,12 +98,12 @@ glyph_visible d small = by (ltb d 10) refl
     by true e = record { above = omega arith; below = omega arith }
     by false e = record { above = omega arith; below = omega arith }
 
--- either of two lists
+-- one of two lists
 pick : (b : Bool) (xs ys : List ℕ) → AllVisible xs → AllVisible ys → AllVisible (cond b xs ys)
 pick true xs ys p q = p
 pick false xs ys p q = q
 
--- digits in front of visible ones
+-- digits before visible characters
 onto_visible : (k n : ℕ) (acc : List ℕ) → AllVisible acc → AllVisible (digits_onto k 16 true n acc)
 onto_visible zero n acc all = all
 onto_visible (suc k) n acc all =
@@ -158,11 +158,11 @@ record EndsLine (text : List ℕ) : Type 0 where
   is : text ≡ front ++ (last ∷ 10 ∷ [])
   visible : Visible last
 
--- a line behind other text
+-- a line after other text
 line_behind : (xs text : List ℕ) → EndsLine text → EndsLine (xs ++ text)
 line_behind xs text e = record { front = xs ++ e.front; last = e.last; is = ap (λ (s : List ℕ). xs ++ s) e.is ∙ sym (append_assoc xs e.front (e.last ∷ 10 ∷ [])); visible = e.visible }
 
--- a line feed behind a visible character
+-- a line feed after a visible character
 fed : (text : List ℕ) → Ends text → EndsLine (text ++ (10 ∷ []))
 fed text e = record { front = e.front; last = e.last; is = ap (λ (s : List ℕ). s ++ (10 ∷ [])) e.is ∙ append_assoc e.front (e.last ∷ []) (10 ∷ []); visible = e.visible }
 
@@ -181,7 +181,7 @@ module _ (beginning : ℕ → ℕ → List ℕ) where
     all_end depth text no_outlines e ios nones = subst EndsLine (sym (append-nil text)) e
     all_end depth text (outline p os) e ios nones = line_behind text _ (all_end depth (lines beginning depth p) os (lines_end depth p ios.0 nones.0) ios.1 nones.1)
 
-  -- a trim and a line feed give the lines back
+  -- trimming and a line feed give the lines back
   trimmed_line : (text : List ℕ) → IsUtf8 text → EndsLine text → trim_end text ++ (10 ∷ []) ≡ text
   trimmed_line text utf8 e =
       ap (λ (s : List ℕ). trim_end s ++ (10 ∷ [])) e.is ∙ ap (λ (s : List ℕ). s ++ (10 ∷ [])) (trim_line e.front e.last (subst IsUtf8 e.is utf8) e.visible)
@@ -196,12 +196,12 @@ module _ (beginning : ℕ → ℕ → List ℕ) where
       (trims, λ none. ap (λ (s : List ℕ). s ++ (10 ∷ [])) trims ∙ trimmed_line (lines beginning 0 (node_outline tag below)) (subst IsUtf8 whole utf8) (lines_end 0 (node_outline tag below) io none))
 
 module _ (names : ℕ → Option (List ℕ)) where
-  -- under names of tags
+  -- with names for tags
   redacted : (prefix text answer : List ℕ) → answer ≡ undiag names prefix text → IsUtf8 (undiag_lines (tag_part names) prefix text) → IsReadBack names prefix text answer
   unfolding undiag
   redacted prefix text answer is utf8 = redacted_lines (tag_part names) prefix text answer is utf8
 
-  -- so where a call answers that
+  -- so is what a call returns
   pub redacted_ok : {A E : Type 0} (prefix given text : List ℕ) (r : Result (String A) E) → given ≡ prefix → IfOk r (λ x. string_bytes x ≡ undiag names given text) → IfOk r (λ _. IsUtf8 (undiag_lines (tag_part names) given text)) → IfOk r (λ x. IsReadBack names prefix text (string_bytes x))
   redacted_ok prefix given text (Ok x) same is utf8 = redacted prefix text (string_bytes x) (is ∙ ap (λ (p : List ℕ). undiag names p text) same) (subst (λ (p : List ℕ). IsUtf8 (undiag_lines (tag_part names) p text)) same utf8)
   redacted_ok prefix given text (Err e) same is utf8 = tt

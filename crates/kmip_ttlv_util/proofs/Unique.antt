@@ -1,4 +1,4 @@
--- A diagnostic text reads back in one way.
+-- A diagnostic is read back in one way.
 use Rattle.std.proofs.Common.{◌≡◌, ◌≢◌, ℕ, zero, suc, ◌+◌, ◌*◌, ◌/◌, ◌%◌, ◌<◌, ◌≤◌, ◌^◌, Bool, true, false, cond, eqb, ltb, List, [], ◌∷◌, ◌++◌, length, drop, get_or, Option, Some, None, refl, sym, ap, subst, ◌∙◌, arith, append_assoc}
 use Rattle.std.proofs.Common.{◌⊎◌, inl, inr}
 use Rattle.std.proofs.lemmas.Bool.{ltb-true, ltb-false}
@@ -30,7 +30,7 @@ record Front (xs ys r s : List ℕ) (c d : ℕ) : Type 0 where
   first : c ≡ d
   rest : r ≡ s
 
--- equal texts have equal fronts of digits
+-- equal texts have the same leading digits
 front_one : (xs ys r s : List ℕ) (c d : ℕ) → AllDigits xs → AllDigits ys → (IsDigit c → ⊥) → (IsDigit d → ⊥) → xs ++ (c ∷ r) ≡ ys ++ (d ∷ s) → Front xs ys r s c d
 front_one [] [] r s c d ax ay nc nd e = record { front = refl; first = cc; rest = cc }
 front_one [] (y ∷ ys) r s c d ax ay nc nd e = let k : c ≡ y = cc in absurd (nc (subst IsDigit (sym k) ay.0))
@@ -51,7 +51,7 @@ glyph_digit d small = by (ltb d 10) refl
     by true e = (omega (arith, ltb-true _ _ e), λ h. omega (arith, ltb-true _ _ e, h))
     by false e = (omega arith, λ h. omega (arith, ltb-false _ _ e, h))
 
--- digits in front of digits
+-- digits before digits
 onto_digits : (k n : ℕ) (acc : List ℕ) → AllDigits acc → AllDigits (digits_onto k 16 true n acc)
 onto_digits zero n acc all = all
 onto_digits (suc k) n acc all =
@@ -151,7 +151,7 @@ stripped_all prefix n = by (cut_or_whole prefix (six_digits n))
     by (inl k) = subst AllDigits (sym k.is) (drop_all (length prefix) (six_digits n) (six_all n))
     by (inr k) = subst AllDigits (sym k.is) (six_all n)
 
--- the cut one is shorter, or nothing is cut
+-- the shortened one is shorter, or nothing was omitted
 cut_short : (prefix a b : List ℕ) → length a ≡ 6 → length b ≡ 6 → Cut prefix a → Whole prefix b → stripped prefix a ≡ stripped prefix b → ⊥
 cut_short [] a b la lb k w e = w.never refl
 cut_short (c ∷ cs) a b la lb k w e =
@@ -202,7 +202,7 @@ letter_back Interval = refl
 letter_one : (t u : TtlvType) → letter t ≡ letter u → t ≡ u
 letter_one t u e = sym (letter_back t) ∙ ap type_of_letter e ∙ letter_back u
 
--- ---- a leaf_outline, or the opening of a structure
+-- ---- a leaf, or the opening of a structure
 
 record SameMark (m n : ℕ) (t u : TtlvType) (r s : List ℕ) : Type 0 where
   tag : m ≡ n
@@ -217,7 +217,7 @@ mark_front prefix m n t u v w r s p q e =
     let f = front_one (stripped prefix (six_digits m)) (stripped prefix (six_digits n)) _ _ (letter t) (letter u) (stripped_all prefix m) (stripped_all prefix n) (letter_none t) (letter_none u) k in
     record { tag = stripped_one prefix m n p q f.front; typ = letter_one t u f.first; rest = f.rest }
 
--- a text never begins with `]`
+-- an item never begins with `]`
 never_close : (xs r s : List ℕ) (t : TtlvType) → AllDigits xs → xs ++ (letter t ∷ r) ≡ 93 ∷ s → ⊥
 never_close [] r s t all e = let k : letter t ≡ 93 = cc in close_letter t k
   where

@@ -1,4 +1,4 @@
--- What any style writes of a well-formed message.
+-- What any style writes for a well-formed message.
 use Rattle.std.proofs.Common.{◌≡◌, ◌≢◌, ℕ, zero, suc, ◌+◌, ◌<◌, ◌≤◌, Bool, true, false, List, [], ◌∷◌, ◌++◌, length, take, drop, refl, sym, ap, ◌∙◌, arith, append_assoc, append-nil, length-append}
 use Rattle.std.proofs.lemmas.List.{drop_at, length-drop, drop-drop}
 use Rattle.std.proofs.lemmas.Bool.{lt-ltb}
@@ -18,7 +18,7 @@ use Rattle.kmip_ttlv_util.proofs.Entries.{entry_tag, entry_length, detail_here, 
 use Rattle.kmip_ttlv_util.proofs.Rest.{place, ready_root, ready_before, text_from, text_start, text_reads, text_closes, text_over}
 use Rattle.kmip_ttlv_util.proofs.Stack.{step_leaf, step_opens}
 
--- as many turns more as the tree has items
+-- how many turns a tree takes, in addition to f
 abbrev mutual
   -- the turns of a tree
   more : Tree → ℕ → ℕ
@@ -29,26 +29,26 @@ abbrev mutual
   more_all no_trees f = f
   more_all (tree t ts) f = more t (more_all ts f)
 
--- valid content is no structure
+-- a type with valid content is not Structure
 pub leaf_not : (typ : TtlvType) (content : List ℕ) → is_valid typ content ≡ true → typ ≢ Structure
 leaf_not typ content valid h = let k : is_valid Structure content ≡ true = ap (λ (u : TtlvType). is_valid u content) (sym h) ∙ valid in cc
 
--- an item has its header
+-- an item has a header
 size_least : (typ : TtlvType) (n : ℕ) → 8 + n ≤ size typ n
 size_least typ n = omega arith
 
--- lengths
+-- the length of an encoding
 tree_length : (t : Tree) (text : List ℕ) → IsTreeText t text → 8 ≤ length text
 tree_length (leaf tag typ content) text h = omega (arith, text_length (raw_with tag typ content) text h.1, size_least typ (length content))
 tree_length (node tag ts) text h = omega (arith, text_length (raw_with tag Structure h.0) text h.1, size_least Structure (length h.0))
 
--- the bytes are enough turns
+-- there are enough bytes for all turns
 record Turns (g n : ℕ) (m : ℕ → ℕ) : Type 0 where
   left : ℕ
   is : g ≡ m left
   enough : g ≤ left + n
 
--- how long a structure's text is
+-- the length of a structure's encoding
 node_length : (tag : ℕ) (ts : Trees) (text : List ℕ) (h : IsTreeText (node tag ts) text) → length text ≡ 8 + length h.0
 node_length tag ts text h = text_length (raw_with tag Structure h.0) text h.1 ∙ omega arith
 
@@ -70,9 +70,9 @@ mutual
       let b = turns_all ts h.1 a.left h.4 (omega (arith, a.enough, ap length h.2, length-append h.0 h.1)) in
       record { left = b.left; is = a.is ∙ ap (more t) b.is; enough = omega (arith, a.enough, b.enough, ap length h.2, length-append h.0 h.1) }
 
--- ---- structures with an end of their own
+-- ---- structures with their own end
 
--- what is in a structure has no empty ones
+-- what is in a structure without empty ones has none either
 inner : (tag : ℕ) (ts : Trees) → HasNoEmpty (node tag ts) → HaveNoEmpty ts
 inner tag no_trees h = tt
 inner tag (tree t ts) h = h
@@ -82,37 +82,37 @@ first_length : (tag : ℕ) (ts : Trees) (text : List ℕ) → HasNoEmpty (node t
 first_length tag no_trees text none h = absurd none
 first_length tag (tree t ts) text none h = omega (arith, tree_length t h.0 h.3, ap length h.2, length-append h.0 h.1)
 
--- so it has an end of its own
+-- so it has its own end
 ends_itself : (closed : Bool) (tag : ℕ) (ts : Trees) (text : List ℕ) → (closed ≡ false → HasNoEmpty (node tag ts)) → AreTreeTexts ts text → has_end closed (length text) ≡ true
 ends_itself true tag ts text none h = refl
 ends_itself false tag ts text none h = lt-ltb 0 (length text) (first_length tag ts text (none refl) h)
 
 -- ---- the walk over a tree
 
--- what follows the first part stands behind it
+-- what follows the first part is after it
 next_at : (w : List ℕ) (p : ℕ) (a rest : List ℕ) → drop p w ≡ a ++ rest → drop (p + length a) w ≡ rest
 next_at w p a rest e = sym (drop-drop (length a) p w) ∙ ap (drop (length a)) e ∙ drop_at a rest (length a) refl
 
--- a text that stands at a place is within the bytes
+-- an encoding at an offset is within the bytes
 within_at : (w : List ℕ) (p : ℕ) (a rest : List ℕ) → p ≤ length w → drop p w ≡ a ++ rest → p + length a ≤ length w
 within_at w p a rest le e = omega (arith, ap length e, length-append a rest, length-drop p w)
 
--- where its content stands
+-- where its content is
 content_at_text : (w : List ℕ) (p : ℕ) (x : Raw) (text rest : List ℕ) (t : IsTextOf x text) → drop p w ≡ text ++ rest → drop (p + 8) w ≡ x.content ++ (t.pad ++ rest)
 content_at_text w p x text rest t e =
     let r : drop p w ≡ (header_of x ++ x.content ++ t.pad) ++ rest = e ∙ ap (λ (s : List ℕ). s ++ rest) t.parts in
     let grouped : (header_of x ++ x.content ++ t.pad) ++ rest ≡ header_of x ++ (x.content ++ (t.pad ++ rest)) = simp append_assoc in
     sym (drop-drop 8 p w) ∙ ap (drop 8) (r ∙ grouped) ∙ drop_at (header_of x) (x.content ++ (t.pad ++ rest)) 8 refl
 
--- ---- what a style writes of a tree
+-- ---- what a style writes for a tree
 
--- what is written of a leaf so deep, and of a structure's opening
+-- what is written for a leaf at a depth, and for a structure's opening
 pub record Drawing : Type 0 where
   pub of_leaf : (depth tag : ℕ) → TtlvType → List ℕ → List ℕ
   pub of_node : (depth tag : ℕ) → List ℕ
 
 abbrev mutual
-  -- the text of a tree so deep
+  -- the text of a tree at a depth
   pub drawn : Drawing → List ℕ → ℕ → Tree → List ℕ
   drawn d shut depth (leaf tag typ content) = d.of_leaf depth tag typ content
   drawn d shut depth (node tag below) = d.of_node depth tag ++ (drawn_all d shut (suc depth) below ++ shut)
@@ -121,7 +121,7 @@ abbrev mutual
   drawn_all d shut depth no_trees = []
   drawn_all d shut depth (tree t ts) = drawn d shut depth t ++ drawn_all d shut depth ts
 
--- an entry is a leaf's
+-- an entry is this leaf's
 pub record LeafHere (w : List ℕ) (p : ℕ) (x : Entry) (tag : ℕ) (typ : TtlvType) (content : List ℕ) : Type 0 where
   pub valid : is_valid typ content ≡ true
   pub tag_is : tag_at x.header 0 ≡ tag
@@ -129,12 +129,12 @@ pub record LeafHere (w : List ℕ) (p : ℕ) (x : Entry) (tag : ℕ) (typ : Ttlv
   pub content_is : take (length_at x.header 0) (drop (p + 8) w) ≡ content
   pub detail_is : x.detail ≡ detail_of typ content
 
--- an entry opens a structure with an end of its own
+-- an entry opens a structure with its own end
 pub record NodeHere (closed : Bool) (x : Entry) (tag : ℕ) : Type 0 where
   pub tag_is : tag_at x.header 0 ≡ tag
   pub own : has_end closed (length_at x.header 0) ≡ true
 
--- a style draws so
+-- a style writes this
 pub record Draws (style : Style) (d : Drawing) (closed : Bool) (w : List ℕ) : Type 0 where
   pub leafs : (depth p tag : ℕ) (typ : TtlvType) (content : List ℕ) → LeafHere w p (entry_at w p) tag typ content → style.item depth p (entry_at w p) typ ≡ d.of_leaf depth tag typ content
   pub nodes : (depth p tag : ℕ) → NodeHere closed (entry_at w p) tag → style.item depth p (entry_at w p) Structure ≡ d.of_node depth tag

@@ -1,15 +1,15 @@
--- The diagnostic of any bytes: a text of their number and their trace alone.
+-- The diagnostic of any bytes, which depends on their number and their trace alone.
 use Rattle.std.specs.Prelude.{ℕ, Bool, List, codes}
 use Rattle.kmip_ttlv_types.specs.Places.{tag_at}
 use Rattle.kmip_ttlv_util.specs.Outlines.{mark}
 use Rattle.kmip_ttlv_util.specs.Traces.{Style, told}
 use Rattle.kmip_ttlv_util.specs.Entries.{Entry, kept}
 
--- what stands where a structure's content exceeds its length
+-- what is written if a structure's content exceeds its length
 unfoldable pub exceeded : List ℕ
 exceeded = codes "\nERROR: TTLV structure content exceeds the structure length."
 
--- marks of entries, `]` where a structure closes, and `ERR` of an entry that can't be read
+-- marks of entries, `]` for the end of a structure, and `ERR` for an entry that can't be read
 abbrev pub diag_style : List ℕ → Style
 diag_style prefix = record {
   item = λ depth p x t. mark prefix (tag_at x.header 0) t (kept t x.detail);

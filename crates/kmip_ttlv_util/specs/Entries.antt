@@ -1,4 +1,4 @@
--- Entries of any bytes: what a trace keeps of the header and of the content at a place, and which type is read there.
+-- Entries of any bytes: what a trace keeps of the header and the content at an offset, and which type is read there.
 use Rattle.std.specs.Prelude.{ℕ, ◌+◌, Bool, true, false, ◌&&◌, List, length, take, drop, Option, Some, None, ◌==◌}
 use Rattle.std.specs.Prelude.{nat_le}
 use Rattle.std.specs.Prelude.{if◌then◌else◌}
@@ -11,13 +11,13 @@ use Rattle.kmip_ttlv_types.specs.ItemTypes.{type_of}
 use Rattle.kmip_ttlv_types.specs.Leaves.{is_valid}
 use Rattle.kmip_ttlv_types.specs.Places.{code_at, length_at, size}
 
--- what is kept of content that is there: an enumeration's value, and whether a boolean or a text is valid
+-- what is kept of content that is there: an enumeration's value, and whether a Boolean or a text is valid
 pub data Detail : Type 0 where
   no_detail : Detail
   kept_value : ℕ → Detail
   kept_validity : Bool → Detail
 
--- of an entry: the header bytes that are there, and that
+-- an entry: the header bytes that are there, and what is kept of the content
 pub record Entry : Type 0 where
   pub header : List ℕ
   pub detail : Detail
@@ -29,7 +29,7 @@ detail_of Boolean content = kept_validity (is_valid Boolean content)
 detail_of TextString content = kept_validity (is_valid TextString content)
 detail_of _ content = no_detail
 
--- what is kept of the content at a place, where all of it is there
+-- what is kept of the content at an offset, if all of it is there
 abbrev pub detail_at : List ℕ → ℕ → Option TtlvType → Detail
 detail_at bytes p None = no_detail
 detail_at bytes p (Some typ) =
@@ -37,11 +37,11 @@ detail_at bytes p (Some typ) =
     then detail_of typ (take (length_at bytes p) (drop (p + 8) bytes))
     else no_detail
 
--- the entry at a place
+-- the entry at an offset
 unfoldable pub entry_at : List ℕ → ℕ → Entry
 entry_at bytes p = record { header = take 8 (drop p bytes); detail = detail_at bytes p (type_of (code_at bytes p)) }
 
--- whether content of a length is valid, from what is kept of it
+-- whether content of this length is valid, given what is kept of it
 abbrev pub is_fine : TtlvType → ℕ → Detail → Bool
 is_fine Integer n d = n == 4
 is_fine LongInteger n d = n == 8
@@ -54,12 +54,12 @@ is_fine TextString n (kept_validity b) = b
 is_fine TextString n d = false
 is_fine _ n d = true
 
--- the bytes from an entry to the next: of a structure its header
+-- the distance from an entry to the next; of a structure it is the header
 abbrev pub extent : TtlvType → ℕ → ℕ
 extent Structure n = 8
 extent typ n = size typ n
 
--- a type, where its bytes are there among so many and its content is valid
+-- a type, if the entry's bytes are within the input and its content is valid
 abbrev pub type_if : ℕ → ℕ → Entry → Option TtlvType → Option TtlvType
 type_if count p x None = None
 type_if count p x (Some t) =
@@ -67,7 +67,7 @@ type_if count p x (Some t) =
     then Some t
     else None
 
--- the type of the entry at a place among so many bytes, where it can be read
+-- the type of the entry at an offset, if it can be read
 unfoldable pub type_read : ℕ → ℕ → Entry → Option TtlvType
 type_read count p x = type_if count p x (type_of (code_at x.header 0))
 

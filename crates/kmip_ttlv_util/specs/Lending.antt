@@ -1,4 +1,4 @@
--- What a printer ends as, once a reference to it that a call gave has ended.
+-- What a printer is once a reference that a call returned has ended.
 use Rattle.std.specs.Prelude.{◌≡◌, ⊤}
 use Rattle.std.specs.Borrow.{Fml, RattleType, Bor, MutBor, follows_so}
 use Rattle.std.specs.declared.alloc.Allocator as alloc
@@ -6,7 +6,7 @@ use mathlib.Core.Option.{none}
 use Rattle.kmip_ttlv_util.specs.declared.printer.PrettyPrinter.{PrettyPrinter}
 use Rattle.kmip_ttlv_util.specs.contracts.printer.PrettyPrinter.{the_row}
 
--- the printer stays what the result shows
+-- the printer remains as the returned reference shows it
 abbrev pub stays :
     (A : RattleType) (heap : alloc.Ghosts A.Denot)
     → MutBor (PrettyPrinter A.Denot)

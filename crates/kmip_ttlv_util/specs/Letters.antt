@@ -32,7 +32,7 @@ type_of_letter c =
     if c == 100 then Some DateTime else
     if c == 110 then Some Interval else None
 
--- each type's letter is that of the type, and no other character is a type's letter
+-- each letter has exactly one type, and no other character has one
 abbrev pub LettersTellTypes : Type 0
 LettersTellTypes = (c : ℕ) (t : TtlvType) → (type_of_letter c ≡ Some t) ↔ (c ≡ letter t)
 

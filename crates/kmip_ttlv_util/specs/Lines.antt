@@ -1,4 +1,4 @@
--- Lines of readable texts: indents, tags with their names, numbers with zeros in front.
+-- Lines of readable texts: indents, tags with their names, numbers with leading zeros.
 use Rattle.std.specs.Prelude.{ℕ, zero, suc, ◌-◌, List, [], ◌∷◌, ◌++◌, length, replicate, Option, Some, None, codes}
 use Rattle.std.specs.Prelude.{nat_le, if◌then◌else◌}
 use Rattle.std.specs.Fmt.{decimal}
@@ -9,33 +9,33 @@ use Rattle.kmip_ttlv_util.specs.Outlines.{hex_upper}
 use Rattle.kmip_ttlv_util.specs.declared.indentation.Indentation.{Indentation}
 use Rattle.kmip_ttlv_util.specs.declared.indentation.Indentation.TheVariants.{Full, Bounded}
 
--- digits, with zeros in front up to a number of them
+-- digits, with leading zeros up to a width
 unfoldable pub at_least : ℕ → List ℕ → List ℕ
 at_least width digits = replicate (width - length digits) 48 ++ digits
 
--- `0x` and at least so many digits
+-- `0x` and digits up to a width
 abbrev pub hex_padded : ℕ → ℕ → List ℕ
 hex_padded width n = codes "0x" ++ at_least width (hex_upper n)
 
--- two spaces a level
+-- two spaces for each level
 abbrev pub indent : ℕ → List ℕ
 indent zero = []
 indent (suc d) = 32 ∷ 32 ∷ indent d
 
--- a tag with at least four digits; behind its name, in brackets, where it has one
+-- a tag with at least four digits; if it has a name, after the name and in brackets
 abbrev pub tag_named : Option (List ℕ) → ℕ → List ℕ
 tag_named None tag = hex_padded 4 tag
 tag_named (Some name) tag = name ++ (codes " (" ++ (hex_padded 4 tag ++ codes ")"))
 
--- the beginning of a line so deep, up to the tag
+-- the beginning of a line at a depth, up to the tag
 abbrev pub tag_part : (ℕ → Option (List ℕ)) → ℕ → ℕ → List ℕ
 tag_part names depth tag = indent depth ++ (codes "Tag: " ++ tag_named (names tag) tag)
 
--- what stands in front of the tag where more than 64 structures are around: their number
+-- what precedes the tag of an item in more than 64 structures: their number
 unfoldable pub depth_mark : ℕ → List ℕ
 depth_mark depth = indent 64 ++ (codes "[" ++ (decimal depth ++ codes "] "))
 
--- the same beginning, indented by 64 levels at most
+-- the same beginning, indented by at most 64 levels
 unfoldable pub bounded_part : (ℕ → Option (List ℕ)) → ℕ → ℕ → List ℕ
 bounded_part names depth tag =
     if nat_le depth 64 then tag_part names depth tag else depth_mark depth ++ tag_part names 0 tag
@@ -49,7 +49,7 @@ indented Bounded names = bounded_part names
 abbrev pub typ_part : (ℕ → ℕ → List ℕ) → ℕ → ℕ → TtlvType → List ℕ
 typ_part beginning depth tag typ = beginning depth tag ++ (codes ", Type: " ++ type_text typ)
 
--- what follows a tag, up to the value: behind a leaf's `Data:` a space
+-- what follows a tag, up to the value: a leaf has a space after `Data:`
 abbrev pub data_part : TtlvType → List ℕ
 data_part Structure = codes ", Type: " ++ (type_text Structure ++ codes ", Data:")
 data_part typ = codes ", Type: " ++ (type_text typ ++ codes ", Data: ")
@@ -58,6 +58,6 @@ data_part typ = codes ", Type: " ++ (type_text typ ++ codes ", Data: ")
 unfoldable pub line : (ℕ → ℕ → List ℕ) → ℕ → ℕ → TtlvType → List ℕ → List ℕ
 line beginning depth tag typ shown = typ_part beginning depth tag typ ++ (codes ", Data: " ++ (shown ++ (10 ∷ [])))
 
--- what stands for a value that is not told
+-- what is written in place of a hidden value
 abbrev pub hidden : List ℕ
 hidden = codes "<redacted>"

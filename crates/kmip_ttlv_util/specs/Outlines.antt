@@ -1,4 +1,4 @@
--- Outlines of messages: what a diagnostic tells, and its text.
+-- Outlines of messages, which are what a diagnostic shows, and their text.
 use Rattle.std.specs.Prelude.{ℕ, ◌^◌, ◌<◌, List, [], ◌∷◌, ◌++◌, length, drop, true, if◌then◌else◌, Option, Some, None}
 use Rattle.std.specs.Prelude.{nat_eq, codes}
 use Rattle.std.specs.List.{starts_with}
@@ -11,7 +11,7 @@ use Rattle.kmip_ttlv_util.specs.Letters.{letter}
 use Rattle.kmip_ttlv_types.specs.Trees.{Tree, Trees, leaf, node, no_trees, tree}
 
 mutual
-  -- of a leaf its tag and type, and an enumeration's value; of a structure its tag and what is in it
+  -- of a leaf its tag and type, and an enumeration's value; of a structure its tag and the outlines in it
   pub data Outline : Type 0 where
     leaf_outline : (tag : ℕ) → (typ : TtlvType) → (value : Option ℕ) → Outline
     node_outline : (tag : ℕ) → (below : Outlines) → Outline
@@ -21,7 +21,7 @@ mutual
     no_outlines : Outlines
     outline : Outline → Outlines → Outlines
 
--- an enumeration has a value, another leaf none
+-- an enumeration has a value, any other leaf none
 abbrev pub IsKept : TtlvType → Option ℕ → Type 0
 IsKept Structure v = ⊥
 IsKept Enumeration (Some n) = n < 2 ^ 32
@@ -58,7 +58,7 @@ abbrev mutual
 abbrev pub hex_upper : ℕ → List ℕ
 hex_upper n = digits 16 true n
 
--- the digits without the prefix, where they begin with it
+-- the digits without the prefix, if they begin with it
 abbrev pub stripped : List ℕ → List ℕ → List ℕ
 stripped prefix text = if starts_with nat_eq text prefix then drop (length prefix) text else text
 
@@ -71,7 +71,7 @@ value_text (Some n) = hex_upper n ++ codes ":"
 unfoldable pub mark : List ℕ → ℕ → TtlvType → Option ℕ → List ℕ
 mark prefix tag typ value = stripped prefix (six_digits tag) ++ (letter typ ∷ value_text value)
 
--- the diagnostic of an outline: a structure is its mark, what is in it, and `]`
+-- the diagnostic of an outline: a structure is its mark, its content, and `]`
 abbrev mutual
   pub diag : List ℕ → Outline → List ℕ
   diag prefix (leaf_outline tag typ value) = mark prefix tag typ value

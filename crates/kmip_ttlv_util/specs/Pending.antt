@@ -1,7 +1,7 @@
--- Words of the calls that read a diagnostic back: what is still to be written of a line.
+-- Definitions for the calls that read a diagnostic back: the pending end of a line.
 use Rattle.std.specs.Prelude.{codes, ℕ, Bool, true, false, List, [], ◌∷◌, ◌++◌}
 
--- what is still to be written of a line, if anything is: all that follows its type
+-- the pending end of a line, if there is one: all that follows its type
 abbrev pub pending_text : Bool → List ℕ → List ℕ
 pending_text false shown = []
 pending_text true shown = codes ", Data: " ++ (shown ++ (10 ∷ []))

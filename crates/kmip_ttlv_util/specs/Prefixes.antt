@@ -3,8 +3,8 @@ use Rattle.std.specs.Prelude.{◌≡◌, ◌+◌, ◌*◌, ◌≤◌, ◌<◌, �
 use Rattle.kmip_ttlv_util.specs.LastDigits.{last_digits}
 use Rattle.kmip_ttlv_util.specs.declared.diagnostic.Prefix.{Prefix}
 
--- where a prefix is six digits at most, the number is theirs, and the bits of a tag that they leave are those of the
--- other digits
+-- if a prefix is at most six digits, `number` is their number, and `shift` the number of bits in a tag's other
+-- digits
 abbrev pub IsNumber : Prefix → Type 0
 IsNumber p =
     p.count ≤ 6

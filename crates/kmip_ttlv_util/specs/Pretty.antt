@@ -1,4 +1,4 @@
--- Readable texts: of a tree, and of any bytes.
+-- Readable texts of a tree, and of any bytes.
 use Rattle.std.specs.Prelude.{◌≡◌, ℕ, suc, ◌+◌, ◌/◌, ◌%◌, Bool, true, false, List, [], ◌∷◌, ◌++◌, length, take, drop}
 use Rattle.std.specs.Prelude.{Option, if◌then◌else◌, ◌==◌, codes}
 use Rattle.std.specs.List.{flat_map}
@@ -15,11 +15,11 @@ use Rattle.kmip_ttlv_util.specs.Traces.{Style, trace, told}
 use Rattle.kmip_ttlv_util.specs.WalkPlaces.{has_end}
 use Rattle.kmip_ttlv_util.specs.Diagnostics.{exceeded}
 
--- a text behind a space, in brackets
+-- a space, and a text in brackets
 abbrev pub bracketed : List ℕ → List ℕ
 bracketed text = codes " (" ++ (text ++ codes ")")
 
--- two digits a byte
+-- the two digits of a byte
 abbrev pub two_digits : ℕ → List ℕ
 two_digits b = digit_glyph true (b / 16) ∷ digit_glyph true (b % 16) ∷ []
 
@@ -27,8 +27,8 @@ two_digits b = digit_glyph true (b / 16) ∷ digit_glyph true (b % 16) ∷ []
 unfoldable pub hex_bytes : List ℕ → List ℕ
 hex_bytes bytes = flat_map two_digits bytes
 
--- the value of a leaf: numbers as `0x` and at least six digits of the two's complement, then the
--- decimal, but of a date; a boolean's word; a text as it is; bytes in hexadecimal
+-- the value of a leaf: numbers as `0x` and at least six digits of the two's complement, then in decimal,
+-- except dates; a Boolean as a word; a text as it is; bytes in hexadecimal
 unfoldable pub value_shown : TtlvType → List ℕ → List ℕ
 value_shown Structure content = []
 value_shown Integer content =
@@ -55,7 +55,7 @@ unfoldable pub pretty_line : (ℕ → Option (List ℕ)) → ℕ → ℕ → Ttl
 pretty_line names depth tag typ content =
     typ_part (tag_part names) depth tag typ ++ (codes ", Data:" ++ (data_shown typ content ++ (10 ∷ [])))
 
--- the lines of a tree so deep
+-- the lines of a tree at a depth
 abbrev mutual
   pub pretty : (ℕ → Option (List ℕ)) → ℕ → Tree → List ℕ
   pretty names depth (leaf tag typ content) = pretty_line names depth tag typ content
@@ -65,13 +65,13 @@ abbrev mutual
   pretty_all names depth no_trees = []
   pretty_all names depth (tree t ts) = pretty names depth t ++ pretty_all names depth ts
 
--- the line that follows an empty structure that stays open
+-- the line after an empty structure that stays open
 unfoldable pub warning : Bool → TtlvType → ℕ → List ℕ
 warning closed Structure n = if has_end closed n then [] else codes "WARNING: TTLV structure length is zero\n"
 warning closed typ n = []
 
--- a line of each entry that is read, so deep; nothing where a structure closes; and words behind
--- `ERROR: ` of an entry that can't be read
+-- a line for each entry that is read; nothing where a structure closes; and `ERROR: ` with some wording for
+-- an entry that can't be read
 abbrev pub pretty_style : (ℕ → Option (List ℕ)) → Bool → List ℕ → List ℕ → Style
 pretty_style names closed bytes wording = record {
   item = λ depth p x t.
@@ -82,7 +82,7 @@ pretty_style names closed bytes wording = record {
   unreadable = codes "ERROR: " ++ wording;
 }
 
--- the readable text of any bytes, in some wording
+-- the readable text of any bytes, with some wording
 abbrev pub IsPrinted : (ℕ → Option (List ℕ)) → Bool → List ℕ → List ℕ → Type 0
 IsPrinted names closed bytes text =
     (wording : List ℕ)

@@ -1,4 +1,4 @@
--- What the printer's calls answer of well-formed messages, and what diagnostics tell.
+-- What the printer's calls return for well-formed messages, and what diagnostics show.
 use Rattle.std.specs.Prelude.{slice_index, EachIndex, ◌≡◌, ℕ, Bool, false, ◌<◌, List, ◌↔◌, length}
 use Rattle.kmip_ttlv_types.specs.Trees.{Tree, IsTreeText, IsStructure, HasNoEmpty}
 use Rattle.kmip_ttlv_util.specs.Outlines.{Outline, IsOutline, diag, outline_of}
@@ -19,7 +19,7 @@ IsExact prefix closed bytes text =
     → (closed ≡ false → HasNoEmpty t)
     → Exact prefix t text
 
--- two well-formed messages have equal diagnostics exactly if their outlines are equal
+-- two well-formed messages have equal diagnostics if and only if their outlines are equal
 abbrev pub TellsOutlines : Type 0
 TellsOutlines =
     (prefix : List ℕ) (closed : Bool) (a b : List ℕ) (t u : Tree)

@@ -3,7 +3,7 @@ use Rattle.std.specs.Prelude.{ℕ, Bool, List, Option, string_bytes}
 use Rattle.kmip_ttlv_util.specs.TagNames.{name_in}
 use Rattle.kmip_ttlv_util.specs.declared.printer.PrettyPrinter.{PrettyPrinter}
 
--- the prefix that is left out of tags in diagnostics
+-- the prefix that diagnostics omit from tags
 abbrev pub prefix_of : {A : Type 0} → PrettyPrinter A → List ℕ
 prefix_of p = string_bytes p.prefix
 

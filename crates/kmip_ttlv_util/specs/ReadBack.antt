@@ -1,4 +1,4 @@
--- What a diagnostic is read back as: the lines of the longest list of parts with which the text begins; of an outline's
+-- What a diagnostic is read back as: the lines of the longest list of parts that the text begins with; for an outline's
 -- diagnostic, the outline's redacted lines.
 use Rattle.std.specs.Prelude.{codes, ◌≡◌, ◌≢◌, ℕ, suc, ◌-◌, ◌<◌, ◌≤◌, List, [], ◌∷◌, ◌++◌, length, take, drop}
 use Rattle.std.specs.Prelude.{Option, Some, None, if◌then◌else◌, ◌==◌}
@@ -13,7 +13,7 @@ use Rattle.kmip_ttlv_util.specs.Outlines.{IsOutline, hex_upper, diag}
 use Rattle.kmip_ttlv_util.specs.Letters.{letter, type_of_letter, is_hex}
 use Rattle.kmip_ttlv_util.specs.Lines.{tag_part, typ_part, line, hidden}
 
--- a part of a diagnostic: the close of a structure, or an item with what its line shows
+-- a part of a diagnostic: the close of a structure, or an item and what its line shows
 pub data Part : Type 0 where
   close_part : Part
   item_part : (tag : ℕ) → (typ : TtlvType) → (shown : List ℕ) → Part
@@ -22,24 +22,24 @@ pub data Part : Type 0 where
 abbrev pub NoColon : List ℕ → Type 0
 NoColon cs = AllByRecursion (λ c. c ≢ 58) cs
 
--- what stands behind a letter: an enumeration's value and a colon; otherwise any character that is left
+-- what follows a letter: an enumeration's value and a colon; otherwise at least one character
 abbrev pub StandsBehind : TtlvType → List ℕ → List ℕ → List ℕ → Type 0
 StandsBehind Structure after shown rest = (shown ≡ []) × (rest ≡ after) × (0 < length rest)
 StandsBehind Enumeration after shown rest = (0 < length shown) × NoColon shown × (after ≡ shown ++ (58 ∷ rest))
 StandsBehind typ after shown rest = (shown ≡ hidden) × (rest ≡ after) × (0 < length rest)
 
--- the tag that stands in front: the longest front of digits, behind `0x` and the prefix
+-- the tag that a text begins with: all its leading digits, after `0x` and the prefix
 abbrev pub tag_in_front : List ℕ → List ℕ → Option ℕ
 tag_in_front prefix [] = None
 tag_in_front prefix (c ∷ s) =
     if c == 93 then None else tag_of (codes "0x" ++ (prefix ++ take (prefix_len is_hex (c ∷ s)) (c ∷ s)))
 
--- the type that stands behind these digits
+-- the type that follows the digits
 abbrev pub typ_in_front : List ℕ → Option TtlvType
 typ_in_front [] = None
 typ_in_front (c ∷ s) = type_of_letter c
 
--- a part stands in front of a text so deep, and what is left behind it
+-- a text at a depth begins with a part, and this is the rest
 abbrev pub Stands : List ℕ → ℕ → List ℕ → Part → List ℕ → Type 0
 Stands prefix depth s close_part rest = (0 < depth) × (s ≡ 93 ∷ rest)
 Stands prefix depth s (item_part tag typ shown) rest =
@@ -48,13 +48,13 @@ Stands prefix depth s (item_part tag typ shown) rest =
     × (drop (prefix_len is_hex s) s ≡ letter typ ∷ after)
     × StandsBehind typ after shown rest
 
--- how deep it is behind a part
+-- the depth after a part
 abbrev pub depth_behind : ℕ → Part → ℕ
 depth_behind depth close_part = depth - 1
 depth_behind depth (item_part tag Structure shown) = suc depth
 depth_behind depth (item_part tag typ shown) = depth
 
--- parts stand in front of a text, one after the other; how deep it is behind them, and what is left
+-- a text begins with these parts; the depth after them, and the rest
 abbrev pub StandAll : List ℕ → ℕ → List ℕ → List Part → ℕ → List ℕ → Type 0
 StandAll prefix depth s [] deep rest = (deep ≡ depth) × (rest ≡ s)
 StandAll prefix depth s (p ∷ ps) deep rest =
@@ -70,18 +70,18 @@ abbrev pub part_lines : (ℕ → ℕ → List ℕ) → ℕ → List Part → Lis
 part_lines beginning depth [] = []
 part_lines beginning depth (p ∷ ps) = part_line beginning depth p ++ part_lines beginning (depth_behind depth p) ps
 
--- what is written of the tag and the type that stand there
+-- what is written of this tag and type
 abbrev pub unfinished_by : (ℕ → ℕ → List ℕ) → ℕ → Option ℕ → Option TtlvType → List ℕ
 unfinished_by beginning depth None o = []
 unfinished_by beginning depth (Some tag) None = beginning depth tag
 unfinished_by beginning depth (Some tag) (Some typ) = typ_part beginning depth tag typ
 
--- what is written of an unfinished part: its tag and its type, as far as these stand there
+-- what is written of an unfinished part: its tag and type, as far as they are there
 abbrev pub unfinished : (ℕ → ℕ → List ℕ) → List ℕ → ℕ → List ℕ → List ℕ
 unfinished beginning prefix depth s =
     unfinished_by beginning depth (tag_in_front prefix s) (typ_in_front (drop (prefix_len is_hex s) s))
 
--- the longest list of parts with which a text begins
+-- the longest list of parts that a text begins with
 pub record Longest (beginning : ℕ → ℕ → List ℕ) (prefix : List ℕ) (depth : ℕ) (s text : List ℕ) : Type 0 where
   pub parts : List Part
   pub deep : ℕ
@@ -90,12 +90,12 @@ pub record Longest (beginning : ℕ → ℕ → List ℕ) (prefix : List ℕ) (d
   pub no_more : (p : Part) (more : List ℕ) → Stands prefix deep rest p more → ⊥
   pub written : text ≡ part_lines beginning depth parts ++ unfinished beginning prefix deep rest
 
--- an answer has the lines of the longest list of parts, then what is written of an unfinished part, trimmed at the end
+-- the result has the lines of the longest list of parts, then what is written of an unfinished part, trimmed at the end
 abbrev pub ReadsLongest : (ℕ → Option (List ℕ)) → List ℕ → List ℕ → List ℕ → Type 0
 ReadsLongest names prefix s answer =
     (text : List ℕ) × Longest (tag_part names) prefix 0 s text × (answer ≡ trim_end text)
 
--- reading ends at a place, so deep: the longest list of parts stands in front of it, and the text has their lines, then
+-- reading ends at a place and a depth: the longest list of parts ends there, and the text has their lines, then
 -- what is written of an unfinished part
 pub record EndsAt
     (beginning : ℕ → ℕ → List ℕ) (prefix s text : List ℕ) (place deep : ℕ) : Type 0 where
@@ -111,7 +111,7 @@ shown Structure v = []
 shown Enumeration (Some n) = hex_upper n
 shown typ v = hidden
 
--- the lines of an outline so deep
+-- the lines of an outline at a depth
 abbrev mutual
   pub lines : (ℕ → ℕ → List ℕ) → ℕ → Outline → List ℕ
   lines beginning depth (leaf_outline tag typ value) = line beginning depth tag typ (shown typ value)
@@ -151,8 +151,8 @@ abbrev pub IsNode : Outline → Type 0
 IsNode (leaf_outline tag typ value) = ⊥
 IsNode (node_outline tag below) = Unit {0}
 
--- of the diagnostic of a structure's outline, whose tags all begin with the prefix: its lines,
--- without the last line feed where no structure is empty
+-- for the diagnostic of a structure's outline, whose tags all begin with the prefix: its lines,
+-- without the last line feed if no structure is empty
 abbrev pub IsReadBack : (ℕ → Option (List ℕ)) → List ℕ → List ℕ → List ℕ → Type 0
 IsReadBack names prefix text answer =
     (o : Outline) → IsOutline o → IsNode o → AllBegin prefix o → text ≡ diag prefix o

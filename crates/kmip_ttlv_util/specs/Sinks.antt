@@ -1,4 +1,4 @@
--- The laws of the sinks of texts.
+-- The laws of text sinks.
 use Rattle.std.proofs.Common.{◌≡◌, ℕ, List, [], ◌++◌, length, Option, Some, refl, sym, ap, subst, ◌∙◌, append_assoc, append-nil, take_all, le_refl}
 use Rattle.std.specs.Borrow.{GName}
 use Rattle.std.specs.Io.KnownBytes.{Appends}
@@ -7,7 +7,7 @@ use Rattle.kmip_ttlv_types.specs.Streams.{AppendsFront}
 use Rattle.kmip_ttlv_types.proofs.Taken.{AppendsFront-first, AppendsFront-second}
 use Rattle.kmip_ttlv_util.specs.Pieces.{Moves}
 
--- all of it is a beginning
+-- a whole text is a beginning of itself
 whole_front : (a b : Option (List ℕ)) (s : List ℕ) → Appends a b s → AppendsFront a b s
 whole_front a b s h = record { count = length s; within = le_refl (length s); appends = subst (Appends a b) (sym (take_all (length s) s (le_refl (length s)))) h }
 
@@ -28,7 +28,7 @@ string_second a b c s t p q = AppendsFront-second (Some a) (Some b) (Some c) s t
 pub string_after : (a b s : List ℕ) → b ≡ a ++ s → AppendsFront (Some a) (Some b) s
 string_after a b s p = whole_front (Some a) (Some b) s p
 
--- ---- a writer behind a buffer
+-- ---- a buffered writer
 
 pub moves_none : (n : GName) (a : Option (List ℕ)) (w : List ℕ) → (n ≡ n) × Moves a a w [] w
 moves_none n a w = (refl, record { sent = []; appended = Appends-nil a; parts = append-nil w })

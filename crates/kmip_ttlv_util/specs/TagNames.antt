@@ -18,6 +18,6 @@ name_in names tag = option_map (λ s. s.now) (get (λ a b. a == b) names tag)
 abbrev pub no_names : ℕ → Option (List ℕ)
 no_names tag = None
 
--- each tag has this name, if one is given
+-- every tag has this name, if one is given
 abbrev pub named : Option (Bor (List ℕ)) → ℕ → Option (List ℕ)
 named name tag = option_map (λ s. s.now) name

@@ -1,4 +1,4 @@
--- The trace of any bytes, and what a printer writes of a trace.
+-- The trace of any bytes, and what a printer writes for a trace.
 use Rattle.std.specs.Prelude.{ℕ, zero, suc, Bool, List, [], ◌∷◌, ◌++◌, length, Option, Some, None, if◌then◌else◌, ◌==◌}
 use Rattle.kmip_ttlv_types.specs.declared.typ.TtlvType.{TtlvType}
 use Rattle.kmip_ttlv_types.specs.Places.{length_at}
@@ -6,26 +6,26 @@ use Rattle.kmip_ttlv_util.specs.Entries.{Entry, entry_at, type_read}
 use Rattle.kmip_ttlv_util.specs.WalkPlaces.{Place, depth_at, Turn, all_closed, end_passed, entry_follows, turn, after}
 use Rattle.kmip_ttlv_util.specs.WalkPlaces.{start}
 
--- the entries from one on, by what comes next and by its type
+-- the entries from one on, given what comes next and the entry's type
 abbrev pub entries_by : Turn → Entry → Option TtlvType → (TtlvType → List Entry) → List Entry
 entries_by all_closed x o more = []
 entries_by end_passed x o more = []
 entries_by entry_follows x None more = x ∷ []
 entries_by entry_follows x (Some t) more = x ∷ more t
 
--- the entries from a place on, at most so many
+-- the entries from a place on, at most this many
 unfoldable pub entries_from : ℕ → Bool → List ℕ → Place → List Entry
 entries_from zero closed bytes s = []
 entries_from (suc most) closed bytes s =
     entries_by (turn s) (entry_at bytes s.pos) (type_read (length bytes) s.pos (entry_at bytes s.pos))
     (λ t. entries_from most closed bytes (after closed s t (length_at (entry_at bytes s.pos).header 0)))
 
--- the trace of any bytes, where empty structures are closed or stay open
+-- the trace of any bytes, with empty structures closed or left open
 unfoldable pub trace : Bool → List ℕ → List Entry
 trace closed bytes = entries_from (suc (length bytes)) closed bytes start
 
--- what a printer writes: of an entry that is read, so deep and at a position; where a structure closes;
--- where an end was passed; and of an entry that can't be read
+-- what a printer writes: for an entry that is read, at a depth and an offset; when a structure closes;
+-- when an end was passed; and for an entry that can't be read
 pub record Style : Type 0 where
   pub item : ℕ → ℕ → Entry → TtlvType → List ℕ
   pub close : List ℕ
@@ -37,17 +37,17 @@ unfoldable pub closes : List ℕ → ℕ → List ℕ → List ℕ
 closes shut p [] = []
 closes shut p (e ∷ es) = if e == p then shut ++ closes shut p es else []
 
--- what is written where the entries end
+-- what is written after the last entry
 abbrev pub end_text : Style → Turn → List ℕ
 end_text style end_passed = style.passed
 end_text style _ = []
 
--- what is written of an entry, by its type
+-- what is written for an entry, given its type
 abbrev pub text_by : Style → Option TtlvType → (TtlvType → List ℕ) → List ℕ
 text_by style None more = style.unreadable
 text_by style (Some t) more = more t
 
--- what is written of the entries from a place on, among so many bytes
+-- what is written for the entries from a place on, of an input of this length
 unfoldable pub told_from : Style → Bool → ℕ → Place → List Entry → List ℕ
 told_from style closed count s [] = closes style.close s.pos s.ends ++ end_text style (turn s)
 told_from style closed count s (x ∷ xs) =
@@ -56,6 +56,6 @@ told_from style closed count s (x ∷ xs) =
     style.item (depth_at s) s.pos x t
     ++ told_from style closed count (after closed s t (length_at x.header 0)) xs)
 
--- what is written of a trace
+-- what is written for a trace
 unfoldable pub told : Style → Bool → ℕ → List Entry → List ℕ
 told style closed count xs = told_from style closed count start xs

@@ -1,4 +1,4 @@
--- The bytes that wait in a buffer.
+-- The bytes in a buffer that are not sent yet.
 use Rattle.std.specs.Prelude.{ℕ, List, take}
 use Rattle.kmip_ttlv_util.specs.declared.buffer.Buffer.{Buffer}
 

@@ -1,4 +1,4 @@
--- Words of the printers' inner calls: the item at a place, and where a walk stands.
+-- Definitions for the printers' inner calls: the item at an offset, and where a walk is.
 use Rattle.std.specs.Prelude.{◌≡◌, ◌≢◌, ℕ, true, false, ◌+◌, ◌<◌, ◌≤◌, List, [], ◌∷◌, length, take, drop, reverse, Some}
 use Rattle.kmip_ttlv_types.specs.declared.typ.TtlvType.TheVariants.{Structure}
 use Rattle.kmip_ttlv_types.specs.Leaves.{is_valid}
@@ -10,7 +10,7 @@ use Rattle.kmip_ttlv_util.specs.declared.walk.Next.TheVariants.{Closes, Over, Pa
 use Rattle.kmip_ttlv_util.specs.WalkPlaces.{Place, left_at, turn, entry_follows}
 use Rattle.kmip_ttlv_util.specs.Entries.{entry_at, type_read, kept, extent}
 
--- the item at a place is read
+-- this item is read at an offset
 pub record IsItem (bytes : List ℕ) (p : ℕ) (i : Item) : Type 0 where
   pub typ : type_read (length bytes) p (entry_at bytes p) ≡ Some i.typ
   pub tag : i.tag ≡ tag_at (entry_at bytes p).header 0
@@ -21,11 +21,11 @@ pub record IsItem (bytes : List ℕ) (p : ℕ) (i : Item) : Type 0 where
   pub content : i.typ ≢ Structure → i.content.now ≡ take i.length (drop (p + 8) bytes)
   pub valid : i.typ ≢ Structure → is_valid i.typ i.content.now ≡ true
 
--- where a walk stands; the stack's last end is the innermost
+-- where a walk is; the stack's last end is the innermost
 abbrev pub place_of : {A : Type 0} → Walk A → Place
 place_of w = record { pos = w.pos; ends = reverse w.ends.items; endless = w.endless; loose = w.loose }
 
--- nothing closes, and an entry is read
+-- nothing closes, and an entry follows
 pub record Ready (s : Place) : Type 0 where
   pub turns : turn s ≡ entry_follows
   pub left : left_at s.pos s.ends ≡ s.ends

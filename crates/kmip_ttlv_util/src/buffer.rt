@@ -1,11 +1,11 @@
-//! Bytes that wait, in memory of a fixed size.
+//! A buffer of a fixed size, whose bytes are not sent yet.
 
 ghost use Rattle.std.specs.Prelude.{◌≡◌, ◌+◌, ◌≤◌, [], ◌++◌, length};
 
-/// How many bytes wait at most.
+/// The most bytes that it can hold.
 pub const ROOM: usize = 8_192;
 
-/// The bytes that wait, in front of room for more.
+/// The buffered bytes, followed by free room.
 #[derive(Drop)]
 pub struct Buffer {
     bytes: [u8; 8_192],
@@ -16,7 +16,7 @@ pub struct Buffer {
 impl Buffer {
     ghost use Rattle.kmip_ttlv_util.specs.Waiting.{waiting};
 
-    /// No bytes.
+    /// An empty buffer.
     pub fn new() -> Buffer
         ensures { waiting result ≡ [] }
     {
@@ -26,7 +26,7 @@ impl Buffer {
         }
     }
 
-    /// The bytes.
+    /// The buffered bytes.
     pub fn bytes(&self) -> &[u8]
         ensures { result.now ≡ waiting self.now }
     {
@@ -40,7 +40,7 @@ impl Buffer {
         ROOM - self.len
     }
 
-    /// Puts a piece behind them.
+    /// Appends a piece.
     pub fn push(&mut self, piece: &[u8])
         requires { length (waiting self.old) + length piece.now ≤ 8192 }
         ensures { waiting self.new ≡ waiting self.old ++ piece.now }
@@ -50,7 +50,7 @@ impl Buffer {
         self.len = end;
     }
 
-    /// Lets them go.
+    /// Removes all bytes.
     pub fn clear(&mut self)
         ensures { waiting self.new ≡ [] }
     {

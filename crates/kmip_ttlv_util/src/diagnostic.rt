@@ -20,23 +20,23 @@ use std::alloc::{AllocError, Allocator};
 use std::io::Write;
 use std::{io, str};
 
-/// What stands where a structure's content exceeds its length.
+/// What is written if a structure's content exceeds its length.
 pub const EXCEEDED: &str = "\nERROR: TTLV structure content exceeds the structure length.";
 
-/// A prefix of tags: as the number that its digits are too, where it is at most six of them.
+/// A prefix of tags; if it is at most six digits, also as their number.
 #[derive(Clone, Copy)]
 pub struct Prefix<'p> {
     /// The prefix itself.
     pub text: &'p str,
-    /// How many digits it is, or seven where it is not digits or more of them.
+    /// How many digits it has; seven if it has more, or isn't digits.
     pub count: usize,
-    /// The number that the digits are.
+    /// The number of these digits.
     pub number: u32,
-    /// How many bits of a tag the digits leave.
+    /// How many bits of a tag remain after these digits.
     pub shift: u32,
 }
 
-/// A prefix, with its number.
+/// The prefix with its number.
 pub fn prefix_of(text: &str) -> Prefix<'_>
     ensures text { result.text.now ≡ text.now }
     ensures number { IsNumber result }
@@ -58,7 +58,7 @@ pub fn prefix_of(text: &str) -> Prefix<'_>
     }
 }
 
-/// The text without the prefix, where it begins with it.
+/// The text without the prefix, if it begins with it.
 fn strip<'t>(prefix: &str, text: &'t str) -> &'t str
     ensures { result.now ≡ stripped prefix.now text.now }
 {
@@ -68,7 +68,7 @@ fn strip<'t>(prefix: &str, text: &'t str) -> &'t str
     }
 }
 
-/// How many digits of a tag are left out by a prefix with a number.
+/// How many digits of a tag a prefix with a number omits.
 #[inline(always)]
 fn left_out(prefix: &Prefix<'_>, tag: TtlvTag) -> usize
     requires number { IsNumber prefix.now }
@@ -83,7 +83,7 @@ fn left_out(prefix: &Prefix<'_>, tag: TtlvTag) -> usize
     }
 }
 
-/// The digits of a tag that the prefix doesn't leave out.
+/// The digits of a tag that the prefix doesn't omit.
 #[inline(always)]
 fn push_tag<S: TextSink>(out: &mut S, prefix: &Prefix<'_>, tag: TtlvTag) -> Result<(), S::Error>
     requires { IsNumber prefix.now }
@@ -153,7 +153,7 @@ fn push_mark<S: TextSink>(
     ensures err { OnErr result (S.breaks out.old (mark prefix.now.text.now tag typ value) out.new) }
 {
     if prefix.count == 4 && left_out(prefix, tag) == 4 {
-        // The standard's tags begin with four digits that are often left out: what stays is copied at once.
+        // The standard's tags begin with four digits that are often omitted: the other two are copied at once.
         let digits = eight(*tag);
         let text = [digits[6], digits[7], letter(typ)];
         out.push_str(unsafe { str::from_utf8_unchecked(&text) })?;
@@ -165,7 +165,7 @@ fn push_mark<S: TextSink>(
     push_value(out, value)
 }
 
-/// The close of a structure.
+/// The closing bracket of a structure.
 fn push_close<S: TextSink>(out: &mut S) -> Result<(), S::Error>
     ensures ok { OnOk result (S.adds out.old (93 ∷ []) out.new) }
     ensures err { OnErr result (S.breaks out.old (93 ∷ []) out.new) }
@@ -173,13 +173,13 @@ fn push_close<S: TextSink>(out: &mut S) -> Result<(), S::Error>
     out.push_str("]")
 }
 
-/// An estimate of a diagnostic's length: a quarter of the bytes, and at most a page.
+/// An estimate of a diagnostic's length: 16 bytes and a quarter of the input's, at most 4,112.
 fn room_for(bytes: &[u8]) -> usize {
     let quarter = bytes.len() / 4;
     16 + if quarter < 4096 { quarter } else { 4096 }
 }
 
-/// Adds the diagnostic of any bytes, and gives how many items were tried.
+/// Appends the diagnostic of any bytes, and returns how many items it tried to read.
 pub fn diagnose_to<S: TextSink, A: Allocator + Copy>(
     out: &mut S,
     alloc: A,
@@ -223,7 +223,7 @@ pub fn diagnose_to<S: TextSink, A: Allocator + Copy>(
     }
 }
 
-/// The diagnostic of any bytes, and how many items were tried.
+/// The diagnostic of any bytes, and how many items it tried to read.
 pub fn diagnose<A: Allocator + Copy>(
     alloc: A,
     prefix: &str,

@@ -1,4 +1,4 @@
-//! Hexadecimal digits of numbers: written from a table of the two digits of each byte, and read.
+//! Hexadecimal digits of numbers: written, from a table with the two digits of each byte, and read.
 
 ghost use Rattle.std.specs.Prelude.{◌≡◌, ℕ, ◌<◌, ◌≤◌, ◌^◌, ◌++◌, true, length, take, OnOk, OnErr};
 ghost use Rattle.std.specs.Fmt.{digit_glyph};
@@ -12,7 +12,7 @@ ghost use Rattle.kmip_ttlv_util.specs.LastDigits.{last_digits};
 use crate::sink::TextSink;
 use std::str;
 
-/// The two digits of each byte, from those of zero on.
+/// The two digits of each byte, beginning with those of zero.
 static PAIRS: [u8; 512] =
     *b"000102030405060708090A0B0C0D0E0F101112131415161718191A1B1C1D1E1F202122232425262728292A2B2C2D2E2F303132333435363738393A3B3C3D3E3F404142434445464748494A4B4C4D4E4F505152535455565758595A5B5C5D5E5F606162636465666768696A6B6C6D6E6F707172737475767778797A7B7C7D7E7F808182838485868788898A8B8C8D8E8F909192939495969798999A9B9C9D9E9FA0A1A2A3A4A5A6A7A8A9AAABACADAEAFB0B1B2B3B4B5B6B7B8B9BABBBCBDBEBFC0C1C2C3C4C5C6C7C8C9CACBCCCDCECFD0D1D2D3D4D5D6D7D8D9DADBDCDDDEDFE0E1E2E3E4E5E6E7E8E9EAEBECEDEEEFF0F1F2F3F4F5F6F7F8F9FAFBFCFDFEFF";
 
@@ -55,7 +55,7 @@ pub fn push_two<S: TextSink>(out: &mut S, byte: u8) -> Result<(), S::Error>
     out.push_str(unsafe { str::from_utf8_unchecked(&digits) })
 }
 
-/// How many digits a number has, without zeros in front.
+/// How many digits a number has, without leading zeros.
 #[inline(always)]
 fn count_of(n: u32) -> usize
     ensures count { result ≡ length (hex_upper n) }
@@ -82,7 +82,7 @@ fn count_of(n: u32) -> usize
     }
 }
 
-/// The last so many of the eight digits of a number.
+/// The last `count` of a number's eight digits.
 #[inline(always)]
 fn push_last<S: TextSink>(out: &mut S, count: usize, n: u32) -> Result<(), S::Error>
     requires { count ≤ 8 }
@@ -96,7 +96,7 @@ fn push_last<S: TextSink>(out: &mut S, count: usize, n: u32) -> Result<(), S::Er
     out.push_str(unsafe { str::from_utf8_unchecked(&digits[8 - count..]) })
 }
 
-/// How many digits are shown of a number, with zeros in front up to so many.
+/// How many digits of a number are shown: at least `least`, with leading zeros.
 #[inline(always)]
 pub fn shown(least: usize, n: u32) -> usize
     requires { least ≤ 8 }
@@ -107,7 +107,7 @@ pub fn shown(least: usize, n: u32) -> usize
     if count < least { least } else { count }
 }
 
-/// The digits of a number, with zeros in front up to so many, at most eight.
+/// The digits of a number, with leading zeros up to `least` digits, which is at most eight.
 #[inline(always)]
 pub fn push_digits<S: TextSink>(out: &mut S, least: usize, n: u32) -> Result<(), S::Error>
     requires { least ≤ 8 }
@@ -117,7 +117,7 @@ pub fn push_digits<S: TextSink>(out: &mut S, least: usize, n: u32) -> Result<(),
     push_last(out, shown(least, n), n)
 }
 
-/// `0x` and the digits of a number that are not six, with zeros in front up to so many, at most eight.
+/// `0x` and the digits of a number, if these aren't six; leading zeros up to `least` digits, at most eight.
 #[cold]
 fn push_other<S: TextSink>(out: &mut S, least: usize, n: u32) -> Result<(), S::Error>
     requires { least ≤ 8 }
@@ -128,8 +128,8 @@ fn push_other<S: TextSink>(out: &mut S, least: usize, n: u32) -> Result<(), S::E
     push_digits(out, least, n)
 }
 
-/// `0x` and the digits of a number, with zeros in front up to so many, at most eight. Six are written
-/// with what is in front of them.
+/// `0x` and the digits of a number, with leading zeros up to `least` digits, at most eight. Six digits are
+/// written together with what precedes them.
 #[inline(always)]
 pub fn push_prefixed<S: TextSink>(out: &mut S, least: usize, n: u32) -> Result<(), S::Error>
     requires { least ≤ 8 }
@@ -144,7 +144,7 @@ pub fn push_prefixed<S: TextSink>(out: &mut S, least: usize, n: u32) -> Result<(
     out.push_str(unsafe { str::from_utf8_unchecked(&text) })
 }
 
-/// The digits of a number of eight bytes, with zeros in front up to six.
+/// The digits of an eight-byte number, with leading zeros up to six digits.
 #[inline(always)]
 pub fn push_wide<S: TextSink>(out: &mut S, n: u64) -> Result<(), S::Error>
     ensures ok { OnOk result (S.adds out.old (at_least 6 (hex_upper n)) out.new) }
@@ -172,7 +172,7 @@ fn value_of(b: u8) -> u32
     if b < 58 { b as u32 - 48 } else { b as u32 - 55 }
 }
 
-/// How many digits stand in front of a text, and the number that they are where they are at most eight.
+/// How many digits a text begins with, and their number if they are at most eight.
 #[inline(always)]
 pub fn digits_in_front(s: &str) -> (usize, u32)
     ensures count { result.0 ≡ prefix_len is_hex s.now }

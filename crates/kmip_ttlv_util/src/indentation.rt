@@ -10,21 +10,28 @@ use itoa::Buffer;
 use kmip_ttlv_types::TtlvTag;
 use std::alloc::Allocator;
 
-/// How far a line is indented for the structures that its item is in.
+/// How far a line is indented for the structures around its item.
+///
+/// ```
+/// let none: LentTagMap = HashMap::new(alloc);
+/// let mut line = String::new(alloc);
+/// push_beginning(&mut line, &none, Indentation::Bounded, 65, TtlvTag::from([0x42, 0, 0x69]))?;
+/// assert!(rt; line.as_str().trim_start() == "[65] Tag: 0x420069");
+/// ```
 #[derive(Clone, Copy, Debug, PartialEq, Eq)]
 pub enum Indentation {
     /// By two spaces for each of them.
     Full,
-    /// By two spaces for each of 64 at most. Where there are more, their number stands in brackets behind
-    /// the spaces: so a text can't grow by the square of the depth.
+    /// By two spaces for each, up to 64 of them. If there are more, their number follows in brackets, so
+    /// that a text can't grow with the square of the depth.
     Bounded,
 }
 
-/// The indentation of 64 levels, and a bracket.
+/// The indentation of 64 levels, and an opening bracket.
 const LEVELS: &str =
     "                                                                                                                                [";
 
-// What stands in front of an item in more than 64 structures.
+// What precedes the tag of an item in more than 64 structures.
 fn push_depth<S: TextSink>(out: &mut S, depth: usize) -> Result<(), S::Error>
     ensures ok { OnOk result (S.adds out.old (depth_mark depth) out.new) }
     ensures err { OnErr result (S.breaks out.old (depth_mark depth) out.new) }
@@ -34,7 +41,7 @@ fn push_depth<S: TextSink>(out: &mut S, depth: usize) -> Result<(), S::Error>
     out.push_str("] ")
 }
 
-// The beginning of a line that is indented by 64 levels at most.
+// The beginning of a line that is indented by at most 64 levels.
 fn push_bounded<S: TextSink>(
     out: &mut S,
     name: Option<&str>,
@@ -51,8 +58,8 @@ fn push_bounded<S: TextSink>(
     push_named_part(out, name, 0, tag)
 }
 
-/// The beginning of the line of an item in so many structures, up to its tag, which is behind its name where it
-/// has one.
+/// The beginning of the line of an item at this depth, up to its tag, with the tag's name if it has
+/// one.
 #[inline(always)]
 pub fn push_named_beginning<S: TextSink>(
     out: &mut S,
@@ -70,9 +77,15 @@ pub fn push_named_beginning<S: TextSink>(
     }
 }
 
-/// Adds the beginning of the line of an item in so many structures, up to its tag.
+/// Appends the beginning of the line of an item in `depth` structures, up to its tag.
 ///
-/// It fails where the sink fails: out of memory, or the writer's error.
+/// It returns the sink's error: out of memory, or the writer's.
+///
+/// ```
+/// let mut line = String::new(alloc);
+/// push_beginning(&mut line, &none, Indentation::Full, 1, TtlvTag::from([0x42, 0, 0x6A]))?;
+/// assert!(rt; line.as_str() == "  Tag: 0x42006A"); // none: a map without names
+/// ```
 pub fn push_beginning<S: TextSink, A: Allocator>(
     out: &mut S,
     names: &LentTagMap<'_, A>,

@@ -1,5 +1,5 @@
-//! The item at a place of any bytes, where it can be read. It takes no memory: values are checked
-//! on the bytes themselves.
+//! The item at an offset of any bytes, if it can be read. Nothing is allocated: values are checked
+//! in the bytes themselves.
 
 ghost use Rattle.std.specs.Prelude.{◌≡◌, ◌≤◌, true, length, None, IfSome, IfNone};
 ghost use Rattle.kmip_ttlv_types.specs.Leaves.{is_valid};
@@ -10,7 +10,7 @@ use kmip_ttlv_types::numbers::number_of_four;
 use kmip_ttlv_types::places::{content_at, end_of, is_valid, length_at, tag_at, type_at};
 use kmip_ttlv_types::{TtlvTag, TtlvType};
 
-/// An item that can be read: of a structure its header, of a leaf the whole with its padding.
+/// An item that can be read: the header of a structure, or a whole leaf with its padding.
 #[derive(Clone, Copy)]
 pub struct Item<'b> {
     /// Its tag.
@@ -19,15 +19,15 @@ pub struct Item<'b> {
     pub typ: TtlvType,
     /// The length that its header states, in bytes.
     pub length: u32,
-    /// An enumeration's value.
+    /// The value of an Enumeration.
     pub value: Option<u32>,
-    /// The content of a leaf, which is valid; of a structure nothing.
+    /// The content of a leaf, which is valid; empty for a structure.
     pub content: &'b [u8],
-    /// Where the next item stands, in bytes from the first.
+    /// The offset of the next item.
     pub next: usize,
 }
 
-// The value that valid content is, if its type is an enumeration.
+// The value of valid content, if the type is Enumeration.
 #[inline(always)]
 fn value_of(typ: TtlvType, content: &[u8]) -> Option<u32>
     requires { is_valid typ content.now ≡ true }
@@ -39,7 +39,7 @@ fn value_of(typ: TtlvType, content: &[u8]) -> Option<u32>
     Some(number_of_four(content))
 }
 
-/// The item at a place, in bytes from the first, if it can be read.
+/// The item at this offset, if it can be read.
 #[inline(always)]
 pub fn item_at(bytes: &[u8], pos: usize) -> Option<Item<'_>>
     requires { pos ≤ length bytes.now }

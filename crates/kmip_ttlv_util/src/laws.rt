@@ -1,21 +1,21 @@
-//! Laws of the definitions that the printers' contracts cite, each on a function without a body.
+//! Laws of the definitions that the printers' contracts cite: each is the contract of a function without a body.
 
 ghost use Rattle.kmip_ttlv_util.specs.Letters.{LettersTellTypes};
 ghost use Rattle.kmip_ttlv_util.specs.PrintAnswers.{TellsOutlines, HasOneOutline};
 
 /// Two well-formed messages, without empty structures unless these are closed, have equal
-/// diagnostics exactly if their outlines are equal: tags, types, nesting and enumeration values.
+/// diagnostics if and only if their outlines are equal: tags, types, nesting and enumeration values.
 pub fn diagnostics_tell_outlines()
     ensures { TellsOutlines }
 {}
 
-/// A text is the diagnostic of one outline at most, whatever the prefix: two outlines with equal
-/// diagnostics are equal, also where no message has them.
+/// A text is the diagnostic of at most one outline under each prefix: two outlines with equal
+/// diagnostics are equal, even if no message has them.
 pub fn a_diagnostic_has_one_outline()
     ensures { HasOneOutline }
 {}
 
-/// Each type has a letter of its own in diagnostics, and no other character is one.
+/// Each type has its own letter in diagnostics, and no other character is one.
 pub fn letters_tell_types()
     ensures { LettersTellTypes }
 {}

@@ -1,8 +1,8 @@
-//! Printers of TTLV messages: readable text, redacted diagnostics, and diagnostics read back.
+//! Prints TTLV messages (OASIS KMIP 1.0, section 9.1): as readable text, as redacted diagnostics, and
+//! diagnostics as readable text again.
 //!
-//! A diagnostic tells the tags, the types, the nesting and the enumeration values of a message, all
-//! of them and nothing else, for any bytes. The wire is that of OASIS KMIP 1.0, section 9.1; its
-//! items, trees and names are defined in kmip_ttlv_types. Definitions of what is printed stand in
+//! A diagnostic shows the tags, types, nesting and enumeration values of a well-formed message, and nothing
+//! else; malformed bytes have one too. Items, trees and names are defined in kmip_ttlv_types, the texts in
 //! specs/: outlines and their diagnostics, the trace of any bytes, and what is read back.
 #![tactic(auto)]
 

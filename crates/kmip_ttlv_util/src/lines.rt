@@ -14,16 +14,16 @@ use std::collections::HashMap;
 use std::hash::{BuildHasherDefault, FoldHasher};
 use std::str;
 
-/// The names of tags, lent as long as `'n`.
+/// Names of tags, borrowed for `'n`: for one call, as by [`crate::text_named`].
 pub type LentTagMap<'n, A = Global> = HashMap<TtlvTag, &'n str, BuildHasherDefault<FoldHasher>, A>;
 
-/// The names of tags that a printer keeps, for [`crate::PrettyPrinter::with_tag_map`].
+/// Names of tags that a printer owns, for [`crate::PrettyPrinter::with_tag_map`].
 pub type TagMap<A = Global> = LentTagMap<'static, A>;
 
-/// The indent of the sixteenth level.
+/// The indent of level sixteen.
 static SPACES: [u8; 32] = *b"                                ";
 
-/// Two spaces a level.
+/// Two spaces for each level.
 #[inline(always)]
 fn push_indent<S: TextSink>(out: &mut S, depth: usize) -> Result<(), S::Error>
     ensures ok { OnOk result (S.adds out.old (indent depth) out.new) }
@@ -68,7 +68,7 @@ fn push_four<S: TextSink>(out: &mut S, n: u32) -> Result<(), S::Error>
     push_prefixed(out, 4, n)
 }
 
-/// A name, and behind it a tag in brackets.
+/// A name, then a tag in brackets.
 #[inline(always)]
 fn push_named<S: TextSink>(out: &mut S, name: &str, n: u32) -> Result<(), S::Error>
     ensures ok { OnOk result (S.adds out.old (tag_named (Some name.now) n) out.new) }
@@ -80,7 +80,7 @@ fn push_named<S: TextSink>(out: &mut S, name: &str, n: u32) -> Result<(), S::Err
     out.push_str(")")
 }
 
-/// A text as it is. Its contract says that it is one.
+/// The text itself. Its contract says that it is UTF-8.
 #[inline(always)]
 fn text_of(text: &str) -> &str
     ensures same { result.now ≡ text.now }
@@ -104,7 +104,14 @@ pub fn name_of<'n, A: Allocator>(names: &LentTagMap<'n, A>, tag: TtlvTag) -> Opt
     }
 }
 
-/// A tag, behind its name where it has one.
+/// Appends a tag as `0x` and at least four digits; if it has a name, the name and the tag in brackets. Fails only if
+/// the sink does.
+///
+/// ```
+/// let mut text = String::new(alloc);
+/// push_tag(&mut text, &names, TtlvTag::from([0x42, 0, 0x69]))?; // names: 420069 is "Protocol Version"
+/// assert!(rt; text.as_str() == "Protocol Version (0x420069)");
+/// ```
 #[inline(always)]
 pub fn push_tag<S: TextSink, A: Allocator>(
     out: &mut S,
@@ -120,7 +127,7 @@ pub fn push_tag<S: TextSink, A: Allocator>(
     }
 }
 
-/// `Tag: ` and a tag of fewer digits than six.
+/// `Tag: ` and a tag that doesn't have six digits.
 #[cold]
 fn push_rare<S: TextSink>(out: &mut S, n: u32) -> Result<(), S::Error>
     ensures ok { OnOk result (S.adds out.old (codes "Tag: " ++ hex_padded 4 n) out.new) }
@@ -130,7 +137,7 @@ fn push_rare<S: TextSink>(out: &mut S, n: u32) -> Result<(), S::Error>
     push_four(out, n)
 }
 
-/// `Tag: ` and a tag without a name. Six digits are written with what is in front of them.
+/// `Tag: ` and a tag without a name. Six digits are written together with what precedes them.
 #[inline(always)]
 fn push_bare<S: TextSink>(out: &mut S, n: u32) -> Result<(), S::Error>
     ensures ok { OnOk result (S.adds out.old (codes "Tag: " ++ hex_padded 4 n) out.new) }
@@ -146,7 +153,7 @@ fn push_bare<S: TextSink>(out: &mut S, n: u32) -> Result<(), S::Error>
     out.push_str(unsafe { str::from_utf8_unchecked(&text) })
 }
 
-/// The beginning of a line, up to the tag, which is behind its name where it has one.
+/// The beginning of a line, up to the tag, with its name if it has one.
 #[inline(always)]
 pub fn push_named_part<S: TextSink>(
     out: &mut S,
@@ -165,7 +172,15 @@ pub fn push_named_part<S: TextSink>(
     push_named(out, name, *tag)
 }
 
-/// The beginning of a line, up to the tag.
+/// Appends the beginning of a line: its indent, `Tag: ` and the tag as [`push_tag`] appends it. Fails only if
+/// the sink does.
+///
+/// ```
+/// let mut text = String::new(alloc);
+/// let none: LentTagMap = HashMap::new(alloc);
+/// push_tag_part(&mut text, &none, 1, TtlvTag::from([0x42, 0x00, 0x6A]))?;
+/// assert!(rt; text.as_str() == "  Tag: 0x42006A");
+/// ```
 #[inline(always)]
 pub fn push_tag_part<S: TextSink, A: Allocator>(
     out: &mut S,
@@ -199,7 +214,14 @@ pub fn push_type_part<S: TextSink>(out: &mut S, typ: TtlvType) -> Result<(), S::
     }
 }
 
-/// What follows the tag, up to the value: behind a leaf's `Data:` a space.
+/// Appends what follows the tag, up to the value: a leaf has a space after `Data:`, a structure none. Fails only
+/// if the sink does.
+///
+/// ```
+/// let mut text = String::new(alloc);
+/// push_data_part(&mut text, TtlvType::Integer)?;
+/// assert!(rt; text.as_str() == ", Type: Integer (0x02), Data: ");
+/// ```
 #[inline(always)]
 pub fn push_data_part<S: TextSink>(out: &mut S, typ: TtlvType) -> Result<(), S::Error>
     ensures ok { OnOk result (S.adds out.old (data_part typ) out.new) }

@@ -1,5 +1,5 @@
-//! Readable texts and diagnostics with names and a prefix that are lent for one call, as by a caller in C or from
-//! a file.
+//! Readable texts and diagnostics with names and a prefix that are lent for one call, as from a C caller or
+//! from a file.
 
 ghost use Rattle.std.specs.Prelude.{IfOk, OnOk, OnErr, ◌≡◌, ◌≤◌, ◌/◌, ◌+◌, length, string_bytes};
 ghost use Rattle.kmip_ttlv_util.specs.Pretty.{IsPrinted, IsPretty};
@@ -20,10 +20,17 @@ use crate::sink::TextSink;
 use crate::undiag::{DiagnosticEnd, DiagnosticLines, read_back, read_back_to, read_counted};
 use std::alloc::{AllocError, Allocator};
 
-/// Any bytes as readable text, with these names beside tags.
+/// Returns the readable text of any bytes, with these names before tags.
 ///
-/// The text is that of [`crate::PrettyPrinter::to_string`], where empty structures are closed or stay
-/// open. It refuses for want of memory alone.
+/// The text is that of [`crate::PrettyPrinter::to_string`]; `closed` is whether empty structures are closed at
+/// once. The only error is out of memory.
+///
+/// ```
+/// let mut names: LentTagMap = HashMap::new(alloc);
+/// assert!(rt; names.insert(TtlvTag::from([0x42, 0x00, 0x6A]), "Major").is_ok());
+/// let text = text_named(alloc, &names, true, &[0x42, 0, 0x6A, 1, 0, 0, 0, 0])?;
+/// assert!(rt; text.as_str() == "Tag: Major (0x42006A), Type: Structure (0x01), Data:\n");
+/// ```
 pub fn text_named<A: Allocator + Copy>(
     alloc: A,
     names: &LentTagMap<'_, A>,
@@ -36,11 +43,18 @@ pub fn text_named<A: Allocator + Copy>(
     print(alloc, names, closed, bytes)
 }
 
-/// Adds the diagnostic of any bytes under a prefix, and gives how many items were tried.
+/// Appends the diagnostic of any bytes under a prefix, and returns how many items it tried to read.
 ///
-/// The text is that of [`crate::PrettyPrinter::to_diag_string`], where empty structures are closed or stay open.
-/// It is never held as a whole: the call takes memory for the ends of the structures that are open, eight bytes
-/// each, and no other. It fails where the sink fails and when out of memory; a beginning of the text was added then.
+/// The text is that of [`crate::PrettyPrinter::to_diag_string`]; `closed` is whether empty structures are closed at
+/// once. The whole text is never in memory: the call allocates only the ends of the open structures, eight bytes
+/// each. It returns the sink's error or out of memory; a beginning of the text may have been appended then.
+///
+/// ```
+/// let mut text = String::new(alloc);
+/// let bytes = hex::decode(alloc, "4200690100000000")?;
+/// assert!(rt; push_diag(alloc, &mut text, "4200", true, &bytes)? == 1);
+/// assert!(rt; text.as_str() == "69[]");
+/// ```
 pub fn push_diag<S: TextSink, A: Allocator + Copy>(
     alloc: A,
     out: &mut S,
@@ -60,9 +74,14 @@ pub fn push_diag<S: TextSink, A: Allocator + Copy>(
     diagnose_to(out, alloc, prefix, closed, bytes)
 }
 
-/// A diagnostic under a prefix read back as lines, with these names beside tags.
+/// Reads a diagnostic under a prefix back as lines, with these names before tags.
 ///
-/// The text is that of [`crate::PrettyPrinter::from_diag_string`]. It refuses for want of memory alone.
+/// The text is that of [`crate::PrettyPrinter::from_diag_string`]. The only error is out of memory.
+///
+/// ```
+/// let lines = read_back_named(alloc, "4200", &names, "6A[]")?; // names: 42006A is "Major"
+/// assert!(rt; lines.as_str() == "Tag: Major (0x42006A), Type: Structure (0x01), Data:");
+/// ```
 pub fn read_back_named<A: Allocator + Copy>(
     alloc: A,
     prefix: &str,
@@ -76,10 +95,16 @@ pub fn read_back_named<A: Allocator + Copy>(
     read_back(alloc, prefix, names, text)
 }
 
-/// The same, each line indented so, and where reading ended: how many bytes of the diagnostic were used, and how many
-/// structures were open then. A diagnostic is whole exactly where all of it was used and none was open.
+/// The same with this indentation. It also returns where reading ended: how many bytes of the diagnostic were used, and
+/// how many structures were open there. A diagnostic is whole if and only if all of it was used and none was open.
 ///
-/// It fails only where memory runs out.
+/// The only error is out of memory.
+///
+/// ```
+/// let none: LentTagMap = HashMap::new(alloc);
+/// let lines = read_back_counted(alloc, "", &none, Indentation::Full, "AAAAAA[BBBBBBn]")?;
+/// assert!(rt; lines.used == 15 && lines.depth == 0);
+/// ```
 pub fn read_back_counted<A: Allocator + Copy>(
     alloc: A,
     prefix: &str,
@@ -95,11 +120,18 @@ pub fn read_back_counted<A: Allocator + Copy>(
     read_counted(alloc, prefix, names, indentation, text)
 }
 
-/// Adds the text of [`read_back_counted`], and gives where reading ended.
+/// Appends the text of [`read_back_counted`], and returns where reading ended.
 ///
-/// The text is never held as a whole: what is kept of it is a part of the diagnostic. Memory is taken only for a tag
-/// that is not six digits, and given back at once. It fails where the sink fails and when out of memory; a beginning
-/// of the text was added then.
+/// The whole text is never in memory: at most a part of the diagnostic is kept. It allocates only for a tag
+/// that isn't six digits, and frees that at once. It returns the sink's error or out of memory; a beginning
+/// of the text may have been appended then.
+///
+/// ```
+/// let mut text = String::new(alloc);
+/// let none: LentTagMap = HashMap::new(alloc);
+/// let end = push_read_back(alloc, &mut text, "4200", &none, Indentation::Full, "24eFF:")?;
+/// assert!(rt; end.used == 6 && text.as_str() == "Tag: 0x420024, Type: Enumeration (0x05), Data: FF");
+/// ```
 pub fn push_read_back<S: TextSink, A: Allocator + Copy>(
     alloc: A,
     out: &mut S,

@@ -1,4 +1,4 @@
-//! A writer that a text goes to in pieces, so that it is never held as a whole.
+//! A writer that gets a text in pieces, so that the whole text is never in memory.
 
 ghost use Rattle.std.specs.Prelude.{◌≡◌, ℕ, List, [], ◌++◌, OnOk, OnErr};
 ghost use Rattle.std.specs.Io.KnownBytes.{Appends};
@@ -13,9 +13,17 @@ use kmip_ttlv_types::stream::Sink;
 use std::io;
 use std::io::{Error, Write};
 
-/// A writer that gets small pieces together, up to 8,192 bytes, and long ones as they lie.
+/// A buffer before a writer: it collects up to 8,192 bytes of small pieces, and passes longer pieces on as they are.
 ///
-/// What waits is sent by [`Pieces::finish`]. After an error nothing waits: what was not sent is lost.
+/// [`Pieces::finish`] sends what is buffered. After an error the buffer is empty: what was not sent is lost.
+///
+/// ```
+/// let mut written = Vec::new(alloc);
+/// let mut pieces = Pieces::new(&mut written);
+/// push_diag(alloc, &mut pieces, "", true, b"")?;
+/// pieces.finish()?;
+/// assert!(rt; written.as_slice() == "ERR".as_bytes());
+/// ```
 #[derive(Drop)]
 pub struct Pieces<'w, W: Write> {
     writer: &'w mut W,
@@ -23,7 +31,7 @@ pub struct Pieces<'w, W: Write> {
 }
 
 impl<'w, W: Write> Pieces<'w, W> {
-    /// A writer, and nothing that waits.
+    /// Wraps a writer. Nothing is buffered yet.
     pub fn new(writer: &'w mut W) -> Pieces<'w, W>
         ensures same_reference { result.writer.ghost_name ≡ writer.entry.ghost_name }
         ensures writer { result.writer.now ≡ writer.old }
@@ -35,10 +43,10 @@ impl<'w, W: Write> Pieces<'w, W> {
         }
     }
 
-    /// Sends what waits. The writer is not flushed.
+    /// Sends what is buffered. The writer is not flushed.
     ///
-    /// The writer's error, or one of the kind WriteZero where it takes no byte: it has a beginning of
-    /// what waited then. Interrupted calls are tried again, as often as a 64-bit count allows.
+    /// It returns the writer's error, or `WriteZero` if the writer takes no byte; a beginning of what was
+    /// buffered may have been written then. Interrupted writes are retried, as often as a 64-bit counter allows.
     pub fn finish(&mut self) -> io::Result<()>
         ensures same_reference { self.new.writer.ghost_name ≡ self.old.writer.ghost_name }
         ensures ok { OnOk result (Appends (W.contents self.old.writer.now) (W.contents self.new.writer.now)
@@ -52,7 +60,7 @@ impl<'w, W: Write> Pieces<'w, W> {
         result
     }
 
-    // Sends what waits, and takes a piece that there was no room for.
+    // Sends what is buffered, then takes a piece that there was no room for.
     #[cold]
     fn push_far(&mut self, piece: &[u8]) -> io::Result<()>
         ensures same_reference { self.new.writer.ghost_name ≡ self.old.writer.ghost_name }

@@ -1,5 +1,5 @@
 //! Readable text of any bytes: its values and lines, and the loop that writes them. Values are
-//! written from the bytes themselves, so that no text and no vector of a value is built.
+//! written straight from the bytes; no string or vector of a value is built.
 
 ghost use Rattle.std.specs.Prelude.{◌≡◌, ◌≢◌, ℕ, ◌<◌, ◌++◌, List, length, true, IfOk, OnOk, OnErr, codes, string_bytes};
 ghost use Rattle.std.specs.Int.{w32, w64, from_be_bytes, cast_signed};
@@ -25,7 +25,7 @@ use std::alloc::{AllocError, Allocator};
 use std::io::Write;
 use std::{io, str};
 
-/// The number that four bytes are.
+/// The number in four bytes.
 #[inline(always)]
 fn four_bytes(content: &[u8]) -> u32
     requires { length content.now ≡ 4 }
@@ -34,7 +34,7 @@ fn four_bytes(content: &[u8]) -> u32
     u32::from_be_bytes([content[0], content[1], content[2], content[3]])
 }
 
-/// The number that eight bytes are.
+/// The number in eight bytes.
 #[inline(always)]
 fn eight_bytes(content: &[u8]) -> u64
     requires { length content.now ≡ 8 }
@@ -46,7 +46,7 @@ fn eight_bytes(content: &[u8]) -> u64
     ])
 }
 
-/// A text behind a space, in brackets.
+/// A space, and a text in brackets.
 #[inline(always)]
 fn push_bracketed<S: TextSink>(out: &mut S, text: &str) -> Result<(), S::Error>
     ensures ok { OnOk result (S.adds out.old (bracketed text.now) out.new) }
@@ -57,7 +57,7 @@ fn push_bracketed<S: TextSink>(out: &mut S, text: &str) -> Result<(), S::Error>
     out.push_str(")")
 }
 
-/// A signed number of four bytes.
+/// A signed four-byte number.
 fn push_integer<S: TextSink>(out: &mut S, n: u32) -> Result<(), S::Error>
     ensures ok { OnOk result (S.adds out.old (hex_padded 6 n ++ bracketed (signed_decimal (cast_signed w32 n))) out.new) }
     ensures err { OnErr result (S.breaks out.old (hex_padded 6 n ++ bracketed (signed_decimal (cast_signed w32 n))) out.new) }
@@ -66,7 +66,7 @@ fn push_integer<S: TextSink>(out: &mut S, n: u32) -> Result<(), S::Error>
     push_bracketed(out, Buffer::new().format(n.cast_signed()))
 }
 
-/// A signed number of eight bytes.
+/// A signed eight-byte number.
 fn push_long_integer<S: TextSink>(out: &mut S, n: u64) -> Result<(), S::Error>
     ensures ok { OnOk result (S.adds out.old (hex_padded 6 n ++ bracketed (signed_decimal (cast_signed w64 n))) out.new) }
     ensures err { OnErr result (S.breaks out.old (hex_padded 6 n ++ bracketed (signed_decimal (cast_signed w64 n))) out.new) }
@@ -75,7 +75,7 @@ fn push_long_integer<S: TextSink>(out: &mut S, n: u64) -> Result<(), S::Error>
     push_bracketed(out, Buffer::new().format(n.cast_signed()))
 }
 
-/// An unsigned number of four bytes.
+/// An unsigned four-byte number.
 fn push_unsigned<S: TextSink>(out: &mut S, n: u32) -> Result<(), S::Error>
     ensures ok { OnOk result (S.adds out.old (hex_padded 6 n ++ bracketed (decimal n)) out.new) }
     ensures err { OnErr result (S.breaks out.old (hex_padded 6 n ++ bracketed (decimal n)) out.new) }
@@ -95,7 +95,16 @@ fn push_bytes<S: TextSink>(out: &mut S, content: &[u8]) -> Result<(), S::Error>
     Ok(())
 }
 
-/// The value of a leaf.
+/// Appends a leaf's value as readable texts show it: numbers as `0x` and at least six digits, then in decimal (a
+/// Date-Time without); `true` or `false`; a text as it is; bytes in hexadecimal.
+///
+/// `content` must be valid for `typ`, which is no Structure (9.1.1.4). Fails only if the sink does.
+///
+/// ```
+/// let mut text = String::new(alloc);
+/// push_value(&mut text, TtlvType::Integer, &[0xFF, 0xFF, 0xFF, 0xFF])?;
+/// assert!(rt; text.as_str() == "0xFFFFFFFF (-1)");
+/// ```
 #[tactic(auto, unfolding(crate::specs::Pretty::value_shown))]
 #[inline(always)]
 pub fn push_value<S: TextSink>(out: &mut S, typ: TtlvType, content: &[u8]) -> Result<(), S::Error>
@@ -119,7 +128,7 @@ pub fn push_value<S: TextSink>(out: &mut S, typ: TtlvType, content: &[u8]) -> Re
     }
 }
 
-/// The line of an item so deep.
+/// The line of an item at this depth.
 #[inline(always)]
 fn push_line<S: TextSink, A: Allocator>(
     out: &mut S,
@@ -140,7 +149,7 @@ fn push_line<S: TextSink, A: Allocator>(
     out.push_str("\n")
 }
 
-/// The line that follows an empty structure that stays open.
+/// The line after an empty structure that stays open.
 #[tactic(auto, unfolding(crate::specs::Pretty::warning))]
 #[inline(always)]
 fn push_warning<S: TextSink>(
@@ -158,7 +167,7 @@ fn push_warning<S: TextSink>(
     Ok(())
 }
 
-/// The line of an item so deep, and what follows it.
+/// The line of an item at this depth, and what follows it.
 #[inline(always)]
 fn push_item<S: TextSink, A: Allocator>(
     out: &mut S,
@@ -177,7 +186,7 @@ fn push_item<S: TextSink, A: Allocator>(
     push_warning(out, closed, item.typ, item.length)
 }
 
-/// What stands where an item can't be read.
+/// What is written at an item that can't be read.
 #[cold]
 fn push_unreadable<S: TextSink>(out: &mut S, place: usize) -> Result<(), S::Error>
     ensures ok { OnOk result (S.adds out.old (codes "ERROR: " ++ unreadable place) out.new) }
@@ -187,13 +196,13 @@ fn push_unreadable<S: TextSink>(out: &mut S, place: usize) -> Result<(), S::Erro
     out.push_str(Buffer::new().format(place))
 }
 
-/// An estimate of how long a readable text is: six bytes a byte, and at most some 24 KiB.
+/// An estimate of a readable text's length: six times the input, and at most about 24 KiB.
 fn room_for(bytes: &[u8]) -> usize {
     let count = bytes.len();
     64 + 6 * if count < 4096 { count } else { 4096 }
 }
 
-/// Adds the readable text of any bytes.
+/// Appends the readable text of any bytes.
 pub fn print_to<S: TextSink, A: Allocator + Copy>(
     out: &mut S,
     alloc: A,

@@ -1,4 +1,4 @@
-//! The printer: a prefix, names of tags and a setting, and the texts that it makes with them.
+//! The printer: its tag prefix, tag names and setting, and its calls.
 
 ghost use Rattle.std.specs.Prelude.{◌≡◌, ℕ, ◌+◌, ◌/◌, ◌≤◌, ◌<◌, Bool, false, List, [], length, IfOk, string_bytes};
 ghost use Rattle.std.specs.Borrow.{sem};
@@ -23,8 +23,15 @@ use std::io::Write;
 
 /// Prints TTLV bytes as readable text and as redacted diagnostics, and reads diagnostics back.
 ///
-/// Its calls take memory from the allocator given to [`PrettyPrinter::new`] and refuse for want of
-/// memory alone.
+/// Its calls allocate with the allocator given to [`PrettyPrinter::new`]. Unless they write to a writer, the only
+/// error is out of memory.
+///
+/// ```
+/// let mut printer = PrettyPrinter::new(alloc);
+/// printer.with_tag_prefix(String::from_str(alloc, "4200")?);
+/// let bytes = hex::decode(alloc, "420069010000001042005C05000000040000001400000000")?;
+/// assert!(rt; printer.to_diag_string(&bytes)?.as_str() == "69[5Ce14:]");
+/// ```
 #[derive(Drop)]
 #[derive_where(Debug)]
 pub struct PrettyPrinter<A: Allocator = Global> {
@@ -36,7 +43,7 @@ pub struct PrettyPrinter<A: Allocator = Global> {
 impl<A: Allocator + Copy> PrettyPrinter<A> {
     ghost use Rattle.kmip_ttlv_util.specs.Lending.{stays};
 
-    /// A printer with an empty prefix and no names, under which empty structures stay open.
+    /// Returns a printer with an empty prefix and no names, for which empty structures stay open.
     pub fn new(alloc: A) -> PrettyPrinter<A>
         ensures prefix { prefix_of result ≡ [] }
         ensures names { names_of result ≡ no_names }
@@ -49,7 +56,14 @@ impl<A: Allocator + Copy> PrettyPrinter<A> {
         }
     }
 
-    /// Sets the hexadecimal digits that diagnostics leave out where a tag begins with them.
+    /// Sets the prefix, in uppercase hexadecimal digits, that diagnostics omit from tags that begin with it, and
+    /// that is put before the digits when a diagnostic is read back.
+    ///
+    /// ```
+    /// let bytes = hex::decode(alloc, "AAAAAA0100000010BBBBBB02000000040000000300000000")?;
+    /// printer.with_tag_prefix(String::from_str(alloc, "AAAAAA")?);
+    /// assert!(rt; printer.to_diag_string(&bytes)?.as_str() == "[BBBBBBi]");
+    /// ```
     pub fn with_tag_prefix(&mut self, prefix: String<A>) -> &Self
         ensures* stays { sem 𝓛 (stays A.row A.Allocator self.entry result) }
         ensures prefix { prefix_of result.now ≡ string_bytes prefix }
@@ -60,7 +74,15 @@ impl<A: Allocator + Copy> PrettyPrinter<A> {
         self
     }
 
-    /// Sets the names that readable texts print beside tags.
+    /// Sets the names that readable texts print before tags.
+    ///
+    /// ```
+    /// let mut names: TagMap = HashMap::new(alloc);
+    /// assert!(rt; names.insert(TtlvTag::from([0x42, 0x00, 0x69]), "Protocol Version").is_ok());
+    /// printer.with_tag_map(names);
+    /// let lines = printer.from_diag_string("420069i")?;
+    /// assert!(rt; lines.as_str() == "Tag: Protocol Version (0x420069), Type: Integer (0x02)");
+    /// ```
     pub fn with_tag_map(&mut self, names: TagMap<A>) -> &Self
         ensures* stays { sem 𝓛 (stays A.row A.Allocator self.entry result) }
         ensures prefix { prefix_of result.now ≡ prefix_of self.old }
@@ -73,6 +95,12 @@ impl<A: Allocator + Copy> PrettyPrinter<A> {
 
     /// Sets whether an empty structure is closed at once, as any other is at its end. If not, it
     /// stays open until the structure around it ends.
+    ///
+    /// ```
+    /// let bytes = hex::decode(alloc, "4200690100000000")?;
+    /// printer.with_closed_empty(true);
+    /// assert!(rt; printer.to_diag_string(&bytes)?.as_str() == "420069[]");
+    /// ```
     pub fn with_closed_empty(&mut self, closed: bool) -> &Self
         ensures* stays { sem 𝓛 (stays A.row A.Allocator self.entry result) }
         ensures prefix { prefix_of result.now ≡ prefix_of self.old }
@@ -83,7 +111,7 @@ impl<A: Allocator + Copy> PrettyPrinter<A> {
         self
     }
 
-    /// A printer with the same prefix, names and setting.
+    /// Returns a printer with the same prefix, names and setting. The only error is out of memory.
     pub fn clone(&self) -> Result<PrettyPrinter<A>, AllocError>
         ensures prefix { IfOk result (λ p. prefix_of p ≡ prefix_of self.now) }
         ensures names { IfOk result (λ p. names_of p ≡ names_of self.now) }
@@ -96,15 +124,21 @@ impl<A: Allocator + Copy> PrettyPrinter<A> {
         })
     }
 
-    /// Any bytes as readable text: a line for each item, two spaces in for each structure around.
+    /// Returns the readable text of any bytes: a line for each item, indented by two spaces a level.
     ///
-    /// The line `WARNING: TTLV structure length is zero` follows an empty structure that stays open.
-    /// Where an item can't be read the text ends with `ERROR: ` and some words, and where content
-    /// exceeds its structure's length with a line that says so.
+    /// An empty structure that stays open is followed by the line `WARNING: TTLV structure length is zero`.
+    /// If an item can't be read, the text ends there with `ERROR: ` and a message; if an item goes past the
+    /// end of its structure, and no empty one stays open, it ends after that item with an error line too.
     ///
-    /// The text of n headers, each in the structure before it, has some n² bytes: of 256,000 bytes, which
-    /// are 32,000 such headers, it is a gigabyte. To print bytes of strangers, give the printer an
-    /// allocator with a bound.
+    /// The text of n headers, each in the structure before it, has about n² bytes: a gigabyte for 256,000 bytes,
+    /// which are 32,000 such headers. For untrusted input, give the printer an allocator with a limit.
+    ///
+    /// ```
+    /// let bytes = hex::decode(alloc, "AAAAAA0100000010BBBBBB07000000016100000000000000")?;
+    /// let text = printer.to_string(&bytes)?;
+    /// assert!(rt; text.as_str().starts_with("Tag: 0xAAAAAA, Type: Structure (0x01), Data:\n"));
+    /// assert!(rt; text.as_str().ends_with("\n  Tag: 0xBBBBBB, Type: TextString (0x07), Data: a\n"));
+    /// ```
     pub fn to_string(&self, bytes: &[u8]) -> Result<String<A>, AllocError>
         ensures printed { IfOk result (λ r. IsPrinted (names_of self.now) (closes_empty self.now)
             bytes.now (string_bytes r)) }
@@ -119,13 +153,18 @@ impl<A: Allocator + Copy> PrettyPrinter<A> {
         )
     }
 
-    /// Writes the text of [`PrettyPrinter::to_string`] to a writer, in pieces: the text is never held as a
-    /// whole. Besides 8,192 bytes on the stack it keeps eight bytes for each structure that is open.
+    /// Writes the text of [`PrettyPrinter::to_string`] to a writer, in pieces: the whole text is never in memory.
+    /// It uses 8,192 bytes of stack, and allocates eight bytes for each open structure.
     ///
-    /// The writer's error as it is where the writer fails, one of the kind WriteZero where it takes no
-    /// byte, and one of the kind OutOfMemory where memory for the open structures is refused. The writer
-    /// has a beginning of the text then. Interrupted calls are tried again, as often as a 64-bit count
-    /// allows. The writer is not flushed.
+    /// It returns the writer's error if the writer fails, `WriteZero` if it takes no byte, and `OutOfMemory` if
+    /// there is no memory for the open structures. On error a beginning of the text may have been written.
+    /// Interrupted writes are retried, as often as a 64-bit counter allows. The writer is not flushed.
+    ///
+    /// ```
+    /// let mut written = Vec::new(alloc);
+    /// printer.write_text(&mut written, b"")?;
+    /// assert!(rt; written.as_slice() == "ERROR: cannot read the item at byte 0".as_bytes());
+    /// ```
     pub fn write_text<W: Write>(&self, writer: &mut W, bytes: &[u8]) -> io::Result<()>
         ensures { WritesText (IsReadable (names_of self.now) (closes_empty self.now) bytes.now)
             (W.contents writer.old) (W.contents writer.new) result }
@@ -139,10 +178,15 @@ impl<A: Allocator + Copy> PrettyPrinter<A> {
         )
     }
 
-    /// The diagnostic of any bytes, and how many items were tried.
+    /// Returns the diagnostic of any bytes, and how many items it tried to read.
     ///
-    /// The text is that of [`PrettyPrinter::to_diag_string`]. At most an eighth of the number of
-    /// bytes, rounded down, and one items are tried.
+    /// The text is that of [`PrettyPrinter::to_diag_string`]. An item that can't be read counts too; there are
+    /// at most `bytes.len() / 8 + 1`.
+    ///
+    /// ```
+    /// let (text, count) = printer.to_diag_counted(b"")?;
+    /// assert!(rt; text.as_str() == "ERR" && count == 1);
+    /// ```
     pub fn to_diag_counted(&self, bytes: &[u8]) -> Result<(String<A>, usize), AllocError>
         ensures hostile { IfOk result (λ r. string_bytes r.0
             ≡ hostile (prefix_of self.now) (closes_empty self.now) (length bytes.now)
@@ -160,11 +204,16 @@ impl<A: Allocator + Copy> PrettyPrinter<A> {
         )
     }
 
-    /// The diagnostic of any bytes: of each item its tag and type, of an enumeration its value, and
+    /// Returns the diagnostic of any bytes: the tag and type of each item, the values of enumerations, and
     /// where structures open and close. It shows no other value.
     ///
-    /// Of bytes that are no message it is a text of how many they are and of their trace alone, and
-    /// ends with `ERR` after an item that can't be read.
+    /// If the bytes are no well-formed message, the text depends on their number and their trace alone, and
+    /// ends with `ERR` at an item that can't be read.
+    ///
+    /// ```
+    /// let bytes = hex::decode(alloc, "42006A02000000040000000100000000")?;
+    /// assert!(rt; printer.to_diag_string(&bytes)?.as_str() == "42006AiERR");
+    /// ```
     pub fn to_diag_string(&self, bytes: &[u8]) -> Result<String<A>, AllocError>
         ensures hostile { IfOk result (λ r. string_bytes r
             ≡ hostile (prefix_of self.now) (closes_empty self.now) (length bytes.now)
@@ -176,10 +225,16 @@ impl<A: Allocator + Copy> PrettyPrinter<A> {
         Ok(text)
     }
 
-    /// Writes the text of [`PrettyPrinter::to_diag_string`] to a writer, in pieces: the text is never held
-    /// as a whole. Besides 8,192 bytes on the stack it keeps eight bytes for each structure that is open.
+    /// Writes the text of [`PrettyPrinter::to_diag_string`] to a writer, in pieces: the whole text is never in
+    /// memory. It uses 8,192 bytes of stack, and allocates eight bytes for each open structure.
     ///
-    /// It fails as [`PrettyPrinter::write_text`] does, after a beginning of the text.
+    /// Its errors are those of [`PrettyPrinter::write_text`]; a beginning of the text may have been written.
+    ///
+    /// ```
+    /// let mut written = Vec::new(alloc);
+    /// printer.write_diag(&mut written, b"")?;
+    /// assert!(rt; written.as_slice() == "ERR".as_bytes());
+    /// ```
     pub fn write_diag<W: Write>(&self, writer: &mut W, bytes: &[u8]) -> io::Result<()>
         ensures { WritesText (IsDiagnostic (prefix_of self.now) (closes_empty self.now) bytes.now)
             (W.contents writer.old) (W.contents writer.new) result }
@@ -193,12 +248,17 @@ impl<A: Allocator + Copy> PrettyPrinter<A> {
         )
     }
 
-    /// A diagnostic read back as lines: of each item its tag and type, of an enumeration its value,
-    /// and `<redacted>` in place of any other.
+    /// Reads a diagnostic back as lines: the tag and type of each item, the values of enumerations,
+    /// and `<redacted>` in place of any other value.
     ///
-    /// Reading stops where the text is no diagnostic, and gives the lines up to there. It takes time
-    /// linear in the text and in what is written: of n structures, each in the one before, that is some
-    /// n² bytes. To read texts of strangers, give the printer an allocator with a bound.
+    /// Reading stops where the text is no diagnostic, and the lines up to there are returned. The time is
+    /// linear in the text and in the lines, which for n nested structures have about n² bytes. For untrusted
+    /// input, give the printer an allocator with a limit.
+    ///
+    /// ```
+    /// let lines = printer.from_diag_string("AAAAAA[BBBBBBn]")?;
+    /// assert!(rt; lines.as_str().ends_with("Tag: 0xBBBBBB, Type: Interval (0x0A), Data: <redacted>"));
+    /// ```
     pub fn from_diag_string(&self, text: &str) -> Result<String<A>, AllocError>
         ensures undiag { IfOk result (λ r. string_bytes r ≡ undiag (names_of self.now) (prefix_of self.now) text.now) }
         ensures longest { IfOk result (λ r. ReadsLongest (names_of self.now) (prefix_of self.now)

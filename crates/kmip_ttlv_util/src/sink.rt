@@ -1,4 +1,4 @@
-//! Where texts go: into a string, or to a writer in pieces.
+//! Where texts are written to: a string, or a writer that gets them in pieces.
 
 ghost use Rattle.std.specs.Prelude.{◌≡◌, ℕ, List, [], ◌++◌, OnOk, OnErr, Some, string_bytes};
 ghost use Rattle.kmip_ttlv_types.specs.Streams.{AppendsFront};
@@ -6,35 +6,41 @@ ghost use Rattle.kmip_ttlv_util.specs.Sinks.{string_both, string_first, string_s
 
 use std::alloc::{AllocError, Allocator};
 
-/// What a text is added to, a part at a time.
+/// A sink that texts are appended to, one part at a time: [`String`] or [`crate::Pieces`].
+///
+/// ```
+/// let mut text = String::new(alloc);
+/// push_value(&mut text, TtlvType::ByteString, &[1, 2, 3])?;
+/// assert!(rt; text.as_str() == "010203");
+/// ```
 pub trait TextSink {
-    /// Why a part can't be added: the sink's error, or out of memory.
+    /// Why a part can't be appended: the sink's own error, or out of memory.
     type Error: From<AllocError>;
 
-    // The second is the first, with a text behind it.
+    // The second is the first with a text appended.
     ghost adds: { Self → List ℕ → Self → Type 0 };
 
-    // The second is the first, where adding a text to it failed: at most a beginning of the text is added.
+    // The second is the first after appending a text failed: a beginning of the text was appended.
     ghost breaks: { Self → List ℕ → Self → Type 0 };
 
-    /// Adds a text. At an error a beginning of it may have been added.
+    /// Appends a text. On error a beginning of it may have been appended.
     fn push_str(&mut self, text: &str) -> Result<(), Self::Error>
         ensures ok { OnOk result (adds self.old text.now self.new) }
         ensures err { OnErr result (breaks self.old text.now self.new) };
 
-    // Nothing is added.
+    // Appending the empty text changes nothing.
     ghost adds_none: { (a : Self) → adds a [] a };
 
-    // A text behind another.
+    // Appending two texts appends both of them, one after the other.
     ghost adds_both: { (a b c : Self) (s t : List ℕ) → adds a s b → adds b t c → adds a (s ++ t) c };
 
-    // It failed in the first of two texts.
+    // If appending the first of two texts failed, so did appending both.
     ghost breaks_first: { (a b : Self) (s t : List ℕ) → breaks a s b → breaks a (s ++ t) b };
 
-    // It failed in the second of two texts.
+    // If appending the second of two texts failed, so did appending both.
     ghost breaks_second: { (a b c : Self) (s t : List ℕ) → adds a s b → breaks b t c → breaks a (s ++ t) c };
 
-    // It took a text, and is left at that.
+    // Appending a whole text also counts as appending a beginning of it.
     ghost breaks_after: { (a b : Self) (s : List ℕ) → adds a s b → breaks a s b };
 }
 

@@ -1,4 +1,4 @@
-//! Diagnostics read back: a text is read from its front, a part at a time, in a loop.
+//! Diagnostics read back: a loop reads a text from its beginning, one part at a time.
 
 ghost use Rattle.std.specs.Prelude.{◌≡◌, ℕ, ◌+◌, ◌-◌, ◌++◌, ◌∷◌, ◌<◌, ◌≤◌, ◌^◌, List, length, take, drop, None, Some, IfOk, OnOk, OnErr};
 ghost use Rattle.std.specs.Prelude.{IfSome, IfNone, string_bytes};
@@ -23,7 +23,7 @@ use crate::sink::TextSink;
 use kmip_ttlv_types::{TtlvTag, TtlvType};
 use std::alloc::{AllocError, Allocator};
 
-/// The tag that digits in front give after `0x` and the prefix, where all of these are a tag's six digits.
+/// The tag that the leading digits give after `0x` and the prefix, if prefix and digits are the tag's six digits.
 #[inline(always)]
 fn six_digits_tag(prefix: &Prefix<'_>, count: usize, number: u32) -> Option<TtlvTag>
     requires prefix { IsNumber prefix.now }
@@ -37,7 +37,7 @@ fn six_digits_tag(prefix: &Prefix<'_>, count: usize, number: u32) -> Option<Ttlv
     TtlvTag::from_number((prefix.number << (4 * count as u32)) + number)
 }
 
-/// The tag that digits in front give after `0x` and the prefix.
+/// The tag that the leading digits give after `0x` and the prefix.
 #[inline(always)]
 fn tag_of<A: Allocator>(
     alloc: A,
@@ -56,7 +56,7 @@ fn tag_of<A: Allocator>(
     tag_named(alloc, prefix.text, digits)
 }
 
-/// The same, by the name that all of these are.
+/// The same, found by name: `0x`, the prefix and the digits.
 fn tag_named<A: Allocator>(
     alloc: A,
     prefix: &str,
@@ -87,7 +87,7 @@ fn type_of_letter(b: u8) -> Option<TtlvType>
     }
 }
 
-/// The type of a letter in front, and what follows.
+/// The type of a leading letter, and what follows.
 #[inline(always)]
 fn split_letter(s: &str) -> Option<(TtlvType, &str)>
     ensures some { IfSome result (λ r. front_type s.now ≡ Some (r.0, r.1.now)) }
@@ -102,7 +102,7 @@ fn split_letter(s: &str) -> Option<(TtlvType, &str)>
     Some((typ, &s[1..]))
 }
 
-/// A value before a colon, not empty, and what follows the colon.
+/// A nonempty value before a colon, and what follows the colon.
 #[inline(always)]
 fn split_value(s: &str) -> Option<(&str, &str)>
     ensures some { IfSome result (λ r. front_value s.now ≡ Some (r.0.now, r.1.now)) }
@@ -117,7 +117,7 @@ fn split_value(s: &str) -> Option<(&str, &str)>
     Some((value, rest))
 }
 
-/// What is left behind the close of a structure in front of a text, where one is open.
+/// What follows a leading `]`, if a structure is open.
 #[inline(always)]
 fn split_close(depth: usize, s: &str) -> Option<&str>
     ensures some { IfSome result (λ rest. (0 < depth) × (s.now ≡ 93 ∷ rest.now)) }
@@ -129,7 +129,7 @@ fn split_close(depth: usize, s: &str) -> Option<&str>
     s.strip_prefix(']')
 }
 
-/// The digits in front of a text, the number that they are where they are at most eight, and what follows them.
+/// The leading digits of a text, their number if they are at most eight, and what follows them.
 #[inline(always)]
 fn split_digits(s: &str) -> (&str, u32, &str)
     ensures digits { result.0.now ≡ take (prefix_len is_hex s.now) s.now }
@@ -142,7 +142,7 @@ fn split_digits(s: &str) -> (&str, u32, &str)
     (digits, number, behind)
 }
 
-/// The tag in front of a text that begins with these digits.
+/// The tag that a text begins with, given its leading digits.
 #[inline(always)]
 fn tag_in_front<A: Allocator>(
     alloc: A,
@@ -163,7 +163,7 @@ fn tag_in_front<A: Allocator>(
     tag_of(alloc, prefix, digits, number)
 }
 
-/// What follows a type, where the item is whole: the depth from there on, the text that is left, and what the
+/// If the item is whole, what follows its type: the new depth, the rest of the text, and what the
 /// line shows.
 #[inline(always)]
 fn split_data(depth: usize, typ: TtlvType, s: &str) -> Option<(usize, &str, &str)>
@@ -188,7 +188,7 @@ fn split_data(depth: usize, typ: TtlvType, s: &str) -> Option<(usize, &str, &str
     }
 }
 
-/// What is still to be written of the last line, where a line is open: all that follows its type.
+/// The pending end of the last line, all that follows its type, if a line is open.
 fn push_pending<S: TextSink>(out: &mut S, pending: bool, shown: &str) -> Result<(), S::Error>
     ensures ok { OnOk result (S.adds out.old (pending_text pending shown.now) out.new) }
     ensures err { OnErr result (S.breaks out.old (pending_text pending shown.now) out.new) }
@@ -201,7 +201,7 @@ fn push_pending<S: TextSink>(out: &mut S, pending: bool, shown: &str) -> Result<
     out.push_str("\n")
 }
 
-/// The same where no other line follows: without white space at its end.
+/// The same if no other line follows: without white space at its end.
 fn push_last<S: TextSink>(out: &mut S, pending: bool, shown: &str) -> Result<(), S::Error>
     ensures ok { OnOk result (S.adds out.old (last_text pending (trim_end shown.now)) out.new) }
     ensures err { OnErr result (S.breaks out.old (last_text pending (trim_end shown.now)) out.new) }
@@ -217,7 +217,7 @@ fn push_last<S: TextSink>(out: &mut S, pending: bool, shown: &str) -> Result<(),
     out.push_str(shown)
 }
 
-/// The beginning of a line, and behind it the type.
+/// The beginning of a line, up to its type.
 #[inline(always)]
 fn push_typed<S: TextSink>(
     out: &mut S,
@@ -234,33 +234,33 @@ fn push_typed<S: TextSink>(
     push_type_part(out, typ)
 }
 
-/// An estimate of how long a diagnostic's lines are: sixteen bytes a character, and at most 64 KiB.
+/// An estimate of the length of a diagnostic's lines: sixteen times its own, at most 64 KiB.
 fn room_for(s: &str) -> usize {
     let count = s.len();
     16 * if count < 4096 { count } else { 4096 }
 }
 
-/// What a diagnostic was read back as, and where reading it ended.
+/// What a diagnostic was read back as, and where reading ended.
 #[derive(Drop)]
 pub struct DiagnosticLines<A: Allocator> {
     /// The lines, without white space at the end.
     pub text: String<A>,
-    /// How many bytes of the diagnostic are whole parts, one behind the other, from its first on.
+    /// How many bytes, from the first, are whole parts of a diagnostic.
     pub used: usize,
-    /// How many structures are open behind these.
+    /// How many structures are open after these.
     pub depth: usize,
 }
 
 /// Where reading a diagnostic ended.
 #[derive(Clone, Copy, Debug, PartialEq, Eq)]
 pub struct DiagnosticEnd {
-    /// How many bytes of the diagnostic are whole parts, one behind the other, from its first on.
+    /// How many bytes, from the first, are whole parts of a diagnostic.
     pub used: usize,
-    /// How many structures are open behind these.
+    /// How many structures are open after these.
     pub depth: usize,
 }
 
-/// The end of reading a text, where this is left of it.
+/// The end of reading a text, given what is left of it.
 fn end_at(s: &str, rest: &str, depth: usize) -> DiagnosticEnd
     requires { length rest.now ≤ length s.now }
     ensures used { result.used ≡ length s.now - length rest.now }
@@ -270,9 +270,9 @@ fn end_at(s: &str, rest: &str, depth: usize) -> DiagnosticEnd
     DiagnosticEnd { used, depth }
 }
 
-/// Adds the lines of a diagnostic, without white space at the end, and gives where reading it ended.
+/// Appends the lines of a diagnostic, without white space at the end, and returns where reading ended.
 ///
-/// What follows the type of a line is written once another line begins, or none does: till then it is a front of
+/// What follows the type of a line is written once another line begins, or none does: till then it is a slice of
 /// the text that is read, and nothing else is kept.
 pub fn read_back_to<S: TextSink, A: Allocator + Copy>(
     alloc: A,
@@ -323,7 +323,7 @@ pub fn read_back_to<S: TextSink, A: Allocator + Copy>(
     }
 }
 
-/// The lines of a diagnostic, and where reading it ended.
+/// The lines of a diagnostic, and where reading ended.
 pub fn read_counted<A: Allocator + Copy>(
     alloc: A,
     prefix: &str,

@@ -1,5 +1,5 @@
-//! A walk over any bytes: the position, and the ends of the structures that are open. A loop calls
-//! it, so that nesting costs memory and never stack.
+//! A walk over any bytes: the offset of the next item, and the ends of the open structures. The
+//! callers loop over its steps, so nesting costs memory but no stack.
 
 ghost use Rattle.std.specs.Prelude.{◌≡◌, ℕ, ◌+◌, ◌<◌, ◌≤◌, ◌^◌, List, length, OnOk};
 ghost use Rattle.kmip_ttlv_util.specs.declared.walk.Next.TheVariants.{Closes as Closing};
@@ -10,33 +10,33 @@ ghost use Rattle.kmip_ttlv_util.specs.Walks.{place_of, Ready, Comes};
 use kmip_ttlv_types::TtlvType;
 use std::alloc::{AllocError, Allocator};
 
-/// Where a walk stands. Places are in bytes from the first.
+/// Where a walk is. Offsets are in bytes from the first.
 #[derive(Drop)]
 pub struct Walk<A: Allocator> {
-    /// The place of the next item.
+    /// The offset of the next item.
     pub pos: usize,
-    /// The ends of the structures that are open, the innermost last.
+    /// The ends of the open structures, the innermost last.
     pub ends: Vec<usize, A>,
-    /// How many empty structures stay open that no end closes.
+    /// How many empty structures are open that no end closes.
     pub endless: usize,
-    /// Whether ends may be passed, since an empty structure stayed open.
+    /// Whether an end may be passed, because an empty structure stayed open.
     pub loose: bool,
 }
 
-/// What comes at a place.
+/// What comes next.
 #[derive(Clone, Copy)]
 pub enum Next {
     /// A structure closes, and others stay open.
     Closes,
-    /// The last structure closes.
+    /// The last structure with an end closes.
     Over,
-    /// An end was passed.
+    /// The innermost end was passed.
     Past,
-    /// An item is read.
+    /// An item follows.
     Reads,
 }
 
-/// Whether a structure of so many bytes puts an end of its own.
+/// Whether a structure whose content has this length gets an end of its own.
 fn has_end(closed: bool, len: u32) -> bool
     ensures { result ≡ has_end closed len }
 {
@@ -44,7 +44,7 @@ fn has_end(closed: bool, len: u32) -> bool
 }
 
 impl<A: Allocator> Walk<A> {
-    /// A walk before the first byte.
+    /// A walk at the first byte.
     pub fn new(alloc: A) -> Walk<A>
         ensures { place_of result ≡ start }
     {
@@ -65,7 +65,7 @@ impl<A: Allocator> Walk<A> {
         self.endless + self.ends.as_slice().len()
     }
 
-    /// Finds what comes next, and takes away an end that is reached.
+    /// Returns what comes next, and removes an end that is reached.
     #[inline(always)]
     pub fn next(&mut self) -> Next
         ensures comes { Comes (place_of self.old) (place_of self.new) result }
@@ -88,7 +88,7 @@ impl<A: Allocator> Walk<A> {
         Next::Reads
     }
 
-    /// Goes on past an item: `len` is the length that it states, and `next` the place of the next.
+    /// Moves on past an item: `len` is the length that it states, and `next` the offset of the next item.
     #[inline(always)]
     pub fn step(
         &mut self,

@@ -1,4 +1,4 @@
-//! Diagnostics, and how many items they tell.
+//! Diagnostics, and how many items they show.
 
 use crate::messages::{
     CREATE_REQUEST, CREATE_RESPONSE, DESTROY_REQUEST, DESTROY_RESPONSE, EMPTY_FIRST, SHORT,
@@ -13,7 +13,7 @@ const PAST: &str = "69[6Ai\nERROR: TTLV structure content exceeds the structure 
 
 const NESTED: &str = "420069010000001842006A010000001042006B02000000040000000000000000";
 
-// A prefix that is taken from tags, a message, its diagnostic, and how many items that tells.
+// A prefix that is omitted from tags, a message, its diagnostic, and how many items the printer tries to read.
 type Row = (&'static str, &'static str, &'static str, usize);
 
 // Well-formed messages.
@@ -113,7 +113,7 @@ const WHOLE: [Row; 18] = [
     ),
 ];
 
-// Bytes that are no well-formed message, or go on after one.
+// Bytes that are no well-formed message, or that continue after one.
 const OTHERS: [Row; 11] = [
     ("4200", "", "ERR", 1),
     ("4200", "4200690100000000", "69[ERR", 2),
@@ -149,7 +149,7 @@ const OTHERS: [Row; 11] = [
         "AAAAAA[ERR",
         2,
     ),
-    // Where an item is cut, its value is not told.
+    // If an item is truncated, its value is not shown.
     (
         "",
         "AAAAAA0100000010BBBBBB020000000400000003000000",
@@ -164,7 +164,7 @@ const OTHERS: [Row; 11] = [
     ),
 ];
 
-// What a printer makes that shows empty structures as closed.
+// With `with_closed_empty`.
 const CLOSED: [Row; 4] = [
     ("4200", EMPTY_FIRST, "69[6A[]6Bi]", 3),
     ("4200", NESTED, "69[6A[6Bi]]", 3),
@@ -177,7 +177,7 @@ const CLOSED: [Row; 4] = [
     ),
 ];
 
-// Prefixes of any length, of digits and of other characters: only one that a tag begins with is left out.
+// Prefixes of any length, of digits and of other characters: only one that a tag begins with is omitted.
 const PREFIXES: [Row; 7] = [
     ("", VERSION, "420069[42006Ai42006Bi]", 3),
     ("42", VERSION, "0069[006Ai006Bi]", 3),
@@ -244,7 +244,7 @@ fn cut_messages(rt: HostRuntime) -> Result<(), FromHexError> {
     Ok(())
 }
 
-// Whether so many empty structures stand open, each in the one before; or are closed, when the first
+// Whether `count` empty structures stay open, each in the one before; or, if they are closed, the first
 // one is the whole message.
 fn tells_empty(alloc: Global, closed: bool, count: usize) -> Result<bool, AllocError> {
     let message = repeated(alloc, "4200690100000000", count, "")?;
@@ -264,7 +264,7 @@ fn tells_empty(alloc: Global, closed: bool, count: usize) -> Result<bool, AllocE
     )
 }
 
-// As long a message as a log meets, and one that opens a structure at each item.
+// A long message in which every item opens a structure.
 #[test]
 fn many_empty_structures(rt: HostRuntime) {
     for count in [1_000, 10_000] {

@@ -1,5 +1,5 @@
-//! Each growth refused in turn: a call answers want of memory, or what it answers with ample memory, and
-//! so does each call after it. And texts that are longer than memory is bounded.
+//! Each allocation fails in turn: a call returns out of memory, or its result with ample memory, and
+//! later calls succeed. And texts that are longer than the memory limit allows.
 
 use crate::messages::{REDACTED_LINES, VERSION, VERSION_LINES};
 use crate::printers::{is_counted, is_diagnostic, is_read_back, is_readable, printer};
@@ -8,10 +8,10 @@ use kmip_ttlv::PrettyPrinter;
 use kmip_ttlv_memory::BoundedAllocator;
 use std::alloc::{AllocError, Allocator, Global};
 
-// The diagnostic of the version, by a printer that takes the prefix 4200 from tags.
+// The diagnostic of the version, with the prefix 4200 omitted.
 const DIAGNOSTIC: &str = "69[6Ai6Bi]";
 
-// Which call of a printer.
+// A call of a printer.
 #[derive(Clone, Copy, Debug)]
 enum Call {
     Diagnostic,
@@ -38,7 +38,7 @@ fn is_cloned<A: Allocator + Copy>(
     is_diagnostic(&clone, bytes, DIAGNOSTIC)
 }
 
-// Whether the call's answer is the one that it has with ample memory.
+// Whether the call returns its expected result.
 fn is_ample<A: Allocator + Copy>(
     printer: &PrettyPrinter<A>,
     call: Call,
@@ -53,7 +53,7 @@ fn is_ample<A: Allocator + Copy>(
     }
 }
 
-// Whether each call's answer is the one that it has with ample memory.
+// Whether every call returns its expected result.
 fn answers_all<A: Allocator + Copy>(printer: &PrettyPrinter<A>, bytes: &[u8]) -> bool {
     for call in CALLS {
         if is_ample(printer, call, bytes) != Ok(true) {
@@ -63,18 +63,18 @@ fn answers_all<A: Allocator + Copy>(printer: &PrettyPrinter<A>, bytes: &[u8]) ->
     true
 }
 
-// What a call, or all calls of a kind, came to.
+// The outcome of a call, or of all calls of a kind.
 #[derive(Clone, Copy, Debug, PartialEq, Eq)]
 enum Outcome {
-    // The ample answer, and no growth was refused; so many were granted.
+    // The expected result, and no allocation failed; this many succeeded.
     Whole(u64),
-    // Want of memory, and a growth was refused; asked again, the printer gave each ample answer.
+    // Out of memory, and an allocation failed; after that, every call returned its expected result.
     Refused,
-    // Another answer, where this growth was refused.
+    // A wrong result when this allocation failed.
     Wrong(u64),
 }
 
-// This outcome, where it is right.
+// This outcome if the result is right.
 fn right_or_wrong(is_right: bool, outcome: Outcome, before: u64) -> Outcome {
     if is_right {
         outcome
@@ -120,7 +120,7 @@ fn each_growth_may_be_refused(rt: HostRuntime) -> Result<(), FromHexError> {
     Ok(())
 }
 
-// So many headers, each in the structure before it: eight bytes a header.
+// Headers of nested structures, each in the one before: eight bytes a header.
 fn headers(alloc: Global, count: u32) -> Result<Vec<u8>, AllocError> {
     let mut bytes = Vec::new(alloc);
     for below in (0..count).rev() {
@@ -130,15 +130,15 @@ fn headers(alloc: Global, count: u32) -> Result<Vec<u8>, AllocError> {
     Ok(bytes)
 }
 
-// Whether the bytes have a diagnostic, and for want of memory no readable text, nor one when the
-// diagnostic is read back.
+// Whether the bytes have a diagnostic, and both the readable text and reading the diagnostic back
+// run out of memory.
 fn has_diagnostic_alone<A: Allocator + Copy>(alloc: A, bytes: &[u8]) -> Result<bool, AllocError> {
     let printer = printer(alloc, "4200", false)?;
     let diagnostic = printer.to_diag_string(bytes)?;
     Ok(printer.to_string(bytes).is_err() && printer.from_diag_string(diagnostic.as_str()).is_err())
 }
 
-// Whether so many headers have a diagnostic within a mebibyte, and no readable text: those grow by the
+// Whether that holds for this many headers and blocks of at most a mebibyte: readable texts grow with the
 // square of their number.
 fn is_bounded(alloc: Global, count: u32) -> Result<bool, AllocError> {
     let bytes = headers(alloc, count)?;
@@ -157,7 +157,7 @@ fn is_refused(alloc: Global, before: u64, bytes: &[u8]) -> bool {
     printer.to_diag_string(bytes).is_err()
 }
 
-// The first growth at which the diagnostic of one message wants memory and that of the other doesn't.
+// The first allocation whose failure makes the diagnostic of only one of two messages fail.
 fn difference(alloc: Global, one: &[u8], other: &[u8]) -> Option<u64> {
     for before in 0..20u64 {
         if is_refused(alloc, before, one) != is_refused(alloc, before, other) {

@@ -1,10 +1,10 @@
-//! Which fault is named where an item is wrong in two ways.
+//! Which fault is returned for an item with two.
 
 use hex::FromHexError;
 use kmip_ttlv::items::{Fault, FaultKind, find_fault};
 use std::alloc::Global;
 
-// Messages whose second item is wrong in two ways, and the fault that is named.
+// Messages whose second item is wrong in two ways, and the fault that is returned.
 const ROWS: [(&str, FaultKind); 3] = [
     ("420069010000000842006A0200000009", FaultKind::WrongLength),
     (

@@ -1,4 +1,4 @@
-//! Tables of names, and texts with names that are lent.
+//! Tables of names, and texts with borrowed names.
 
 use kmip_ttlv::names::{STANDARD_TAGS, TableError, standard_names, tag_names};
 use kmip_ttlv::types::TtlvTag;
@@ -6,7 +6,7 @@ use kmip_ttlv::util::{read_back_named, text_named};
 use kmip_ttlv_memory::BoundedAllocator;
 use std::alloc::Global;
 
-// Some names of the specification (9.1.3.1), first and last ones among them.
+// Some names of the specification (9.1.3.1), among them the first and the last.
 const NAMES: [(u32, &str); 7] = [
     (0x42_0001, "Activation Date"),
     (0x42_001F, "Common Template-Attribute"),
@@ -39,7 +39,7 @@ fn standard(rt: HostRuntime) {
     assert!(rt; standard_names(rt.alloc()).is_ok());
 }
 
-// Tables with a name of tag 0x42006A, or none.
+// Tables, and the name that they give to tag 0x42006A, if any.
 const TABLES: [(&str, Option<&str>); 8] = [
     ("", None),
     ("42006A Major", Some("Major")),
@@ -54,7 +54,7 @@ const TABLES: [(&str, Option<&str>); 8] = [
     ("42006A  Major", Some(" Major")),
 ];
 
-// Tables with a line that can't be read, and its number.
+// Tables with a line that can't be parsed, and its number.
 const BAD: [(&str, usize); 5] = [
     ("Major", 1),
     ("42006A", 1),
@@ -80,7 +80,7 @@ fn tables(rt: HostRuntime) {
     }
 }
 
-// Whether the two texts with a lent name are as they are to be, or memory was refused.
+// Whether the two texts with a borrowed name are as expected, or an allocation failed.
 fn is_printed(alloc: Global, before: u64) -> bool {
     let heap = BoundedAllocator::failing_after(alloc, before);
     let table = "42006A Major";

@@ -1,4 +1,4 @@
-//! Walks: items, faults and their places, and lists that are too short.
+//! Walks: items, faults and their offsets, and lists that are too short.
 
 use hex::FromHexError;
 use kmip_ttlv::items::{Fault, FaultKind, FoundItem, ItemWalk, Step, find_fault, walk_items};
@@ -6,14 +6,14 @@ use kmip_ttlv::types::{TtlvTag, TtlvType};
 use kmip_ttlv_memory::BoundedAllocator;
 use std::alloc::{Allocator, Global};
 
-// A message as hexadecimal text, the place of its first fault, and what is wrong there.
+// A message in hexadecimal, the offset of its first fault, and the kind of fault.
 type Row = (&'static str, usize, FaultKind);
 
-// One row for each fault, and the first of several.
+// At least one row for each fault; if there are several, the first is returned.
 const FAULTS: [Row; 24] = [
     ("", 0, FaultKind::Cut),
     ("42006901000000", 0, FaultKind::Cut),
-    // The root's header alone, then cut within padding, a value, and a header, and behind an item.
+    // Only the root's header; then cut within padding, a value and a header, and after an item.
     ("4200690100000008", 8, FaultKind::Cut),
     (
         "420069010000001042006A020000000400000001000000",
@@ -27,7 +27,7 @@ const FAULTS: [Row; 24] = [
         24,
         FaultKind::Cut,
     ),
-    // In a structure that ends before the bytes do, and the root states more.
+    // In a structure that ends before the bytes do, in a root that is cut.
     (
         "420069010000002042006A010000000842006B0200000004",
         16,
@@ -87,7 +87,7 @@ const FAULTS: [Row; 24] = [
     ),
 ];
 
-// Messages that are whole, with the number of their items.
+// Whole messages, with the number of their items.
 const WHOLE: [(&str, usize); 4] = [
     ("4200690100000000", 1),
     (
@@ -101,7 +101,7 @@ const WHOLE: [(&str, usize); 4] = [
     ),
 ];
 
-// What a message's walk and its check answer, each alone, where memory is ample.
+// The count and the fault of a walk, if the check returns the same fault.
 fn judged(alloc: Global, message: &str) -> Option<(usize, Option<Fault>)> {
     let bytes = hex::decode(alloc, message).ok()?;
     let mut none: [FoundItem; 0] = [];
@@ -144,12 +144,12 @@ const ITEMS: [(usize, usize, TtlvType, u32); 4] = [
     (32, 1, TtlvType::TextString, 0),
 ];
 
-// The parts of an item that the list above has.
+// The fields that the list above has.
 fn parts(item: FoundItem) -> (usize, usize, TtlvType, u32) {
     (item.offset, item.depth, item.typ, item.length)
 }
 
-// Whether a list of so many items gets the first ones of the message, and the rest of it stays.
+// Whether a list of this length gets the first items of the message, and the rest of it is unchanged.
 fn is_listed(alloc: Global, room: usize) -> bool {
     let Ok(bytes) = hex::decode(alloc, NESTED) else {
         return false;
@@ -174,7 +174,7 @@ fn is_listed(alloc: Global, room: usize) -> bool {
     holds
 }
 
-// An item that no message of these tests has.
+// An item that is in no message of these tests.
 fn unlike() -> Option<FoundItem> {
     Some(FoundItem {
         offset: 7,
@@ -192,7 +192,7 @@ fn items(rt: HostRuntime) {
     }
 }
 
-// The next step of a walk, tried again where a growth is refused.
+// The next step of a walk, retried if an allocation fails.
 fn stepped<A: Allocator>(walk: &mut ItemWalk<'_, A>) -> Option<Step> {
     match walk.next() {
         Ok(step) => Some(step),
@@ -200,7 +200,7 @@ fn stepped<A: Allocator>(walk: &mut ItemWalk<'_, A>) -> Option<Step> {
     }
 }
 
-// Whether a walk, of which this growth is refused, comes to each item, and then to the end, and stays there.
+// Whether a walk with one failing allocation returns each item, and then the end, twice.
 fn is_stepped(alloc: Global, bytes: &[u8], before: u64) -> bool {
     let heap = BoundedAllocator::failing_after(alloc, before);
     let mut walk = ItemWalk::new(&heap, bytes);
@@ -227,7 +227,7 @@ fn steps(rt: HostRuntime) -> Result<(), FromHexError> {
     Ok(())
 }
 
-// Whether the walk and the check answer want of memory exactly where this growth is refused.
+// Whether the walk and the check return out of memory if and only if this allocation fails.
 fn refuses(alloc: Global, bytes: &[u8], before: u64) -> bool {
     let heap = BoundedAllocator::failing_after(alloc, before);
     let mut none: [FoundItem; 0] = [];

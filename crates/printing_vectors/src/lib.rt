@@ -1,6 +1,6 @@
-//! What the printers of the crate `kmip_ttlv` make of messages, of malformed bytes and of diagnostics,
-//! and what the program `hex_to_txt` answers, as tests, with each growth refused in turn; and what a walk
-//! over items finds, and what tables of names give.
+//! Tests of the printers of the crate `kmip_ttlv` on messages, malformed bytes and diagnostics, and of the
+//! program `hex_to_txt`, with each allocation failing in turn; and of walks over items and tables of
+//! names.
 #![tactic(auto)]
 
 #[cfg(test)]

@@ -1,4 +1,4 @@
-//! Messages, and texts that are put together.
+//! Messages, and texts built from parts.
 
 use std::alloc::{AllocError, Global};
 
@@ -6,7 +6,7 @@ use std::alloc::{AllocError, Global};
 pub const VERSION: &str =
     "420069010000002042006A0200000004000000010000000042006B02000000040000000000000000";
 
-/// Its readable text: two lines in, and each line ended.
+/// Its readable text.
 pub const VERSION_LINES: &str =
     "Tag: 0x420069, Type: Structure (0x01), Data:\n  Tag: 0x42006A, Type: Integer (0x02), Data: 0x000001 (1)\n  Tag: 0x42006B, Type: Integer (0x02), Data: 0x000000 (0)\n";
 
@@ -36,7 +36,7 @@ pub const DESTROY_REQUEST: &str =
 pub const DESTROY_RESPONSE: &str =
     "42007B01000000B042007A0100000048420069010000002042006A0200000004000000010000000042006B020000000400000000000000004200920900000008000000004AFBE7C542000D0200000004000000010000000042000F010000005842005C0500000004000000140000000042007F0500000004000000000000000042007C0100000030420094070000002466633838333364652D373064322D346563652D623036332D66656465336133633539666500000000";
 
-/// So many of these parts, and then the end.
+/// A part `count` times, and then the end.
 pub fn repeated(alloc: Global, part: &str, count: usize, end: &str) -> Result<String, AllocError> {
     let mut text = String::new(alloc);
     for _ in 0..count {

@@ -1,11 +1,11 @@
-//! Printers, and whether they answer a text.
+//! Printers, and whether they return a text.
 
 use kmip_ttlv::PrettyPrinter;
 use kmip_ttlv::types::TtlvTag;
 use std::alloc::{AllocError, Allocator, Global};
 use std::collections::HashMap;
 
-/// A printer that takes this prefix from tags.
+/// A printer that omits this prefix from tags.
 pub fn printer<A: Allocator + Copy>(
     alloc: A,
     prefix: &str,
@@ -17,7 +17,7 @@ pub fn printer<A: Allocator + Copy>(
     Ok(printer)
 }
 
-/// A printer that takes the prefix `4200` from tags, and has a name for one.
+/// A printer that omits the prefix `4200` from tags, and has a name for one tag.
 pub fn naming_printer(
     alloc: Global,
     tag: [u8; 3],
@@ -42,7 +42,7 @@ pub fn is_diagnostic<A: Allocator + Copy>(
     Ok(shown.as_str() == text)
 }
 
-/// Whether the diagnostic of the bytes is this text, and tells so many items.
+/// Whether the diagnostic of the bytes is this text, with this count.
 pub fn is_counted<A: Allocator + Copy>(
     printer: &PrettyPrinter<A>,
     bytes: &[u8],

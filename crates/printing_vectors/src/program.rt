@@ -1,4 +1,4 @@
-//! What the program answers: the text that it prints, or the line that says why not.
+//! Runs of the program: the text that it prints, or its error line.
 
 use crate::messages::{
     CREATE_REQUEST, CREATE_RESPONSE, DESTROY_REQUEST, DESTROY_RESPONSE, VERSION, VERSION_LINES,
@@ -6,10 +6,10 @@ use crate::messages::{
 use hex_to_txt_run::run::run;
 use std::alloc::{AllocError, Allocator, Global};
 
-/// Words, an input, and the text that is printed; or how the line begins that says why not.
+/// Arguments, an input, and the printed text; or the beginning of the error line.
 pub type Row = (&'static str, &'static str, &'static str);
 
-/// A pair of numbers, its padding not zero.
+/// A pair of numbers, with padding that is not zero.
 pub const PAIR: &str =
     "AAAAAA0100000020BBBBBB020000000400000003FFFFFFFFCCCCCC0200000004FFFFFFFB00000000";
 
@@ -98,7 +98,7 @@ const REFUSED: [Row; 13] = [
     ("text a b", PAIR, USAGE),
 ];
 
-/// What a run left behind.
+/// What a run wrote, and its status.
 #[derive(Drop)]
 pub struct Outcome {
     pub status: u8,
@@ -107,12 +107,12 @@ pub struct Outcome {
 }
 
 impl Outcome {
-    /// Whether this text was printed, and nothing said.
+    /// Whether this text was printed, and no error.
     pub fn prints(&self, text: &str) -> bool {
         self.status == 0 && self.output.as_slice() == text.as_bytes() && self.errors.is_empty()
     }
 
-    /// Whether one line was said that begins so, and nothing printed.
+    /// Whether nothing was printed but one error line with this beginning.
     pub fn refuses(&self, beginning: &str) -> bool {
         let line = self.errors.as_slice();
         let feeds = line.iter().filter(|byte| **byte == b'\n').count();
@@ -124,7 +124,7 @@ impl Outcome {
     }
 }
 
-/// The words of a line.
+/// The arguments in a line.
 pub fn words_of(alloc: Global, line: &str) -> Result<Vec<String>, AllocError> {
     let mut words = Vec::new(alloc);
     for word in line.split_whitespace() {
@@ -152,7 +152,7 @@ pub fn run_with<A: Allocator + Copy>(
     })
 }
 
-// Whether the row's text is printed, and nothing said.
+// Whether the row's text is printed, and no error.
 fn prints(alloc: Global, row: Row) -> bool {
     let (line, input, text) = row;
     match run_with(alloc, alloc, line, input.as_bytes()) {
@@ -161,7 +161,7 @@ fn prints(alloc: Global, row: Row) -> bool {
     }
 }
 
-// Whether one line is said that begins so, and nothing printed.
+// Whether nothing is printed but one error line with this beginning.
 fn refuses(alloc: Global, line: &str, input: &[u8], beginning: &str) -> bool {
     match run_with(alloc, alloc, line, input) {
         Ok(outcome) => outcome.refuses(beginning),

@@ -1,4 +1,4 @@
-//! The program where memory is refused, and where its input, its output or its errors fail.
+//! The program when an allocation fails, or when its input, its output or its errors do.
 
 use crate::messages::{VERSION, VERSION_LINES};
 use crate::program::{Outcome, PAIR, PAIR_TEXT, Row, run_with, words_of};
@@ -23,18 +23,18 @@ const GROWN: [Row; 5] = [
 // What `diag 4200` prints of the message.
 const DIAGNOSTIC: &str = "69[6Ai6Bi]\n";
 
-// What a run, or all runs of a row, came to.
+// The outcome of a run, or of all runs of a row.
 #[derive(Clone, Copy, Debug, PartialEq, Eq)]
 enum Answer {
-    // The text, and no growth was refused.
+    // The text, and no allocation failed.
     Whole,
-    // The text or want of memory, and a growth was refused.
+    // The text or out of memory, and an allocation failed.
     Refused,
-    // Another one, where this growth was refused.
+    // A wrong result when this allocation failed.
     Wrong(u64),
 }
 
-// What a run comes to where one growth is refused.
+// The outcome of a run in which one allocation fails.
 fn one_answer(alloc: Global, row: Row, before: u64) -> Answer {
     let (line, input, text) = row;
     let heap = BoundedAllocator::failing_after(alloc, before);
@@ -50,7 +50,7 @@ fn one_answer(alloc: Global, row: Row, before: u64) -> Answer {
     }
 }
 
-// What the runs come to where each growth is refused in turn.
+// The outcome of the runs in which each allocation fails in turn.
 fn all_answers(alloc: Global, row: Row) -> Answer {
     for before in 0..1000u64 {
         let answer = one_answer(alloc, row, before);
@@ -68,7 +68,7 @@ fn each_growth_may_be_refused(rt: HostRuntime) {
     }
 }
 
-// Gives one byte a read, and fails once, with this kind.
+// Returns one byte per read, and fails once with this kind.
 #[derive(Drop)]
 struct Faltering<'a> {
     bytes: &'a [u8],
@@ -88,7 +88,7 @@ impl Read for Faltering<'_> {
     }
 }
 
-// Takes one byte a write, and fails after so many bytes: once where it is interrupted, else for good.
+// Takes one byte per write, and fails when full: once with `Interrupted`, otherwise for good.
 #[derive(Drop)]
 struct Narrow<'a> {
     taken: &'a mut Vec<u8>,
@@ -149,7 +149,7 @@ fn run_to(alloc: Global, words: &[String], room: usize, kind: ErrorKind) -> Outc
     }
 }
 
-// Whether the diagnostic is printed, where the output takes all of it; or so many of its bytes.
+// Whether the diagnostic is printed if the output has room for all of it, and otherwise this many of its bytes.
 fn is_beginning(outcome: Outcome, room: usize) -> bool {
     if room == DIAGNOSTIC.len() {
         return outcome.prints(DIAGNOSTIC);
@@ -186,7 +186,7 @@ fn a_failing_output_has_a_beginning(rt: HostRuntime) -> Result<(), AllocError> {
     Ok(())
 }
 
-// A run whose input is no hexadecimal text, and whose errors take three bytes.
+// A run whose input is not hexadecimal, and whose errors have room for three bytes.
 fn run_short(alloc: Global, words: &[String]) -> Outcome {
     let mut input: &[u8] = b"zz";
     let mut output = Vec::new(alloc);

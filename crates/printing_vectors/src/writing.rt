@@ -1,4 +1,4 @@
-//! Texts that go to a writer in pieces: the same as those in one string, also where the writer fails.
+//! Texts that are sent to a writer in pieces: the same as in one string, also if the writer fails.
 
 use crate::messages::{
     CREATE_REQUEST, CREATE_RESPONSE, DESTROY_REQUEST, EMPTY_FIRST, SHORT, VERSION, repeated,
@@ -26,7 +26,7 @@ const MESSAGES: [&str; 8] = [
     "4200690100000010",
 ];
 
-// Takes what it has room for, and fails then; it counts the writes that it was asked for behind that.
+// Takes as many bytes as it has room for, then fails; it counts the writes after that.
 #[derive(Drop)]
 struct Limited {
     taken: Vec<u8>,
@@ -72,7 +72,7 @@ fn text_of(
     }
 }
 
-// The text to a writer.
+// Writes the text to a writer.
 fn write<A: Allocator + Copy, W: Write>(
     printer: &PrettyPrinter<A>,
     kind: Kind,
@@ -85,7 +85,7 @@ fn write<A: Allocator + Copy, W: Write>(
     }
 }
 
-// Whether a vector gets the text that is made in one string.
+// Whether a vector gets the same text as a string.
 fn is_same(alloc: Global, kind: Kind, bytes: &[u8]) -> Result<bool, AllocError> {
     let printer = printer(alloc, "4200", false)?;
     let text = text_of(&printer, kind, bytes)?;
@@ -105,7 +105,7 @@ fn messages_are_written_as_they_are_made(rt: HostRuntime) -> Result<(), FromHexE
     Ok(())
 }
 
-// A structure of one leaf of this type, whose content is so many times this byte.
+// A structure of one leaf of this type, whose content is this byte `count` times.
 fn long_leaf(alloc: Global, code: u8, byte: u8, count: u32) -> Result<Vec<u8>, AllocError> {
     let mut message = Vec::new(alloc);
     message.extend_from_slice(&[0x42, 0, 0x69, 1])?;
@@ -129,8 +129,8 @@ fn long_values_are_written_as_they_are_made(rt: HostRuntime) -> Result<(), Alloc
     Ok(())
 }
 
-// Whether a writer with too little room has as much of the text as it has room for, was asked once more
-// and no further time, and the error is its own.
+// Whether a writer with too little room has as much of the text as fits, was called exactly once
+// after that, and its own error is returned.
 fn is_cut(
     alloc: Global,
     kind: Kind,
@@ -191,7 +191,7 @@ fn a_text_needs_no_memory_of_its_size(rt: HostRuntime) -> Result<(), AllocError>
     Ok(())
 }
 
-// Whether the error is OutOfMemory where each growth is refused, and the writer has no byte.
+// Whether the error is OutOfMemory if the first allocation fails, and nothing was written.
 fn is_refused(alloc: Global, kind: Kind, bytes: &[u8]) -> Result<bool, AllocError> {
     let heap = BoundedAllocator::failing_after(alloc, 0);
     let printer = PrettyPrinter::new(&heap);
@@ -211,7 +211,7 @@ fn memory_for_open_structures_is_refused(rt: HostRuntime) -> Result<(), FromHexE
     Ok(())
 }
 
-// A structure of so many integers.
+// A structure of `count` integers.
 fn many_integers(alloc: Global, count: u32) -> Result<Vec<u8>, AllocError> {
     let mut message = Vec::new(alloc);
     message.extend_from_slice(&[0x42, 0, 0x69, 1])?;
@@ -222,7 +222,7 @@ fn many_integers(alloc: Global, count: u32) -> Result<Vec<u8>, AllocError> {
     Ok(message)
 }
 
-// Whether the diagnostic of so many integers is added to a sink, and nearly no memory is taken.
+// Whether the diagnostic of `count` integers is appended to a sink, with hardly any memory.
 fn is_diagnosed(alloc: Global, count: u32) -> Result<bool, AllocError> {
     let bytes = many_integers(alloc, count)?;
     let mut whole = String::from_str(alloc, "69[")?;
@@ -240,13 +240,13 @@ fn a_diagnostic_is_added_as_it_is_made(rt: HostRuntime) {
     assert_eq!(rt; is_diagnosed(rt.alloc(), 10_000), Ok(true));
 }
 
-// Structures in one another, so many of them, as a diagnostic.
+// The diagnostic of nested structures, this many of them.
 fn nested(alloc: Global, times: usize) -> Result<String, AllocError> {
     let closes = repeated(alloc, "]", times, "")?;
     repeated(alloc, "69[", times, closes.as_str())
 }
 
-// Whether a text is added to a sink as what it is read back as in one string, and nearly no memory is taken.
+// Whether a text is read back into a sink as into a string, with hardly any memory.
 fn is_added(alloc: Global, text: &str) -> Result<bool, AllocError> {
     let none: LentTagMap = HashMap::new(alloc);
     let whole = read_back_counted(alloc, "4200", &none, Indentation::Bounded, text)?;
@@ -269,7 +269,7 @@ fn is_added(alloc: Global, text: &str) -> Result<bool, AllocError> {
     Ok(sent && ends && written.as_slice() == whole.text.as_bytes())
 }
 
-// Diagnostics, whole and cut, and values that white space ends.
+// Diagnostics, whole and cut, and values that end with white space.
 const READ: [&str; 9] = [
     "",
     "]",

@@ -1,4 +1,4 @@
-//! A function over any primitive that rests on the laws and the contracts of the low-level types alone.
+//! A function over any primitive whose proof needs only the laws and the contracts of the low-level types.
 
 ghost use Rattle.std.specs.Prelude.{◌≡◌, IfOk};
 ghost use Rattle.kmip_ttlv_types.specs.Primitives.{content_of};
@@ -9,8 +9,8 @@ use kmip_ttlv_types::{Result, SerializableTtlvType, TtlvType};
 use std::alloc::Allocator;
 use std::io::Cursor;
 
-/// Writes a value into memory, and reads it from there by a cursor. The value that is read has the bytes
-/// that were written.
+/// Writes a value into memory, and reads it back by a cursor. The value that is read has the bytes that were
+/// written.
 pub fn write_and_read<T: SerializableTtlvType, A: Allocator>(
     room: A,
     alloc: T::Alloc,

@@ -5,7 +5,7 @@ ghost use Rattle.std.specs.Prelude.{Some};
 use std::io;
 use std::io::{ErrorKind, Read, Write};
 
-/// Gives one byte a call, and at one call, counted from 0, fails with a kind instead.
+/// Gives one byte per call; at one call, counted from 0, it fails with a kind instead.
 #[derive(Drop)]
 pub struct SlowReader<'a> {
     pub bytes: &'a [u8],
@@ -27,8 +27,8 @@ impl Read for SlowReader<'_> {
     }
 }
 
-/// Takes one byte a call, at one call, counted from 0, fails with a kind instead, and once its room is
-/// used up takes nothing.
+/// Takes one byte per call; at one call, counted from 0, it fails with a kind instead; and once its room is
+/// used up it takes nothing.
 #[derive(Drop)]
 pub struct SlowWriter {
     pub taken: Vec<u8>,
@@ -59,7 +59,7 @@ impl Write for SlowWriter {
     }
 }
 
-/// Gives one byte a call, after it was interrupted so many times before that byte.
+/// Gives one byte per call, after it was interrupted a number of times before that byte.
 #[derive(Drop)]
 pub struct InterruptedReader<'a> {
     pub bytes: &'a [u8],
@@ -81,7 +81,7 @@ impl Read for InterruptedReader<'_> {
     }
 }
 
-/// Takes one byte a call, after it was interrupted so many times before that byte.
+/// Takes one byte per call, after it was interrupted a number of times before that byte.
 #[derive(Drop)]
 pub struct InterruptedWriter {
     pub taken: Vec<u8>,

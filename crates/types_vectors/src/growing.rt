@@ -1,5 +1,5 @@
-//! Each growth refused in turn: a call answers OutOfMemory where a growth was refused, and else what it
-//! answers with ample memory. And how much memory a length without its bytes takes.
+//! Each growth fails in turn: a call then returns OutOfMemory, and otherwise what it returns with ample
+//! memory. And how much memory a length without its bytes takes.
 
 use crate::samples::{
     bytes_are_cloned, is_failure, is_whole_place, number_is_cloned, text_is_cloned, whole_place,
@@ -14,18 +14,18 @@ use std::alloc::{AllocError, Allocator, Global};
 use std::io;
 use std::test::Fail;
 
-// What a call answered.
+// What a call returned.
 #[derive(Clone, Copy, Debug, PartialEq, Eq)]
 enum Answer {
-    // What it answers with ample memory.
+    // What it returns with ample memory.
     Ample,
-    // Want of memory.
+    // Out of memory.
     OutOfMemory,
     // Anything else.
     Other,
 }
 
-// The answer of a call that gave this value, where that is the wanted one.
+// The result of a call that returned a value, by whether that is the expected one.
 fn ample_if(is_wanted: bool) -> Answer {
     if is_wanted {
         Answer::Ample
@@ -34,7 +34,7 @@ fn ample_if(is_wanted: bool) -> Answer {
     }
 }
 
-// A call that takes memory.
+// A call that allocates.
 #[derive(Clone, Copy, Debug)]
 enum Call {
     ReadText,
@@ -49,7 +49,7 @@ enum Call {
     ClonePlace,
 }
 
-// Each call, and how many growths it asks for at least. Of a clone one is for the value itself.
+// Each call, and how many growths it needs at least. Of a clone one is for the value itself.
 const CALLS: [(Call, u64); 10] = [
     (Call::ReadText, 1),
     (Call::ReadBytes, 1),
@@ -63,7 +63,7 @@ const CALLS: [(Call, u64); 10] = [
     (Call::ClonePlace, 2),
 ];
 
-// The length of a content of 150,000 bytes, and that content: three pieces, and no padding.
+// The length of content of 150,000 bytes, and that content: three pieces, and no padding.
 fn long_leaf(heap: Global) -> Result<Vec<u8>, Fail> {
     let mut bytes = Vec::from_slice(heap, b"\x00\x02\x49\xF0")?;
     for count in 0..150_000u32 {
@@ -80,7 +80,7 @@ fn content_of(leaf: &[u8]) -> &[u8] {
     }
 }
 
-// The value that the leaf is read as, or what reading answers in its place.
+// The value that the leaf is read as, or what reading returns in its place.
 fn reading<T: SerializableTtlvType>(alloc: T::Alloc, leaf: &[u8]) -> Result<T, Answer> {
     let mut source = leaf;
     match T::read(alloc, &mut source) {
@@ -132,7 +132,7 @@ fn name_answer(memory: &BoundedAllocator<Global>) -> Answer {
     }
 }
 
-// The kind of a low-level refusal of a name.
+// The kind of a low-level error with a name.
 fn kind_answer(heap: Global, memory: &BoundedAllocator<Global>) -> Answer {
     let Ok(name) = String::from_str(heap, "no tag") else {
         return Answer::Other;
@@ -145,7 +145,7 @@ fn kind_answer(heap: Global, memory: &BoundedAllocator<Global>) -> Answer {
     }
 }
 
-// The answer of a call that refuses by an AllocError, or says whether its value is the wanted one.
+// The result of a call that fails with an AllocError, or else says whether its value is the expected one.
 fn answer_of(is_wanted: Result<bool, AllocError>) -> Answer {
     match is_wanted {
         Ok(is_wanted) => ample_if(is_wanted),
@@ -175,8 +175,8 @@ fn answer_to(heap: Global, memory: &BoundedAllocator<Global>, call: Call, leaf: 
     }
 }
 
-// How many growths the call asks for, where each one that is refused makes it answer OutOfMemory, and it
-// answers as with ample memory where none is.
+// How many growths the call needs, if it returns OutOfMemory when any one of them fails, and what it returns with ample
+// memory when none does.
 fn growths_of(heap: Global, call: Call, leaf: &[u8]) -> Option<u64> {
     for before in 0..100u64 {
         let memory = BoundedAllocator::failing_after(heap, before);
@@ -208,7 +208,7 @@ fn calls_grow(rt: HostRuntime) -> Result<(), Fail> {
 // The calls that read a string.
 const STRINGS: [Call; 3] = [Call::ReadText, Call::ReadBytes, Call::ReadNumber];
 
-// Whether a length of FFFFFFFF over three bytes makes an IoError of the kind UnexpectedEof.
+// Whether a length of FFFFFFFF before three bytes gives an IoError of kind UnexpectedEof.
 fn is_early_end<T: SerializableTtlvType>(alloc: T::Alloc) -> bool {
     let mut source: &[u8] = b"\xFF\xFF\xFF\xFFabc";
     is_failure(&T::read(alloc, &mut source), io::ErrorKind::UnexpectedEof)
@@ -237,7 +237,7 @@ fn a_length_without_its_bytes_takes_one_piece(rt: HostRuntime) -> Result<(), Fai
     Ok(())
 }
 
-// Whether reading the leaf is refused for want of memory.
+// Whether reading the leaf runs out of memory.
 fn is_refused<T: SerializableTtlvType>(alloc: T::Alloc, leaf: &[u8]) -> bool {
     let mut source = leaf;
     matches!(&T::read(alloc, &mut source), Err(Error::OutOfMemory))

@@ -1,6 +1,6 @@
-//! Tests of the low-level types, of refusals and of items that are written: the standard's vectors, tables of answers, printed
-//! texts, memory, growths that are refused, and readers and writers that give or take one byte a call,
-//! are interrupted or fail.
+//! Tests of the low-level types, of errors, and of items that are written: the standard's vectors, tables of results,
+//! printed texts, memory, growths that fail, and readers and writers that give or take one byte per call, are
+//! interrupted, or fail.
 #![tactic(auto)]
 
 pub mod by_cursor;

@@ -3,22 +3,22 @@
 use kmip_ttlv_types::{Error, FieldType, TtlvStateMachine, TtlvStateMachineMode};
 use std::test::Fail;
 
-// Whether the machine takes the field as one that is there.
+// Whether the machine accepts the field as one to write or read.
 fn takes(machine: &mut TtlvStateMachine, field: FieldType) -> bool {
     matches!(machine.advance(field), Ok(true))
 }
 
-// Whether the machine takes the field as one that is left out.
+// Whether the machine ignores the field.
 fn leaves_out(machine: &mut TtlvStateMachine, field: FieldType) -> bool {
     matches!(machine.advance(field), Ok(false))
 }
 
-// Whether the machine refuses the field.
+// Whether the machine returns an error for the field.
 fn refuses(machine: &mut TtlvStateMachine, field: FieldType) -> bool {
     machine.advance(field).is_err()
 }
 
-// Whether the machine refuses the field since another is expected.
+// Whether the machine returns an error for the field because it expects another.
 fn refuses_for(machine: &mut TtlvStateMachine, field: FieldType, wanted: FieldType) -> bool {
     match &machine.advance(field) {
         Err(Error::UnexpectedTtlvField { expected, actual }) => {
@@ -28,7 +28,7 @@ fn refuses_for(machine: &mut TtlvStateMachine, field: FieldType, wanted: FieldTy
     }
 }
 
-// Whether the machine can leave out no tag.
+// Whether the machine can't ignore a tag.
 fn ignores_no_tag(machine: &mut TtlvStateMachine) -> bool {
     matches!(
         &machine.ignore_next_tag(),

@@ -54,21 +54,21 @@ fn vectors_of_memory(rt: HostRuntime) -> Result<(), Fail> {
     Ok(())
 }
 
-// So many bytes EE.
+// This many bytes EE.
 fn filled(heap: Global, len: usize) -> Option<Vec<u8>> {
     let mut bytes = Vec::new(heap);
     bytes.resize(len, 0xEE).ok()?;
     Some(bytes)
 }
 
-// A cursor at a place of the bytes.
+// A cursor at an offset of the bytes.
 fn cursor_at<T>(bytes: T, at: u64) -> MemoryCursor<T> {
     let mut cursor = Cursor::new(bytes);
     cursor.set_position(at);
     MemoryCursor(cursor)
 }
 
-// Whether the value is written into a slice from this place on, up to that one.
+// Whether the value is written into a slice from this offset up to that one.
 fn is_written_up_to(heap: Global, sample: Sample, buffer: &mut [u8], at: u64, end: u64) -> bool {
     let Ok(value) = sample.value(heap) else {
         return false;
@@ -77,13 +77,13 @@ fn is_written_up_to(heap: Global, sample: Sample, buffer: &mut [u8], at: u64, en
     value.write_to(&mut sink).is_ok() && sink.0.position() == end
 }
 
-// Whether the value is read from a slice from this place on, up to that one.
+// Whether the value is read from a slice from this offset up to that one.
 fn is_read_up_to(heap: Global, sample: Sample, buffer: &[u8], at: u64, end: u64) -> bool {
     let mut source = cursor_at(buffer, at);
     is_value(&sample.read_from(heap, &mut source)) && source.0.position() == end
 }
 
-// Whether so many bytes EE stand before the value's.
+// Whether this many bytes EE come before the value's.
 fn is_behind_filling(sample: Sample, buffer: &[u8], at: usize) -> bool {
     match buffer.split_at_checked(at) {
         Some((front, written)) => {
@@ -93,7 +93,7 @@ fn is_behind_filling(sample: Sample, buffer: &[u8], at: usize) -> bool {
     }
 }
 
-// Whether the value is written into a slice, where it just fits from this place on, and read from there.
+// Whether the value is written into a slice, where it just fits from this offset on, and read back.
 fn goes_through_a_slice(heap: Global, sample: Sample, at: usize) -> bool {
     let len = sample.bytes.len().saturating_add(at);
     let (at_byte, end) = (at as u64, len as u64);
@@ -117,7 +117,7 @@ fn slices(rt: HostRuntime) -> Result<(), Fail> {
     Ok(())
 }
 
-// Where writing the value into a slice from this place on ends, where that makes an IoError of the kind
+// Where writing the value into a slice from this offset on ends, if the result is an IoError of kind
 // WriteZero.
 fn end_of_failed_writing(heap: Global, sample: Sample, buffer: &mut [u8], at: u64) -> Option<u64> {
     let value = sample.value(heap).ok()?;
@@ -129,7 +129,7 @@ fn end_of_failed_writing(heap: Global, sample: Sample, buffer: &mut [u8], at: u6
     }
 }
 
-// Whether a slice that is one byte too short takes a front of the value, and makes an IoError of the
+// Whether a slice that is one byte too short gets a beginning of the value, and the result is an IoError of
 // kind WriteZero.
 fn is_one_byte_short(heap: Global, sample: Sample) -> bool {
     let len = sample.bytes.len().saturating_sub(1);
@@ -150,7 +150,7 @@ fn slices_one_byte_too_short(rt: HostRuntime) -> Result<(), Fail> {
     Ok(())
 }
 
-// Whether no value is read from a slice from this place on, by an IoError of the kind UnexpectedEof.
+// Whether reading the value from a slice from this offset on gives an IoError of kind UnexpectedEof.
 fn is_read_past_the_end(heap: Global, sample: Sample, buffer: &[u8], at: u64) -> bool {
     let mut source = cursor_at(buffer, at);
     is_failure(
@@ -159,7 +159,7 @@ fn is_read_past_the_end(heap: Global, sample: Sample, buffer: &[u8], at: u64) ->
     )
 }
 
-// Whether a cursor past the end of a slice neither takes nor gives the value.
+// Whether a cursor past the end of a slice neither writes nor reads the value.
 fn is_past_the_end(heap: Global, sample: Sample, at: u64) -> bool {
     let mut buffer = [0xEEu8; 5];
     end_of_failed_writing(heap, sample, &mut buffer, at).is_some()
@@ -178,7 +178,7 @@ fn cursors_past_the_end(rt: HostRuntime) -> Result<(), Fail> {
     Ok(())
 }
 
-// What a primitive's value is after `reread`; none for a part of a header.
+// What `reread` makes of a primitive's value; None for a part of a header.
 fn reread_value(heap: Global, value: &Value) -> Result<Option<Value>, Error> {
     match value {
         Value::Integer(number) => Ok(Some(Value::Integer(reread(heap, (), number)?))),
@@ -194,7 +194,7 @@ fn reread_value(heap: Global, value: &Value) -> Result<Option<Value>, Error> {
     }
 }
 
-// Whether the sample is written and read by `reread`.
+// Whether the sample is written and read back by `reread`.
 fn is_reread(heap: Global, sample: Sample) -> bool {
     let Ok(value) = sample.value(heap) else {
         return false;

@@ -9,7 +9,7 @@ use std::fmt::{Debug, Display};
 use std::io::Cursor;
 use std::test::Fail;
 
-// Whether the name is that of a tag of this number, or where none is given, is refused as it stands.
+// Whether the name is a tag of this number or, if there is no number, an error with the whole name.
 fn names_tag(heap: Global, name: &str, number: Option<u32>) -> bool {
     match &TtlvTag::from_str(heap, name) {
         Ok(tag) => number == Some(**tag),
@@ -18,7 +18,7 @@ fn names_tag(heap: Global, name: &str, number: Option<u32>) -> bool {
     }
 }
 
-// Whether the text is that of this number, or where none is given, of none.
+// Whether the text is this number or, if there is none, no number.
 fn is_number(text: &str, wanted: Option<u32>) -> bool {
     number(text) == wanted
 }
@@ -71,7 +71,7 @@ fn digits_of_tags(rt: HostRuntime) -> Result<(), Fail> {
     Ok(())
 }
 
-// Whether a code from 1 to 10 is that of a type, which gives it back, and any other is refused.
+// Whether a code from 1 to 10 is that of a type, which has this code, and any other is an error.
 fn is_code_or_refused(code: u8) -> bool {
     match &TtlvType::try_from(code) {
         Ok(typ) => {
@@ -124,7 +124,7 @@ fn texts_of_types(rt: HostRuntime) -> Result<(), Fail> {
     Ok(())
 }
 
-// Whether the value is printed so for a programmer.
+// Whether the value's debug text is this.
 fn shows<D: Debug + Drop>(heap: Global, shown: D, text: &str) -> bool {
     is_text(&format!(in heap; "{shown:?}"), text)
 }

@@ -1,4 +1,4 @@
-//! Kinds and places of refusals.
+//! Kinds and places of errors.
 
 use crate::names::prints;
 use crate::samples::whole_place;
@@ -10,7 +10,7 @@ use std::io;
 use std::io::Cursor;
 use std::test::Fail;
 
-// Whether the place, where there is one, is printed so.
+// Whether the place, if there is one, is printed so.
 fn place_prints(heap: Global, place: Result<ErrorLocation, AllocError>, text: &str) -> bool {
     match place {
         Ok(place) => prints(heap, place, text),
@@ -37,7 +37,7 @@ fn texts_of_places(rt: HostRuntime) -> Result<(), Fail> {
     Ok(())
 }
 
-// Whether the place is known by this offset alone.
+// Whether the place is this offset alone.
 fn is_at(place: ErrorLocation, offset: u64) -> bool {
     place.offset() == Some(ByteOffset(offset))
         && place.tag().is_none()
@@ -46,7 +46,7 @@ fn is_at(place: ErrorLocation, offset: u64) -> bool {
         && !place.is_unknown()
 }
 
-// Whether nothing is known of the place.
+// Whether nothing is known about the place.
 fn is_nowhere(place: ErrorLocation) -> bool {
     place.is_unknown()
 }
@@ -78,7 +78,7 @@ fn outer() -> TtlvTag {
     TtlvTag::from([0xAA, 0xAA, 0xAA])
 }
 
-// A place under one structure.
+// A place within one structure.
 fn place_of_one_parent(heap: Global) -> Result<ErrorLocation, AllocError> {
     let parents = Vec::from_slice(heap, &[outer()])?;
     Ok(ErrorLocation::at(None, Some(parents), None, None))
@@ -89,7 +89,7 @@ fn cloned_place(heap: Global) -> Result<ErrorLocation, AllocError> {
     place_of_one_parent(heap)?.clone()
 }
 
-// Whether the place has structures of these tags around it.
+// Whether the tags of the structures around the place are these.
 fn has_parents(place: &Result<ErrorLocation, AllocError>, tags: &[TtlvTag]) -> bool {
     match place {
         Ok(place) => place.parent_tags() == tags,
@@ -105,7 +105,7 @@ fn clones_of_places(rt: HostRuntime) -> Result<(), Fail> {
     Ok(())
 }
 
-// Whether the low-level refusal is a disagreement in these words.
+// Whether the low-level error becomes a SerdeError in these words.
 fn is_in_words(heap: Global, low: types::Error, wanted: &str) -> bool {
     match &ErrorKind::from_types(heap, low) {
         ErrorKind::SerdeError(SerdeError::Other(words)) => words.as_str() == wanted,
@@ -113,7 +113,7 @@ fn is_in_words(heap: Global, low: types::Error, wanted: &str) -> bool {
     }
 }
 
-// Whether the low-level refusal is that of this name.
+// Whether the low-level error becomes an invalid tag of this name.
 fn is_of_name(heap: Global, low: types::Error, wanted: &str) -> bool {
     match &ErrorKind::from_types(heap, low) {
         ErrorKind::SerdeError(SerdeError::InvalidTag(name)) => name.as_str() == wanted,
@@ -121,7 +121,7 @@ fn is_of_name(heap: Global, low: types::Error, wanted: &str) -> bool {
     }
 }
 
-// Whether the low-level refusal is that of bytes which are no TTLV in this way.
+// Whether the low-level error becomes this error of malformed TTLV.
 fn is_malformed(heap: Global, low: types::Error, wanted: MalformedTtlvError) -> bool {
     match &ErrorKind::from_types(heap, low) {
         ErrorKind::MalformedTtlv(kind) => *kind == wanted,
@@ -156,7 +156,7 @@ fn overflows(rt: HostRuntime) -> Result<(), Fail> {
     Ok(())
 }
 
-// Whether a refusal of this kind after three bytes is printed so.
+// Whether an error of this kind at offset 3 is printed so.
 fn refusal_prints(heap: Global, kind: ErrorKind, text: &str) -> bool {
     prints(heap, Error::new(kind, ErrorLocation::from(3u8)), text)
 }
@@ -183,7 +183,7 @@ fn texts_of_refusals(rt: HostRuntime) -> Result<(), Fail> {
     Ok(())
 }
 
-// Whether a refusal of this kind at no place is printed so.
+// Whether an error of this kind without a place is printed so.
 fn refusal_at_no_place_prints(heap: Global, kind: ErrorKind, text: &str) -> bool {
     prints(heap, Error::new(kind, ErrorLocation::unknown()), text)
 }
@@ -245,7 +245,7 @@ fn texts_of_kinds(rt: HostRuntime) -> Result<(), Fail> {
     Ok(())
 }
 
-// Whether the disagreement is printed so.
+// Whether the SerdeError is printed so.
 fn says(heap: Global, kind: SerdeError, text: &str) -> bool {
     prints(heap, kind, text)
 }

@@ -1,10 +1,10 @@
-//! The allocator on which the tests of failing growths rest, and its limits.
+//! The allocator that the tests of failing growths use, and its limits.
 
 use kmip_ttlv_memory::BoundedAllocator;
 use std::alloc::{AllocError, Allocator, Global};
 use std::test::Fail;
 
-// Takes memory three times: for a text, for a vector, and for the vector's second growth.
+// Allocates three times: for a text, for a vector, and for the vector's second growth.
 fn grow<A: Allocator + Copy>(alloc: A) -> Result<usize, AllocError> {
     let text = String::from_str(alloc, "text")?;
     let mut bytes = Vec::with_capacity(alloc, 1)?;
@@ -14,13 +14,13 @@ fn grow<A: Allocator + Copy>(alloc: A) -> Result<usize, AllocError> {
     Ok(bytes.len())
 }
 
-// Whether, of the growths, the one after so many is refused and no other.
+// Whether the growth after this many fails, and no other.
 fn one_is_refused(alloc: Global, before: u64) -> bool {
     let heap = BoundedAllocator::failing_after(alloc, before);
     grow(&heap).is_err() && heap.has_failed() && grow(&heap).ok() == Some(4)
 }
 
-// Whether none of the growths is refused where so many are allowed.
+// Whether no growth fails if this many may succeed.
 fn none_is_refused(alloc: Global, before: u64) -> bool {
     let heap = BoundedAllocator::failing_after(alloc, before);
     grow(&heap).ok() == Some(4) && !heap.has_failed()
@@ -45,14 +45,14 @@ fn takes_ten<A: Allocator>(bytes: &mut Vec<u8, A>) -> bool {
     true
 }
 
-// Whether ten bytes fit where requests are bounded by ten, and no more.
+// Whether ten bytes fit if blocks are limited to ten, and no more.
 fn ten_bytes_fit(alloc: Global) -> Option<bool> {
     let heap = BoundedAllocator::in_blocks(alloc, 10);
     let mut bytes = Vec::with_capacity(&heap, 10).ok()?;
     Some(takes_ten(&mut bytes) && bytes.push(10).is_err() && bytes.len() == 10)
 }
 
-// Whether room for so many values is refused where requests are bounded by ten bytes.
+// Whether room for this many values can't be had if blocks are limited to ten bytes.
 fn room_is_refused<T: Drop>(alloc: Global, len: usize) -> bool {
     let heap = BoundedAllocator::in_blocks(alloc, 10);
     let room: Result<Vec<T, _>, AllocError> = Vec::with_capacity(&heap, len);
@@ -67,8 +67,8 @@ fn large_requests_are_refused(rt: HostRuntime) -> Result<(), Fail> {
     Ok(())
 }
 
-// Whether two vectors of six bytes fit into a budget of twelve, a byte more does not, and what one gives back
-// can be taken again.
+// Whether two vectors of six bytes fit into a budget of twelve, a byte more doesn't, and what one gives back can be
+// allocated again.
 fn budget_holds(alloc: Global) -> Option<bool> {
     let memory = BoundedAllocator::new(alloc, 12);
     let first: Vec<u8, _> = Vec::with_capacity(&memory, 6).ok()?;
@@ -83,7 +83,7 @@ fn budget_holds(alloc: Global) -> Option<bool> {
     Some(is_spent && is_back && memory.left() == 12)
 }
 
-// Whether room for so many bytes can't be had.
+// Whether room for this many bytes can't be had.
 fn fails<A: Allocator>(alloc: A, len: usize) -> bool {
     let room: Result<Vec<u8, A>, AllocError> = Vec::with_capacity(alloc, len);
     room.is_err()

@@ -12,7 +12,7 @@ use kmip_ttlv_types::{
 use std::alloc::{AllocError, Allocator, Global};
 use std::io::ErrorKind;
 
-/// What has a value for the tests: the primitives, and behind them the parts of a header.
+/// What the tests have a value of: the primitives, and after them the parts of a header.
 #[derive(Clone, Copy, Debug, PartialEq, Eq)]
 pub enum Kind {
     Integer,
@@ -29,7 +29,7 @@ pub enum Kind {
     Length,
 }
 
-/// A kind, and the bytes that its value is written as: of a primitive its type, length, content and
+/// A kind, and the bytes that its value is written as: for a primitive its type, length, content and
 /// padding.
 #[derive(Clone, Copy)]
 pub struct Sample {
@@ -92,7 +92,7 @@ pub const SAMPLES: [Sample; 12] = [
     },
 ];
 
-/// The number of the standard's example of a big integer, as it is written.
+/// The number in the standard's example of a Big Integer, as it is written.
 const NUMBER: &[u8] = b"\x00\x00\x00\x00\x03\xFD\x35\xEB\x6B\xC2\xDF\x46\x18\x08\x00\x00";
 
 /// A value of one of these kinds.
@@ -139,7 +139,7 @@ impl Sample {
         }
     }
 
-    /// Takes the sample's bytes, and gives the value that they are.
+    /// Reads the sample's bytes as a value of its kind.
     pub fn read_from<S: Source>(&self, heap: Global, source: &mut S) -> Result<Value, Error> {
         match self.kind {
             Kind::Integer => Ok(Value::Integer(read_leaf((), source)?)),
@@ -196,7 +196,7 @@ impl Value {
     }
 }
 
-// Takes a type, and where it is that of `T` the rest of a leaf.
+// Reads a type and, if it is that of `T`, the rest of a leaf.
 fn read_leaf<T: SerializableTtlvType, S: Source>(
     alloc: T::Alloc,
     source: &mut S,
@@ -208,7 +208,7 @@ fn read_leaf<T: SerializableTtlvType, S: Source>(
     T::read(alloc, source)
 }
 
-/// Whether the answer is the sample's value.
+/// Whether the result is the sample's value.
 pub fn is_value(answer: &Result<Value, Error>) -> bool {
     match answer {
         Ok(value) => value.is_sample(),
@@ -216,7 +216,7 @@ pub fn is_value(answer: &Result<Value, Error>) -> bool {
     }
 }
 
-/// Whether the answer is an IoError of this kind.
+/// Whether the result is an IoError of this kind.
 pub fn is_failure<T>(answer: &Result<T, Error>, kind: ErrorKind) -> bool {
     match answer {
         Err(Error::IoError(e)) => e.kind() == kind,
@@ -248,7 +248,7 @@ pub fn is_length<S: Source>(source: &mut S, wanted: u32) -> bool {
     }
 }
 
-/// Whether this integer is read behind its type.
+/// Whether this integer is read, after its type.
 pub fn is_integer<S: Source>(source: &mut S, wanted: i32) -> bool {
     match TtlvInteger::read((), source) {
         Ok(number) => number.0 == wanted,
@@ -256,28 +256,28 @@ pub fn is_integer<S: Source>(source: &mut S, wanted: i32) -> bool {
     }
 }
 
-/// Makes a text, and says whether a clone of it is the same.
+/// Makes a text. Returns whether a clone of it is the same.
 pub fn text_is_cloned<A: Allocator + Copy>(alloc: A, text: &str) -> Result<bool, AllocError> {
     let made = TtlvTextString(String::from_str(alloc, text)?);
     let copy = made.clone()?;
     Ok(copy.as_str() == text)
 }
 
-/// Makes a byte string, and says whether a clone of it is the same.
+/// Makes a byte string. Returns whether a clone of it is the same.
 pub fn bytes_are_cloned<A: Allocator + Copy>(alloc: A, bytes: &[u8]) -> Result<bool, AllocError> {
     let made = TtlvByteString(Vec::from_slice(alloc, bytes)?);
     let copy = made.clone()?;
     Ok(copy.as_slice() == bytes)
 }
 
-/// Makes a big integer, and says whether a clone of it is the same.
+/// Makes a big integer. Returns whether a clone of it is the same.
 pub fn number_is_cloned<A: Allocator + Copy>(alloc: A, number: &[u8]) -> Result<bool, AllocError> {
     let made = TtlvBigInteger(Vec::from_slice(alloc, number)?);
     let copy = made.clone()?;
     Ok(copy.as_slice() == number)
 }
 
-/// A place of which everything is known: under two structures.
+/// A place of which everything is known, within two structures.
 pub fn whole_place<A: Allocator>(alloc: A) -> Result<ErrorLocation<A>, AllocError> {
     let tags = [
         TtlvTag::from([0xAA, 0xAA, 0xAA]),

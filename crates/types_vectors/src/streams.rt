@@ -1,5 +1,5 @@
-//! Reading and writing over readers and writers that are slow, are interrupted or fail: no answer
-//! changes but that of the call that met the failure.
+//! Readers and writers that are slow, are interrupted or fail: only the call that meets a failure returns
+//! anything else.
 
 use crate::faulty::{InterruptedReader, InterruptedWriter, SlowReader, SlowWriter};
 use crate::samples::{SAMPLES, Sample, is_failure, is_length, is_tag, is_type, is_value};
@@ -8,9 +8,9 @@ use std::alloc::Global;
 use std::io::ErrorKind;
 use std::test::Fail;
 
-// Whether a reader of one byte a call that fails once, at any one call, with this kind, makes an IoError
-// of that kind and has given the bytes before that call; and one that does not fail before the end, or
-// is only interrupted, gives the value.
+// Whether, if a reader of one byte per call fails at any one call with this kind, the result is an IoError of that
+// kind, and the bytes before that call were read; and whether the value is read if the reader doesn't fail before
+// the end or is only interrupted.
 fn is_read_or_failed(heap: Global, sample: Sample, kind: ErrorKind) -> bool {
     let bytes = sample.bytes;
     for count in 0..=bytes.len() {
@@ -62,7 +62,7 @@ fn a_reader_that_failed_once_goes_on(rt: HostRuntime) -> Result<(), Fail> {
     Ok(())
 }
 
-// Whether the bytes, cut after any of them but the last, make an IoError of the kind UnexpectedEof.
+// Whether the bytes, cut anywhere before their end, give an IoError of kind UnexpectedEof.
 fn is_cut_short(heap: Global, sample: Sample) -> bool {
     let bytes = sample.bytes;
     for count in 0..bytes.len() {
@@ -85,7 +85,7 @@ fn cut_inputs(rt: HostRuntime) -> Result<(), Fail> {
     Ok(())
 }
 
-// Whether the value is read from a reader that is interrupted so many times before each byte.
+// Whether the value is read if the reader is interrupted this often before each byte.
 fn is_read_at_length(heap: Global, sample: Sample, interruptions: u64) -> bool {
     let mut reader = InterruptedReader {
         bytes: sample.bytes,
@@ -107,7 +107,7 @@ fn readers_that_are_interrupted_often(rt: HostRuntime) -> Result<(), Fail> {
     Ok(())
 }
 
-// A writer with room for so many bytes, which fails with a kind at a call.
+// A writer with room for this many bytes, which fails with a kind at a call.
 fn slow_writer(heap: Global, room: usize, calls_before_fault: u64, kind: ErrorKind) -> SlowWriter {
     SlowWriter {
         taken: Vec::new(heap),
@@ -117,9 +117,9 @@ fn slow_writer(heap: Global, room: usize, calls_before_fault: u64, kind: ErrorKi
     }
 }
 
-// Whether a writer of one byte a call that fails once, at any one call, with this kind, makes an IoError
-// of that kind and has taken the bytes before that call; and one that does not fail before the end, or
-// is only interrupted, takes them all.
+// Whether, if a writer of one byte per call fails at any one call with this kind, the result is an IoError of that
+// kind, and the bytes before that call were written; and whether all are written if the writer doesn't fail before
+// the end or is only interrupted.
 fn is_written_or_failed(heap: Global, sample: Sample, kind: ErrorKind) -> bool {
     let Ok(value) = sample.value(heap) else {
         return false;
@@ -156,8 +156,8 @@ fn writers_that_fail_once(rt: HostRuntime) -> Result<(), Fail> {
     Ok(())
 }
 
-// Whether a writer that takes no byte after any number of them makes an IoError of the kind WriteZero
-// and has taken those; and one that takes them all answers so.
+// Whether, if a writer takes no byte after any number of them, the result is an IoError of kind WriteZero and those
+// were written; and whether writing succeeds if it takes them all.
 fn is_too_much(heap: Global, sample: Sample) -> bool {
     let Ok(value) = sample.value(heap) else {
         return false;
@@ -186,7 +186,7 @@ fn writers_without_room(rt: HostRuntime) -> Result<(), Fail> {
     Ok(())
 }
 
-// Whether the value is written over a writer that is interrupted so many times before each byte.
+// Whether the value is written if the writer is interrupted this often before each byte.
 fn is_written_at_length(heap: Global, sample: Sample, interruptions: u64) -> bool {
     let Ok(value) = sample.value(heap) else {
         return false;
@@ -211,7 +211,7 @@ fn writers_that_are_interrupted_often(rt: HostRuntime) -> Result<(), Fail> {
     Ok(())
 }
 
-// The length of a content of 150,000 bytes, and that content.
+// The length of content of 150,000 bytes, and that content.
 fn long_leaf(heap: Global) -> Option<Vec<u8>> {
     let mut bytes = Vec::new(heap);
     TtlvLength::new(150_000).write(&mut bytes).ok()?;
@@ -237,7 +237,7 @@ fn is_cut_leaf(heap: Global, leaf: &[u8]) -> bool {
     )
 }
 
-// Three pieces of a long text are read whole, and one byte too few is missed.
+// Three pieces of a long text are read whole, and a missing byte is noticed.
 #[test]
 fn a_text_of_several_pieces(rt: HostRuntime) -> Result<(), Fail> {
     let leaf = long_leaf(rt.alloc()).ok_or("no memory")?;

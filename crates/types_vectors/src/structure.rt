@@ -7,7 +7,7 @@ use kmip_ttlv_types::{
 use std::alloc::Global;
 use std::test::Fail;
 
-// What follows the tag and the type, where these are the wanted ones.
+// What follows the tag and the type, if these are the expected ones.
 fn after_head(bytes: &[u8], tag: u32, typ: TtlvType) -> Option<&[u8]> {
     let mut rest = bytes;
     if is_tag(&mut rest, tag) && is_type(&mut rest, typ) {
@@ -17,7 +17,7 @@ fn after_head(bytes: &[u8], tag: u32, typ: TtlvType) -> Option<&[u8]> {
     }
 }
 
-// What follows the length, where it is this.
+// What follows the length, if it is this.
 fn after_length(bytes: &[u8], length: u32) -> Option<&[u8]> {
     let mut rest = bytes;
     if is_length(&mut rest, length) {
@@ -27,7 +27,7 @@ fn after_length(bytes: &[u8], length: u32) -> Option<&[u8]> {
     }
 }
 
-// What follows the length and the value of an Enumeration, where it is this.
+// What follows the length and the value of an Enumeration, if it is this.
 fn after_enumeration(bytes: &[u8], number: u32) -> Option<&[u8]> {
     let mut rest = bytes;
     if TtlvEnumeration::read((), &mut rest).ok() == Some(TtlvEnumeration(number)) {
@@ -37,7 +37,7 @@ fn after_enumeration(bytes: &[u8], number: u32) -> Option<&[u8]> {
     }
 }
 
-// What follows the length and the value of an Integer, where it is this.
+// What follows the length and the value of an Integer, if it is this.
 fn after_integer(bytes: &[u8], number: i32) -> Option<&[u8]> {
     let mut rest = bytes;
     if is_integer(&mut rest, number) {
@@ -47,7 +47,7 @@ fn after_integer(bytes: &[u8], number: i32) -> Option<&[u8]> {
     }
 }
 
-// What follows the structure, where its items are the wanted ones.
+// What follows the structure, if its items are the expected ones.
 fn after_structure(bytes: &[u8]) -> Option<&[u8]> {
     let rest = after_head(bytes, 0x42_0020, TtlvType::Structure)?;
     let rest = after_length(rest, 32)?;

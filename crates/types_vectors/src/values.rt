@@ -1,4 +1,4 @@
-//! What single calls of the primitives answer.
+//! What single calls of the primitives return.
 
 use crate::samples::{bytes_are_cloned, is_failure, number_is_cloned, text_is_cloned};
 use kmip_ttlv_types::{
@@ -32,7 +32,7 @@ fn big_integers_go_on_with_their_sign(rt: HostRuntime) -> Result<(), Fail> {
     Ok(())
 }
 
-// Whether the answer is a big integer of these bytes.
+// Whether the result is a big integer of these bytes.
 fn is_number(answer: &Result<TtlvBigInteger, Error>, wanted: &[u8]) -> bool {
     match answer {
         Ok(number) => number.as_slice() == wanted,
@@ -40,13 +40,13 @@ fn is_number(answer: &Result<TtlvBigInteger, Error>, wanted: &[u8]) -> bool {
     }
 }
 
-// Whether a length and its content are read whole as a big integer of these bytes.
+// Whether a length and its content are read, to their end, as a big integer of these bytes.
 fn number_is_read(heap: Global, leaf: &[u8], wanted: &[u8]) -> bool {
     let mut rest = leaf;
     is_number(&TtlvBigInteger::read(heap, &mut rest), wanted) && rest.is_empty()
 }
 
-// Whether a content of three bytes is read as a big integer of these.
+// Whether content of three bytes is read as a big integer of these.
 fn content_is_read(heap: Global, content: &[u8], wanted: &[u8]) -> bool {
     let mut rest = content;
     is_number(&TtlvBigInteger::read_value(heap, &mut rest, 3), wanted)
@@ -60,7 +60,7 @@ fn big_integers_are_read_as_they_stand(rt: HostRuntime) -> Result<(), Fail> {
     Ok(())
 }
 
-// Whether the answer is that a value of a type is so long, where another length is wanted.
+// Whether the error is that a value of this type has this length, and another one is expected.
 fn is_length_refused<T>(answer: &Result<T, Error>, wanted: u32, length: u32, of: TtlvType) -> bool {
     match answer {
         Err(
@@ -74,7 +74,7 @@ fn is_length_refused<T>(answer: &Result<T, Error>, wanted: u32, length: u32, of:
     }
 }
 
-// Whether the answer is that it is no value of this type.
+// Whether the error is that the content is no value of this type.
 fn is_value_refused<T>(answer: &Result<T, Error>, of: TtlvType) -> bool {
     match answer {
         Err(Error::InvalidTtlvValue(typ)) => *typ == of,
@@ -102,7 +102,7 @@ fn lengths_are_refused(rt: HostRuntime) -> Result<(), Fail> {
     Ok(())
 }
 
-// Whether the bytes are read as no text, of its value.
+// Whether the bytes are no text because of their content.
 fn is_no_text(heap: Global, bytes: &[u8]) -> bool {
     let mut rest = bytes;
     is_value_refused(&TtlvTextString::read(heap, &mut rest), TtlvType::TextString)
@@ -153,7 +153,7 @@ fn has_length<T: SerializableTtlvType>(value: &T, length: u32) -> bool {
     matches!(value.value_length(), Ok(answer) if answer == length)
 }
 
-// Whether a text answers its length, and is written, without its type, as these bytes.
+// Whether a text has this length, and is written, without its type, as these bytes.
 fn text_is_counted(heap: Global, text: &str, length: u32, bytes: &[u8]) -> bool {
     let Ok(text) = String::from_str(heap, text) else {
         return false;
@@ -165,7 +165,7 @@ fn text_is_counted(heap: Global, text: &str, length: u32, bytes: &[u8]) -> bool 
         && out.as_slice() == bytes
 }
 
-// Whether a big integer of these bytes answers this length.
+// Whether a big integer of these bytes has this length.
 fn number_is_counted(heap: Global, number: &[u8], length: u32) -> bool {
     match Vec::from_slice(heap, number) {
         Ok(number) => has_length(&TtlvBigInteger(number), length),

@@ -1,4 +1,4 @@
-//! Items written: those of a message, others made from nothing, bad ones, and memory that is refused.
+//! Items written: those of a message, made ones, bad ones, and memory that runs out.
 
 use kmip_ttlv_items::{FoundItem, walk_items};
 use kmip_ttlv_memory::BoundedAllocator;
@@ -14,10 +14,10 @@ const VERSION: [u8; 40] =
 const DIRTY: [u8; 40] =
     *b"\x42\x00\x69\x01\0\0\0\x20\x42\x00\x6A\x02\0\0\0\x04\0\0\0\x01\0\0\0\x05\x42\x00\x6B\x02\0\0\0\x04\0\0\0\0\xFF\0\0\0";
 
-// A boolean of two, a text that is not UTF-8, and the two integers, behind eight bytes that nothing reads.
+// A Boolean of 2, a text that isn't UTF-8, and the two integers, after eight bytes that nothing reads.
 const VALUES: [u8; 32] = *b"........\0\0\0\0\0\0\0\x02\xFF\0\0\0\0\0\0\0\0\0\0\x01\0\0\0\0";
 
-// An item by its place, depth, type and length.
+// An item by its offset, depth, tag, type and length.
 fn item(offset: usize, depth: usize, tag: u32, typ: u32, length: u32) -> GivenItem {
     GivenItem {
         offset,
@@ -56,7 +56,7 @@ fn unlike() -> Option<FoundItem> {
     })
 }
 
-// Whether what a walk finds in a message is written as the protocol version.
+// Whether the items that a walk finds in a message are written as the protocol version.
 fn is_written_back(alloc: Global, message: &[u8]) -> bool {
     let Some(other) = unlike() else {
         return false;
@@ -75,10 +75,10 @@ fn a_message_is_written_back(rt: HostRuntime) {
     assert!(rt; is_version(rt.alloc(), &made(), &VALUES));
 }
 
-// An item's place, depth, tag, type and length, and what is wrong with it.
+// An item's offset, depth, tag, type and length, and what is wrong with it.
 type Row = (usize, usize, u32, u32, u32, BadKind);
 
-// One row for each kind, and the first of several: the last item of three, of which the others are good.
+// Rows for each kind, and for the first of several: the last item of three, of which the others are good.
 const BAD: [Row; 12] = [
     (0, 2, 0x42_0020, 2, 4, BadKind::NotInside),
     (99, 2, 0x100_0000, 0, 5, BadKind::NotInside),
@@ -101,7 +101,7 @@ const BAD: [Row; 12] = [
     (8, 1, 0x42_0020, 7, 1, BadKind::InvalidValue),
 ];
 
-// Whether the third item is named, and a buffer stays as it was.
+// Whether the error names the third item, and a buffer stays as it was.
 fn is_bad(alloc: Global, last: GivenItem, kind: BadKind) -> bool {
     let [root, first, _] = made();
     let items = [root, first, last];
@@ -122,7 +122,7 @@ fn the_first_bad_item_is_named(rt: HostRuntime) {
     }
 }
 
-// How many bytes are written into a buffer of so many, and whether they are the protocol version and the rest stays.
+// Whether a buffer with enough room gets the protocol version and any other stays; its length is returned for both.
 fn is_put(room: usize) -> bool {
     let mut out = [7; 64];
     let Some(lent) = out.get_mut(..room) else {
@@ -143,7 +143,7 @@ fn a_buffer_is_filled_if_it_has_room(rt: HostRuntime) {
     }
 }
 
-// Whether writing fails exactly where this growth is refused.
+// Whether writing fails if and only if this growth fails.
 fn refuses(alloc: Global, before: u64) -> bool {
     let heap = BoundedAllocator::failing_after(alloc, before);
     match write_items(&heap, &made(), &VALUES) {
@@ -159,7 +159,7 @@ fn each_growth_may_be_refused(rt: HostRuntime) {
     }
 }
 
-// A thousand structures, each in the one before: the lengths shrink by eight.
+// A thousand structures, each within the one before: each length is less by eight.
 fn is_nested(alloc: Global) -> bool {
     let mut items = [item(0, 0, 0x42_0069, 1, 0); 1_000];
     for (depth, item) in items.iter_mut().enumerate() {

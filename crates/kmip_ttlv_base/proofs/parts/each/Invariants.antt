@@ -3,7 +3,7 @@ use Rattle.kmip_ttlv_base.specs.Values.{values_of}
 use Rattle.kmip_ttlv_base.specs.Visits.{TellsEach}
 use Rattle.kmip_ttlv_base.proofs.parts.each.Given as goal
 
--- what tells the values that are left tells them all
+-- the events of the values that are left complete those of all values
 abbrev pub invariant-loop-value : goal.invariant-loop-value
 invariant-loop-value g l =
     let tells = TellsEach g.V.Visitor.knows g.V.Visitor.step in

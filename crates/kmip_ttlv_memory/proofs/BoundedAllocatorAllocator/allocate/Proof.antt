@@ -1,4 +1,4 @@
--- It fails beyond a limit, and else returns what the inner allocator returns. Assumes `Logic`.
+-- It fails beyond a limit, and otherwise returns what the inner allocator returns. Assumes `Logic`.
 use Rattle.std.proofs.Common.{◌≡◌, ℕ, ◌+◌, ◌^◌, ◌<◌, true, false, List, [], ◌∷◌, Ok, Err, refl, w64, Bor}
 use seplogic.Ra.Ura.{Ura}
 use mir.Syntax.{Ty, Args, Fn, a_type, dnil, dcons}

@@ -13,11 +13,11 @@ use Rattle.kmip_ttlv_types.proofs.InMemory.{type_read, where_room_written}
 use Rattle.kmip_ttlv_types.proofs.PlaceLemmas.{type_of-code}
 use Rattle.kmip_ttlv_types.proofs.laws.reread.Goals as goal
 
--- memory that has the bytes never fails
+-- reading from memory that has the bytes never fails
 never : IsTrue false → ⊥
 never h = cc
 
--- what the law says of the second reading is what is promised
+-- what the law says of the second reading is what the contract says
 as_reread : {T : Type 0} (typ : TtlvType) (bytes_of : T → List ℕ) (tm : Bool) (v : T) (left : Option (List ℕ)) (r : Result T (Error Global)) → length (content_of typ (bytes_of v)) < 2 ^ 32
     → MatchResult r (λ w. (bytes_of w ≡ content_of typ (bytes_of v)) × (left ≡ Some [])) (FailsToRead tm false (content_of typ (bytes_of v))) → Rereads typ bytes_of v r
 as_reread typ bytes_of tm v left (Ok w) fits h = (fits, h.0)
@@ -32,12 +32,12 @@ as_reread typ bytes_of tm v left (Err (errors.InvalidTtlvValue x)) fits h = absu
 as_reread typ bytes_of tm v left (Err errors.InvalidStateMachineOperation) fits h = absurd h
 as_reread typ bytes_of tm v left (Err errors.LengthOverflow) fits h = absurd h
 
--- what is written of a leaf beside its content
+-- how many bytes a leaf takes beside its content
 rest_length : (typ : TtlvType) (content : List ℕ) → length (leaf_rest typ content) ≤ length content + 12
 unfolding leaf_rest length_and_content
 rest_length typ content = omega (arith, length-append (to_be_bytes w32 (length content) ++ content) (replicate (pad_len (length content)) 0), length-append (to_be_bytes w32 (length content)) content, length-replicate {A = ℕ} (pad_len (length content)) 0)
 
--- what fits and has the room is written
+-- what fits and has room is written
 is_written : (typ : TtlvType) (content : List ℕ) (room : ℕ) (a b : Option (List ℕ)) (s : Option ℕ) (e : Error Global) → length content < 2 ^ 32 → length content + 12 ≤ room → WritesLong {T = Unit {0}} (length content) (leaf_rest typ content) a b (Some room) s (Err e) → ⊥
 is_written typ content room a b s e fits enough h = never (where_room_written (leaf_rest typ content) (length content) a b room s (Err e) (omega (arith, rest_length typ content)) fits (inr h))
 

@@ -5,7 +5,7 @@ use Rattle.kmip_ttlv_util.specs.Lines.{indent, depth_mark}
 use Rattle.kmip_ttlv_util.proofs.Saying.{adds_same, breaks_same, err_now, ok_then, err_then}
 use Rattle.kmip_ttlv_util.proofs.indentation.push_depth.Goals as goal
 
--- the indentation of 64 levels, and a bracket
+-- the indentation of 64 levels, and an opening bracket
 abbrev levels : List ℕ
 levels = indent 64 ++ codes "["
 

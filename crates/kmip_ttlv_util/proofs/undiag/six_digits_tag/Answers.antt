@@ -12,7 +12,7 @@ overflow_add-prefix-2 c =
     let fits : p.number * 2 ^ (4 * c.args.count) + c.args.number < 2 ^ 24 = joined_fits p.text.now p.count p.number c.args.count c.args.number (omega arith) is.0 is.1 (c.requires.small (omega arith)) in
     omega (arith, fits)
 
--- the tag of a number, where it is one
+-- the tag with this number, if it is a tag
 told : (o : Option ℕ) (n t : ℕ) (name digits : List ℕ) → n ≡ t → digits ≡ name → tag_of name ≡ Some t → IfSome o (λ u. u ≡ n) → IfSome o (λ u. tag_of digits ≡ Some u)
 told (Some u) n t name digits e same is h = ap tag_of same ∙ is ∙ ap Some (sym (h ∙ e))
 told None n t name digits e same is h = tt

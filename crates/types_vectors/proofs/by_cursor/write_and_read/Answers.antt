@@ -6,7 +6,7 @@ use Rattle.kmip_ttlv_types.specs.Primitives.{content_of, leaf_rest, ReadsLeaf}
 use Rattle.kmip_ttlv_types.specs.Laws.{written_rest, FailsToRead}
 use Rattle.types_vectors.proofs.by_cursor.write_and_read.Goals as goal
 
--- what the law says of the second reading is what is promised
+-- what the law says of the second reading is what the contract says
 as_promised : {T : Type 0} (typ : TtlvType) (bytes_of : T → List ℕ) (tm : Bool) (v : T) (left : Option (List ℕ)) (r : Result T (Error Global))
     → MatchResult r (λ w. (bytes_of w ≡ content_of typ (bytes_of v)) × (left ≡ Some [])) (FailsToRead tm false (content_of typ (bytes_of v))) → IfOk r (λ w. bytes_of w ≡ content_of typ (bytes_of v))
 as_promised typ bytes_of tm v left (Ok w) h = h.0
