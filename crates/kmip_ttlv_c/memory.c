@@ -1,4 +1,4 @@
-/* Where the library takes its memory from, unless the program that links it defines these three. */
+/* The library's allocator, unless the program that links it defines these three. */
 #include <stdlib.h>
 
 void *kmip_ttlv_malloc(size_t size);

@@ -1,4 +1,4 @@
-"""TTLV, the encoding of OASIS KMIP: messages printed, redacted, walked, checked, decoded and encoded.
+"""TTLV, the encoding of OASIS KMIP: prints, redacts, lists, checks, decodes and encodes messages.
 
 Copy this file beside libkmip_ttlv.so, or set KMIP_TTLV_LIBRARY to the path of the library.
 """
@@ -15,7 +15,7 @@ _library = ctypes.CDLL(os.environ.get("KMIP_TTLV_LIBRARY") or os.path.join(_here
 
 OK, OUT_OF_MEMORY, NOT_UTF8, NO_ROOM, MALFORMED, BAD_NAMES = range(6)
 
-# What is wrong with a message, or with an item that is to be written, by the kind of the fault.
+# What is wrong with a message, or with an item to write, by the kind of the fault.
 FAULTS = (
     "whole",
     "the bytes end within the root",
@@ -36,12 +36,12 @@ FAULTS = (
 Item = namedtuple("Item", "offset depth tag typ length")
 # tag: its number; typ: its code; value: a list of nodes for a Structure, or the value as Python has it (see decode)
 Node = namedtuple("Node", "tag typ value")
-# offset: of the item that is wrong, in bytes from the first; kind: an index into FAULTS
+# offset: of the bad item, in bytes from the first; kind: an index into FAULTS
 Fault = namedtuple("Fault", "offset kind")
 
 
 class Malformed(ValueError):
-    """The bytes are not one whole message; `fault` says what is wrong, `items` are those before it."""
+    """The bytes are not one whole message; `fault` is what is wrong, `items` are the items before it."""
 
     def __init__(self, fault, found):
         super().__init__(f"at byte {fault.offset}: {FAULTS[fault.kind]}")
@@ -49,7 +49,7 @@ class Malformed(ValueError):
 
 
 class BadItem(ValueError):
-    """An item can't be written: `index` is its place in document order, 0 for the first, `why` what is wrong with it."""
+    """An item can't be written: `index` is its index in document order, from 0, `why` what is wrong with it."""
 
     def __init__(self, index, why, tag=None):
         super().__init__(f"item {index}{'' if tag is None else f' (tag {tag!r})'}: {why}")
@@ -57,7 +57,7 @@ class BadItem(ValueError):
 
 
 class BadNames(ValueError):
-    """A line of a table of names can't be read; `line` is its number, counted from 1."""
+    """A line of a table of names can't be parsed; `line` is its number, from 1."""
 
     def __init__(self, line):
         super().__init__(f"line {line} of the table of names can't be read")
@@ -99,7 +99,7 @@ _version = _call("version", _lent, _sizes)
 
 
 def _text(call, room, *further):
-    """The text of a call, which takes a buffer of `room` bytes, a length and further places."""
+    """Returns the text of a call that takes a buffer of `room` bytes, a length and further objects to set."""
     length = _size()
     while True:
         out = ctypes.create_string_buffer(room + 1)
@@ -120,7 +120,7 @@ def _refuse(status, further=()):
 
 
 def to_diag(message, prefix="", closed=False):
-    """The redacted diagnostic of any bytes: tags without a prefix, types, nesting, enumeration values.
+    """Returns the redacted diagnostic of any bytes: tags without a prefix, types, nesting, enumeration values.
 
     For malformed bytes it ends with ERR, and may show key bytes where a tag is expected: call check first.
     """
@@ -129,7 +129,7 @@ def to_diag(message, prefix="", closed=False):
 
 
 def to_text(message, names=None, closed=False):
-    """Any bytes as readable text, every value shown, with KMIP's names of tags or those of a table of lines `TAG NAME`.
+    """Returns any bytes as readable text with every value, and KMIP's tag names or those of a table of lines `TAG NAME`.
 
     For malformed bytes it ends with a line `ERROR: ..`. Texts keep their control characters.
     """
@@ -141,14 +141,14 @@ def to_text(message, names=None, closed=False):
 
 
 def from_diag(diagnostic, prefix="", names=""):
-    """A diagnostic read back as lines, with `<redacted>` in place of values that it doesn't show, up to where it stops being one."""
+    """Reads a diagnostic back as lines, up to where it stops being one, with `<redacted>` in place of values that it doesn't show."""
     diagnostic, prefix, names, line = diagnostic.encode(), prefix.encode(), names.encode(), _size()
     lent = (diagnostic, len(diagnostic), prefix, len(prefix), names, len(names))
     return _text(lambda *out: _from_diag(*lent, *out), 32 * len(diagnostic) + 256, line)
 
 
 def items(message):
-    """The items of a message in document order. Malformed where the bytes are not one whole message."""
+    """Returns the items of a message in document order. Raises Malformed if the bytes are not one whole message."""
     room = len(message) // 8 + 1
     out, count, fault = (_Item * room)(), _size(), _Fault()
     status = _items(message, len(message), out, room, ctypes.byref(count), ctypes.byref(fault))
@@ -190,10 +190,10 @@ _VALUES = {
 
 
 def decode(message):
-    """The root of a message as nested nodes. Malformed where the bytes are not one whole message.
+    """Returns the root of a message as nested nodes. Raises Malformed if the bytes are not one whole message.
 
     Values are Python's own: int for Integer, Long Integer, Big Integer, Enumeration and Interval (its seconds), bool, str,
-    bytes, and a datetime in UTC for Date-Time, or its seconds since 1970 where a datetime can't hold them. Nesting takes
+    bytes, and a datetime in UTC for Date-Time, or its seconds since 1970 if a datetime can't hold them. Nesting takes
     no stack.
     """
     opened = []
@@ -211,10 +211,10 @@ def decode(message):
 
 
 def write(found, lent):
-    """The canonical bytes of a flat list of items, as `items` returns it, whose values lie in `lent`: write(items(m), m).
+    """Returns the canonical bytes of a flat list of items, as `items` returns it, whose values are in `lent`: write(items(m), m).
 
     An item belongs to the last Structure before it of one depth less; `offset` and `length` of a Structure are ignored.
-    BadItem names the first item that can't be written.
+    Raises BadItem for the first item that can't be written.
     """
     found, limits = list(found), (1 << 64, 1 << 64, 1 << 32, 1 << 32, 1 << 32)
     for index, it in enumerate(found):
@@ -269,10 +269,10 @@ _CONTENTS = {
 
 
 def encode(root):
-    """The message of nested nodes, as `decode` returns them: encode(decode(m)) == m for each message m in canonical form,
+    """Returns the message of nested nodes, as `decode` returns them: encode(decode(m)) == m for each message m in canonical form,
     which pads with zeros and has Big Integers of the fewest bytes that are a multiple of eight.
 
-    BadItem names the first node, in document order, whose tag, type or value can't be encoded. Nesting takes no stack.
+    Raises BadItem for the first node, in document order, whose tag, type or value can't be encoded. Nesting takes no stack.
     """
     found, lent, waiting = [], bytearray(8), [(0, root)]
     while waiting:
@@ -294,7 +294,7 @@ def encode(root):
 
 
 def check(message):
-    """The first fault of bytes as one whole message, or None."""
+    """Returns the first fault, or None if the bytes are one whole message."""
     fault = _Fault()
     status = _check(message, len(message), ctypes.byref(fault))
     if status not in (OK, MALFORMED):
@@ -303,5 +303,5 @@ def check(message):
 
 
 def version():
-    """The version of the library."""
+    """Returns the version of the library."""
     return _text(_version, 16)

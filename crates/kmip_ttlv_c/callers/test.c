@@ -1,11 +1,11 @@
-/* Tests of the library from C: worked messages, buffers that are one byte too small, refused memory, hostile bytes. */
+/* Tests of the library from C: worked messages, buffers that are one byte too small, failing allocations, hostile bytes. */
 #include "kmip_ttlv.h"
 
 #include <stdio.h>
 #include <stdlib.h>
 #include <string.h>
 
-/* Memory of the test's own: the call of this number is refused, where it is not negative. */
+/* The test's own allocator: the call of this number fails, unless it is negative. */
 static long left = -1;
 
 void *kmip_ttlv_malloc(size_t size);
@@ -72,11 +72,11 @@ static const char LINES[] = "Tag: Protocol Version (0x420069), Type: Structure (
                             "  Tag: Major (0x42006A), Type: Integer (0x02), Data: <redacted>\n"
                             "  Tag: 0x42006B, Type: Integer (0x02), Data: <redacted>";
 
-/* The calls that make a text of the worked message, each with the text that it has to make. */
+/* The calls that make a text of the worked message, each with the expected text. */
 enum { TO_DIAG, TO_TEXT, TO_STANDARD_TEXT, FROM_DIAG, GET_VERSION, CALLS };
 static const char *const TEXTS[CALLS] = {DIAGNOSTIC, TEXT, STANDARD_TEXT, LINES, KMIP_TTLV_VERSION};
 
-/* The status of a call whose table of names has no bad line: the line has to be 0. */
+/* The status of a call whose table of names has no bad line: `*bad_line` has to be 0. */
 static kmip_ttlv_status without_bad_line(kmip_ttlv_status status, size_t bad_line) {
     HOLD(bad_line == 0);
     return status;
@@ -121,7 +121,13 @@ static void texts(void) {
     HOLD(length == 3 && items == 1);
 }
 
-/* Want of memory at every place, and all of it given back. */
+/* A request header with a version in it: a structure in a structure, whose walk keeps the end of the outer one. */
+static const uint8_t NESTED[32] = {
+    0x42, 0x00, 0x77, 0x01, 0, 0, 0, 0x18, 0x42, 0x00, 0x69, 0x01, 0, 0, 0, 0x10,
+    0x42, 0x00, 0x6A, 0x02, 0, 0, 0, 4,    0,    0,    0,    1,    0, 0, 0, 0,
+};
+
+/* Every allocation fails in turn, and all memory is freed. A walk allocates nothing unless structures are in the root. */
 static void memory(void) {
     for (int which = 0; which < CALLS; which++) {
         uint8_t out[512];
@@ -138,12 +144,16 @@ static void memory(void) {
         }
     }
     kmip_ttlv_fault fault;
+    kmip_ttlv_item items[3];
     size_t count = 99;
     left = 0;
-    HOLD(kmip_ttlv_check(VERSION, sizeof VERSION, &fault) == KMIP_TTLV_OUT_OF_MEMORY && fault.kind == KMIP_TTLV_WHOLE);
-    kmip_ttlv_item item;
-    HOLD(kmip_ttlv_items(VERSION, sizeof VERSION, &item, 1, &count, &fault) == KMIP_TTLV_OUT_OF_MEMORY && count == 0);
+    HOLD(kmip_ttlv_check(NESTED, sizeof NESTED, &fault) == KMIP_TTLV_OUT_OF_MEMORY && fault.kind == KMIP_TTLV_WHOLE);
+    HOLD(kmip_ttlv_items(NESTED, sizeof NESTED, items, 3, &count, &fault) == KMIP_TTLV_OUT_OF_MEMORY && count == 0);
+    HOLD(kmip_ttlv_check(VERSION, sizeof VERSION, &fault) == KMIP_TTLV_OK);
+    HOLD(kmip_ttlv_items(VERSION, sizeof VERSION, items, 3, &count, &fault) == KMIP_TTLV_OK && count == 3);
     left = -1;
+    HOLD(kmip_ttlv_check(NESTED, sizeof NESTED, &fault) == KMIP_TTLV_OK);
+    HOLD(kmip_ttlv_items(NESTED, sizeof NESTED, items, 3, &count, &fault) == KMIP_TTLV_OK && count == 3);
 }
 
 static void refusals(void) {
@@ -203,7 +213,7 @@ static void writing(void) {
     uint8_t message[40], out[48];
     size_t count = 99, length = 99;
     memcpy(message, VERSION, 40);
-    message[23] = 0x55; /* padding of another value */
+    message[23] = 0x55; /* padding that is not zero */
     HOLD(kmip_ttlv_items(message, 40, items, 3, &count, &fault) == KMIP_TTLV_OK && count == 3);
     left = 0;
     memset(out, '.', sizeof out);

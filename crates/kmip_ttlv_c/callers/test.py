@@ -1,4 +1,4 @@
-"""Tests of the library from Python: worked messages, walks, refusals, ten thousand hostile messages.
+"""Tests of the library from Python: worked messages, walks, errors, ten thousand hostile messages.
 
     KMIP_TTLV_LIBRARY=PATH python3 test.py
 """

@@ -1,4 +1,4 @@
-//! A safe wrapper of the library for Rust, with tests: worked messages, walks, refusals, hostile bytes.
+//! A safe wrapper of the library for Rust, with tests: worked messages, walks, errors, hostile bytes.
 
 use std::os::raw::c_uchar;
 
@@ -51,7 +51,7 @@ extern "C" {
         room: usize, length: *mut usize, bad: *mut BadItem) -> u32;
 }
 
-/// Calls with a buffer until it is large enough; an error is the status.
+/// Calls with larger buffers until one is large enough; an error is the status.
 fn text(mut call: impl FnMut(&mut [u8], &mut usize) -> u32) -> Result<String, u32> {
     let (mut out, mut length) = (vec![0; 64], 0);
     loop {

@@ -1,30 +1,30 @@
-/* TTLV, the encoding of OASIS KMIP 1.0 (section 9.1): messages printed, redacted, walked, checked and written.
+/* TTLV, the encoding of OASIS KMIP 1.0 (section 9.1): prints, redacts, lists, checks and writes messages.
  *
- * Every call returns a status. It keeps nothing of what it is lent, has no state of its own, and frees all memory that it
- * allocates before it returns, so any number of threads may be in calls at a time. Lengths, counts and offsets are in
- * bytes (or items, where so said) and of type size_t.
+ * Every call returns a status. It keeps none of its arguments, has no state of its own, and frees all memory that it
+ * allocates before it returns, so any number of threads may be in calls at a time. Lengths and offsets are in bytes, counts
+ * of items and the `room` of a list in items; all are of type size_t.
  *
- * What is lent is a pointer and a length of at most PTRDIFF_MAX; a `room` is at most that too. No pointer may be null, also
- * where its length is 0. What is lent must not change during the call, and what is written to (a buffer, a list, the
- * places of `length`, `items`, `count`, `bad_line`, `fault` and `bad`) must not overlap with anything else that is lent.
+ * Input is passed as a pointer and a length of at most PTRDIFF_MAX; a `room` is at most that too. No pointer may be null,
+ * even if its length is 0. The input must not change during the call, and what is written to (a buffer, a list, and the
+ * objects of `length`, `items`, `count`, `bad_line`, `fault` and `bad`) must not overlap with any other argument.
  *
  * A call that makes a text or a message writes it to `out` if its `room` bytes hold all of it, without an ending zero, and
- * writes nothing after it. `*length` is how long it is, also if there was no room; on any other error it is 0. On
+ * writes nothing after it. `*length` is how long it is, even if there was no room; on any other error it is 0. On
  * every error `out` is unchanged.
  *
  * Texts: `*length` of a diagnostic is at most a few times the length of the bytes. The readable texts indent each line by
- * two spaces for each structure around it, so for bytes that nest deeply they grow with the square of the depth: limit the
+ * two spaces for each structure around it, so for deeply nested bytes they grow with the square of the depth: limit the
  * length or the depth (`kmip_ttlv_items` returns it) of untrusted bytes before printing them.
  *
- * The printers take any bytes. They return OK for malformed ones too, with a text that says where it stops: a diagnostic
+ * The printers take any bytes. They return OK for malformed ones too, with a text that shows where it stops: a diagnostic
  * ends with "ERR" and a readable text with a line "ERROR: .." after an item that can't be read, and both end with the line
- * "ERROR: TTLV structure content exceeds the structure length." where content goes past the end of its structure. They
- * follow headers as far as these can be read, so in malformed bytes they may show as tags what lies where a header is
- * expected. `kmip_ttlv_check` says whether bytes are well-formed.
+ * "ERROR: TTLV structure content exceeds the structure length." if content goes past the end of its structure. They
+ * follow headers as far as these can be read: in malformed bytes, key bytes may sit where a header is expected, and are
+ * then shown as tags. `kmip_ttlv_check` checks whether bytes are well-formed.
  *
- * Memory comes from malloc, realloc and free. A program that links the static library can take it from elsewhere by
- * defining kmip_ttlv_malloc, kmip_ttlv_realloc and kmip_ttlv_free, all three of them, with the meaning of these. If the
- * program calls from several threads, so do the three.
+ * Memory comes from malloc, realloc and free. A program that links the static library can replace them by defining
+ * kmip_ttlv_malloc, kmip_ttlv_realloc and kmip_ttlv_free, all three of them, with the same meaning. If the program calls
+ * from several threads, the three are called from these threads too.
  *
  * Don't call from a signal handler, nor in the child of a fork of a process with threads.
  */
@@ -44,26 +44,26 @@ extern "C" {
 
 typedef uint32_t kmip_ttlv_status;
 
-/* The call did all that it was asked for. */
+/* Success. */
 #define KMIP_TTLV_OK 0u
 /* Out of memory. */
 #define KMIP_TTLV_OUT_OF_MEMORY 1u
-/* A text that was lent is not UTF-8. */
+/* A text that was passed is not UTF-8. */
 #define KMIP_TTLV_NOT_UTF8 2u
-/* The buffer or the list is too small; `*length` or `*count` says what it has to hold. */
+/* The buffer or the list is too small; `*length` or `*count` is the size that it needs. */
 #define KMIP_TTLV_NO_ROOM 3u
 /* The bytes are not one whole message; or an item can't be written. */
 #define KMIP_TTLV_MALFORMED 4u
-/* A line of a table of names can't be read; `*bad_line` is its number. */
+/* A line of a table of names can't be parsed; `*bad_line` is its number. */
 #define KMIP_TTLV_BAD_NAMES 5u
 
 /* An item of a message. */
 typedef struct {
-    size_t offset;   /* where its header begins, from the first byte; its value begins 8 bytes further */
+    size_t offset;   /* where its header begins, from the first byte; its value begins 8 bytes later */
     size_t depth;    /* how many structures it is in: 0 for the root */
     uint32_t tag;    /* its tag, below 2^24 */
     uint32_t typ;    /* the code of its type, KMIP_TTLV_STRUCTURE to KMIP_TTLV_INTERVAL */
-    uint32_t length; /* the length of its value in bytes, without padding; in a cut message a structure's bytes may be fewer */
+    uint32_t length; /* the length of its value in bytes, without padding; in a truncated message a structure may have fewer bytes */
 } kmip_ttlv_item;
 
 /* The codes of types (9.1.1.2). */
@@ -83,7 +83,7 @@ typedef struct {
  * PARTIAL_HEADER, fewer than eight bytes (CUT), UNKNOWN_TYPE, WRONG_LENGTH, OVERLONG, a value without its end (CUT),
  * INVALID_VALUE. Items before the one that is cut are listed. */
 typedef struct {
-    size_t offset; /* where the item that is wrong begins, or the surplus, from the first byte; 0 where nothing is wrong */
+    size_t offset; /* where the bad item or the surplus begins, from the first byte; 0 if nothing is wrong */
     uint32_t kind; /* what is wrong there, KMIP_TTLV_WHOLE to KMIP_TTLV_SURPLUS */
 } kmip_ttlv_fault;
 
@@ -93,68 +93,68 @@ typedef struct {
 #define KMIP_TTLV_CUT 1u
 /* The root is no Structure. */
 #define KMIP_TTLV_NO_STRUCTURE 2u
-/* The type's code is that of no type. */
+/* The type code is unknown. */
 #define KMIP_TTLV_UNKNOWN_TYPE 3u
-/* Fewer than eight bytes are left of the structure around, and a header takes eight. */
+/* Fewer than eight bytes are left in the enclosing structure, too few for a header. */
 #define KMIP_TTLV_PARTIAL_HEADER 4u
 /* No value of the type has this length. */
 #define KMIP_TTLV_WRONG_LENGTH 5u
-/* The item, with its padding, goes past the end of the structure around. */
+/* The item, with its padding, goes past the end of the enclosing structure. */
 #define KMIP_TTLV_OVERLONG 6u
 /* The content is no value of the type: a Boolean that is neither 0 nor 1, a text that is not UTF-8. */
 #define KMIP_TTLV_INVALID_VALUE 7u
-/* Further bytes follow the root. */
+/* More bytes follow the root. */
 #define KMIP_TTLV_SURPLUS 8u
 
 /* The first item that can't be written. If several things are wrong with it, it is the first of these: NOT_INSIDE, LONG_TAG,
  * UNKNOWN_TYPE, WRONG_LENGTH, OUTSIDE, INVALID_VALUE, TOO_LONG. */
 typedef struct {
-    size_t index;  /* which item: 0 for the first, and 0 where nothing is wrong */
+    size_t index;  /* the index of the item, from 0; 0 if nothing is wrong */
     uint32_t kind; /* what is wrong with it: KMIP_TTLV_WHOLE, or one of the seven */
 } kmip_ttlv_bad_item;
 
-/* No structure before it contains it: its depth is more than the number of structures that are open there. */
+/* No structure before it contains it: its depth is more than the number of open structures. */
 #define KMIP_TTLV_NOT_INSIDE 9u
 /* Its tag is 2^24 or more. */
 #define KMIP_TTLV_LONG_TAG 10u
-/* Its value goes past the end of the lent bytes. */
+/* Its value goes past the end of `bytes`. */
 #define KMIP_TTLV_OUTSIDE 11u
-/* With it, the content of a structure around it takes 2^32 bytes or more (or all items take 2^64 or more). */
+/* With it, an enclosing structure has 2^32 bytes of content or more (or all items take 2^64 or more). */
 #define KMIP_TTLV_TOO_LONG 12u
 
-/* The redacted diagnostic of any bytes. Of a well-formed message it shows each item's tag and type, the value of an
- * enumeration, and no other value; in malformed bytes key bytes may sit where a tag is expected, and are shown then.
+/* Writes the redacted diagnostic of any bytes. For a well-formed message it shows each item's tag and type, the values of
+ * enumerations, and no other value; in malformed bytes, key bytes may sit where a tag is expected, and are then shown.
  *
- * `prefix` holds the hexadecimal digits that are left out where a tag begins with them, as "4200". `closed` is whether an
+ * `prefix` holds hexadecimal digits, such as "4200", that are omitted from tags that begin with them. `closed` is whether an
  * empty structure is closed at once; if not, it stays open until the structure around it ends. `*items` is how many items
- * were tried, at most an eighth of `bytes_len` and one; it is set with OK and NO_ROOM, and 0 on any other error.
+ * the call tried to read, at most bytes_len / 8 + 1; it is set with OK and NO_ROOM, and 0 on any other error.
  *
  * NOT_UTF8: the prefix. NO_ROOM: `out`. OUT_OF_MEMORY. */
 kmip_ttlv_status kmip_ttlv_to_diag(const uint8_t *bytes, size_t bytes_len, const uint8_t *prefix, size_t prefix_len,
                                    bool closed, uint8_t *out, size_t room, size_t *length, size_t *items);
 
-/* Any bytes as readable text, a line for each item; it shows every value. Texts come as they are in the message, control
- * characters too: escape them before you print them. To bound how long the text may get, define kmip_ttlv_malloc and
+/* Writes any bytes as readable text, a line for each item, with every value. Texts are copied as they are in the message,
+ * control characters too: escape them before you print them. To limit the length of the text, define kmip_ttlv_malloc and
  * kmip_ttlv_realloc.
  *
  * `names` is a table of names of tags: a line for each, with the tag's hexadecimal digits, a space and its name. Empty
- * lines and those that begin with '#' are ignored; of two lines for one tag the later wins. An empty table has no names.
+ * lines and lines that begin with '#' are ignored; of two lines for one tag the later wins. An empty table has no names.
  *
- * `*bad_line` is 0 with every status but BAD_NAMES: OK and NO_ROOM too.
+ * `*bad_line` is 0 with every status but BAD_NAMES.
  *
- * NOT_UTF8: the table. BAD_NAMES: a line of the table is none of these, and `*bad_line` is its number, counted from 1.
+ * NOT_UTF8: the table. BAD_NAMES: a line of the table has another form; `*bad_line` is its number, from 1.
  * NO_ROOM: `out`. OUT_OF_MEMORY. */
 kmip_ttlv_status kmip_ttlv_to_text(const uint8_t *bytes, size_t bytes_len, const uint8_t *names, size_t names_len,
                                    bool closed, uint8_t *out, size_t room, size_t *length, size_t *bad_line);
 
-/* The same with the names that KMIP's specifications give to tags.
+/* The same with the tag names of the KMIP specifications.
  *
  * NO_ROOM: `out`. OUT_OF_MEMORY. */
 kmip_ttlv_status kmip_ttlv_to_standard_text(const uint8_t *bytes, size_t bytes_len, bool closed, uint8_t *out,
                                             size_t room, size_t *length);
 
-/* A diagnostic under a prefix read back as lines: of each item its tag and type, of an enumeration its value, and
- * "<redacted>" in place of any other. Reading stops where the text is no diagnostic, and gives the lines up to there.
+/* Reads a diagnostic under a prefix back as lines: the tag and type of each item, the values of enumerations, and
+ * "<redacted>" in place of any other value. Reading stops where the text is no diagnostic; the lines up to there are written.
  *
  * `names` and `bad_line` are as in kmip_ttlv_to_text.
  *
@@ -163,10 +163,10 @@ kmip_ttlv_status kmip_ttlv_from_diag(const uint8_t *diagnostic, size_t diagnosti
                                      size_t prefix_len, const uint8_t *names, size_t names_len, uint8_t *out, size_t room,
                                      size_t *length, size_t *bad_line);
 
-/* The items of a message in document order, each before those in it, up to the first fault.
+/* Lists the items of a message in document order, each before those in it, up to the first fault.
  *
  * The first `room` of them are written to `items`, and the rest of the list is unchanged. `*count` is how many there are,
- * which may be more than `room` with NO_ROOM and with MALFORMED too. `*fault` is what is wrong; its kind is
+ * which can be more than `room` with NO_ROOM and with MALFORMED. `*fault` is what is wrong; its kind is
  * KMIP_TTLV_WHOLE if the bytes are one whole message. A message of n bytes has at most n / 8 items.
  *
  * MALFORMED: the bytes are not one whole message; the items are those before the fault. NO_ROOM: a whole message has more
@@ -175,30 +175,30 @@ kmip_ttlv_status kmip_ttlv_from_diag(const uint8_t *diagnostic, size_t diagnosti
 kmip_ttlv_status kmip_ttlv_items(const uint8_t *bytes, size_t bytes_len, kmip_ttlv_item *items, size_t room, size_t *count,
                                  kmip_ttlv_fault *fault);
 
-/* Whether bytes are one whole well-formed message: a Structure whose items, at every depth, are whole, with values of their
- * types, and nothing behind it.
+/* Checks whether bytes are one whole well-formed message: a Structure whose items, at every depth, are whole, with values
+ * valid for their types, and nothing after it.
  *
- * MALFORMED: they are not, and `*fault` is the first fault in document order. OUT_OF_MEMORY: its kind is
+ * MALFORMED: they are not; `*fault` is the first fault in document order. OUT_OF_MEMORY: its kind is
  * KMIP_TTLV_WHOLE. */
 kmip_ttlv_status kmip_ttlv_check(const uint8_t *bytes, size_t bytes_len, kmip_ttlv_fault *fault);
 
 /* Writes items, in document order, as canonical TTLV bytes; lengths of structures are computed, and padding is zero.
  *
  * An item belongs to the last structure before it whose depth is one less. The value of any other item is the `length` bytes
- * from `offset` + 8 of `bytes` on: what kmip_ttlv_items returned of a whole message is written as that message (with zeros
- * for its padding). What lies in the eight bytes before a value is not read. Values may lie in any order and overlap, and
- * `offset` and `length` of a structure are ignored, so items can be left out, added and moved. To write a message from
- * nothing, begin `bytes` with eight bytes of any value, append the values, and let `offset` be where a value begins, less 8.
+ * from `offset` + 8 of `bytes` on: what kmip_ttlv_items returned for a whole message is written as that message (with zeros
+ * as padding). The eight bytes before a value are not read. Values may be in any order and overlap, and `offset` and
+ * `length` of a structure are ignored, so items can be left out, added and moved. To write a new message, begin `bytes` with
+ * eight bytes of any value, append the values, and let `offset` be where a value begins, less 8.
  *
- * Several items may have depth 0. If one has, and it is a structure, what is written is one whole message, as
- * kmip_ttlv_check has it. The call allocates nothing.
+ * Several items may have depth 0. If only one has, and it is a structure, what is written is one whole message, as
+ * kmip_ttlv_check defines it. The call allocates nothing.
  *
- * MALFORMED: an item can't be written; `*bad` is the first, and `*length` is 0. NO_ROOM: `out`. With NO_ROOM and OK,
+ * MALFORMED: an item can't be written; `*bad` is the first such item, and `*length` is 0. NO_ROOM: `out`. With NO_ROOM and OK,
  * `bad->kind` is KMIP_TTLV_WHOLE. */
 kmip_ttlv_status kmip_ttlv_write(const kmip_ttlv_item *items, size_t count, const uint8_t *bytes, size_t bytes_len,
                                  uint8_t *out, size_t room, size_t *length, kmip_ttlv_bad_item *bad);
 
-/* The version of the library, as KMIP_TTLV_VERSION.
+/* Writes the version of the library, which is KMIP_TTLV_VERSION.
  *
  * NO_ROOM: `out`. */
 kmip_ttlv_status kmip_ttlv_version(uint8_t *out, size_t room, size_t *length);

@@ -6,7 +6,7 @@ use Rattle.kmip_ttlv_items.specs.FoundItems.{overlaid}
 use Rattle.kmip_ttlv_c.specs.declared.status.TheConstants.{OK, NO_ROOM, MALFORMED}
 use Rattle.kmip_ttlv_c.specs.LentItems.{TellsWalk, TellsCheck}
 
--- a lent list keeps its length
+-- writing into a list doesn't change its length
 pub overlaid_length : {X : Type 0} (xs ys : List X) → length (overlaid xs ys) ≡ length ys
 overlaid_length xs [] = refl
 overlaid_length [] (y ∷ ys) = refl

@@ -1,4 +1,4 @@
--- Items that are written into a lent buffer.
+-- Items that are written into the caller's buffer.
 use Rattle.std.proofs.Common.{◌≡◌, ◌⊎◌, inl, inr, ℕ, ◌<◌, ◌≤◌, List, ◌++◌, length, map, drop, None, refl, ap, ◌∙◌, arith}
 use Rattle.kmip_ttlv_write.specs.FlatWrites.{FillsFront}
 use Rattle.kmip_ttlv_c.specs.declared.items.KmipTtlvItem.{KmipTtlvItem}

@@ -1,4 +1,4 @@
--- What the calls answer that make a text, and why they refuse.
+-- What the calls that make a text return, and why they fail.
 use Rattle.std.specs.Prelude.{◌≡◌, ℕ, Bool, ◌+◌, ◌/◌, ◌≤◌, List, length, Option, Some, None}
 use Rattle.std.specs.Str.{IsUtf8}
 use Rattle.kmip_ttlv_util.specs.Traces.{trace}
@@ -10,7 +10,7 @@ use Rattle.kmip_ttlv_util.specs.ReadBack.{ReadsLongest, IsReadBack}
 use Rattle.kmip_ttlv_names.specs.NameTables.{names_of, bad_line}
 use Rattle.kmip_ttlv_c.specs.declared.status.TheConstants.{OUT_OF_MEMORY, NOT_UTF8, BAD_NAMES}
 
--- the text is the diagnostic of bytes, and so many items were tried
+-- the text is the diagnostic of bytes, and `count` is how many items were tried
 pub record IsDiagnostic (prefix : List ℕ) (closed : Bool) (bytes : List ℕ) (count : ℕ) (text : List ℕ) : Type 0 where
   pub utf8 : IsUtf8 prefix
   pub is : text ≡ hostile prefix closed (length bytes) (trace closed bytes)
@@ -18,7 +18,7 @@ pub record IsDiagnostic (prefix : List ℕ) (closed : Bool) (bytes : List ℕ) (
   pub counted : count ≡ length (trace closed bytes)
   pub bounded : count ≤ length bytes / 8 + 1
 
--- a table of names that can be read
+-- a table of names that can be parsed
 pub record IsTable (table : List ℕ) : Type 0 where
   pub utf8 : IsUtf8 table
   pub good : bad_line table ≡ None
@@ -52,22 +52,22 @@ pub record IsReadLines (table prefix diagnostic : List ℕ) (line : ℕ) (text :
 abbrev pub IsVersion : List ℕ → List ℕ → Type 0
 IsVersion version text = text ≡ version
 
--- a diagnostic is refused for want of memory, or where its prefix is not UTF-8
+-- a diagnostic fails when out of memory, or if its prefix is not UTF-8
 pub data PrefixRefused (prefix : List ℕ) (count status : ℕ) : Type 0 where
   no_memory : IsUtf8 prefix → status ≡ OUT_OF_MEMORY → count ≡ 0 → PrefixRefused prefix count status
   no_prefix : status ≡ NOT_UTF8 → (IsUtf8 prefix → ⊥) → count ≡ 0 → PrefixRefused prefix count status
 
--- a table of names is refused for want of memory, where it is not UTF-8, or for its first bad line
+-- a table of names fails when out of memory, if it is not UTF-8, or at its first bad line
 pub data NamesRefused (table : List ℕ) (line status : ℕ) : Type 0 where
   no_memory : IsUtf8 table → status ≡ OUT_OF_MEMORY → line ≡ 0 → NamesRefused table line status
   no_table : status ≡ NOT_UTF8 → (IsUtf8 table → ⊥) → line ≡ 0 → NamesRefused table line status
   bad_table : status ≡ BAD_NAMES → bad_line table ≡ Some line → NamesRefused table line status
 
--- a readable text with the built-in names is refused for want of memory alone
+-- a readable text with the built-in names fails only when out of memory
 abbrev pub StandardRefused : ℕ → Type 0
 StandardRefused status = status ≡ OUT_OF_MEMORY
 
--- reading a diagnostic back is refused for its table of names, or where a text is not UTF-8
+-- reading a diagnostic back fails because of its table of names, or if a text is not UTF-8
 pub data ReadingRefused (diagnostic prefix table : List ℕ) (line status : ℕ) : Type 0 where
   names_refused :
       IsUtf8 diagnostic
@@ -85,6 +85,6 @@ pub data ReadingRefused (diagnostic prefix table : List ℕ) (line status : ℕ)
       → line ≡ 0
       → ReadingRefused diagnostic prefix table line status
 
--- nothing is refused
+-- the call never fails
 abbrev pub NeverRefused : ℕ → Type 0
 NeverRefused status = ⊥

@@ -1,4 +1,4 @@
--- Items and faults as C has them, and what the calls answer that walk over items.
+-- Items and faults in the form for C, and what the calls that walk over items return.
 use Rattle.std.specs.Prelude.{◌≡◌, ◌⊎◌, ℕ, ◌<◌, ◌≤◌, List, length, Option, Some, None}
 use Rattle.kmip_ttlv_types.specs.ItemTypes.{code}
 use Rattle.kmip_ttlv_items.specs.declared.found.FoundItem.{FoundItem}
@@ -16,7 +16,7 @@ use Rattle.kmip_ttlv_c.specs.declared.status.TheConstants.{OK, OUT_OF_MEMORY, NO
 abbrev pub c_item : FoundItem → KmipTtlvItem
 c_item i = record { offset = i.offset; depth = i.depth; tag = i.tag; typ = code i.typ; length = i.length }
 
--- the number of a kind of fault
+-- the number in C of a kind of fault
 abbrev pub c_kind : FaultKind → ℕ
 c_kind Cut = 1
 c_kind NoStructure = 2
@@ -27,12 +27,12 @@ c_kind Overlong = 6
 c_kind InvalidValue = 7
 c_kind Surplus = 8
 
--- a fault, and 0 for none
+-- a fault, or 0 for none
 abbrev pub c_fault : Option Fault → KmipTtlvFault
 c_fault None = record { offset = 0; kind = 0 }
 c_fault (Some f) = record { offset = f.offset; kind = c_kind f.kind }
 
--- the status of a walk with so many items, where there is room for so many: a fault comes before want of room
+-- the status of a walk, given the fault, how many items there are, and the room: a fault comes before lack of room
 abbrev pub TellsWalk : Option Fault → ℕ → ℕ → ℕ → Type 0
 TellsWalk (Some f) count room status = status ≡ MALFORMED
 TellsWalk None count room status = ((status ≡ OK) × (count ≤ room)) ⊎ ((status ≡ NO_ROOM) × (room < count))
@@ -42,8 +42,8 @@ abbrev pub TellsCheck : Option Fault → ℕ → Type 0
 TellsCheck (Some f) status = status ≡ MALFORMED
 TellsCheck None status = status ≡ OK
 
--- a walk over bytes: its items lie in the lent list as far as it has room, and are counted, and its fault is
--- answered; or memory was refused, and the list's elements are any
+-- a walk over bytes: its items are in the caller's list as far as it has room, and `count` is how many there are; its
+-- fault is set; or memory ran out, and the list's elements are any
 pub data AnswersWalk (bytes : List ℕ) (status count : ℕ) (fault : KmipTtlvFault)
     (old new : List KmipTtlvItem) : Type 0 where
   walked :
@@ -55,7 +55,7 @@ pub data AnswersWalk (bytes : List ℕ) (status count : ℕ) (fault : KmipTtlvFa
       → AnswersWalk bytes status count fault old new
   no_memory : status ≡ OUT_OF_MEMORY → count ≡ 0 → fault ≡ c_fault None → AnswersWalk bytes status count fault old new
 
--- a check of bytes: whether they are one whole message, or the first fault; or memory was refused
+-- a check of bytes: they are one whole message, or the first fault is set; or memory ran out
 pub data AnswersCheck (bytes : List ℕ) (status : ℕ) (fault : KmipTtlvFault) : Type 0 where
   judged :
       (found : Option Fault)

@@ -1,4 +1,4 @@
--- What the call returns that writes items.
+-- What the call that writes items returns.
 use Rattle.std.specs.Prelude.{◌≡◌, ℕ, List, map, Option, Some, None}
 use Rattle.kmip_ttlv_write.specs.declared.given.GivenItem.{GivenItem}
 use Rattle.kmip_ttlv_write.specs.declared.given.BadItem.{BadItem}
@@ -12,7 +12,7 @@ use Rattle.kmip_ttlv_c.specs.declared.writing.KmipTtlvBadItem.{KmipTtlvBadItem}
 use Rattle.kmip_ttlv_c.specs.declared.status.TheConstants.{MALFORMED}
 use Rattle.kmip_ttlv_c.specs.Buffers.{Offers}
 
--- an item of a lent list
+-- an item of the caller's list
 abbrev pub c_given : KmipTtlvItem → GivenItem
 c_given i = record { offset = i.offset; depth = i.depth; tag = i.tag; typ = i.typ; length = i.length }
 
@@ -26,13 +26,13 @@ c_bad_kind LongTag = 10
 c_bad_kind Outside = 11
 c_bad_kind TooLong = 12
 
--- a bad item, and 0 for none
+-- a bad item, or 0 for none
 abbrev pub c_bad : Option BadItem → KmipTtlvBadItem
 c_bad None = record { index = 0; kind = 0 }
 c_bad (Some b) = record { index = b.index; kind = c_bad_kind b.kind }
 
--- items are written to the front of a buffer if it has room for them, and their length is returned; or they have no
--- bytes, the first bad one is returned, and the buffer stays
+-- items are written to the front of a buffer if it has room for them, and their length is set; or they have no
+-- encoding, the first bad one is set, and the buffer is unchanged
 pub data AnswersWrite (items : List KmipTtlvItem) (lent : List ℕ) (status len : ℕ) (bad : KmipTtlvBadItem)
     (old new : List ℕ) : Type 0 where
   writes :

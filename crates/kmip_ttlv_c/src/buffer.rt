@@ -1,11 +1,11 @@
-//! Texts that are written into a lent buffer.
+//! Texts that are written into the caller's buffer.
 
 ghost use Rattle.std.specs.Prelude.{◌≡◌};
 ghost use Rattle.kmip_ttlv_c.specs.Buffers.{Offers};
 
 use crate::status::{NO_ROOM, OK};
 
-/// Writes a text to the front of a buffer where it has the room, and answers how long the text is.
+/// Writes a text to the front of a buffer if there is room for it, and sets how long the text is.
 pub fn offer(text: &[u8], out: &mut [u8], length: &mut usize) -> u32
     ensures { Offers text.now result length.new out.old out.new }
 {

@@ -1,4 +1,4 @@
-//! The calls that answer a text.
+//! The calls that return a text.
 
 ghost use Rattle.std.specs.Prelude.{◌≡◌, IfOk, IfErr, OnOk, string_bytes};
 ghost use Rattle.kmip_ttlv_util.specs.TagNames.{name_in};
@@ -17,7 +17,7 @@ use std::str;
 /// The library's version.
 pub const VERSION: &str = "0.1.0";
 
-/// The diagnostic under a prefix, and how many items were tried.
+/// The diagnostic under a prefix, and how many items it tried to read.
 fn diagnostic(
     alloc: Global,
     prefix: &str,
@@ -32,7 +32,7 @@ fn diagnostic(
     printer.to_diag_counted(bytes)
 }
 
-/// The redacted diagnostic of any bytes under a prefix of tags, and how many items were tried.
+/// Writes the redacted diagnostic of any bytes under a tag prefix, and sets how many items it tried to read.
 #[unsafe(no_mangle)]
 pub extern "C" fn kmip_ttlv_to_diag(
     alloc: Global,
@@ -57,8 +57,8 @@ pub extern "C" fn kmip_ttlv_to_diag(
     offer(text.as_bytes(), out, length)
 }
 
-/// The names of a table, or the status that says why there are none; the number of a line that
-/// can't be read goes out beside it.
+/// The names in a table, or the status if there are none; sets the number of a line that can't be
+/// parsed, or 0.
 fn names_in<'t>(alloc: Global, table: &'t [u8], bad_line: &mut usize) -> Result<LentTagMap<'t>, u32>
     ensures names { IfOk result (λ names. name_in names ≡ names_of table.now) }
     ensures good { OnOk result (IsTable table.now) }
@@ -79,7 +79,7 @@ fn names_in<'t>(alloc: Global, table: &'t [u8], bad_line: &mut usize) -> Result<
     }
 }
 
-/// Any bytes as readable text, with the names of a lent table.
+/// Writes the readable text of any bytes, with the names of the caller's table.
 #[unsafe(no_mangle)]
 pub extern "C" fn kmip_ttlv_to_text(
     alloc: Global,
@@ -103,7 +103,7 @@ pub extern "C" fn kmip_ttlv_to_text(
     offer(text.as_bytes(), out, length)
 }
 
-/// Any bytes as readable text, with the names of KMIP's specifications.
+/// Writes the readable text of any bytes, with the names of the KMIP specifications.
 #[unsafe(no_mangle)]
 pub extern "C" fn kmip_ttlv_to_standard_text(
     alloc: Global,
@@ -124,7 +124,7 @@ pub extern "C" fn kmip_ttlv_to_standard_text(
     offer(text.as_bytes(), out, length)
 }
 
-/// A diagnostic under a prefix read back as lines, with the names of a lent table.
+/// Reads a diagnostic under a prefix back as lines, with the names of the caller's table.
 #[unsafe(no_mangle)]
 pub extern "C" fn kmip_ttlv_from_diag(
     alloc: Global,
@@ -155,7 +155,7 @@ pub extern "C" fn kmip_ttlv_from_diag(
     offer(text.as_bytes(), out, length)
 }
 
-/// The library's version.
+/// Writes the library's version.
 #[unsafe(no_mangle)]
 pub extern "C" fn kmip_ttlv_version(out: &mut [u8], length: &mut usize) -> u32
     ensures { AnswersText (IsVersion VERSION.now) NeverRefused result length.new out.old out.new }

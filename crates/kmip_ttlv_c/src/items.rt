@@ -12,7 +12,7 @@ use std::alloc::Global;
 #[repr(C)]
 #[derive(Clone, Copy, Debug)]
 pub struct KmipTtlvItem {
-    /// Where its header begins, in bytes from the first.
+    /// The offset of its header, in bytes from the first.
     pub offset: usize,
     /// How many structures it is in.
     pub depth: usize,
@@ -20,7 +20,7 @@ pub struct KmipTtlvItem {
     pub tag: u32,
     /// The code of its type.
     pub typ: u32,
-    /// The length that its header states, in bytes.
+    /// The length of its value as the header states it, in bytes.
     pub length: u32,
 }
 
@@ -28,9 +28,9 @@ pub struct KmipTtlvItem {
 #[repr(C)]
 #[derive(Clone, Copy, Debug)]
 pub struct KmipTtlvFault {
-    /// Where the item that is wrong begins, in bytes from the first.
+    /// The offset of the bad item, or of the first surplus byte, in bytes from the first; 0 for no fault.
     pub offset: usize,
-    /// What is wrong: 0 for nothing.
+    /// The number of what is wrong; 0 for nothing.
     pub kind: u32,
 }
 
@@ -48,7 +48,7 @@ impl KeepItem for KmipTtlvItem {
     }
 }
 
-/// The number of a kind of fault.
+/// The number of a kind of fault in C.
 fn kind_of(kind: FaultKind) -> u32
     ensures { result ≡ c_kind kind }
 {
@@ -64,7 +64,7 @@ fn kind_of(kind: FaultKind) -> u32
     }
 }
 
-/// A fault as C has it.
+/// A fault in the form for C.
 fn fault_of(fault: Option<Fault>) -> KmipTtlvFault
     ensures { result ≡ c_fault fault }
 {
@@ -77,7 +77,7 @@ fn fault_of(fault: Option<Fault>) -> KmipTtlvFault
     }
 }
 
-/// The items of a message, in document order, up to its first fault.
+/// Writes the items of a message, in document order, up to its first fault.
 #[unsafe(no_mangle)]
 pub extern "C" fn kmip_ttlv_items(
     alloc: Global,
@@ -104,7 +104,7 @@ pub extern "C" fn kmip_ttlv_items(
     OK
 }
 
-/// Whether bytes are one whole message, and the first fault if not.
+/// Checks whether bytes are one whole message, and sets the first fault.
 #[unsafe(no_mangle)]
 pub extern "C" fn kmip_ttlv_check(alloc: Global, bytes: &[u8], fault: &mut KmipTtlvFault) -> u32
     ensures { AnswersCheck bytes.now result fault.new }

@@ -1,10 +1,10 @@
-//! The printers, the walk over items, the check of a whole message and the writing of items, for callers in C and in each
-//! language that calls C. `include/kmip_ttlv.h` says what each call takes and answers.
+//! The printers, the walk over items, the check of a whole message and the writing of items, for C and every language that
+//! calls C. `include/kmip_ttlv.h` documents each call.
 //!
-//! Slices cross as a pointer and a length, and a text is written into a buffer that the caller lends.
-//! A call answers a status, keeps nothing of what it was lent, and gives back all memory that it took
-//! before it returns; there is no state beside what it is given. Each call states the contract of the
-//! call that it wraps: `Buffers`, `Calls`, `LentItems` and `LentWrites` in specs/ have the words.
+//! A slice is passed as a pointer and a length, and a text is written into a buffer of the caller's.
+//! A call returns a status, keeps none of its arguments, and frees all memory that it allocates
+//! before it returns; there is no other state. Each call has the contract of the call that it
+//! wraps, defined in specs/: `Buffers`, `Calls`, `LentItems` and `LentWrites`.
 #![tactic(auto)]
 
 mod buffer;

@@ -1,19 +1,19 @@
-//! The statuses that calls answer.
+//! The statuses that calls return.
 
-/// The call did all that it was asked for.
+/// Success.
 pub const OK: u32 = 0;
 
-/// Memory was refused.
+/// Out of memory.
 pub const OUT_OF_MEMORY: u32 = 1;
 
-/// A text that was lent is not UTF-8.
+/// A text that was passed is not UTF-8.
 pub const NOT_UTF8: u32 = 2;
 
-/// The lent buffer is too small; how large it has to be is answered.
+/// The caller's buffer or list is too small; the call sets the size that it needs.
 pub const NO_ROOM: u32 = 3;
 
-/// The bytes are not one whole message, or the items have no bytes.
+/// The bytes are not one whole message, or an item can't be written.
 pub const MALFORMED: u32 = 4;
 
-/// A line of a table of names can't be read; its number is answered.
+/// A line of a table of names can't be parsed; the call sets its number.
 pub const BAD_NAMES: u32 = 5;

@@ -11,9 +11,9 @@ use kmip_ttlv_write::{BadItem, BadKind, GiveItem, GivenItem, write_into};
 #[repr(C)]
 #[derive(Clone, Copy, Debug)]
 pub struct KmipTtlvBadItem {
-    /// Which item: 0 for the first.
+    /// The index of the item, from 0; 0 for no bad item.
     pub index: usize,
-    /// What is wrong with it: 0 for nothing.
+    /// The number of what is wrong with it; 0 for nothing.
     pub kind: u32,
 }
 
@@ -31,7 +31,7 @@ impl GiveItem for KmipTtlvItem {
     }
 }
 
-/// The number of what is wrong with an item; those of faults go on.
+/// The number in C of what is wrong with an item; what faults share has the same number, the others follow on.
 fn kind_of(kind: BadKind) -> u32
     ensures { result ≡ c_bad_kind kind }
 {
@@ -46,7 +46,7 @@ fn kind_of(kind: BadKind) -> u32
     }
 }
 
-/// A bad item as C has it.
+/// A bad item in the form for C.
 fn bad_of(bad: Option<BadItem>) -> KmipTtlvBadItem
     ensures { result ≡ c_bad bad }
 {
@@ -59,7 +59,7 @@ fn bad_of(bad: Option<BadItem>) -> KmipTtlvBadItem
     }
 }
 
-/// Items as canonical bytes, or the first that can't be written.
+/// Writes items as canonical bytes, or sets the first that can't be written.
 #[unsafe(no_mangle)]
 pub extern "C" fn kmip_ttlv_write(
     items: &[KmipTtlvItem],

@@ -1,4 +1,4 @@
--- Each walk has an end.
+-- Every walk ends.
 use Rattle.std.proofs.Common.{◌≡◌, ◌≢◌, ◌⊎◌, inl, inr, ℕ, suc, zero, ◌+◌, ◌-◌, ◌*◌, ◌<◌, ◌≤◌, Bool, true, false, List, [], ◌∷◌, ◌++◌, length, get_or, Option, Some, None, ap, sym, refl, subst, ◌∙◌, arith, append-nil, append_assoc}
 use Rattle.std.proofs.lemmas.Bool.{cases_lt, cases_eq}
 use Rattle.kmip_ttlv_types.specs.declared.typ.TtlvType.{TtlvType}
@@ -16,7 +16,7 @@ use Rattle.kmip_ttlv_items.proofs.Spans.{size_least, own_least, own_leaf}
 use Rattle.kmip_ttlv_items.proofs.Steps.{IsNested}
 use Rattle.kmip_ttlv_items.proofs.Walks.{walked, ended_whole, ended_at_root, ended_inside, ended_behind}
 
--- a type is Structure or another
+-- a type is Structure, or it isn't
 node_or_leaf : (t : TtlvType) → (t ≡ Structure) ⊎ (t ≢ Structure)
 node_or_leaf Structure = inl refl
 node_or_leaf Integer = inr (λ e. cc)
@@ -29,7 +29,7 @@ node_or_leaf ByteString = inr (λ e. cc)
 node_or_leaf DateTime = inr (λ e. cc)
 node_or_leaf Interval = inr (λ e. cc)
 
--- an item is whole, or it misfits
+-- an item is whole, or something is wrong with it
 Judged : List ℕ → ℕ → ℕ → ℕ → Type 0
 Judged w p e depth = ((i : FoundItem) × IsWhole w p e depth i) ⊎ ((kind : FaultKind) × Misfits w p e kind)
 
@@ -77,7 +77,7 @@ module _ (w : List ℕ) (p e depth : ℕ) where
         | inr there ↦ elim (cases_lt (length w) (p + 8)) [ inl cut ↦ inr (Cut, inl (there, cut)) | inr read ↦ judged_type there read (type_at w p) refl ]
       ]
 
--- a root is whole and a structure, or it misfits
+-- a root is whole and a structure, or something is wrong with it
 RootJudged : List ℕ → Type 0
 RootJudged w = ((kind : FaultKind) × RootMisfits w kind) ⊎ ((i : FoundItem) × IsWhole w 0 (size i.typ i.length) 0 i × (i.typ ≡ Structure))
 
@@ -107,11 +107,11 @@ module _ (w : List ℕ) where
   one_on : (xs : List FoundItem) (i : FoundItem) → Ends w (xs ++ (i ∷ [])) → Ends w xs
   one_on xs i h = record { more = i ∷ h.more; fault = h.fault; ended = subst (λ (s : List FoundItem). Ended w s h.fault) (append_assoc xs (i ∷ []) h.more) h.ended }
 
-  -- what is left: bytes, and structures that are open
+  -- what decreases: the bytes that are left, and the open structures
   left : ℕ → List ℕ → ℕ
   left p es = 2 * (length w - p) + length es
 
-  -- an item is due, and a walk with less left has an end
+  -- if an item is next, and every walk with less left ends, so does this one
   ends_inside : (p e : ℕ) (es : List ℕ) (xs : List FoundItem) → WalksTo w p (e ∷ es) xs → p ≢ e → ((q : ℕ) (fs : List ℕ) (ys : List FoundItem) → left q fs < left p (e ∷ es) → WalksTo w q fs ys → Ends w ys) → Ends w xs
   unfolding left Judged
   ends_inside p e es xs walks ne further = by (judged w p e (length (e ∷ es)))
@@ -131,7 +131,7 @@ module _ (w : List ℕ) where
       by (inl whole) = one_on xs whole.0 (met whole.0 whole.1)
 
   module _ (plain : (k : ℕ) → get_or w k 0 < 256) where
-    -- by what is left
+    -- by induction on what is left
     ends_by : (n : ℕ) (p : ℕ) (es : List ℕ) (xs : List FoundItem) → left p es ≤ n → WalksTo w p es xs → Ends w xs
     unfolding left
     ends_by n p [] xs few walks =
@@ -154,7 +154,7 @@ module _ (w : List ℕ) where
           | inr root ↦ one_on [] root.0 (ends_walking 8 (size root.0.typ root.0.length ∷ []) (root.0 ∷ []) (enters_root 8 (size root.0.typ root.0.length) root.0 root.1 root.2 refl refl))
         ]
 
-    -- each walk has an end
+    -- every walk ends
     pub ends : (p : ℕ) (es : List ℕ) (xs : List FoundItem) → Meets w p es xs → Ends w xs
     ends p es xs (at_first _ _ empty) = subst (Ends w) (sym empty) ends_first
     ends p es xs (on_the_way walks) = ends_walking p es xs walks

@@ -1,4 +1,4 @@
--- The first of the trees that stand from a place to an end.
+-- The first of the trees that are encoded from an offset to an end.
 use Rattle.std.proofs.Common.{◌≡◌, ◌≢◌, ℕ, ◌+◌, ◌-◌, ◌<◌, ◌≤◌, true, List, ◌++◌, length, get_or, take, drop, Some, ap, sym, refl, subst, ◌∙◌, arith, append_assoc, length-append}
 use Rattle.std.proofs.Math.Seq.{take-add}
 use Rattle.std.proofs.lemmas.List.{drop_at, take_at, drop-drop, length-drop, length-take-le, take-append-drop}
@@ -13,22 +13,22 @@ use Rattle.kmip_ttlv_types.proofs.PlaceLemmas.{raw_with, text_length, item_at_te
 use Rattle.kmip_ttlv_items.specs.ItemWalks.{type_at, content_at}
 use Rattle.kmip_ttlv_items.proofs.Spans.{code_is, leaf_not, size_least}
 
--- trees stand from a place to an end
+-- the bytes from an offset to an end encode these trees
 abbrev pub TreesAt : List ℕ → ℕ → ℕ → Trees → Type 0
 TreesAt w p e ts = AreTreeTexts ts (take (e - p) (drop p w))
 
--- the first of them is a leaf, or a structure with trees in it; and others stand behind it
+-- the first of them is a leaf, or a structure with trees in it; and the others follow it
 pub data Lead (w : List ℕ) (p e : ℕ) (ts : Trees) : Type 0 where
   leaf_first : (typ : TtlvType) (more : Trees) → type_at w p ≡ Some typ → typ ≢ Structure → is_valid typ (content_at w p) ≡ true → length (content_at w p) ≡ length_at w p → p + size typ (length_at w p) ≤ e
       → ts ≡ tree (leaf (tag_at w p) typ (content_at w p)) more → TreesAt w (p + size typ (length_at w p)) e more → Lead w p e ts
   node_first : (below more : Trees) → type_at w p ≡ Some Structure → p + size Structure (length_at w p) ≤ e
       → ts ≡ tree (node (tag_at w p) below) more → TreesAt w (p + 8) (p + 8 + length_at w p) below → TreesAt w (p + size Structure (length_at w p)) e more → Lead w p e ts
 
--- a text that others follow, with the bytes behind it
+-- an encoding that others follow, with the bytes after it
 split_rest : (w : List ℕ) (p e : ℕ) (text rest : List ℕ) → take (e - p) (drop p w) ≡ text ++ rest → drop p w ≡ text ++ (rest ++ drop (e - p) (drop p w))
 split_rest w p e text rest is = sym (take-append-drop (e - p) (drop p w)) ∙ ap (λ (s : List ℕ). s ++ drop (e - p) (drop p w)) is ∙ append_assoc text rest (drop (e - p) (drop p w))
 
--- what follows stands behind it
+-- what follows it
 rest_at : (w : List ℕ) (p e q : ℕ) (text rest : List ℕ) → p ≤ e → e ≤ length w → take (e - p) (drop p w) ≡ text ++ rest → q ≡ p + length text → rest ≡ take (e - q) (drop q w)
 rest_at w p e q text rest le within is q-is =
     let both : e - p ≡ length text + length rest = sym (length-take-le (e - p) (drop p w) (omega (arith, length-drop p w))) ∙ ap length is ∙ length-append text rest in
@@ -67,20 +67,20 @@ module _ (w : List ℕ) (p e : ℕ) (le : p ≤ e) (within : e ≤ length w) whe
       (subst (AreTreeTexts below) inner h.2)
       (subst (AreTreeTexts more) (rest_at w p e (p + size Structure (length_at w p)) text rest le within is q-is) others)
 
-  -- where trees stand before an end, there is a first one
+  -- if trees are encoded before an end, there is a first one
   pub lead : (ts : Trees) → p < e → TreesAt w p e ts → Lead w p e ts
   lead no_trees lt h = absurd (omega (arith, ap length h, length-take-le (e - p) (drop p w) (omega (arith, length-drop p w))))
   lead (tree (leaf tag typ content) more) lt h = first_leaf tag typ content h.0 h.1 more h.2 h.3 h.4
   lead (tree (node tag below) more) lt h = first_node tag below more h.0 h.1 h.2 h.3 h.4
 
-  -- the bytes from a place to an end, from an item's end on
+  -- the bytes from an offset to an end are those of an item and those from its end on
   parts_at : (s : ℕ) → p + s ≤ e → take (e - p) (drop p w) ≡ take s (drop p w) ++ take (e - (p + s)) (drop (p + s) w)
   parts_at s fits =
       let sum : e - p ≡ s + (e - (p + s)) = omega arith in
       ap (λ (n : ℕ). take n (drop p w)) sum ∙ take-add s (e - (p + s)) (drop p w) ∙ ap (λ (r : List ℕ). take s (drop p w) ++ take (e - (p + s)) r) (drop-drop s p w)
 
   module _ (plain : (i : ℕ) → get_or w i 0 < 256) where
-    -- the item at a place
+    -- the item at an offset
     item_here : (typ : TtlvType) → type_at w p ≡ Some typ → p + size typ (length_at w p) ≤ e → ItemAt w p (raw_with (tag_at w p) typ (content_at w p))
     item_here typ is fits =
         let least = size_least typ (length_at w p) in
@@ -93,13 +93,13 @@ module _ (w : List ℕ) (p e : ℕ) (le : p ≤ e) (within : e ≤ length w) whe
           there = omega arith;
         }
 
-    -- a leaf in front of trees
+    -- a leaf before trees
     pub leaf_before : (typ : TtlvType) (more : Trees) → type_at w p ≡ Some typ → is_valid typ (content_at w p) ≡ true → p + size typ (length_at w p) ≤ e → TreesAt w (p + size typ (length_at w p)) e more → TreesAt w p e (tree (leaf (tag_at w p) typ (content_at w p)) more)
     leaf_before typ more is valid fits others =
         let s = size typ (length_at w p) in
         (take s (drop p w), take (e - (p + s)) (drop (p + s) w), parts_at s fits, (valid, text_at_item w p (raw_with (tag_at w p) typ (content_at w p)) (item_here typ is fits)), others)
 
-    -- a structure in front of trees
+    -- a structure before trees
     pub node_before : (below more : Trees) → type_at w p ≡ Some Structure → p + size Structure (length_at w p) ≤ e → TreesAt w (p + 8) (p + 8 + length_at w p) below → TreesAt w (p + size Structure (length_at w p)) e more → TreesAt w p e (tree (node (tag_at w p) below) more)
     node_before below more is fits inner others =
         let s = size Structure (length_at w p) in

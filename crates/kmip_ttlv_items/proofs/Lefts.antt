@@ -1,4 +1,4 @@
--- What is left of a message at a place within it, and the items of what is left.
+-- The rest of a message from an offset within it, and the items of that rest.
 use Rattle.std.proofs.Common.{◌≡◌, ◌≢◌, inl, inr, ℕ, suc, ◌+◌, ◌-◌, ◌<◌, ◌≤◌, true, List, [], ◌∷◌, ◌++◌, length, get_or, take, drop, Some, ap, sym, refl, subst, ◌∙◌, arith, append_assoc, append-nil, length-append}
 use Rattle.std.proofs.lemmas.List.{length-take-le, length-drop, take_all}
 use Rattle.kmip_ttlv_types.specs.declared.typ.TtlvType.{TtlvType}
@@ -17,16 +17,16 @@ use Rattle.kmip_ttlv_items.specs.ItemWalks.{has_length, type_at, content_at, IsW
 use Rattle.kmip_ttlv_items.proofs.Spans.{text_span, texts_span, span_least, valid_length, size_least, own_most, code_is}
 use Rattle.kmip_ttlv_items.proofs.Leads.{TreesAt, Lead, leaf_first, node_first, lead, leaf_before, node_before}
 
--- trees stand from a place to the innermost end, from there to the next one, and so on; and these are their items
+-- trees are encoded from an offset to the innermost end, from there to the next one, and so on; and these are their items
 abbrev pub Left : List ℕ → ℕ → List ℕ → List FoundItem → Type 0
 Left w p [] ys = (p ≡ length w) × (ys ≡ [])
 Left w p (e ∷ es) ys = (ts : Trees) × (zs : List FoundItem) × TreesAt w p e ts × (ys ≡ listed_all p (length (e ∷ es)) ts ++ zs) × Left w e es zs
 
--- the items of a message are those that were met, and those that are left
+-- the items of a message are those that were met, then those that are left
 abbrev pub Goes : List ℕ → ℕ → List ℕ → List FoundItem → List FoundItem → Type 0
 Goes w p es found all = (ys : List FoundItem) × Left w p es ys × (all ≡ found ++ ys)
 
--- an item, from what is there
+-- an item is determined by the bytes
 pub item_is : (w : List ℕ) (p e depth n : ℕ) (i : FoundItem) → IsWhole w p e depth i → n ≡ length_at w p → i ≡ item p depth (tag_at w p) i.typ n
 item_is w p e depth n i h is =
     let o = h.offset in
@@ -35,20 +35,20 @@ item_is w p e depth n i h is =
     let l : i.length ≡ n = h.len ∙ sym is in
     ap (λ (x : ℕ). item x i.depth i.tag i.typ i.length) o ∙ ap (λ (x : ℕ). item p x i.tag i.typ i.length) d ∙ ap (λ (x : ℕ). item p depth x i.typ i.length) t ∙ ap (λ (x : ℕ). item p depth (tag_at w p) i.typ x) l
 
--- one more that was met
+-- one more item that was met
 one_more : (found ys zs all : List FoundItem) (i : FoundItem) → all ≡ found ++ ys → ys ≡ i ∷ zs → all ≡ (found ++ (i ∷ [])) ++ zs
 one_more found ys zs all i is next = is ∙ ap (λ (s : List FoundItem). found ++ s) next ∙ sym (append_assoc found (i ∷ []) zs)
 
 one_less : (found ys zs all : List FoundItem) (i : FoundItem) → all ≡ (found ++ (i ∷ [])) ++ zs → ys ≡ i ∷ zs → all ≡ found ++ ys
 one_less found ys zs all i is next = is ∙ append_assoc found (i ∷ []) zs ∙ ap (λ (s : List FoundItem). found ++ s) (sym next)
 
--- where a structure's end is reached, nothing is left in it
+-- when a structure's end is reached, nothing is left in it
 none_left : (w : List ℕ) (p e depth : ℕ) (ts : Trees) (ys zs : List FoundItem) → p ≡ e → e ≤ length w → TreesAt w p e ts → ys ≡ listed_all p depth ts ++ zs → ys ≡ zs
 none_left w p e depth no_trees ys zs at within h is = is
 none_left w p e depth (tree t ts) ys zs at within h is =
     absurd (omega (arith, ap length h.2, length-append h.0 h.1, text_span t h.0 h.3, span_least t, length-take-le (e - p) (drop p w) (omega (arith, length-drop p w))))
 
--- so the walk goes on behind it
+-- so the walk moves on past it
 pub out_to : (w : List ℕ) (p e : ℕ) (es : List ℕ) (found all : List FoundItem) → p ≡ e → e ≤ length w → Goes w p (e ∷ es) found all → Goes w p es found all
 out_to w p e es found all at within h =
     let left = h.1 in
@@ -109,11 +109,11 @@ module _ (w : List ℕ) (p e : ℕ) (es : List ℕ) (found all : List FoundItem)
           inner_span : (below : Trees) → TreesAt w (p + 8) (p + 8 + length_at w p) below → p + 8 + length_at w p ≤ length w → length_at w p ≡ span_all below
           inner_span below inner fits = omega (arith, texts_span below (take (p + 8 + length_at w p - (p + 8)) (drop (p + 8) w)) inner, length-take-le (p + 8 + length_at w p - (p + 8)) (drop (p + 8) w) (omega (arith, length-drop (p + 8) w)))
 
-  -- an item that is not whole leaves no message
+  -- if an item isn't whole, there is no message
   pub misfit : (kind : FaultKind) → Misfits w p e kind → Goes w p (e ∷ es) found all → ⊥
   misfit kind wrong h = by kind wrong (lead w p e (omega arith) within h.1.0 le h.1.2)
     where
-      -- of the first item the type is there, it fits, and of a leaf the length and the content are valid
+      -- the first item has a type, it fits, and if it is a leaf, its length and content are valid
       against : (kind : FaultKind) → Misfits w p e kind → (typ : TtlvType) → type_at w p ≡ Some typ → p + size typ (length_at w p) ≤ e → has_length (fixed_length typ) (length_at w p) ≡ true → (typ ≢ Structure → is_valid typ (content_at w p) ≡ true) → ⊥
       against PartialHeader wrong typ is fits has valid = omega (arith, wrong, size_least typ (length_at w p))
       against UnknownType wrong typ is fits has valid = let k = wrong.2 in cc
@@ -129,7 +129,7 @@ module _ (w : List ℕ) (p e : ℕ) (es : List ℕ) (found all : List FoundItem)
       by kind wrong (node_first below more is fits same inner others) = against kind wrong Structure is fits refl (λ ne. absurd (ne refl))
 
   module _ (plain : (i : ℕ) → get_or w i 0 < 256) where
-    -- a leaf that was passed stands in front
+    -- back over a leaf that was passed
     pub past_from : (i : FoundItem) (q : ℕ) → IsWhole w p e (length (e ∷ es)) i → i.typ ≢ Structure → q ≡ p + size i.typ i.length → Goes w q (e ∷ es) (found ++ (i ∷ [])) all → Goes w p (e ∷ es) found all
     past_from i q whole ne at h =
         let depth = length (e ∷ es) in
@@ -149,7 +149,7 @@ module _ (w : List ℕ) (p e : ℕ) (es : List ℕ) (found all : List FoundItem)
         let behind : TreesAt w (p + size i.typ n) e more = subst (λ (m : ℕ). TreesAt w m e more) q-is h.1.2 in
         (ys, (tree first more, h.1.1, leaf_before w p e (omega arith) within plain i.typ more whole.typ valid fits behind, refl, h.1.4), one_less found ys h.0 all i h.2 next)
 
-    -- a structure that was entered stands in front
+    -- back over a structure that was entered
     pub into_from : (i : FoundItem) (q f : ℕ) → IsWhole w p e (length (e ∷ es)) i → i.typ ≡ Structure → q ≡ p + 8 → f ≡ p + size i.typ i.length → Goes w q (f ∷ e ∷ es) (found ++ (i ∷ [])) all → Goes w p (e ∷ es) found all
     into_from i q f whole is-node at end h =
         let depth = length (e ∷ es) in
@@ -178,7 +178,7 @@ module _ (w : List ℕ) (p e : ℕ) (es : List ℕ) (found all : List FoundItem)
 
 -- ---- the root
 
--- a whole message's root, and what is in it
+-- the root of a whole message, and what is in it
 root_content : (w : List ℕ) (tag : ℕ) (below : Trees) (h : IsTreeText (node tag below) w) → ItemAt w 0 (raw_with tag Structure h.0)
 root_content w tag below h = item_at_text w 0 (raw_with tag Structure h.0) w [] (omega arith) (sym (append-nil w)) h.1
 
@@ -192,7 +192,7 @@ root_facts w all h = by h.message h.text h.root
         let k = root_content w tag below text in
         (ap type_of (sym k.typ) ∙ type_of-code Structure, omega (arith, text_length (raw_with tag Structure text.0) w text.1, k.len))
 
--- what is wrong with a root leaves no message
+-- if something is wrong with the root, there is no message
 pub root_misfit : (w : List ℕ) (all : List FoundItem) (kind : FaultKind) → RootMisfits w kind → Lists w all → ⊥
 root_misfit w all Cut wrong h = let k = root_facts w all h in omega arith
 root_misfit w all UnknownType wrong h = let k = (root_facts w all h).0 in let m = wrong.1 in cc
@@ -208,7 +208,7 @@ module _ (w : List ℕ) (i : FoundItem) (q e : ℕ) (whole : IsWhole w 0 e 0 i) 
   root_end : e ≡ 8 + length_at w 0
   root_end = end ∙ ap (λ (t : TtlvType). size t i.length) is-node ∙ ap (size Structure) whole.len ∙ omega arith
 
-  -- the items of a message are its root, and those in it
+  -- the items of a message are its root and those in it
   pub root_to : (all : List FoundItem) → Lists w all → Goes w q (e ∷ []) (i ∷ []) all
   root_to all h = by h.message h.text h.root h.items
     where

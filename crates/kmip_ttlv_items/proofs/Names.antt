@@ -1,4 +1,4 @@
--- What is wrong has one name.
+-- What is wrong is of one kind.
 use Rattle.std.proofs.Common.{◌≡◌, ◌⊎◌, inl, inr, ℕ, ◌+◌, ◌<◌, ◌≤◌, false, List, length, None, ap, sym, refl, arith}
 use Rattle.kmip_ttlv_types.specs.declared.typ.TtlvType.{TtlvType}
 use Rattle.kmip_ttlv_types.specs.ItemTypes.{fixed_length}
@@ -16,19 +16,19 @@ module _ (w : List ℕ) (p e : ℕ) where
   lengths : (t u : TtlvType) → HasType w p e t → HasType w p e u → has_length (fixed_length t) (length_at w p) ≡ false → IsLengthOf u (length_at w p) → ⊥
   lengths t u a b wrong right = let k = ap (λ (v : TtlvType). has_length (fixed_length v) (length_at w p)) (one_type t u a b) in cc
 
-  -- an item is past the end or before it
+  -- an item either passes the end or doesn't
   ends : (t u : TtlvType) → HasType w p e t → HasType w p e u → e < p + size t (length_at w p) → p + size u (length_at w p) ≤ e → ⊥
   ends t u a b past before = omega (arith, past, before, ap (λ (v : TtlvType). size v (length_at w p)) (one_type t u a b))
 
-  -- the bytes end within it or behind it
+  -- the bytes end within an item or after it
   cuts : (t u : TtlvType) → HasType w p e t → HasType w p e u → length w < p + own_size t (length_at w p) → p + own_size u (length_at w p) ≤ length w → ⊥
   cuts t u a b cut there = omega (arith, cut, there, ap (λ (v : TtlvType). own_size v (length_at w p)) (one_type t u a b))
 
-  -- a type is one or none
+  -- a type code is known or not
   types : (t : TtlvType) → HasType w p e t → type_at w p ≡ None → ⊥
   types t a none = let k = a.typ in cc
 
-  -- where the bytes end within an item, nothing else is wrong with it
+  -- if the bytes end within an item, nothing else is wrong with it
   alone : (kind : FaultKind) → CutHeader w p e ⊎ CutValue w p e → Misfits w p e kind → Cut ≡ kind
   alone PartialHeader a b = absurd (elim a [ inl x ↦ omega (arith, x.0, b) | inr x ↦ omega (arith, x.has.there, b) ])
   alone Cut a b = refl
@@ -77,7 +77,7 @@ module _ (w : List ℕ) (p e : ℕ) where
   one_name InvalidValue m a b = absurd b
   one_name k m a b = absurd a
 
--- the same of a root
+-- the same for a root
 module _ (w : List ℕ) where
   pub one_root_name : HasOneName (RootMisfits w)
   one_root_name Cut Cut a b = refl

@@ -1,4 +1,4 @@
--- How long texts of trees are, and codes of types.
+-- The lengths of encoded trees, and the codes of types.
 use Rattle.std.proofs.Common.{◌≡◌, ◌≢◌, ℕ, zero, suc, ◌+◌, ◌<◌, ◌≤◌, Bool, true, false, List, length, Some, None, ap, sym, refl, ◌∙◌, arith, length-append, ◌==◌, if◌then◌else◌}
 use Rattle.std.proofs.lemmas.Bool.{ne_eqb}
 use Rattle.kmip_ttlv_types.specs.declared.typ.TtlvType.{TtlvType}
@@ -12,17 +12,17 @@ use Rattle.kmip_ttlv_items.specs.FoundItems.{span, span_all}
 use Rattle.kmip_ttlv_items.specs.ItemWalks.{has_length, own_size}
 
 mutual
-  -- a text takes its tree's span
+  -- an encoding is as long as its tree's span
   pub text_span : (t : Tree) (text : List ℕ) → IsTreeText t text → length text ≡ span t
   text_span (leaf tag typ content) text h = text_length (raw_with tag typ content) text h.1
   text_span (node tag below) text h = omega (arith, text_length (raw_with tag Structure h.0) text h.1, texts_span below h.0 h.2)
 
-  -- texts take the span of their trees
+  -- so are those of several trees
   pub texts_span : (ts : Trees) (text : List ℕ) → AreTreeTexts ts text → length text ≡ span_all ts
   texts_span no_trees text h = ap length h
   texts_span (tree t ts) text h = omega (arith, ap length h.2, length-append h.0 h.1, text_span t h.0 h.3, texts_span ts h.1 h.4)
 
--- a tree has a header
+-- a tree takes at least a header
 pub span_least : (t : Tree) → 8 ≤ span t
 span_least (leaf tag typ content) = omega arith
 span_least (node tag below) = omega arith
@@ -30,7 +30,7 @@ span_least (node tag below) = omega arith
 no_type : (n : ℕ) → 10 < n → type_of n ≡ None
 no_type n lt = rw (ne_eqb n 1 (omega arith), ne_eqb n 2 (omega arith), ne_eqb n 3 (omega arith), ne_eqb n 4 (omega arith), ne_eqb n 5 (omega arith), ne_eqb n 6 (omega arith), ne_eqb n 7 (omega arith), ne_eqb n 8 (omega arith), ne_eqb n 9 (omega arith), ne_eqb n 10 (omega arith)) refl
 
--- the code of a type is what it was read from
+-- the code of a type is the code that it was read from
 pub code_is : (n : ℕ) (t : TtlvType) → type_of n ≡ Some t → code t ≡ n
 code_is zero t e = absurd cc
 code_is (suc zero) t e = let k : Structure ≡ t = cc in ap code (sym k)
@@ -45,7 +45,7 @@ code_is (suc (suc (suc (suc (suc (suc (suc (suc (suc zero))))))))) t e = let k :
 code_is (suc (suc (suc (suc (suc (suc (suc (suc (suc (suc zero)))))))))) t e = let k : Interval ≡ t = cc in ap code (sym k)
 code_is (suc (suc (suc (suc (suc (suc (suc (suc (suc (suc (suc n))))))))))) t e = let k = no_type (suc (suc (suc (suc (suc (suc (suc (suc (suc (suc (suc n))))))))))) (omega arith) in absurd cc
 
--- a valid value has a length of its type
+-- a valid value has a length that its type allows
 pub valid_length : (t : TtlvType) (content : List ℕ) → is_valid t content ≡ true → has_length (fixed_length t) (length content) ≡ true
 valid_length Structure content h = refl
 valid_length Integer content h = h
@@ -62,11 +62,11 @@ valid_length ByteString content h = refl
 valid_length DateTime content h = h
 valid_length Interval content h = h
 
--- the bytes of an item have its header
+-- an item takes at least its header
 pub size_least : (t : TtlvType) (n : ℕ) → 8 + n ≤ size t n
 size_least t n = omega arith
 
--- so have an item's own bytes, and they are no more than its size; of a leaf they are all
+-- so do an item's own bytes, which are no more than its size; of a leaf they are all of it
 pub own_least : (t : TtlvType) (n : ℕ) → 8 ≤ own_size t n
 own_least Structure n = omega arith
 own_least Integer n = omega arith
@@ -109,6 +109,6 @@ own_most ByteString n = omega arith
 own_most DateTime n = omega arith
 own_most Interval n = omega arith
 
--- a valid value is none of a structure
+-- a type with valid content is not Structure
 pub leaf_not : (typ : TtlvType) (content : List ℕ) → is_valid typ content ≡ true → typ ≢ Structure
 leaf_not typ content valid h = let k : is_valid Structure content ≡ true = ap (λ (u : TtlvType). is_valid u content) (sym h) ∙ valid in cc

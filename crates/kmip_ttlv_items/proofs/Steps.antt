@@ -1,4 +1,4 @@
--- What a walk kept of the items that it met, how the ends of structures lie, and what is wrong with a value.
+-- The items that a walk stored, how the ends of structures are nested, and what is wrong with a value.
 use Rattle.std.proofs.Common.{◌≡◌, inr, ℕ, suc, ◌+◌, ◌≤◌, Some, List, [], ◌∷◌, ◌++◌, length, map, set, ap, sym, refl, ◌∙◌, arith}
 use Rattle.std.proofs.lemmas.List.{map-append}
 use Rattle.kmip_ttlv_types.specs.declared.typ.TtlvType.{TtlvType}
@@ -10,13 +10,13 @@ use Rattle.kmip_ttlv_items.specs.WalkPlaces.{JudgesValue}
 use Rattle.kmip_ttlv_items.specs.declared.found.FoundItem.{FoundItem}
 use Rattle.kmip_ttlv_items.specs.FoundItems.{overlaid}
 
--- ---- the lent list
+-- ---- the caller's list
 
 pub overlaid_none : {X : Type 0} (ys : List X) → overlaid [] ys ≡ ys
 overlaid_none [] = refl
 overlaid_none (y ∷ ys) = refl
 
--- one more is kept
+-- one more item is stored
 overlaid_more : {X : Type 0} (xs ys : List X) (x : X) → set (overlaid xs ys) (length xs) x ≡ overlaid (xs ++ (x ∷ [])) ys
 overlaid_more [] [] x = refl
 overlaid_more [] (y ∷ ys) x = ap (λ (s : List _). x ∷ s) (sym (overlaid_none ys))
@@ -33,7 +33,7 @@ keeps_more keep found i old out new count kept counts is =
     length_map [] = refl
     length_map (x ∷ xs) = ap suc (length_map xs)
 
--- ends lie in one another, and the last is the one that the root's header states
+-- ends are nested, and the outermost is the one that the root's header states
 abbrev pub IsNested : List ℕ → ℕ → List ℕ → Type 0
 IsNested w p [] = p ≡ 8 + length_at w 0
 IsNested w p (e ∷ es) = (p ≤ e) × IsNested w e es

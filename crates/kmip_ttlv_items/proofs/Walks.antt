@@ -1,6 +1,6 @@
--- What is known of each walk: where it stands, that the items of a message are those that it met and those that are
--- left, and so how it ends.
-use Rattle.std.proofs.Common.{◌≡◌, ◌≢◌, ℕ, ◌+◌, ◌-◌, ◌*◌, ◌^◌, ◌<◌, ◌≤◌, Bool, true, false, List, [], ◌∷◌, ◌++◌, length, get_or, Some, None, ap, sym, refl, subst, ◌∙◌, arith, length-append, append-nil, ◌==◌, if◌then◌else◌}
+-- What is known of every walk: where it is; that a message's items are those that it met and those that are
+-- left; and so how it ends.
+use Rattle.std.proofs.Common.{◌≡◌, ◌≢◌, ℕ, ◌+◌, ◌-◌, ◌*◌, ◌^◌, ◌<◌, ◌≤◌, Bool, true, false, List, [], ◌∷◌, ◌++◌, length, get_or, Some, None, ap, sym, refl, subst, ◌∙◌, arith, length-append, append-nil, append_assoc, ◌==◌, if◌then◌else◌}
 use Rattle.std.proofs.lemmas.Bool.{eqb-true, eqb-false}
 use Rattle.std.proofs.Math.Bridge.{le_prop}
 use Rattle.std.proofs.Math.Logic.{∥∥₁_elim, ∥∥₁_map}
@@ -13,12 +13,12 @@ use Rattle.kmip_ttlv_items.specs.declared.found.FaultKind.{FaultKind}
 use Rattle.kmip_ttlv_items.specs.declared.found.FaultKind.TheVariants.{Surplus}
 use Rattle.kmip_ttlv_items.specs.FoundItems.{Lists}
 use Rattle.kmip_ttlv_items.specs.ItemWalks.{type_at, content_at, own_size, IsWhole, Misfits, RootMisfits, WalksTo, enters_root, enters, passes, leaves, at_root, inside, behind, Meets, at_first, on_the_way, CanStand, Ended}
-use Rattle.kmip_ttlv_items.specs.WalkPlaces.{unreached, innermost, GoesOn, into_structure, past_leaf, IsDue, root, within}
-use Rattle.kmip_ttlv_items.proofs.Spans.{size_least, size_structure, own_least, own_leaf}
+use Rattle.kmip_ttlv_items.specs.WalkPlaces.{unreached, innermost, GoesOn, into_structure, past_leaf, IsDue, root, within, IsLeafTo, PassesLeaves}
+use Rattle.kmip_ttlv_items.proofs.Spans.{size_least, size_structure, own_least, own_leaf, leaf_not}
 use Rattle.kmip_ttlv_items.proofs.Lefts.{Goes, out_to, out_from, past_to, past_from, into_to, into_from, misfit, root_facts, root_misfit, root_to, root_from}
 use Rattle.kmip_ttlv_items.proofs.Steps.{IsNested, nested_within}
 
--- ends lie in one another; each item took eight bytes at least; and nothing of a message is left out
+-- ends are nested; each item took at least eight bytes; and no item of a message is left out
 pub record Walked (w : List ℕ) (p : ℕ) (es : List ℕ) (xs : List FoundItem) : Type 0 where
   pub nested : IsNested w p es
   pub here : p ≤ length w
@@ -67,7 +67,7 @@ walked w _ _ _ (leaves p e es xs walks at) =
     }
 
 module _ (w : List ℕ) (plain : (k : ℕ) → get_or w k 0 < 256) where
-  -- where the root ends with the bytes, and what is left is that of a message, the whole is one
+  -- if the root ends where the bytes do, and what is left is the rest of a message, the whole is a message
   pub walked_from : (p : ℕ) (es : List ℕ) (xs all : List FoundItem) → length w ≡ 8 + length_at w 0 → WalksTo w p es xs → Goes w p es xs all → Lists w all
   walked_from _ _ _ all exact (enters_root q e i whole is at end) g = root_from w i q e whole is at end plain all g
   walked_from _ _ _ all exact (enters p q e f es xs i walks whole is at end) g =
@@ -80,14 +80,14 @@ module _ (w : List ℕ) (plain : (k : ℕ) → get_or w k 0 < 256) where
       walked_from p (e ∷ es) xs all exact walks (past_from w p e es xs all lt (omega (arith, exact, nested_within w e es h.nested.1)) plain i q whole ne at g)
   walked_from _ _ _ all exact (leaves p e es xs walks at) g = walked_from p (e ∷ es) xs all exact walks (out_from w p e es xs all at g)
 
-  -- all of a message was met
+  -- all items of a message were met
   pub ended_whole : (p : ℕ) (xs : List FoundItem) → WalksTo w p [] xs → length w ≤ p → Ended w xs None
   ended_whole p xs walks le =
       let h = walked w p [] xs walks in
       let end : p ≡ length w = omega (arith, h.here) in
       walked_from p [] xs xs (sym end ∙ h.nested) walks ([], (end, refl), sym (append-nil xs))
 
--- an item that is whole is so by its own end
+-- an item that is whole is whole before its own end
 whole_anywhere : (w : List ℕ) (p e depth : ℕ) (i : FoundItem) → IsWhole w p e depth i → IsWhole w i.offset (i.offset + size i.typ i.length) i.depth i
 whole_anywhere w p e depth i h =
     let at : p ≡ i.offset = sym h.offset in
@@ -111,7 +111,7 @@ pub none_of : (es : List ℕ) → None ≡ innermost es → es ≡ []
 none_of [] is = refl
 none_of (x ∷ es) is = absurd cc
 
--- the first that is not reached is not at the place
+-- the first end that is not reached is not at this offset
 pub unreached_ne : (p : ℕ) (es : List ℕ) (e : ℕ) (fs : List ℕ) → unreached p es ≡ e ∷ fs → p ≢ e
 unreached_ne p [] e fs is = absurd cc
 unreached_ne p (x ∷ es) e fs is = by (λ h. unreached_ne p es e fs h) (x == p) refl is
@@ -121,7 +121,7 @@ unreached_ne p (x ∷ es) e fs is = by (λ h. unreached_ne p es e fs h) (x == p)
     by further false eq h = let k : x ≡ e = cc in λ same. eqb-false x p eq (k ∙ sym same)
 
 module _ (w : List ℕ) where
-  -- nothing was met
+  -- no item was met
   pub ended_at_root : (kind : FaultKind) → RootMisfits w kind → Ended w [] (Some record { offset = 0; kind = kind })
   ended_at_root kind wrong = (at_root refl refl wrong, λ all. root_misfit w all kind wrong)
 
@@ -131,11 +131,11 @@ module _ (w : List ℕ) where
       let h = walked w p (e ∷ es) xs walks in
       (inside e es walks lt wrong, λ all l. misfit w p e es xs all lt (omega (arith, nested_within w e es h.nested.1, (root_facts w all l).1)) kind wrong (h.to all l))
 
-  -- further bytes follow the root
+  -- more bytes follow the root
   pub ended_behind : (p : ℕ) (xs : List FoundItem) → WalksTo w p [] xs → p < length w → Ended w xs (Some record { offset = p; kind = Surplus })
   ended_behind p xs walks lt = (behind walks lt refl, λ all l. omega (arith, ((walked w p [] xs walks).to all l).1.0))
 
-  -- ends that are reached are left
+  -- a walk may leave the structures whose ends are reached
   pub unreached_walks : (p : ℕ) (es : List ℕ) (xs : List FoundItem) → WalksTo w p es xs → WalksTo w p (unreached p es) xs
   unreached_walks p [] xs h = h
   unreached_walks p (e ∷ es) xs h = by (λ walks. unreached_walks p es xs walks) (e == p) refl
@@ -144,7 +144,7 @@ module _ (w : List ℕ) where
       by further true is = further (leaves p e es xs h (sym (eqb-true e p is)))
       by further false is = h
 
-  -- a walk that met something stands at no first place
+  -- a walk past offset 0 has met an item
   pub met_walks : (p : ℕ) (es : List ℕ) (xs : List FoundItem) → 0 < p → Meets w p es xs → WalksTo w p es xs
   met_walks p es xs lt (at_first first _ _) = absurd (omega arith)
   met_walks p es xs lt (on_the_way walks) = walks
@@ -153,12 +153,12 @@ module _ (w : List ℕ) where
   met_none p es xs zero (at_first _ none empty) = (none, empty)
   met_none p es xs zero (on_the_way walks) = absurd (omega (arith, (walked w p es xs walks).far))
 
-  -- each item that was met took eight bytes at least
+  -- each item that was met took at least eight bytes
   pub met_few : (p : ℕ) (es : List ℕ) (xs : List FoundItem) → Meets w p es xs → 8 * length xs ≤ length w
   met_few p es xs (at_first _ _ none) = omega (arith, ap length none)
   met_few p es xs (on_the_way walks) = let h = walked w p es xs walks in omega (arith, h.eighths, h.here)
 
-  -- the innermost of the ends that are not reached, and the bytes, lie behind the place
+  -- the offset is at most the innermost end that is not reached, and at most the number of bytes
   pub stands_within : (p : ℕ) (es : List ℕ) (e : ℕ) (fs : List ℕ) → 0 < p → CanStand w p es → unreached p es ≡ e ∷ fs → (p ≤ e) × (p ≤ length w)
   stands_within p es e fs lt stands is = ∥∥₁_elim stands (hlevel le_prop) by
     where
@@ -167,11 +167,11 @@ module _ (w : List ℕ) where
           let h = walked w p (e ∷ fs) xs (subst (λ (s : List ℕ). WalksTo w p s xs) is (unreached_walks p es xs (met_walks p es xs lt m))) in
           (h.nested.0, h.here)
 
-  -- ends that are reached are left, wherever a walk can stand
+  -- so it may, wherever a walk can be
   pub unreached_met : (p : ℕ) (es : List ℕ) (xs : List FoundItem) → 0 < p → Meets w p es xs → Meets w p (unreached p es) xs
   unreached_met p es xs lt m = on_the_way (unreached_walks p es xs (met_walks p es xs lt m))
 
-  -- the item that is due is met, and the walk goes on
+  -- the next item is met, and the walk moves on
   pub met_more : (p : ℕ) (es : List ℕ) (i : FoundItem) (q : ℕ) (fs : List ℕ) (xs : List FoundItem) → IsDue w p es i → GoesOn i es q fs → Meets w p es xs → Meets w q fs (xs ++ (i ∷ []))
   met_more p es i q fs xs (root first whole node small) goes m = by goes
     where
@@ -212,22 +212,73 @@ module _ (w : List ℕ) where
   pub stands_still : (p : ℕ) (es fs : List ℕ) → ((xs : List FoundItem) → Meets w p es xs → Meets w p fs xs) → CanStand w p es → CanStand w p fs
   stands_still p es fs stays stands = ∥∥₁_map stands (λ (xs, m). (xs, stays xs m))
 
-  -- the item that is due is whole by its own end
+  -- the next item is whole before its own end
   pub due_whole : (p : ℕ) (es : List ℕ) (i : FoundItem) → IsDue w p es i → IsWhole w i.offset (i.offset + size i.typ i.length) i.depth i
   due_whole p es i (root first whole node small) = whole_anywhere w 0 (size i.typ i.length) 0 i whole
   due_whole p es i (within e gs is some lt top whole) = whole_anywhere w p e (length es) i whole
 
-  -- where it stands
+  -- its offset is that of the walk
   pub due_at : (p : ℕ) (es : List ℕ) (i : FoundItem) → IsDue w p es i → (i.offset ≡ p) × (p + own_size i.typ i.length ≤ length w)
   due_at p es i (root first whole node small) = (omega (arith, whole.offset, first), omega (arith, whole.there, first))
   due_at p es i (within e gs is some lt top whole) = (whole.offset, whole.there)
 
-  -- and its end is a number of 64 bits
+  -- and its end is below 2^64
   pub due_small : (p : ℕ) (es : List ℕ) (i : FoundItem) → IsDue w p es i → i.offset + size i.typ i.length < 2 ^ 64
   due_small p es i (root first whole node small) = omega (arith, whole.offset, size_structure i.typ i.length node, small)
   due_small p es i (within e gs is some lt top whole) = omega (arith, whole.offset, whole.fits, top)
 
-  -- and the walk goes further
+  -- and the walk gets further
   pub due_onward : (p : ℕ) (es : List ℕ) (i : FoundItem) (q : ℕ) (fs : List ℕ) → IsDue w p es i → GoesOn i es q fs → length w - q < length w - p
   due_onward p es i q fs due (into_structure node at ends) = omega (arith, at, (due_at p es i due).0, (due_at p es i due).1, own_least i.typ i.length)
   due_onward p es i q fs due (past_leaf leaf at same) = omega (arith, at, (due_at p es i due).0, (due_at p es i due).1, own_leaf i.typ i.length leaf, size_least i.typ i.length)
+
+  -- a walk in a structure is in front of its end
+  pub stands_before : (p e : ℕ) (es fs : List ℕ) → fs ≡ e ∷ es → CanStand w p fs → (p ≤ e) × (p ≤ length w)
+  stands_before p e es fs is stands = ∥∥₁_elim stands (hlevel le_prop) by
+    where
+      by : ((xs : List FoundItem) × Meets w p fs xs) → (p ≤ e) × (p ≤ length w)
+      by (xs, at_first _ none _) = let k : e ∷ es ≡ [] = sym is ∙ none in absurd cc
+      by (xs, on_the_way walks) = let h = walked w p (e ∷ es) xs (subst (λ (s : List ℕ). WalksTo w p s xs) is walks) in (h.nested.0, h.here)
+
+  -- a leaf is passed
+  passed_leaf : (p e stop q : ℕ) → stop ≤ e → stop ≤ length w → IsLeafTo w p stop q → (es : List ℕ) (xs : List FoundItem) → WalksTo w p (e ∷ es) xs → (i : FoundItem) × WalksTo w q (e ∷ es) (xs ++ (i ∷ []))
+  passed_leaf p e stop q short there leaf es xs walks =
+      let i : FoundItem = record { offset = p; depth = length (e ∷ es); tag = tag_at w p; typ = leaf.typ; length = length_at w p } in
+      let ne : leaf.typ ≢ Structure = leaf_not leaf.typ (content_at w p) leaf.valid in
+      let whole : IsWhole w p e (length (e ∷ es)) i = record {
+        offset = refl;
+        deep = refl;
+        tag = refl;
+        typ = leaf.code;
+        len = refl;
+        fits = omega (arith, leaf.end, leaf.fits, short);
+        there = omega (arith, leaf.end, leaf.fits, there, own_leaf leaf.typ (length_at w p) ne);
+        valid = λ _. leaf.valid;
+      } in
+      (i, passes p q e es xs i walks whole ne leaf.end)
+
+  pub passed_none : (p e : ℕ) → PassesLeaves w e p p
+  passed_none p e = record {
+    onward = omega arith;
+    walks = λ es xs walks. ([], subst (WalksTo w p (e ∷ es)) (sym (append-nil xs)) walks);
+  }
+
+  -- one more leaf is passed
+  pub passed_more : (p e stop q r : ℕ) → stop ≤ e → stop ≤ length w → PassesLeaves w e p q → IsLeafTo w q stop r → PassesLeaves w e p r
+  passed_more p e stop q r short there passed leaf = record {
+    onward = omega (arith, passed.onward, leaf.end);
+    walks = λ es xs walks.
+        let h = passed.walks es xs walks in
+        let k = passed_leaf q e stop r short there leaf es (xs ++ h.0) h.1 in
+        (h.0 ++ (k.0 ∷ []), subst (WalksTo w r (e ∷ es)) (append_assoc xs h.0 (k.0 ∷ [])) k.1);
+  }
+
+  -- so a walk that is in this structure passes them
+  pub met_passed : (p q e : ℕ) (es fs : List ℕ) (xs : List FoundItem) → fs ≡ e ∷ es → PassesLeaves w e p q → Meets w p fs xs → (more : List FoundItem) × Meets w q fs (xs ++ more)
+  met_passed p q e es fs xs is passed (at_first _ none _) = let k : e ∷ es ≡ [] = sym is ∙ none in absurd cc
+  met_passed p q e es fs xs is passed (on_the_way walks) =
+      let h = passed.walks es xs (subst (λ (s : List ℕ). WalksTo w p s xs) is walks) in
+      (h.0, on_the_way (subst (λ (s : List ℕ). WalksTo w q s (xs ++ h.0)) (sym is) h.1))
+
+  pub stands_passed : (p q e : ℕ) (es fs : List ℕ) → fs ≡ e ∷ es → PassesLeaves w e p q → CanStand w p fs → CanStand w q fs
+  stands_passed p q e es fs is passed stands = ∥∥₁_map stands (λ (xs, m). let h = met_passed p q e es fs xs is passed m in (xs ++ h.0, h.1))

@@ -1,4 +1,4 @@
--- The items of a message in document order, and the list that a caller lends for them.
+-- The items of a message in document order, and the caller's list for them.
 use Rattle.std.specs.Prelude.{◌≡◌, ℕ, suc, ◌+◌, List, [], ◌∷◌, ◌++◌, length}
 use Rattle.kmip_ttlv_types.specs.declared.typ.TtlvType.{TtlvType}
 use Rattle.kmip_ttlv_types.specs.declared.typ.TtlvType.TheVariants.{Structure}
@@ -6,7 +6,7 @@ use Rattle.kmip_ttlv_types.specs.Places.{size}
 use Rattle.kmip_ttlv_types.specs.Trees.{Tree, Trees, leaf, node, no_trees, tree, IsTreeText, IsStructure}
 use Rattle.kmip_ttlv_items.specs.declared.found.FoundItem.{FoundItem}
 
--- how many bytes a tree's text takes, and those of several
+-- how many bytes an encoding of a tree takes, and of several trees
 abbrev mutual
   pub span : Tree → ℕ
   span (leaf tag typ content) = size typ (length content)
@@ -16,11 +16,11 @@ abbrev mutual
   span_all no_trees = 0
   span_all (tree t ts) = span t + span_all ts
 
--- an item at an offset, within so many structures
+-- an item at an offset and a depth
 abbrev pub item : ℕ → ℕ → ℕ → TtlvType → ℕ → FoundItem
 item offset depth tag typ len = record { offset = offset; depth = depth; tag = tag; typ = typ; length = len }
 
--- the items of a tree that begins at an offset, within so many structures, in document order
+-- the items of a tree at an offset and a depth, in document order
 abbrev mutual
   pub listed : ℕ → ℕ → Tree → List FoundItem
   listed offset depth (leaf tag typ content) = item offset depth tag typ (length content) ∷ []
@@ -38,7 +38,7 @@ pub record Lists (bytes : List ℕ) (xs : List FoundItem) : Type 0 where
   pub root : IsStructure message
   pub items : xs ≡ listed 0 0 message
 
--- a lent list, with these in place of its first elements, as far as it has room
+-- a list whose first elements are replaced by these, as far as it has room
 abbrev pub overlaid : {X : Type 0} → List X → List X → List X
 overlaid xs [] = []
 overlaid [] (y ∷ ys) = y ∷ ys

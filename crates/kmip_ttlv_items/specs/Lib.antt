@@ -1,4 +1,5 @@
 pub mod FoundItems
 pub mod ItemWalks
 pub mod WalkPlaces
+pub mod Enclosing
 pub mod Stepping

@@ -1,14 +1,14 @@
-//! What a walk finds: items, and the first fault.
+//! What a walk returns: items, and the first fault.
 
 ghost use Rattle.std.specs.Prelude.{◌≡◌};
 ghost use Rattle.kmip_ttlv_items.specs.declared.found.FoundItem.{FoundItem as AnItem};
 
 use kmip_ttlv_types::{TtlvTag, TtlvType};
 
-/// An item of a message. Of a Structure the header was met, and not yet the items in it.
+/// An item of a message. For a Structure only the header was read, not yet the items in it.
 #[derive(Clone, Copy, Debug, PartialEq, Eq)]
 pub struct FoundItem {
-    /// Where its header begins, in bytes from the first. Its value begins eight bytes further.
+    /// The offset of its header, in bytes from the first. Its value begins eight bytes later.
     pub offset: usize,
     /// How many structures it is in: 0 for the root.
     pub depth: usize,
@@ -16,16 +16,16 @@ pub struct FoundItem {
     pub tag: TtlvTag,
     /// Its type.
     pub typ: TtlvType,
-    /// The length of its value that its header states, in bytes, without padding.
+    /// The length of its value as the header states it, in bytes, without padding.
     pub length: u32,
 }
 
-/// A form in which a caller keeps the items that are found.
+/// A type that a caller stores found items as. [`FoundItem`] stores all of an item.
 pub trait KeepItem: Copy {
-    /// The form of an item.
+    /// The stored form of an item.
     ghost kept: { AnItem → Self };
 
-    /// An item in this form.
+    /// Converts an item to its stored form.
     fn keep(item: FoundItem) -> Self
         ensures { result ≡ kept item };
 }
@@ -38,7 +38,7 @@ impl KeepItem for FoundItem {
     }
 }
 
-/// What is wrong with bytes as one whole message.
+/// Why bytes are not one whole well-formed message.
 #[derive(Clone, Copy, Debug, PartialEq, Eq)]
 pub enum FaultKind {
     /// The bytes end before the root does, within this item: within its header, or within the value or the
@@ -46,25 +46,25 @@ pub enum FaultKind {
     Cut,
     /// The root is no Structure.
     NoStructure,
-    /// The type's code is that of no type (9.1.1.2).
+    /// The type code is unknown (9.1.1.2).
     UnknownType,
-    /// Fewer than eight bytes are left of the Structure around, and a header takes eight.
+    /// Fewer than eight bytes are left in the enclosing Structure, too few for a header.
     PartialHeader,
-    /// The length is none of a value of the type (9.1.1.3).
+    /// No value of the type has this length (9.1.1.3).
     WrongLength,
-    /// The item goes past the end of the Structure around, its padding counted.
+    /// The item, with its padding, goes past the end of the enclosing Structure.
     Overlong,
-    /// The content is no value of the type: a Boolean that is neither 0 nor 1, a text that is not
+    /// The content is no value of the type: a Boolean that is neither 0 nor 1, or a text that is not
     /// UTF-8 (9.1.1.4).
     InvalidValue,
-    /// Further bytes follow the root.
+    /// More bytes follow the root.
     Surplus,
 }
 
-/// The first fault of bytes, in document order.
+/// The first fault in document order.
 #[derive(Clone, Copy, Debug, PartialEq, Eq)]
 pub struct Fault {
-    /// Where the item that is wrong begins, or the surplus, in bytes from the first.
+    /// The offset of the bad item, or of the first surplus byte, in bytes from the first.
     pub offset: usize,
     /// What is wrong there.
     pub kind: FaultKind,
@@ -75,15 +75,15 @@ pub struct Fault {
 pub struct WalkEnd {
     /// How many items were found, whether or not there was room for them.
     pub count: usize,
-    /// What stopped it, and none where the bytes are one whole message.
+    /// The fault that stopped it; none if the bytes are one whole message.
     pub fault: Option<Fault>,
 }
 
-/// What a step of a walk comes to.
+/// What a step of a walk returns.
 #[derive(Clone, Copy, Debug, PartialEq, Eq)]
 pub enum Step {
     /// The next item.
     Item(FoundItem),
-    /// The end: what stopped the walk, and none where the bytes are one whole message.
+    /// The end, with the fault that stopped the walk; none if the bytes are one whole message.
     End(Option<Fault>),
 }

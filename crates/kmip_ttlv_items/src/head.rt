@@ -1,11 +1,11 @@
-//! The item at a place, judged by what is around it. It takes no memory.
+//! The item at an offset, checked against the structure around it. Nothing is allocated.
 
-ghost use Rattle.std.specs.Prelude.{◌≡◌, ◌<◌, ◌≤◌, ◌+◌, ◌^◌, length, IfOk, IfErr};
+ghost use Rattle.std.specs.Prelude.{◌≡◌, ◌<◌, ◌≤◌, ◌+◌, ◌^◌, length, IfOk, IfErr, IfSome};
 ghost use Rattle.kmip_ttlv_types.specs.declared.typ.TtlvType.TheVariants.{Structure as TheStructure};
 ghost use Rattle.kmip_ttlv_types.specs.ItemTypes.{fixed_length};
 ghost use Rattle.kmip_ttlv_types.specs.Places.{size};
 ghost use Rattle.kmip_ttlv_items.specs.ItemWalks.{has_length, IsWhole, Misfits, RootMisfits};
-ghost use Rattle.kmip_ttlv_items.specs.WalkPlaces.{JudgesValue};
+ghost use Rattle.kmip_ttlv_items.specs.WalkPlaces.{JudgesValue, IsLeafTo, PassesLeaves};
 
 use crate::found::{FaultKind, FoundItem};
 use kmip_ttlv_types::TtlvType;
@@ -13,7 +13,8 @@ use kmip_ttlv_types::places::{
     content_at, fixed_length, is_valid, length_at, size_of, tag_at, type_at,
 };
 
-// Whether a value of this type may have so many bytes.
+// Whether a value of this type may have this length.
+#[inline(always)]
 fn has_length(typ: TtlvType, n: u32) -> bool
     ensures { result ≡ has_length (fixed_length typ) n }
 {
@@ -23,7 +24,8 @@ fn has_length(typ: TtlvType, n: u32) -> bool
     }
 }
 
-// What is wrong with the value of an item that begins at a place and passes no end, if anything is.
+// What is wrong with the value of the item at this offset, which passes no end, if anything is.
+#[inline(always)]
 #[tactic(auto, using(crate::proofs::Spans::own_leaf, crate::proofs::Spans::own_structure))]
 fn value_fault(bytes: &[u8], offset: usize, typ: TtlvType) -> Option<FaultKind>
     requires { offset + 8 ≤ length bytes.now }
@@ -42,8 +44,9 @@ fn value_fault(bytes: &[u8], offset: usize, typ: TtlvType) -> Option<FaultKind>
     None
 }
 
-/// The item that is due at a place within so many structures, the innermost of which ends at `end`, or
-/// what is wrong with it. The bytes may end before the structure does.
+/// The item at this offset, in `depth` structures, the innermost of which ends at `end`; or what is wrong
+/// with it. The bytes may end before the structure does.
+#[inline(always)]
 pub fn item_at(
     bytes: &[u8],
     offset: usize,
@@ -84,7 +87,7 @@ pub fn item_at(
     })
 }
 
-/// The root, which is a Structure whose header the bytes begin with, or what is wrong with it.
+/// The root, which is a Structure whose header is at the start of the bytes; or what is wrong with it.
 #[tactic(auto, using(crate::proofs::Spans::own_structure))]
 pub fn root_of(bytes: &[u8]) -> Result<FoundItem, FaultKind>
     ensures ok { IfOk result (λ root. IsWhole bytes.now 0 (size root.typ root.length) 0 root × (root.typ ≡ TheStructure)
@@ -109,4 +112,38 @@ pub fn root_of(bytes: &[u8]) -> Result<FoundItem, FaultKind>
         typ,
         length,
     })
+}
+
+// The offset behind the leaf at this offset, if it is whole, and valid, and ends by `stop`.
+#[inline(always)]
+fn behind_leaf(bytes: &[u8], offset: usize, stop: usize) -> Option<usize>
+    requires before { offset ≤ stop }
+    requires within { stop ≤ length bytes.now }
+    ensures { IfSome result (λ next. IsLeafTo bytes.now offset stop next) }
+{
+    if stop - offset < 8 {
+        return None;
+    }
+    let typ = type_at(bytes, offset)?;
+    let length = length_at(bytes, offset);
+    let size = size_of(typ, length);
+    if stop - offset < size || !is_valid(typ, content_at(bytes, offset, length)) {
+        return None;
+    }
+    Some(offset + size)
+}
+
+/// The offset behind all whole and valid leaves that follow one another from this offset on, in a structure
+/// that ends at `end`.
+pub fn behind_leaves(bytes: &[u8], offset: usize, end: usize) -> usize
+    requires before { offset ≤ end }
+    requires within { offset ≤ length bytes.now }
+    ensures { PassesLeaves bytes.now end offset result }
+{
+    let stop = end.min(bytes.len());
+    let mut at = offset;
+    'leaves: while let Some(next) = behind_leaf(bytes, at, stop) {
+        at = next;
+    }
+    at
 }

@@ -1,11 +1,12 @@
-//! The items of a message, found by a walk without a shape, and whether bytes are one whole message.
+//! Lists the items of any bytes without a shape, and checks whether the bytes are one whole message.
 //!
-//! `walk_items` goes over any bytes once. It lists the items that it meets, and says whether the
-//! bytes are a well-formed message (KMIP 1.0, section 9.1) or what is wrong first, and where. Nesting
-//! takes memory and never stack. What is meant by a message's items and by a fault stands in specs/;
-//! items, trees and places are those of kmip_ttlv_types.
+//! `walk_items` is a single pass over its input. It lists the items that it meets, and returns the first
+//! fault if the bytes are no well-formed message (KMIP 1.0, section 9.1). Nesting costs memory but no
+//! stack. specs/ defines a message's items and its faults; items, trees and offsets are those of
+//! kmip_ttlv_types.
 #![tactic(auto)]
 
+mod ends;
 mod found;
 mod head;
 mod item_walk;

@@ -1,4 +1,4 @@
-//! The items of a message and its first fault, by a walk from its first step to its end.
+//! All items of a message, and its first fault.
 
 ghost use Rattle.std.specs.Prelude.{◌≡◌, IfOk, length, slice_set};
 ghost use Rattle.kmip_ttlv_items.specs.ItemWalks.{Finds, Judges};
@@ -7,7 +7,7 @@ use crate::found::{Fault, FoundItem, KeepItem, Step, WalkEnd};
 use crate::item_walk::ItemWalk;
 use std::alloc::{AllocError, Allocator};
 
-/// Keeps an item at an index of a list, where the list is longer.
+/// Stores an item at an index of a list, if the list is that long.
 fn put<T: KeepItem>(out: &mut [T], index: usize, item: FoundItem)
     ensures { out.new ≡ slice_set out.old index (T.kept item) }
 {
@@ -16,11 +16,18 @@ fn put<T: KeepItem>(out: &mut [T], index: usize, item: FoundItem)
     }
 }
 
-/// Walks over the items of bytes, in document order, up to the first fault, and keeps them in `out`
-/// from its first element on, as far as `out` has room; its other elements stay as they are.
+/// Walks over the items of any bytes, in document order, up to the first fault, and stores them in `out`
+/// from its first element on, as far as there is room. The other elements are unchanged.
 ///
-/// Where no fault is answered the bytes are one whole message, and all its items were met. It takes
-/// memory for the ends of the structures that are open at a time, and refuses for want of it alone.
+/// If there is no fault, the bytes are one whole message, and all its items were found. It allocates only
+/// the ends of the structures that are open at a time; the only error is out of memory.
+///
+/// ```
+/// let bytes = hex::decode(alloc, "4200690100000000")?;
+/// let mut none: [FoundItem; 0] = [];
+/// let end = walk_items(alloc, &bytes, &mut none)?;
+/// assert!(rt; end.count == 1 && end.fault.is_none());
+/// ```
 pub fn walk_items<T: KeepItem, A: Allocator>(
     alloc: A,
     bytes: &[u8],
@@ -41,13 +48,23 @@ pub fn walk_items<T: KeepItem, A: Allocator>(
     }
 }
 
-/// The first fault of bytes as one whole message, in document order, and none where they are one.
+/// Returns the first fault in document order, or none if the bytes are one whole message.
 ///
-/// It refuses for want of memory alone.
+/// The only error is out of memory.
+///
+/// ```
+/// let bytes = hex::decode(alloc, "42006A0B00000000")?;
+/// let fault = Fault { offset: 0, kind: FaultKind::UnknownType };
+/// assert!(rt; find_fault(alloc, &bytes)? == Some(fault));
+/// ```
 pub fn find_fault<A: Allocator>(alloc: A, bytes: &[u8]) -> Result<Option<Fault>, AllocError>
     ensures { IfOk result (λ fault. Judges bytes.now fault) }
 {
-    let mut none: [FoundItem; 0] = [];
-    let end = walk_items(alloc, bytes, &mut none)?;
-    Ok(end.fault)
+    let mut walk = ItemWalk::new(alloc, bytes);
+    'walk: loop {
+        walk.pass_leaves();
+        if let Step::End(fault) = walk.next()? {
+            return Ok(fault);
+        }
+    }
 }

@@ -1,4 +1,4 @@
--- The items of trees fit, and one list of lines is that of one list of trees.
+-- The items of trees fit, and a list of lines is that of one list of trees.
 use Rattle.std.proofs.Common.{◌≡◌, ◌≢◌, inl, inr, ℕ, zero, suc, ◌+◌, ◌<◌, ◌≤◌, ◌^◌, Bool, false, List, [], ◌∷◌, ◌++◌, length, map, Some, refl, ap, sym, subst, ◌∙◌, arith, ◌==◌, if◌then◌else◌}
 use Rattle.std.specs.List.{AllByRecursion}
 use Rattle.std.proofs.lemmas.Bool.{ne_eqb}
@@ -18,7 +18,7 @@ use Rattle.kmip_ttlv_write.specs.FlatWrites.{taken, opened, start, advanced, aft
 use Rattle.kmip_ttlv_write.proofs.Stands.{typ_is, content_len}
 use Rattle.kmip_ttlv_write.proofs.Fitting.{after_append, fit_append}
 
--- items come behind a reach, in a depth, and take so many bytes
+-- items follow in a state and at a depth, and take n bytes
 pub record Comes (lent : List ℕ) (r : Reach) (xs : List GivenItem) (d n : ℕ) : Type 0 where
   pub fit : AllFit lent r xs
   pub depth : d ≤ (after_all r xs).depth
@@ -58,7 +58,7 @@ parts_of lent (x ∷ xs) (l ∷ ls) ms e h =
       rest-in = k.rest-in;
     }
 
--- the content behind an item
+-- the content after an item
 content_at_root : (r : Reach) (typ : TtlvType) (i : GivenItem) → i.depth ≡ 0 → (advanced r typ i).content ≡ 0
 content_at_root r typ i e = ap (λ (d : ℕ). if d == 0 then 0 else r.content + taken typ i.length) e
 
@@ -77,7 +77,7 @@ opened_leaf : (typ : TtlvType) (d : ℕ) → typ ≢ Structure → opened typ d 
 opened_leaf Structure d ne = absurd (ne refl)
 opened_leaf typ d ne = refl
 
--- a leaf comes
+-- a leaf follows
 leaf_comes : (lent : List ℕ) (r : Reach) (x : GivenItem) (d tag : ℕ) (typ : TtlvType) (content text : List ℕ) → IsTreeText (leaf tag typ content) text → line_of lent x ≡ line d tag (code typ) content → IsInside lent x → Room r d (span (leaf tag typ content)) → Comes lent r (x ∷ []) d (span (leaf tag typ content))
 leaf_comes lent r x d tag typ content text h is within room = record {
   fit = (

@@ -1,4 +1,4 @@
--- Items that are written one behind the other.
+-- Items that are written one after the other.
 use Rattle.std.proofs.Common.{◌≡◌, ◌≢◌, ℕ, ◌+◌, ◌-◌, ◌<◌, ◌≤◌, List, [], ◌∷◌, ◌++◌, length, map, get_or, take, drop, replicate, refl, ap, sym, subst, ◌∙◌, arith, append_assoc}
 use Rattle.std.proofs.lemmas.List.{take_all, drop_all, length-map, get_or-map, drop_more, take_more}
 use Rattle.kmip_ttlv_types.specs.declared.typ.TtlvType.{TtlvType}
@@ -37,7 +37,7 @@ module _ (lent : List ℕ) (xs : List GivenItem) (k : ℕ) (b : List ℕ) (p : P
   sized : (after_all (after s.reach x) (drop (k + 1) xs)).size ≡ length b
   sized = ap (λ (ys : List GivenItem). (after_all s.reach ys).size) (sym at) ∙ s.room
 
-  -- the next item can come
+  -- the next item can be written
   pub can_put : CanPut lent x b p
   can_put =
       let f = fits.0 in
@@ -55,7 +55,7 @@ module _ (lent : List ℕ) (xs : List GivenItem) (k : ℕ) (b : List ℕ) (p : P
   pub small_put : Small (taken (typ_of x) x.length) (leave x.depth s.opened)
   small_put = subst (λ (u : TtlvType). Small (taken u x.length) (leave x.depth s.opened)) (sym (typ_is x fits.0.typ fits.0.typed)) (small lent (take k xs) s.opened s.reach s.stand x fits.0)
 
-  -- and came
+  -- and was written
   pub standing_more : (c : List ℕ) (q : Place) → length c ≡ length b → take (k + 1) xs ≡ take k xs ++ x ∷ [] → Holds (entered lent x s.opened) c q → Standing lent xs (k + 1) c q
   standing_more c q len more held = record {
     opened = entered lent x s.opened;
@@ -77,7 +77,7 @@ standing_all lent xs k b c p q le len s held =
     let text : spine (leave 0 o) ≡ c = sym held.front ∙ take_all q.at c (omega (arith, n)) in
     subst (λ (ys : List GivenItem). IsWritten ys lent c) all (subst (IsWritten (take k xs) lent) text (stand_written lent (take k xs) o s.reach s.stand))
 
--- an item of a list in its form
+-- an item of a list, in its form
 pub at_item : {T : Type 0} (f : T → GivenItem) (ts : List T) (k : ℕ) (t : T) (x : GivenItem) → k < length ts → t ≡ get_or ts k t → x ≡ f t → drop k (map f ts) ≡ x ∷ drop (k + 1) (map f ts)
 at_item f ts k t x lt is given =
     let long : k < length (map f ts) = omega (arith, length-map ts f) in
@@ -90,7 +90,7 @@ more_item f ts k t x lt is given =
     let here : get_or (map f ts) k x ≡ x = get_or-map f ts k t x lt ∙ ap f (sym is) ∙ sym given in
     take_more (map f ts) k x long ∙ ap (λ (y : GivenItem). take k (map f ts) ++ y ∷ []) here
 
--- a leaf's pieces, one behind the other
+-- a leaf's pieces, one after the other
 pub leaf_put : (tag : ℕ) (typ : TtlvType) (content a b c d : List ℕ) (n : ℕ) → b ≡ a ++ header tag typ (length content) → c ≡ b ++ content → d ≡ c ++ replicate n 0 → n ≡ pad_len (length content) → d ≡ a ++ leaf_bytes tag typ content
 unfolding leaf_bytes
 leaf_put tag typ content a b c d n first second third is =
@@ -103,7 +103,7 @@ leaf_size lent typ i ne v =
     let n = content_len lent i v.inside in
     omega (arith, leaf_len i.tag typ (given_content lent i), padding_is typ i.length ne, ap pad_len n, n)
 
--- what comes behind the structures that ended
+-- what follows the structures that ended
 pub can_take : (lent : List ℕ) (i : GivenItem) (b c : List ℕ) (p q : Place) (typ : TtlvType) → (h : CanPut lent i b p) → h.typ ≡ typ → length c ≡ length b → Holds (leave i.depth h.opened) c q → CanTake (taken typ i.length) c q
 can_take lent i b c p q typ h is len held =
     subst (λ (t : TtlvType). CanTake (taken t i.length) c q) is
@@ -114,7 +114,7 @@ can_take lent i b c p q typ h is len held =
       room = omega (arith, h.room, len, held_len h.opened b p h.holds, held_len (leave i.depth h.opened) c q held, (closes_by (depth_of h.opened - i.depth) h.opened).long);
     }
 
--- what is entered, by the type
+-- what is added, by the type
 pub entered_leaf : (typ : TtlvType) (lent : List ℕ) (i : GivenItem) (o : Opened) → typ ≢ Structure → entered_as typ lent i o ≡ add (leaf i.tag typ (given_content lent i)) o
 entered_leaf Structure lent i o ne = absurd (ne refl)
 entered_leaf typ lent i o ne = refl

@@ -1,4 +1,4 @@
--- Items that fit one behind the other.
+-- Items that fit, one after the other.
 use Rattle.std.proofs.Common.{◌≡◌, ◌≢◌, inl, inr, ℕ, ◌≤◌, true, false, List, [], ◌∷◌, ◌++◌, take, Some, None, refl, ap, sym, subst, ◌∙◌, arith}
 use Rattle.std.proofs.lemmas.List.{take-append-drop}
 use Rattle.kmip_ttlv_types.specs.declared.typ.TtlvType.{TtlvType}
@@ -15,7 +15,7 @@ use Rattle.kmip_ttlv_write.specs.GivenItems.{given_content}
 use Rattle.kmip_ttlv_write.specs.FlatWrites.{start, advanced, typ_of, after, after_all, HasValue, HasRoom, Fits, AllFit, Misfits, IsTooLong, IsFirstBad}
 use Rattle.kmip_ttlv_write.proofs.Stands.{content_len}
 
--- one behind others
+-- one after others
 pub after_append : (r : Reach) (xs ys : List GivenItem) → after_all r (xs ++ ys) ≡ after_all (after_all r xs) ys
 after_append r [] ys = refl
 after_append r (x ∷ xs) ys = after_append (after r x) xs ys
@@ -36,12 +36,12 @@ few_by r typ i le few = omega arith
 pub few_more : (lent : List ℕ) (r : Reach) (i : GivenItem) → Fits lent r i → r.depth ≤ r.size → (after r i).depth ≤ (after r i).size
 few_more lent r i f few = few_by r (typ_of i) i f.depth few
 
--- what comes only adds bytes
+-- further items only add bytes
 pub size_grows : (r : Reach) (xs : List GivenItem) → r.size ≤ (after_all r xs).size
 size_grows r [] = omega arith
 size_grows r (x ∷ xs) = omega (arith, size_grows (after r x) xs)
 
--- what is wrong with an item is wrong
+-- an item that has room is not too long
 no_room : (r : Reach) (typ : TtlvType) (i : GivenItem) → HasRoom r typ i → IsTooLong r typ i TooLong → ⊥
 no_room r typ i room (inl long) = omega (arith, room.content, long)
 no_room r typ i room (inr long) = omega (arith, room.total, long)
@@ -69,7 +69,7 @@ not_both lent r i Outside f m = let v = value_of lent r i f m.0 m.1.typed m.2 in
 not_both lent r i InvalidValue f m = let v = value_of lent r i f m.0 m.1.typed m.2 in let k : true ≡ false = sym v.valid ∙ m.3.2 in absurd cc
 not_both lent r i TooLong f m = no_room r m.0 i (room_of lent r i f m.0 m.1.typed) m.3
 
--- where there is a first bad item, not all fit
+-- if there is a first bad item, not all fit
 pub not_all : (lent : List ℕ) (xs : List GivenItem) (bad : BadItem) → IsFirstBad xs lent bad → AllFit lent start xs → ⊥
 not_all lent xs bad b h =
     let parts : xs ≡ take bad.index xs ++ (b.item ∷ b.rest) = sym (take-append-drop bad.index xs) ∙ ap (λ (s : List GivenItem). take bad.index xs ++ s) b.there in

@@ -1,4 +1,4 @@
--- A buffer that holds what was written, when a structure ends or begins, or a leaf comes.
+-- A buffer with what was written, when a structure ends or begins, or a leaf is written.
 use Rattle.std.proofs.Common.{◌≡◌, ℕ, ◌+◌, ◌-◌, ◌*◌, ◌<◌, ◌≤◌, ◌^◌, List, ◌++◌, length, take, drop, refl, ap, sym, subst, ◌∙◌, arith, append-nil, length-append}
 use Rattle.std.proofs.lemmas.List.{length-take-le, length-drop}
 use Rattle.std.specs.Int.{w32, to_be_bytes}
@@ -12,7 +12,7 @@ use Rattle.kmip_ttlv_write.specs.OpenStructures.{Opened, outside, within, depth_
 use Rattle.kmip_ttlv_write.proofs.Opens.{add_spine, add_depth, add_top, since_more, since_least, add_since, close_since, leave_more, leave_none}
 use Rattle.kmip_ttlv_write.proofs.Patches.{lead, patched, length_read}
 
--- a place by its parts
+-- a place from its parts
 abbrev pub place : ℕ → ℕ → ℕ → Place
 place at top depth = record { at = at; top = top; depth = depth }
 
@@ -29,7 +29,7 @@ spine_len a tag done =
     omega (arith, length-append (spine a) (h ++ bytes_below done), length-append h (bytes_below done))
 
 module _ (b : List ℕ) (p : Place) (a : Opened) (tag : ℕ) (done : Trees) (h : Holds (within a tag done) b p) where
-  -- where the innermost structure lies
+  -- where the content of the innermost structure ends
   pub at_is : p.at ≡ p.top + 8 + length (bytes_below done)
   at_is = omega (arith, held_len (within a tag done) b p h, spine_len a tag done, h.top)
 
@@ -44,7 +44,7 @@ module _ (b : List ℕ) (p : Place) (a : Opened) (tag : ℕ) (done : Trees) (h :
   link_before (outside us) = omega arith
   link_before (within c t us) = omega (arith, spine_len c t us)
 
-  -- the field has how far it is from the one around
+  -- the length field holds the distance from the structure around
   pub link_at : length_at b p.top ≡ link a
   link_at =
       length_read b (spine a) (lead tag Structure) (to_be_bytes w32 (link a)) (bytes_below done) p.top p.at (sym h.top) refl refl at_is h.front (link a) (link_small a h.small) refl
@@ -95,7 +95,7 @@ pub close_held : (b c : List ℕ) (p : Place) (n : ℕ) → 0 < p.depth → n �
 close_held b c p n some n-is is (outside done) h = absurd (omega (arith, h.depth, some))
 close_held b c p n some n-is is (within a tag done) h = node_held b p a tag done h c n (omega (arith, n-is, at_is b p a tag done h)) is
 
--- what a further header is linked by
+-- the distance that a further header states
 pub link_is : (b : List ℕ) (p : Place) (o : Opened) → Holds o b p → 0 < p.depth → (link o ≡ p.at - p.top) × (p.top ≤ p.at)
 link_is b p (outside done) h some = absurd (omega (arith, h.depth, some))
 link_is b p (within a tag done) h some = (omega (arith, at_is b p a tag done h), omega (arith, at_is b p a tag done h))
@@ -126,7 +126,7 @@ small_added : (o : Opened) (t : Tree) (n : ℕ) → n ≡ length (bytes t) → S
 small_added (outside done) t n is small = omega arith
 small_added (within a tag done) t n is small = omega (arith, add_since t a tag done, since_more 0 n n a tag done (omega arith), is, small)
 
--- a leaf comes
+-- a leaf is written
 pub leaf_held : (b c : List ℕ) (p : Place) (q n tag : ℕ) (typ : TtlvType) (content : List ℕ) (o : Opened) → Holds o b p → Small n o → n ≡ length (leaf_bytes tag typ content) → q ≤ length c → take q c ≡ take p.at b ++ leaf_bytes tag typ content → Holds (add (leaf tag typ content) o) c (place q p.top p.depth)
 leaf_held b c p q n tag typ content o h small is room front =
     let t = leaf tag typ content in
@@ -138,25 +138,25 @@ leaf_held b c p q n tag typ content o h small is room front =
       small = small_added o t n is small;
     }
 
--- nothing is held
+-- nothing is written yet
 pub holds_none : (b : List ℕ) → Holds (outside no_trees) b (place 0 0 0)
 holds_none b = record { room = omega arith; front = refl; depth = refl; top = tt; small = omega arith }
 
--- one structure more is left
+-- one structure ends before the others
 pub leave_held : (d : ℕ) (o : Opened) → d < depth_of o → leave d (close_one o) ≡ leave d o
 leave_held d o lt = leave_more d o lt
 
--- some structures ended, and others are still to
+-- some structures have ended, and others still have to
 pub record Left (d : ℕ) (o : Opened) (b : List ℕ) (p : Place) : Type 0 where
   pub now : Opened
   pub held : Holds now b p
   pub same : leave d now ≡ leave d o
 
--- one more ended
+-- one more has ended
 pub left_more : (d : ℕ) (o : Opened) (b c : List ℕ) (p q : Place) → d < p.depth → ((x : Opened) → Holds x b p → Holds (close_one x) c q) → Left d o b p → Left d o c q
 left_more d o b c p q lt closes h = record { now = close_one h.now; held = closes h.now h.held; same = leave_more d h.now (omega (arith, h.held.depth, lt)) ∙ h.same }
 
--- none is to
+-- no more have to
 pub left_all : (d : ℕ) (o : Opened) (b : List ℕ) (p : Place) → p.depth ≤ d → Left d o b p → Holds (leave d o) b p
 left_all d o b p le h = subst (λ (x : Opened). Holds x b p) (sym (leave_none d h.now (omega (arith, h.held.depth, le))) ∙ h.same) h.held
 

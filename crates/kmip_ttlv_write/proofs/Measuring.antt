@@ -1,4 +1,4 @@
--- Items that are judged one behind the other, up to the first that can't be written.
+-- Items that are checked one after the other, up to the first that can't be written.
 use Rattle.std.proofs.Common.{◌≡◌, ℕ, ◌+◌, ◌≤◌, List, [], ◌∷◌, ◌++◌, take, drop, ap, sym, subst, ◌∙◌}
 use Rattle.kmip_ttlv_write.specs.declared.given.GivenItem.{GivenItem}
 use Rattle.kmip_ttlv_write.specs.declared.given.BadItem.{BadItem}
@@ -11,7 +11,7 @@ use Rattle.kmip_ttlv_write.proofs.Completing.{written_fit}
 none_with : (lent : List ℕ) (xs : List GivenItem) (bad : BadItem) → IsFirstBad xs lent bad → HasNone xs lent bad
 none_with lent xs bad first = record { first = first; none = λ out w. not_all lent xs bad first (written_fit xs lent out w) }
 
--- an item is the first that is bad
+-- an item is the first bad one
 pub has_none : (lent : List ℕ) (xs : List GivenItem) (k n : ℕ) (kind : BadKind) (x : GivenItem) (r : Reach) → n ≡ k → AllFit lent start (take k xs) → r ≡ after_all start (take k xs) → drop k xs ≡ x ∷ drop (k + 1) xs → Misfits lent r x kind → HasNone xs lent record { index = n; kind = kind }
 has_none lent xs k n kind x r is fit reach at wrong =
     none_with lent xs record { index = n; kind = kind }

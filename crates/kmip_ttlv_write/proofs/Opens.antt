@@ -1,4 +1,4 @@
--- Structures that are open: what was written and said of them, and what closing one changes.
+-- Open structures: what was written and given of them, and what closing one changes.
 use Rattle.std.proofs.Common.{◌≡◌, ◌≢◌, ℕ, zero, suc, ◌+◌, ◌-◌, ◌<◌, ◌≤◌, ◌^◌, true, List, [], ◌∷◌, ◌++◌, length, replicate, refl, ap, sym, ◌∙◌, arith, append_assoc, append-nil, length-append}
 use Rattle.std.proofs.Math.ListN.{length-replicate}
 use Rattle.kmip_ttlv_types.specs.declared.typ.TtlvType.{TtlvType}
@@ -18,7 +18,7 @@ pub node_len : (t : ℕ) (c : List ℕ) → length (node_bytes t c) ≡ 8 + leng
 unfolding node_bytes
 node_len t c = simp length-append (omega arith)
 
--- a tree behind others: their bytes, and their lines
+-- a tree after others: their bytes, and their lines
 pub below_last : (us : Trees) (t : Tree) → bytes_below (add_last us t) ≡ bytes_below us ++ bytes t
 below_last no_trees t = append-nil (bytes t)
 below_last (tree u us) t = ap (λ (s : List ℕ). bytes u ++ s) (below_last us t) ∙ sym (append_assoc (bytes u) (bytes_below us) (bytes t))
@@ -27,7 +27,7 @@ pub lines_last : (d : ℕ) (us : Trees) (t : Tree) → lines_below d (add_last u
 lines_last d no_trees t = append-nil (lines d t)
 lines_last d (tree u us) t = ap (λ (s : List Line). lines d u ++ s) (lines_last d us t) ∙ sym (append_assoc (lines d u) (lines_below d us) (lines d t))
 
--- each tree's bytes are a text of it
+-- each tree's bytes are an encoding of it
 abbrev pub AllTexts : Trees → Type 0
 AllTexts no_trees = Unit {0}
 AllTexts (tree t ts) = IsTreeText t (bytes t) × AllTexts ts
@@ -79,12 +79,12 @@ leaf_text tag typ c fits ne short valid = (
   },
 )
 
--- the same of all that is done in open structures, whose tags have three bytes
+-- the same of all trees in open structures, whose tags have three bytes
 abbrev pub AllSound : Opened → Type 0
 AllSound (outside done) = AllTexts done
 AllSound (within around tag done) = AllSound around × (tag < 2 ^ 24) × AllTexts done
 
--- what was said so far
+-- the lines so far
 abbrev pub told : Opened → List Line
 told (outside done) = lines_below 0 done
 told (within around tag done) = told around ++ (line (depth_of around) tag 1 [] ∷ lines_below (suc (depth_of around)) done)
@@ -115,7 +115,7 @@ pub add_sound : (t : Tree) (o : Opened) → AllSound o → IsTreeText t (bytes t
 add_sound t (outside done) h k = texts_last done t h k
 add_sound t (within around tag done) h k = (h.0, h.1, texts_last done t h.2 k)
 
--- how far the outermost structure has come
+-- how many bytes there are from the outermost structure on
 pub since_more : (n m k : ℕ) (a : Opened) (tag : ℕ) (done : Trees) → k ≡ n + m → since k (within a tag done) ≡ since n (within a tag done) + m
 since_more n m k (outside us) tag done is = omega (arith, is)
 since_more n m k (within a t us) tag done is =
@@ -134,7 +134,7 @@ add_since t a tag done =
     let k : 0 + 8 + length (bytes_below (add_last done t)) ≡ n + 8 + length (bytes_below done) = omega (arith, below_len done t) in
     ap (λ (x : ℕ). since x a) k ∙ since_more 0 n n a tag done (omega arith)
 
--- the innermost structure is whole
+-- the innermost structure ends
 pub close_told : (o : Opened) → told (close_one o) ≡ told o
 close_told (outside done) = refl
 close_told (within around tag done) = add_told (node tag done) around
@@ -160,7 +160,7 @@ close_length (within around tag done) =
     let h = header tag Structure (link around) in
     ap length (add_spine (node tag done) around) ∙ omega (arith, length-append (spine around) (bytes (node tag done)), node_len tag (bytes_below done), length-append (spine around) (h ++ bytes_below done), length-append h (bytes_below done))
 
--- several are
+-- several end
 pub record Closes (o c : Opened) : Type 0 where
   pub said : told c ≡ told o
   pub less : since 0 c ≤ since 0 o
@@ -185,7 +185,7 @@ by_depth (suc n) o = by_depth n (close_one o) ∙ omega (arith, close_depth o)
 pub leave_depth : (d : ℕ) (o : Opened) → d ≤ depth_of o → depth_of (leave d o) ≡ d
 leave_depth d o le = by_depth (depth_of o - d) o ∙ omega arith
 
--- one after the other
+-- structures end one after the other
 pub leave_more : (d : ℕ) (o : Opened) → d < depth_of o → leave d (close_one o) ≡ leave d o
 leave_more d o lt =
     let k : depth_of o - d ≡ suc (depth_of (close_one o) - d) = omega (arith, close_depth o) in

@@ -15,7 +15,7 @@ lead tag typ = bytes_high_first 3 tag ++ code typ ∷ []
 pub header_parts : (tag : ℕ) (typ : TtlvType) (n : ℕ) → header tag typ n ≡ lead tag typ ++ to_be_bytes w32 n
 header_parts tag typ n = refl
 
--- a number from the four bytes that it is written by
+-- a number from the four bytes that encode it
 number_read : (a b c d n : ℕ) → n < 2 ^ 32 → a ≡ get_or (to_be_bytes w32 n) 0 0 → b ≡ get_or (to_be_bytes w32 n) 1 0 → c ≡ get_or (to_be_bytes w32 n) 2 0 → d ≡ get_or (to_be_bytes w32 n) 3 0 → from_be_bytes w32 (a ∷ b ∷ c ∷ d ∷ []) ≡ n
 number_read a b c d n lt ea eb ec ed = rw (ea, eb, ec, ed) (from_be_bytes-to_be_bytes_4 n lt)
 
@@ -38,14 +38,14 @@ module _ (out s h l d : List ℕ) (top at : ℕ) (s-is : length s ≡ top) (h-is
       let e : out ≡ ((s ++ h) ++ l) ++ (d ++ drop at out) = all ∙ simp append_assoc in
       ap (drop (top + 8)) e ∙ drop_at ((s ++ h) ++ l) (d ++ drop at out) (top + 8) (omega (arith, length-append s h, length-append (s ++ h) l))
 
-  -- the bytes up to there with another length
+  -- the bytes up to this offset, with another length
   pub patched : (k : List ℕ) → length k ≡ 4 → take at (take (top + 4) out ++ (k ++ drop (top + 8) out)) ≡ s ++ ((h ++ k) ++ d)
   patched k k-is =
       let e : (s ++ h) ++ (k ++ (d ++ drop at out)) ≡ (s ++ ((h ++ k) ++ d)) ++ drop at out = simp append_assoc in
       let len : length (s ++ ((h ++ k) ++ d)) ≡ at = omega (arith, length-append s ((h ++ k) ++ d), length-append (h ++ k) d, length-append h k) in
       ap (λ (x : List ℕ). take at (x ++ (k ++ drop (top + 8) out))) front ∙ ap (λ (x : List ℕ). take at ((s ++ h) ++ (k ++ x))) back ∙ ap (take at) e ∙ take_at (s ++ ((h ++ k) ++ d)) (drop at out) at len
 
-  -- the length that stands there
+  -- the length in the header
   pub length_read : (n : ℕ) → n < 2 ^ 32 → l ≡ to_be_bytes w32 n → length_at out top ≡ n
   length_read n lt is =
       number_read (get_or out (top + 4) 0) (get_or out (top + 5) 0) (get_or out (top + 6) 0) (get_or out (top + 7) 0) n lt

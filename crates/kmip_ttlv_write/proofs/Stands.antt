@@ -1,4 +1,4 @@
--- Where writing stands behind items: what was said of them, and how much.
+-- The state after items: what was given, and how many bytes.
 use Rattle.std.proofs.Common.{◌≡◌, ◌≢◌, inl, inr, ℕ, ◌+◌, ◌-◌, ◌<◌, ◌≤◌, ◌^◌, Bool, false, List, [], ◌∷◌, ◌++◌, length, map, drop, Option, Some, None, refl, ap, sym, subst, ◌∙◌, arith, append_assoc, append-nil, length-append, ◌==◌, if◌then◌else◌}
 use Rattle.std.specs.List.{AllByRecursion}
 use Rattle.std.proofs.lemmas.Bool.{ne_eqb}
@@ -16,7 +16,7 @@ use Rattle.kmip_ttlv_write.specs.FlatWrites.{taken, opened, start, advanced, typ
 use Rattle.kmip_ttlv_write.specs.OpenStructures.{Opened, outside, within, depth_of, link, spine, since, add, leave, entered_as, entered, Small}
 use Rattle.kmip_ttlv_write.proofs.Opens.{AllSound, told, texts_all, leaf_text, leaf_len, add_told, add_depth, add_sound, add_spine, since_more, add_since, Closes, closes_by, leave_depth}
 
--- what is known behind items
+-- what is known after items
 pub record Stand (lent : List ℕ) (xs : List GivenItem) (o : Opened) (r : Reach) : Type 0 where
   pub lines : map (line_of lent) xs ≡ told o
   pub inside : AllByRecursion (IsInside lent) xs
@@ -47,7 +47,7 @@ line_leaf lent i t ne e =
     let k : (i.typ == 1) ≡ false = ne_eqb i.typ 1 (leaf_code t i.typ ne e) in
     ap (λ (b : Bool). line i.depth i.tag i.typ (if b then [] else given_content lent i)) k ∙ ap (λ (n : ℕ). line i.depth i.tag n (given_content lent i)) (sym (code_is i.typ t e))
 
--- the content that is there is as long as is said
+-- the content of a leaf has the length that is given
 pub content_len : (lent : List ℕ) (i : GivenItem) → i.offset + 8 + i.length ≤ length lent → length (given_content lent i) ≡ i.length
 content_len lent i le = length-take-le i.length (drop (i.offset + 8) lent) (omega (arith, length-drop (i.offset + 8) lent))
 
@@ -55,11 +55,11 @@ inside_push : (lent : List ℕ) (xs : List GivenItem) (i : GivenItem) → AllByR
 inside_push lent [] i h k = (k, tt)
 inside_push lent (x ∷ xs) i h k = (h.0, inside_push lent xs i h.1 k)
 
--- within a structure an item has a depth
+-- within a structure the depth is not 0
 content_deep : (r : Reach) (typ : TtlvType) (i : GivenItem) → 0 < i.depth → (advanced r typ i).content ≡ r.content + taken typ i.length
 content_deep r typ i lt = let k : (i.depth == 0) ≡ false = ne_eqb i.depth 0 (omega arith) in ap (λ (b : Bool). if b then 0 else r.content + taken typ i.length) k
 
--- the size behind a header
+-- the size after a header
 begun_size : (c : Opened) (tag n : ℕ) → n ≡ length (spine c) → n + 8 ≡ length (spine (within c tag no_trees))
 begun_size c tag n is =
     let h = header tag Structure (link c) in
@@ -75,7 +75,7 @@ module _ (lent : List ℕ) (xs : List GivenItem) (o : Opened) (r : Reach) (s : S
   sound : AllSound (leave i.depth o)
   sound = closes.sound (omega (arith, s.since, s.content)) s.sound
 
-  -- no length gets too long with it
+  -- no length gets too long with the item
   small_by : (c : Opened) → depth_of c ≡ i.depth → since 0 c ≤ r.content + 8 → Small (taken f.typ i.length) c
   small_by (outside done) d le = tt
   small_by (within a tag done) d le =
@@ -139,7 +139,7 @@ module _ (lent : List ℕ) (xs : List GivenItem) (o : Opened) (r : Reach) (s : S
   stand_step =
       subst (λ (t : TtlvType). Stand lent (xs ++ i ∷ []) (entered_as t lent i (leave i.depth o)) (advanced r t i)) (sym (typ_is i f.typ f.typed)) (stand_by f.typ f.typed f.value f.room)
 
--- all of them
+-- all items
 pub stand_all : (lent : List ℕ) (xs ys : List GivenItem) (o : Opened) (r : Reach) → Stand lent xs o r → AllFit lent r ys → (p : Opened) × Stand lent (xs ++ ys) p (after_all r ys)
 stand_all lent xs [] o r s h = (o, subst (λ (zs : List GivenItem). Stand lent zs o r) (sym (append-nil xs)) s)
 stand_all lent xs (y ∷ ys) o r s h =
@@ -161,7 +161,7 @@ stand_written lent xs o r s = by (leave 0 o) (closes_by (depth_of o - 0) o) (lea
       total = omega (arith, k.long, s.size, s.total);
     }
 
--- the bytes of items that fit, and how many they are
+-- the bytes of items that fit, and their number
 pub record Text (xs : List GivenItem) (lent : List ℕ) (n : ℕ) : Type 0 where
   pub text : List ℕ
   pub written : IsWritten xs lent text

@@ -1,4 +1,4 @@
--- One list of lines is that of one list of trees; and the lines of a message's items.
+-- A list of lines is that of one list of trees; and the lines of a message's items.
 use Rattle.std.proofs.Common.{◌≡◌, ◌≢◌, inl, inr, ℕ, suc, ◌+◌, ◌<◌, ◌≤◌, Bool, true, false, List, [], ◌∷◌, ◌++◌, length, map, take, drop, refl, ap, sym, subst, ◌∙◌, arith, append_assoc, append-nil, length-append, ◌==◌, if◌then◌else◌}
 use Rattle.std.specs.List.{AllByRecursion}
 use Rattle.std.proofs.lemmas.Bool.{ne_eqb}
@@ -28,7 +28,7 @@ low_more d no_trees (l ∷ ls) h = omega (arith, h)
 low_more d (tree (leaf tag typ content) ts) r h = omega arith
 low_more d (tree (node tag below) ts) r h = omega arith
 
--- no item of this depth comes first there
+-- the next item isn't of this depth
 low_not : (d : ℕ) (u : Tree) (r s : List Line) → r ≡ lines d u ++ s → IsLow d r → ⊥
 low_not d (leaf tag typ content) [] s e h = absurd cc
 low_not d (node tag below) [] s e h = absurd cc
@@ -38,7 +38,7 @@ low_not d (node tag below) (l ∷ ls) s e h = let k : l ≡ line d tag 1 [] = cc
 same_leaf : (a b : ℕ) (t u : TtlvType) (x y : List ℕ) → a ≡ b → t ≡ u → x ≡ y → leaf a t x ≡ leaf b u y
 same_leaf a b t u x y e f g = ap (λ (n : ℕ). leaf n t x) e ∙ ap (λ (v : TtlvType). leaf b v x) f ∙ ap (λ (c : List ℕ). leaf b u c) g
 
--- a leaf's line is none of a structure
+-- a leaf's line isn't a structure's
 leaf_no_node : (d a b : ℕ) (typ : TtlvType) (content : List ℕ) → is_valid typ content ≡ true → line d a (code typ) content ≡ line d b 1 [] → ⊥
 leaf_no_node d a b typ content valid e = leaf_not typ content valid (code_one typ Structure (ap (λ (l : Line). l.code) e))
 
@@ -72,7 +72,7 @@ one_text xs lent a b v w =
     let same = (trees_one 0 v.trees w.trees a b v.texts w.texts [] [] e tt tt).0 in
     v.canonical ∙ ap bytes_below same ∙ sym w.canonical
 
--- the canonical bytes are a text too, and as long
+-- the canonical bytes are an encoding too, and of the same length
 record Canon (t : Tree) (text : List ℕ) : Type 0 where
   is : IsTreeText t (bytes t)
   len : length (bytes t) ≡ length text
@@ -103,10 +103,10 @@ mutual
       let b = canons ts h.1 h.4 in
       record { are = (a.is, b.are); len = omega (arith, length-append (bytes t) (bytes_below ts), a.len, b.len, ap length h.2, length-append h.0 h.1) }
 
--- what a message's items say of it
-record Tells (w : List ℕ) (xs : List FoundItem) (ls : List Line) : Type 0 where
-  same : map (line_of w) (map given_of xs) ≡ ls
-  inside : AllByRecursion (IsInside w) (map given_of xs)
+-- the lines of a message's items
+pub record Tells (w : List ℕ) (xs : List FoundItem) (ls : List Line) : Type 0 where
+  pub same : map (line_of w) (map given_of xs) ≡ ls
+  pub inside : AllByRecursion (IsInside w) (map given_of xs)
 
 tells_both : (w : List ℕ) (xs ys : List FoundItem) (ls ms : List Line) → Tells w xs ls → Tells w ys ms → Tells w (xs ++ ys) (ls ++ ms)
 tells_both w [] ys ls ms a b = record { same = b.same ∙ ap (λ (s : List Line). s ++ ms) a.same; inside = b.inside }
@@ -156,7 +156,7 @@ module _ (w : List ℕ) where
         (tree_tells p d t h.0 (h.1 ++ rest) le here h.3)
         (trees_tell (p + span t) d ts h.1 rest fits next h.4)
 
-message_tells : (message : List ℕ) (t : Tree) → IsTreeText t message → Tells message (listed 0 0 t) (lines 0 t)
+pub message_tells : (message : List ℕ) (t : Tree) → IsTreeText t message → Tells message (listed 0 0 t) (lines 0 t)
 message_tells message t h = tree_tells message 0 0 t message [] (omega arith) (sym (append-nil message)) h
 
 pub written_back : AreWrittenBack

@@ -18,7 +18,7 @@ AreWrittenBack =
     → (h : Lists message xs)
     → IsWritten (map given_of xs) message (bytes h.message)
 
--- and where it is canonical, as itself
+-- and if it is canonical, as the message itself
 abbrev pub CanonicalStays : Type 0
 CanonicalStays =
     (message : List ℕ) (xs : List FoundItem)
@@ -33,7 +33,7 @@ pub record HasItems (xs : List GivenItem) (lent message : List ℕ) : Type 0 whe
   pub lists : Lists message found
   pub same : map (line_of message) (map given_of found) ≡ map (line_of lent) xs
 
--- what is written of one structure with all that is in it is a whole message with these items
+-- if the items are one structure with everything in it, what is written is a whole message with these items
 abbrev pub AreMessages : Type 0
 AreMessages =
     (xs : List GivenItem) (lent out : List ℕ)

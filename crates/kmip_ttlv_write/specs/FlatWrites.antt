@@ -1,5 +1,5 @@
--- Item by item: whether each can be written behind those before it, what is wrong with the first that can't, and what
--- the calls return.
+-- Item by item: whether each can follow those before it, what is wrong with the first that can't, and what the
+-- calls return.
 use Rattle.std.specs.Prelude.{◌≡◌, ◌≢◌, ◌⊎◌, ℕ, ◌+◌, ◌<◌, ◌≤◌, ◌^◌, ◌==◌, true, false, List, [], ◌∷◌, ◌++◌, length, take, drop}
 use Rattle.std.specs.Prelude.{Some, None, if◌then◌else◌}
 use Rattle.kmip_ttlv_types.specs.declared.typ.TtlvType.{TtlvType}
@@ -23,16 +23,16 @@ abbrev pub taken : TtlvType → ℕ → ℕ
 taken Structure n = 8
 taken typ n = size typ n
 
--- how many structures are open behind an item
+-- how many structures are open after an item
 abbrev pub opened : TtlvType → ℕ → ℕ
 opened Structure depth = depth + 1
 opened typ depth = depth
 
--- where writing stands before the first item
+-- the state before the first item
 abbrev pub start : Reach
 start = record { depth = 0; size = 0; content = 0 }
 
--- and behind an item of this type
+-- the state after an item of this type
 abbrev pub advanced : Reach → TtlvType → GivenItem → Reach
 advanced r typ i = record {
   depth = opened typ i.depth;
@@ -40,11 +40,11 @@ advanced r typ i = record {
   content = if i.depth == 0 then 0 else r.content + taken typ i.length;
 }
 
--- the type of an item, where its code is that of one
+-- the type of an item, if its code is known
 abbrev pub typ_of : GivenItem → TtlvType
 typ_of i = elim (type_of i.typ) [ None ↦ Structure | Some typ ↦ typ ]
 
--- where writing stands behind an item, and behind several
+-- the state after an item, and after several
 abbrev pub after : Reach → GivenItem → Reach
 after r i = advanced r (typ_of i) i
 
@@ -52,7 +52,7 @@ abbrev pub after_all : Reach → List GivenItem → Reach
 after_all r [] = r
 after_all r (x ∷ xs) = after_all (after r x) xs
 
--- a leaf has a value of its type
+-- a leaf has a valid value
 pub record HasValue (lent : List ℕ) (typ : TtlvType) (i : GivenItem) : Type 0 where
   pub short : i.length < 2 ^ 32
   pub inside : i.offset + 8 + i.length ≤ length lent
@@ -68,17 +68,17 @@ MissesValue lent typ i InvalidValue =
     × (is_valid typ (given_content lent i) ≡ false)
 MissesValue lent typ i _ = ⊥
 
--- with it no length passes four bytes, and no offset eight
+-- with the item, every length fits into four bytes, and every offset into eight
 pub record HasRoom (r : Reach) (typ : TtlvType) (i : GivenItem) : Type 0 where
   pub content : (advanced r typ i).content < 2 ^ 32
   pub total : r.size + taken typ i.length < 2 ^ 64
 
--- with it one does
+-- with it, one doesn't
 abbrev pub IsTooLong : Reach → TtlvType → GivenItem → BadKind → Type 0
 IsTooLong r typ i TooLong = (2 ^ 32 ≤ (advanced r typ i).content) ⊎ (2 ^ 64 ≤ r.size + taken typ i.length)
 IsTooLong r typ i _ = ⊥
 
--- an item can be written where writing stands
+-- an item can be written in this state
 pub record Fits (lent : List ℕ) (r : Reach) (i : GivenItem) : Type 0 where
   pub depth : i.depth ≤ r.depth
   pub tag : i.tag < 2 ^ 24
@@ -87,13 +87,13 @@ pub record Fits (lent : List ℕ) (r : Reach) (i : GivenItem) : Type 0 where
   pub value : typ ≢ Structure → HasValue lent typ i
   pub room : HasRoom r typ i
 
--- its depth, its tag and its type are right
+-- its depth, tag and type are right
 pub record HasHeader (r : Reach) (i : GivenItem) (typ : TtlvType) : Type 0 where
   pub depth : i.depth ≤ r.depth
   pub tag : i.tag < 2 ^ 24
   pub typed : type_of i.typ ≡ Some typ
 
--- what is wrong with it there: each kind is for what no kind above it is for
+-- what is wrong with it; each kind is for what no kind above it is for
 abbrev pub Misfits : List ℕ → Reach → GivenItem → BadKind → Type 0
 Misfits lent r i NotInside = r.depth < i.depth
 Misfits lent r i LongTag = (i.depth ≤ r.depth) × (2 ^ 24 ≤ i.tag)
@@ -102,7 +102,7 @@ Misfits lent r i TooLong =
     (typ : TtlvType) × HasHeader r i typ × (typ ≢ Structure → HasValue lent typ i) × IsTooLong r typ i TooLong
 Misfits lent r i kind = (typ : TtlvType) × HasHeader r i typ × (typ ≢ Structure) × MissesValue lent typ i kind
 
--- each of some items can be written, behind those before it
+-- each of some items can follow those before it
 abbrev pub AllFit : List ℕ → Reach → List GivenItem → Type 0
 AllFit lent r [] = Unit {0}
 AllFit lent r (x ∷ xs) = Fits lent r x × AllFit lent (after r x) xs
@@ -115,19 +115,19 @@ pub record IsFirstBad (xs : List GivenItem) (lent : List ℕ) (bad : BadItem) : 
   pub there : drop bad.index xs ≡ item ∷ rest
   pub wrong : Misfits lent (after_all start (take bad.index xs)) item bad.kind
 
--- items have no bytes, and this is the first of them that can't be written
+-- these items have no encoding, and this is the first of them that can't be written
 pub record HasNone (xs : List GivenItem) (lent : List ℕ) (bad : BadItem) : Type 0 where
   pub first : IsFirstBad xs lent bad
   pub none : (out : List ℕ) → IsWritten xs lent out → ⊥
 
--- items were written to the front of a buffer, if it has room for them; it is unchanged from there on
+-- items were written to the front of a buffer, if it has room for them; the rest is unchanged
 pub record FillsFront (xs : List GivenItem) (lent : List ℕ) (len : ℕ) (old new : List ℕ) : Type 0 where
   pub text : List ℕ
   pub written : IsWritten xs lent text
   pub length_is : len ≡ length text
   pub buffer : ((len ≤ length old) × (new ≡ text ++ drop len old)) ⊎ ((length old < len) × (new ≡ old))
 
--- why items were not written to new memory
+-- why no vector with the items was returned
 abbrev pub FailsToWrite : List GivenItem → List ℕ → WriteError → Type 0
 FailsToWrite xs lent (Bad bad) = HasNone xs lent bad
 FailsToWrite xs lent OutOfMemory = Unit {0}

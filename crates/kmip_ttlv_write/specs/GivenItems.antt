@@ -1,4 +1,4 @@
--- Items that are given as a flat list, and the trees that such a list stands for.
+-- Items given as a flat list, and the trees that such a list stands for.
 use Rattle.std.specs.Prelude.{◌≡◌, ◌⊎◌, ℕ, suc, ◌+◌, ◌<◌, ◌≤◌, ◌^◌, ◌==◌, List, [], ◌∷◌, ◌++◌, map, length, take, drop}
 use Rattle.std.specs.Prelude.{if◌then◌else◌}
 use Rattle.std.specs.List.{AllByRecursion}
@@ -11,7 +11,7 @@ use Rattle.kmip_ttlv_write.specs.declared.given.GivenItem.{GivenItem}
 abbrev pub given_of : FoundItem → GivenItem
 given_of i = record { offset = i.offset; depth = i.depth; tag = i.tag; typ = code i.typ; length = i.length }
 
--- what is given of an item, wherever its content lies: of a structure no content
+-- what is given of an item, without the offset of its content; the content of a structure is empty
 pub record Line : Type 0 where
   pub depth : ℕ
   pub tag : ℕ
@@ -22,7 +22,7 @@ pub record Line : Type 0 where
 abbrev pub line : ℕ → ℕ → ℕ → List ℕ → Line
 line depth tag code content = record { depth = depth; tag = tag; code = code; content = content }
 
--- the lines of a tree within so many structures, in document order, and those of several
+-- the lines of a tree at a depth, in document order, and those of several trees
 abbrev mutual
   pub lines : ℕ → Tree → List Line
   lines depth (leaf tag typ content) = line depth tag (code typ) content ∷ []
@@ -32,7 +32,7 @@ abbrev mutual
   lines_below depth no_trees = []
   lines_below depth (tree t ts) = lines depth t ++ lines_below depth ts
 
--- the content of a given leaf, among the lent bytes
+-- the content of a given leaf, in the lent bytes
 abbrev pub given_content : List ℕ → GivenItem → List ℕ
 given_content lent i = take i.length (drop (i.offset + 8) lent)
 
@@ -40,12 +40,12 @@ given_content lent i = take i.length (drop (i.offset + 8) lent)
 abbrev pub line_of : List ℕ → GivenItem → Line
 line_of lent i = line i.depth i.tag i.typ (if i.typ == 1 then [] else given_content lent i)
 
--- the value of a leaf lies among the lent bytes; a structure has none
+-- the value of a leaf is within the lent bytes; a structure has none
 abbrev pub IsInside : List ℕ → GivenItem → Type 0
 IsInside lent i = (i.typ ≡ 1) ⊎ (i.offset + 8 + i.length ≤ length lent)
 
--- the given items are those of some trees, and these are the trees' canonical bytes: leaves have values of their
--- types, tags three bytes and lengths four
+-- the given items are those of these trees, and `out` is the trees' canonical bytes: values are valid for their
+-- types, tags have three bytes and lengths four
 pub record IsWritten (xs : List GivenItem) (lent out : List ℕ) : Type 0 where
   pub trees : Trees
   pub are : map (line_of lent) xs ≡ lines_below 0 trees

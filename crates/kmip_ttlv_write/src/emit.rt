@@ -1,5 +1,5 @@
-//! Writes items that were judged into a buffer of their exact length. It takes no memory: until a structure ends, the
-//! length field of its header holds how far that header is from the one of the structure around it.
+//! Writes items that were checked into a buffer of their exact length. Nothing is allocated: until a structure ends, the
+//! length field of its header holds the distance from the header of the structure around it.
 
 ghost use Rattle.std.specs.Prelude.{◌≡◌, ◌≢◌, ◌+◌, ◌<◌, ◌≤◌, ◌^◌, ◌++◌, length, take, drop, map, replicate};
 ghost use Rattle.std.specs.Int.{w32, to_be_bytes};
@@ -29,7 +29,7 @@ pub struct Place {
     pub depth: usize,
 }
 
-// Puts a piece behind the bytes up to a place, and finds the place behind it.
+// Writes a piece at an offset, and returns the offset after it.
 fn put(out: &mut [u8], at: usize, piece: &[u8]) -> usize
     requires { at + length piece.now ≤ length out.old }
     ensures place { result ≡ at + length piece.now }
@@ -41,7 +41,7 @@ fn put(out: &mut [u8], at: usize, piece: &[u8]) -> usize
     end
 }
 
-// Puts a header.
+// Writes a header.
 fn put_header(out: &mut [u8], at: usize, tag: u32, typ: TtlvType, len: u32) -> usize
     requires { at + 8 ≤ length out.old }
     ensures place { result ≡ at + 8 }
@@ -53,7 +53,7 @@ fn put_header(out: &mut [u8], at: usize, tag: u32, typ: TtlvType, len: u32) -> u
     put(out, at, &[a, b, c, typ.code(), d, e, f, g])
 }
 
-// Puts fewer than eight zeros.
+// Writes fewer than eight zeros.
 fn put_zeros(out: &mut [u8], at: usize, count: usize) -> usize
     requires few { count < 8 }
     requires room { at + count ≤ length out.old }
@@ -64,7 +64,7 @@ fn put_zeros(out: &mut [u8], at: usize, count: usize) -> usize
     put(out, at, &[0; 8][..count])
 }
 
-// Puts a leaf.
+// Writes a leaf.
 fn put_leaf(out: &mut [u8], at: usize, tag: u32, typ: TtlvType, content: &[u8]) -> usize
     requires short { length content.now < 2 ^ 32 }
     requires room { at + 8 + length content.now + pad_len (length content.now) ≤ length out.old }
@@ -78,7 +78,7 @@ fn put_leaf(out: &mut [u8], at: usize, tag: u32, typ: TtlvType, content: &[u8]) 
     put_zeros(out, filled, padding)
 }
 
-// Fills in the length of a structure whose header begins there.
+// Fills in the length of the structure whose header is at this offset.
 fn set_length(out: &mut [u8], top: usize, len: u32)
     requires { top + 8 ≤ length out.old }
     ensures { out.new ≡ take (top + 4) out.old ++ (to_be_bytes w32 len ++ drop (top + 8) out.old) }
@@ -101,7 +101,7 @@ fn close(out: &mut [u8], place: Place) -> Place
     }
 }
 
-// Ends the open structures but so many.
+// Ends open structures until `depth` are left.
 fn leave(out: &mut [u8], from: Place, depth: usize) -> Place
     requires { IsOpen out.old from }
     ensures len { length out.new ≡ length out.old }
@@ -132,7 +132,7 @@ fn begin(out: &mut [u8], place: Place, tag: u32) -> Place
     }
 }
 
-// Puts a leaf of this type where the structures around it are open.
+// Writes a leaf of this type. The structures around it are open.
 fn put_value(out: &mut [u8], lent: &[u8], place: Place, typ: TtlvType, item: GivenItem) -> Place
     requires room { CanTake (size typ item.length) out.old place }
     requires leaf { typ ≢ TheStructure }
@@ -150,7 +150,7 @@ fn put_value(out: &mut [u8], lent: &[u8], place: Place, typ: TtlvType, item: Giv
     }
 }
 
-// Puts an item, where structures that don't contain it end.
+// Ends the structures that don't contain an item, and writes it.
 fn put_item(out: &mut [u8], lent: &[u8], place: Place, item: GivenItem) -> Place
     requires { CanPut lent.now item out.old place }
     ensures len { length out.new ≡ length out.old }
@@ -167,7 +167,7 @@ fn put_item(out: &mut [u8], lent: &[u8], place: Place, item: GivenItem) -> Place
     put_value(out, lent, inner, typ, item)
 }
 
-/// Writes items into a buffer that is as long as their bytes.
+/// Writes items into a buffer of exactly their length.
 pub fn emit<T: GiveItem>(items: &[T], lent: &[u8], out: &mut [u8])
     requires fit { AllFit lent.now start (map T.given items.now) }
     requires room { (after_all start (map T.given items.now)).size ≡ length out.old }

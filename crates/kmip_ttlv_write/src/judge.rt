@@ -1,4 +1,4 @@
-//! Whether an item can be written behind those before it, and where writing stands then. It takes no memory.
+//! Whether an item can follow those before it, and the state after it. Nothing is allocated.
 
 ghost use Rattle.std.specs.Prelude.{◌≡◌, ◌≤◌, IfOk, IfErr, OnOk};
 ghost use Rattle.kmip_ttlv_types.specs.ItemTypes.{type_of, fixed_length};
@@ -9,18 +9,18 @@ use crate::given::{BadKind, GivenItem};
 use kmip_ttlv_types::TtlvType;
 use kmip_ttlv_types::places::{content_at, fixed_length, is_valid, size_of};
 
-/// Where writing stands behind some items.
+/// The state after some items.
 #[derive(Clone, Copy)]
 pub struct Reach {
-    /// How many structures are open: an item in one more can't follow.
+    /// How many structures are open, which is the greatest depth of the next item.
     pub depth: usize,
     /// How many bytes the items take.
     pub size: usize,
-    /// How many of them are the content of the last Structure of depth 0.
+    /// How many of them are content of the last Structure of depth 0.
     pub content: u32,
 }
 
-/// The type of a code.
+/// The type with this code.
 pub fn type_of(code: u32) -> Option<TtlvType>
     ensures { result ≡ type_of code }
 {
@@ -39,7 +39,7 @@ pub fn type_of(code: u32) -> Option<TtlvType>
     }
 }
 
-// Whether a value of this type may have so many bytes.
+// Whether a value of this type may have this length.
 fn has_length(typ: TtlvType, n: u32) -> bool
     ensures { result ≡ has_length (fixed_length typ) n }
 {
@@ -49,7 +49,7 @@ fn has_length(typ: TtlvType, n: u32) -> bool
     }
 }
 
-// Whether a leaf has a value of its type among the lent bytes, or what is wrong with it.
+// Checks that a leaf has a valid value in the lent bytes.
 fn judge_value(lent: &[u8], typ: TtlvType, item: GivenItem) -> Result<(), BadKind>
     ensures ok { OnOk result (HasValue lent.now typ item) }
     ensures err { IfErr result (λ kind. MissesValue lent.now typ item kind) }
@@ -78,7 +78,7 @@ fn taken_by(typ: TtlvType, length: u32) -> usize
     }
 }
 
-// Where writing stands behind an item that takes so many bytes, unless that is too long.
+// The state after an item that isn't too long.
 fn advance(reach: Reach, typ: TtlvType, item: GivenItem) -> Result<Reach, BadKind>
     requires deep { item.depth ≤ reach.depth }
     requires few { reach.depth ≤ reach.size }
@@ -107,7 +107,7 @@ fn advance(reach: Reach, typ: TtlvType, item: GivenItem) -> Result<Reach, BadKin
     })
 }
 
-/// Where writing stands behind an item, or what is wrong with it.
+/// The state after an item, or what is wrong with it.
 pub fn judge(lent: &[u8], reach: Reach, item: GivenItem) -> Result<Reach, BadKind>
     requires { reach.depth ≤ reach.size }
     ensures ok { IfOk result (λ next. Fits lent.now reach item × (next ≡ after reach item)) }

@@ -1,8 +1,8 @@
-//! Laws of written items, on functions without a body.
+//! Laws of written items: contracts of functions without a body.
 
 ghost use Rattle.kmip_ttlv_write.specs.FlatLaws.{HaveOneText, AreWrittenBack, CanonicalStays, AreMessages};
 
-/// Items have one text: whatever is written of the same items is the same.
+/// Items have one encoding: whatever is written of the same items is the same.
 pub fn items_have_one_text()
     ensures { HaveOneText }
 {}
@@ -13,7 +13,7 @@ pub fn a_message_is_written_back()
     ensures canonical { CanonicalStays }
 {}
 
-/// What is written of one Structure with all that is in it is one whole message, and its items are the given ones.
+/// If the items are one Structure with everything in it, what is written is one whole message with these items.
 pub fn what_is_written_is_a_message()
     ensures { AreMessages }
 {}

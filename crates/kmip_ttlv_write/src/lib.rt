@@ -1,9 +1,9 @@
-//! Items, given as a flat list, written as canonical TTLV bytes (KMIP 1.0, section 9.1).
+//! Encodes items, given as a flat list, as canonical TTLV bytes (KMIP 1.0, section 9.1).
 //!
-//! Each item has a depth, a tag, a type, and the place where its content lies among lent bytes, as `walk_items`
-//! of kmip_ttlv_items gives them. `write_items` makes the bytes, `write_into` fills a lent buffer and takes no
-//! memory at all. Lengths of structures are computed; padding is zero. The first item that can't be written is
-//! named, with what is wrong with it. Trees and their canonical bytes are those of kmip_ttlv_types.
+//! Each item has a depth, a tag, a type, and the offset of its content in the caller's bytes, as `walk_items` of
+//! kmip_ttlv_items returns them. `write_items` returns the bytes; `write_into` fills the caller's buffer and never
+//! allocates. Lengths of structures are computed, and padding is zero. If an item can't be written, the error says
+//! which, and why. Trees and their canonical bytes are those of kmip_ttlv_types.
 #![tactic(auto)]
 
 mod emit;

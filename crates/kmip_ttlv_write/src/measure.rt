@@ -1,4 +1,4 @@
-//! How many bytes items take, or the first that can't be written. It takes no memory.
+//! How many bytes items take, or the first that can't be written. Nothing is allocated.
 
 ghost use Rattle.std.specs.Prelude.{◌≡◌, IfOk, IfErr, map};
 ghost use Rattle.kmip_ttlv_write.specs.FlatWrites.{AllFit, after_all, start, HasNone};

@@ -1,4 +1,4 @@
-//! Items written, into a lent buffer or into new memory.
+//! Writes items, into the caller's buffer or into a new vector.
 
 ghost use Rattle.std.specs.Prelude.{◌≡◌, IfOk, IfErr, OnErr, map};
 ghost use Rattle.kmip_ttlv_write.specs.GivenItems.{IsWritten};
@@ -9,13 +9,20 @@ use crate::given::{BadItem, GiveItem, WriteError};
 use crate::measure::measure;
 use std::alloc::Allocator;
 
-/// Writes items as canonical TTLV bytes to the front of `out`, if it has room for all of them, and returns how many bytes
+/// Writes items as canonical TTLV bytes to the front of `out`, if there is room for all of them, and returns how many bytes
 /// they take, in either case. The rest of `out` is unchanged.
 ///
 /// An item belongs to the last Structure before it of one depth less. The value of a leaf is the `length` bytes of `lent`
-/// from its `offset` + 8 on. It takes no memory, and one pass over the items to find their length, and one to write them.
+/// from its `offset` + 8 on. Nothing is allocated: one pass over the items computes their length, and one writes them.
 ///
-/// If an item can't be written, it returns the first, and `out` is unchanged.
+/// If an item can't be written, it returns the first such item, and `out` is unchanged.
+///
+/// ```
+/// let message = [0x42, 0, 0x6A, 1, 0, 0, 0, 0];
+/// let item = GivenItem { offset: 0, depth: 0, tag: 0x42_006A, typ: 1, length: 0 };
+/// let mut out = [0; 8];
+/// assert!(rt; write_into(&[item], b"", &mut out) == Ok(8) && out == message);
+/// ```
 pub fn write_into<T: GiveItem>(items: &[T], lent: &[u8], out: &mut [u8]) -> Result<usize, BadItem>
     ensures ok { IfOk result (λ len. FillsFront (map T.given items.now) lent.now len out.old out.new) }
     ensures err { IfErr result (λ bad. HasNone (map T.given items.now) lent.now bad) }
@@ -28,13 +35,21 @@ pub fn write_into<T: GiveItem>(items: &[T], lent: &[u8], out: &mut [u8]) -> Resu
     Ok(length)
 }
 
-/// Items as canonical TTLV bytes.
+/// Returns items as canonical TTLV bytes.
 ///
 /// An item belongs to the last Structure before it of one depth less. The value of a leaf is the `length` bytes of `lent`
-/// from its `offset` + 8 on. Of what `walk_items` found in a whole message, with the message as `lent`, they are its
-/// canonical bytes: the message itself, if all its padding is zero. It allocates once, as much as the bytes take.
+/// from its `offset` + 8 on. Of the items that `walk_items` found in a whole message, with the message as `lent`, it makes
+/// the message's canonical bytes: the message itself, if its padding is zero. It allocates once, exactly that length.
 ///
-/// Bad with the first item that can't be written; OutOfMemory.
+/// Errors: `Bad` with the first item that can't be written; `OutOfMemory`.
+///
+/// ```
+/// let root = GivenItem { offset: 0, depth: 0, tag: 0x42_0069, typ: 1, length: 0 };
+/// let major = GivenItem { offset: 0, depth: 1, tag: 0x42_006A, typ: 2, length: 4 };
+/// let bytes = write_items(alloc, &[root, major], b"........\0\0\0\x01")?;
+/// let message = hex::decode(alloc, "420069010000001042006A02000000040000000100000000")?;
+/// assert!(rt; bytes.as_slice() == message.as_slice());
+/// ```
 pub fn write_items<T: GiveItem, A: Allocator>(
     alloc: A,
     items: &[T],

@@ -1,6 +1,5 @@
 use Rattle.std.proofs.Common.{rules, arith, ◌≡◌, ◌∙◌, ℕ, ◌<◌, ◌≤◌, ◌^◌, List, length, Some, sym, subst}
-use Rattle.std.specs.Prelude.{reverse}
-use Rattle.std.proofs.lemmas.List.{length-reverse}
+use Rattle.kmip_ttlv_items.specs.Enclosing.{open_ends}
 use Rattle.kmip_ttlv_items.specs.ItemWalks.{IsWhole, Meets, CanStand, WalksTo}
 use Rattle.kmip_ttlv_items.specs.WalkPlaces.{unreached, innermost, Due, within}
 use Rattle.kmip_ttlv_items.proofs.Walks.{first_of, unreached_ne, unreached_met, stands_within, met_walks, ended_inside}
@@ -21,43 +20,42 @@ module _ (w : List ℕ) (p : ℕ) (old new : List ℕ) (some : 0 < p) (is : new 
 
 pub returns-then-offset-eq0-clause-due : goal.returns-then-offset-eq0-clause-due
 returns-then-offset-eq0-clause-due g c =
-    subst (λ (p : ℕ). Due c.args.bytes.now p (reverse c.args.ends.now.items) c.root_due.result) (sym c.if-offset-eq0.true) (c.root_due.ensures (reverse c.args.ends.now.items))
+    subst (λ (p : ℕ). Due c.args.bytes.now p (open_ends c.args.ends.now) c.root_due.result) (sym c.if-offset-eq0.true) (c.root_due.ensures (open_ends c.args.ends.now))
 
 pub returns-in_default-clause-stays : goal.returns-in_default-clause-stays
 returns-in_default-clause-stays g c =
-    stays c.args.bytes.now c.args.offset (reverse c.args.ends.now.items) (reverse c.leave.new.ends.items) (omega arith) c.leave.ensures.ends
+    stays c.args.bytes.now c.args.offset (open_ends c.args.ends.now) (open_ends c.leave.new.self) (omega arith) c.leave.ensures.ends
 
 pub item_at-requires-clause-before : goal.item_at-requires-clause-before
 item_at-requires-clause-before g c =
-    omega (arith, (first c.args.bytes.now c.args.offset (reverse c.args.ends.now.items) (reverse c.leave.new.ends.items) (omega arith) c.leave.ensures.ends c.in-Some.end c.in-Some.ensures.innermost c.requires).0)
+    omega (arith, (first c.args.bytes.now c.args.offset (open_ends c.args.ends.now) (open_ends c.leave.new.self) (omega arith) c.leave.ensures.ends c.in-Some.end c.in-Some.ensures.innermost c.requires).0)
 
 pub item_at-requires-clause-within : goal.item_at-requires-clause-within
 item_at-requires-clause-within g c =
-    (first c.args.bytes.now c.args.offset (reverse c.args.ends.now.items) (reverse c.leave.new.ends.items) (omega arith) c.leave.ensures.ends c.in-Some.end c.in-Some.ensures.innermost c.requires).1
+    (first c.args.bytes.now c.args.offset (open_ends c.args.ends.now) (open_ends c.leave.new.self) (omega arith) c.leave.ensures.ends c.in-Some.end c.in-Some.ensures.innermost c.requires).1
 
 pub returns-in-Ok-clause-stays : goal.returns-in-Ok-clause-stays
 returns-in-Ok-clause-stays g c =
-    stays c.args.bytes.now c.args.offset (reverse c.args.ends.now.items) (reverse c.leave.new.ends.items) (omega arith) c.leave.ensures.ends
+    stays c.args.bytes.now c.args.offset (open_ends c.args.ends.now) (open_ends c.leave.new.self) (omega arith) c.leave.ensures.ends
 
 pub returns-in-Ok-clause-due : goal.returns-in-Ok-clause-due
 returns-in-Ok-clause-due g c =
     let w = c.args.bytes.now in
-    let new = reverse c.leave.new.ends.items in
-    let lies = first w c.args.offset (reverse c.args.ends.now.items) new (omega arith) c.leave.ensures.ends c.in-Some.end c.in-Some.ensures.innermost c.requires in
+    let new = open_ends c.leave.new.self in
+    let lies = first w c.args.offset (open_ends c.args.ends.now) new (omega arith) c.leave.ensures.ends c.in-Some.end c.in-Some.ensures.innermost c.requires in
     let at = first_of new c.in-Some.end c.in-Some.ensures.innermost in
-    let many : c.len.result ≡ length c.leave.new.ends.items = search rules in
-    let deep : c.len.result ≡ length new = many ∙ sym (length-reverse c.leave.new.ends.items) in
+    let deep : c.depth.result ≡ length new = c.depth.ensures in
     let top : c.in-Some.end < 2 ^ 64 = search rules in
     within c.in-Some.end at.0 at.1 (omega arith) lies.0 top (subst (λ (d : ℕ). IsWhole w c.args.offset c.in-Some.end d c.in-Ok.item) deep c.in-Ok.ensures.ok)
 
 pub returns-in-Err-clause-stays : goal.returns-in-Err-clause-stays
 returns-in-Err-clause-stays g c =
-    stays c.args.bytes.now c.args.offset (reverse c.args.ends.now.items) (reverse c.leave.new.ends.items) (omega arith) c.leave.ensures.ends
+    stays c.args.bytes.now c.args.offset (open_ends c.args.ends.now) (open_ends c.leave.new.self) (omega arith) c.leave.ensures.ends
 
 pub returns-in-Err-clause-due : goal.returns-in-Err-clause-due
 returns-in-Err-clause-due g c =
     let w = c.args.bytes.now in
-    let new = reverse c.leave.new.ends.items in
-    let lies = first w c.args.offset (reverse c.args.ends.now.items) new (omega arith) c.leave.ensures.ends c.in-Some.end c.in-Some.ensures.innermost c.requires in
+    let new = open_ends c.leave.new.self in
+    let lies = first w c.args.offset (open_ends c.args.ends.now) new (omega arith) c.leave.ensures.ends c.in-Some.end c.in-Some.ensures.innermost c.requires in
     let at = first_of new c.in-Some.end c.in-Some.ensures.innermost in
     λ xs m. ended_inside w c.args.offset c.in-Some.end at.0 xs c.in-Err.kind (subst (λ (s : List ℕ). WalksTo w c.args.offset s xs) at.1 (met_walks w c.args.offset new xs (omega arith) m)) lies.0 c.in-Err.ensures.err

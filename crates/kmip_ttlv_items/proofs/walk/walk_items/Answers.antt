@@ -1,5 +1,5 @@
 use Rattle.std.proofs.Common.{rules, arith, ◌∙◌, ◌<◌, ◌^◌, [], ◌∷◌, ◌++◌, length, refl, ap, sym, subst, length-append}
-use Rattle.std.specs.Prelude.{reverse}
+use Rattle.kmip_ttlv_items.specs.Enclosing.{open_ends}
 use Rattle.kmip_ttlv_items.specs.Stepping.{Steps, Comes}
 use Rattle.kmip_ttlv_items.proofs.Steps.{overlaid_none, keeps_more}
 use Rattle.kmip_ttlv_items.proofs.Walks.{met_few}
@@ -11,7 +11,7 @@ walk-init g c = record { bytes = c.new-walk.ensures.bytes; keeps = ([], c.new-wa
 pub overflow_add-count : goal.overflow_add-count
 overflow_add-count g c =
     let found = c.walk.invariant.keeps.0 in
-    let few = met_few c.walk.walk.bytes.now c.walk.walk.offset (reverse c.walk.walk.ends.items) found c.walk.invariant.keeps.1 in
+    let few = met_few c.walk.walk.bytes.now c.walk.walk.offset (open_ends c.walk.walk.ends) found c.walk.invariant.keeps.1 in
     let long : length c.args.bytes.now < 2 ^ 64 = search rules in
     omega (arith, few, long, ap length c.walk.invariant.bytes, c.walk.invariant.keeps.2)
 

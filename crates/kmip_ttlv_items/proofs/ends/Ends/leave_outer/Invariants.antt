@@ -1,10 +1,10 @@
 use Rattle.std.proofs.Common.{◌≡◌, length}
 use Rattle.std.specs.Prelude.{reverse}
 use Rattle.kmip_ttlv_items.specs.WalkPlaces.{unreached}
-use Rattle.kmip_ttlv_items.proofs.item_walk.leave.Given as goal
+use Rattle.kmip_ttlv_items.proofs.ends.Ends.leave_outer.Given as goal
 
 abbrev pub invariant-leaving : goal.invariant-leaving
-invariant-leaving g l = unreached l.offset (reverse l.fn.ends.items) ≡ unreached l.offset (reverse l.ends.items)
+invariant-leaving g l = unreached l.offset (reverse l.initial.self.outer.items) ≡ unreached l.offset (reverse l.self.outer.items)
 
 abbrev pub decreases-leaving : goal.decreases-leaving
-decreases-leaving g l = length l.ends.items
+decreases-leaving g l = length l.self.outer.items
