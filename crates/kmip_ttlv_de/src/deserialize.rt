@@ -1,5 +1,5 @@
-//! The trait of users' types that are read. It is beside the readers by a shape, which is how its `read`
-//! reads unless a type has its own.
+//! The traits of types that are decoded: `Decode`, which the calls want, and `Deserialize`, for a type that is decoded by its
+//! shape. Stands on whole messages, in `root`.
 
 ghost use Rattle.std.specs.Prelude.{◌≡◌, IfOk};
 ghost use Rattle.kmip_ttlv_base.specs.Values.{Value, view};
@@ -13,8 +13,29 @@ use kmip_ttlv_base::error::Error;
 use kmip_ttlv_base::shape::{Data, Shape};
 use std::alloc::{AllocError, Allocator};
 
-/// A type whose values are read.
-pub trait Deserialize<A: Allocator + Copy>: Sized + Drop {
+/// A type that is decoded from bytes: what `from_slice` and `from_reader` want.
+///
+/// A type that reads itself implements it by `read_message`, in one line. A type with a shape implements `Deserialize` and
+/// `ByShape`, and has this by them.
+pub trait Decode<A: Allocator + Copy>: Sized + Drop {
+    // The form that the bytes are read by.
+    ghost form: { Form };
+
+    // Whether this is the value for data that the form gives.
+    ghost is_value: { Value → Self → Type 0 };
+
+    /// The value with which the bytes begin: one Structure, padding included (KMIP 1.0, section 9.1). It has
+    /// the errors of `from_slice`, which calls it.
+    fn decode(alloc: A, bytes: &[u8]) -> Result<Self, Error<A>>
+        // Which value comes, or which error and where: unless memory runs out, what the form reads the bytes as.
+        ensures equals { IsReadAs is_value (root_outcome form bytes.now) result };
+}
+
+/// A type that is decoded by its shape, as its `Deserialize` says for each allocator.
+pub trait ByShape: Sized + Drop {}
+
+/// A type that says its shape, and is made of the data that this shape reads.
+pub trait Deserialize<A: Allocator + Copy>: ByShape + Sized + Drop {
     // The shape that the type is read by.
     ghost form: { Form };
 
@@ -30,18 +51,17 @@ pub trait Deserialize<A: Allocator + Copy>: Sized + Drop {
     fn from_data(alloc: A, value: &mut Data<A>) -> Result<Self, AllocError>
         requires { Gives form (view value.old) }
         ensures { IfOk result (λ v. is_value (view value.old) v) };
+}
 
-    /// The value with which the bytes begin: one Structure, padding included (KMIP 1.0, section 9.1). It has
-    /// the errors of `from_slice`, which calls it.
-    ///
-    /// It makes the shape, reads data by it, and makes the value of the data. A type that reads itself
-    /// overrides it by `read_message`: then neither is made, and the result is the same.
-    fn read(alloc: A, bytes: &[u8]) -> Result<Self, Error<A>>
-        // Which value comes, or which error and where: unless memory runs out, what the form reads the bytes as.
-        ensures equals { IsReadAs is_value (root_outcome form bytes.now) result }
-    {
-        let shape = Self::shape(alloc)?;
+/// The shape is made, data is read by it, and the value is made of the data.
+impl<T: ByShape + Deserialize<A>, A: Allocator + Copy> Decode<A> for T {
+    ghost form = { T.form };
+
+    ghost is_value = { T.is_value };
+
+    fn decode(alloc: A, bytes: &[u8]) -> Result<T, Error<A>> {
+        let shape = T::shape(alloc)?;
         let mut data = read_root(alloc, &shape, bytes)?;
-        Ok(Self::from_data(alloc, &mut data)?)
+        Ok(T::from_data(alloc, &mut data)?)
     }
 }

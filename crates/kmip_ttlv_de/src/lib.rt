@@ -1,7 +1,7 @@
 //! Reading values from TTLV bytes by the shape of their type.
 //!
-//! `from_slice` is the entry. It calls `Deserialize::read`, which goes by the shape unless a type has a `read`
-//! of its own, as types that read themselves have. What a shape reads is defined in specs/: `Outcomes` says as one total
+//! `from_slice` is the entry. It calls `Decode::decode`, which goes by the shape for a type that has one; a type that reads
+//! itself has a `decode` of its own. What a shape reads is defined in specs/: `Outcomes` says as one total
 //! function which value comes, or which error and where; `Reads` has one rule for each way to read
 //! from a list of items, and `Begins` says that bytes begin with an item from which a form reads a
 //! value. The two agree (`read_by_rules`).
@@ -30,12 +30,12 @@ mod root;
 mod rows;
 mod variant;
 
-pub use crate::deserialize::Deserialize;
+pub use crate::deserialize::{ByShape, Decode, Deserialize};
 pub use crate::rows::small_messages;
 use kmip_ttlv_base::error::Result;
 use std::alloc::Allocator;
 
-/// The value with which the bytes begin: one Structure, padding included, by the shape of `T`
+/// The value with which the bytes begin: one Structure, padding included, by the form of `T`
 /// (KMIP 1.0, section 9.1). Bytes behind that item are not read.
 ///
 /// Errors without a place:
@@ -66,7 +66,7 @@ use std::alloc::Allocator;
 /// - `Other`: the root's shape is a sequence or an enum; a Structure ends before its fields, or the
 ///   parts of a tuple, are read; an item is too many for a tuple; an item behind the fields has the
 ///   tag of one of them, or the struct allows no other; a number names no variant.
-pub fn from_slice<T: Deserialize<A>, A: Allocator + Copy>(alloc: A, bytes: &[u8]) -> Result<T, A>
+pub fn from_slice<T: Decode<A>, A: Allocator + Copy>(alloc: A, bytes: &[u8]) -> Result<T, A>
     // Which value comes, or which error and where: unless memory runs out, what the form reads the bytes as.
     ensures equals { IsReadAs T.is_value (root_outcome T.form bytes.now) result }
     // What is returned is the value for data with which the bytes begin.
@@ -76,7 +76,7 @@ pub fn from_slice<T: Deserialize<A>, A: Allocator + Copy>(alloc: A, bytes: &[u8]
     // A Structure that is split into items at every depth never ends too early.
     ensures whole { IfErr result (λ e. BeginsWhole bytes.now → sort_of e ≡ early_end → ⊥) }
 {
-    T::read(alloc, bytes)
+    T::decode(alloc, bytes)
 }
 
 /// What a form reads by its rules, that comes of the bytes, and nothing else.

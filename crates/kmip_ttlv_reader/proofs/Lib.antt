@@ -18,3 +18,5 @@ pub mod Structures
 pub mod TableLemmas
 pub mod Cuts
 pub mod ChosenLemmas
+mod HeldRows
+mod PartLemmas

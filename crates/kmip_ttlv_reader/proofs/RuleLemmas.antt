@@ -3,7 +3,8 @@ use Rattle.std.proofs.Common.{◌≡◌, ℕ, List, [], ◌∷◌, ◌++◌, Boo
 use Rattle.std.specs.List.{last_or, list_any, slice_split}
 use Rattle.std.specs.Str.{bytes_eq, trim}
 use Rattle.std.specs.Ordering.{is_eq, nat_cmp}
-use Rattle.std.specs.BTreeMap.{BTreeMap, get, is_at}
+use Rattle.kmip_ttlv_reader.specs.declared.keep.HeldText.{HeldText}
+use Rattle.kmip_ttlv_reader.specs.HeldTexts.{held_of}
 use Rattle.kmip_ttlv_reader.specs.Keeps.{Keep, HoldsLast, last, with_number}
 use Rattle.kmip_ttlv_types.specs.Names.{tag_of}
 use Rattle.kmip_ttlv_reader.specs.Rules.{in_brackets, member, says}
@@ -27,10 +28,10 @@ pub is_eq-nat_cmp : (a b : ℕ) → is_eq (nat_cmp a b) ≡ (a == b)
 is_eq-nat_cmp a b = search rules
 
 -- where a text takes the place of the one that was held under its tag, the last of each tag is held again
-pub holds_more : {R : Type 0} (now : R → List ℕ × Option ℕ) (m n : BTreeMap ℕ R) (ks : List Keep) (x : Keep) (r : R) → now r ≡ with_number x.text → HoldsLast (λ t. option_map now (get nat_cmp m t)) ks → ((q : ℕ) → get nat_cmp n q ≡ cond (is_at (nat_cmp x.tag) q) (Some r) (get nat_cmp m q)) → HoldsLast (λ t. option_map now (get nat_cmp n t)) (ks ++ x ∷ [])
-holds_more now m n ks x r text held updated t =
-    ap (option_map now) (updated t ∙ ap (λ b. cond b (Some r) (get nat_cmp m t)) (is_eq-nat_cmp x.tag t))
-    ∙ elim (x.tag == t) as (λ b. option_map now (cond b (Some r) (get nat_cmp m t)) ≡ option_map with_number (cond b (Some x.text) (last ks t))) [ true ↦ ap Some text | false ↦ held t ]
+pub holds_more : (m n : ℕ → Option HeldText) (ks : List Keep) (x : Keep) (h : HeldText) → held_of h ≡ with_number x.text → HoldsLast (λ t. option_map held_of (m t)) ks → ((q : ℕ) → n q ≡ cond (x.tag == q) (Some h) (m q)) → HoldsLast (λ t. option_map held_of (n t)) (ks ++ x ∷ [])
+holds_more m n ks x h text held updated t =
+    ap (option_map held_of) (updated t)
+    ∙ elim (x.tag == t) as (λ b. option_map held_of (cond b (Some h) (m t)) ≡ option_map with_number (cond b (Some x.text) (last ks t))) [ true ↦ ap Some text | false ↦ held t ]
     ∙ ap (option_map with_number) (sym (last_more ks x t))
 
 -- what `in` says, where there are brackets, a tag and a text kept under it

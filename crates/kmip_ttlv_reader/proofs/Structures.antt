@@ -3,13 +3,13 @@ use Rattle.std.proofs.Common.{◌≡◌, ℕ, Bool, true, false, List, [], refl,
 use Rattle.kmip_ttlv_types.specs.declared.typ.TtlvType.{TtlvType}
 use Rattle.kmip_ttlv_types.specs.Digits.{tag_text}
 use Rattle.kmip_ttlv_types.specs.Places.{tag_at}
-use Rattle.kmip_ttlv_base.specs.Values.{Value}
-use Rattle.kmip_ttlv_base.specs.Forms.{Fields, Form}
+use Rattle.kmip_ttlv_base.specs.Values.{Value, none_value}
+use Rattle.kmip_ttlv_base.specs.Forms.{Fields, Form, option}
 use Rattle.kmip_ttlv_reader.specs.Keeps.{Keep}
 use Rattle.kmip_ttlv_reader.specs.Reads.{has_tag, is_option, is_struct}
 use Rattle.kmip_ttlv_reader.specs.ReadFaults.{in_struct}
-use Rattle.kmip_ttlv_reader.specs.Spots.{field_there}
-use Rattle.kmip_ttlv_reader.specs.Steps.{Outcome, Reader, gives, ends_early, fails, within, ◌>>=◌}
+use Rattle.kmip_ttlv_reader.specs.Spots.{field_there, optional_there}
+use Rattle.kmip_ttlv_reader.specs.Steps.{Outcome, Reader, gives, reads, ends_early, fails, within, ◌>>=◌}
 use Rattle.kmip_ttlv_reader.specs.Outcomes.{type_there, tag_wanted, field_outcome, first_outcome, opened, all_outcome, fields_outcome}
 use Rattle.kmip_ttlv_reader.proofs.TagNames.{tag_of_number}
 
@@ -44,5 +44,28 @@ field_is tag s read b o k p e plain leaf = rw (plain, leaf) (by_end (p == e))
     by_end : (x : Bool)
         → (if x then fails (in_struct e o (codes "missing field")) else (type_there b p >>= λ t. if has_tag (tag_text tag) (tag_at b p) then read b o k p e else (tag_wanted (tag_text tag) b p t >>= λ u. read b o k p e)))
         ≡ ((if x then fails (in_struct e o (codes "missing field")) else (type_there b p >>= λ t. if has_tag (tag_text tag) (tag_at b p) then gives tt else tag_wanted (tag_text tag) b p t)) >>= λ u. read b o k p e)
+    by_end true = refl
+    by_end false = by_type (type_there b p)
+
+-- a field that may be absent: whether it is there, and then it is read
+pub optional_is : (tag : ℕ) (s : Form) (read : Reader Value) (b : List ℕ) (o : ℕ) (k : List Keep) (p e : ℕ)
+    → field_outcome (tag_text tag) (option s) read b o k p e ≡ (optional_there tag b p e >>= λ there. if there then read b o k p e else reads none_value k p)
+unfolding field_outcome
+optional_is tag s read b o k p e = by_end (p == e)
+  where
+    by_tag : (x : Bool)
+        → (if x then read b o k p e else reads none_value k p) ≡ (gives x >>= λ there. if there then read b o k p e else reads none_value k p)
+    by_tag x = refl
+
+    by_type : (ty : Outcome TtlvType)
+        → (ty >>= λ t. if has_tag (tag_text tag) (tag_at b p) then read b o k p e else reads none_value k p)
+        ≡ ((ty >>= λ t. gives (has_tag (tag_text tag) (tag_at b p))) >>= λ there. if there then read b o k p e else reads none_value k p)
+    by_type (gives t) = by_tag (has_tag (tag_text tag) (tag_at b p))
+    by_type ends_early = refl
+    by_type (fails x) = refl
+
+    by_end : (x : Bool)
+        → (if x then reads none_value k p else (type_there b p >>= λ t. if has_tag (tag_text tag) (tag_at b p) then read b o k p e else reads none_value k p))
+        ≡ ((if x then gives false else (type_there b p >>= λ t. gives (has_tag (tag_text tag) (tag_at b p)))) >>= λ there. if there then read b o k p e else reads none_value k p)
     by_end true = refl
     by_end false = by_type (type_there b p)

@@ -15,3 +15,4 @@ pub mod Spots
 pub mod ListedRows
 pub mod Verdicts
 pub mod Chosen
+pub mod RuleParts

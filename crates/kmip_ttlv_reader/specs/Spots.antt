@@ -1,9 +1,9 @@
 -- Where a cursor is in a structure, and what is read from there.
-use Rattle.std.specs.Prelude.{◌≡◌, ℕ, ◌≤◌, Bool, List, ◌++◌, length, codes, Option, Some, None, Result, Ok, Err}
-use Rattle.std.specs.Prelude.{ℤ, map, ◌==◌, if◌then◌else◌}
+use Rattle.std.specs.Prelude.{◌≡◌, ℕ, ◌≤◌, Bool, false, List, ◌++◌, length, codes, Option, Some, None, Result, Ok, Err}
+use Rattle.std.specs.Prelude.{ℤ, map, [], ◌∷◌, ◌==◌, if◌then◌else◌}
 use Rattle.std.specs.Int.{Width, cast_signed, cast_unsigned}
 use Rattle.kmip_ttlv_types.specs.Digits.{tag_text}
-use Rattle.kmip_ttlv_base.specs.Values.{Value, none_value, some_value, struct_value, Values, no_values, values_of}
+use Rattle.kmip_ttlv_base.specs.Values.{Value, none_value, some_value, seq_value, struct_value, Values, no_values, values_of}
 use Rattle.kmip_ttlv_base.specs.Forms.{Form, Fields, no_fields, newtype, struct}
 use Rattle.kmip_ttlv_reader.specs.declared.failure.Failure.{Failure}
 use Rattle.kmip_ttlv_reader.specs.declared.scope.Scope.{Scope}
@@ -54,6 +54,11 @@ optional_value view (Some x) = some_value (view x)
 abbrev pub values_by : {X : Type 0} → (X → Value) → List X → Values
 values_by view xs = values_of (map view xs)
 
+-- the sequence of these values; none where there is none of them
+abbrev pub optional_values : {X : Type 0} → (X → Value) → List X → Value
+optional_values view [] = none_value
+optional_values view (x ∷ xs) = some_value (seq_value (values_by view (x ∷ xs)))
+
 -- the form of a structure of this tag
 abbrev pub structure_form : ℕ → Fields → Bool → Form
 structure_form tag fields deny = struct (tag_text tag) fields deny
@@ -77,3 +82,8 @@ abbrev pub field_there : ℕ → List ℕ → (owner pos end : ℕ) → Outcome 
 field_there tag b o p e =
     if p == e then fails (in_struct e o (codes "missing field")) else
     (type_there b p >>= λ t. if has_tag (tag_text tag) (tag_at b p) then gives tt else tag_wanted (tag_text tag) b p t)
+
+-- a field that may be absent is there: an item of this tag
+abbrev pub optional_there : ℕ → List ℕ → (pos end : ℕ) → Outcome Bool
+optional_there tag b p e =
+    if p == e then gives false else (type_there b p >>= λ t. gives (has_tag (tag_text tag) (tag_at b p)))

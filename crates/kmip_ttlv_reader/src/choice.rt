@@ -15,7 +15,7 @@ use crate::element::Element;
 use crate::failure::{Step, in_struct};
 use crate::head::{content_there, length_there, length_wanted, type_there, type_wanted};
 use crate::listed::is_number_type;
-use crate::rules::{Verdict, bad_rule, rule};
+use crate::rules::{RuleParts, Verdict, bad_rule, parts_hold, rule};
 use crate::scope::Scope;
 use kmip_ttlv_base::types::TtlvType;
 use std::alloc::Allocator;
@@ -24,6 +24,7 @@ use std::marker::PhantomData;
 /// A rule, as the name of a variant has it.
 pub trait Rule {
     ghost use Rattle.std.specs.Prelude.{ℕ, List};
+    ghost use Rattle.kmip_ttlv_reader.specs.RuleParts.{AreParts};
 
     // What follows `if `.
     ghost condition: { List ℕ };
@@ -31,6 +32,14 @@ pub trait Rule {
     /// The whole name, as `if 0x42005C==0x00000001`.
     fn name() -> &'static str
         ensures { result.now ≡ codes "if " ++ condition };
+
+    /// The rule in parts, if it asks whether the last text under a tag is one of some texts. As it stands there are
+    /// none, and the name is parsed each time the rule is asked.
+    fn parts() -> Option<RuleParts>
+        ensures { AreParts (codes "if " ++ condition) result }
+    {
+        None
+    }
 }
 
 /// The variants of a choice, in their order.
@@ -80,10 +89,10 @@ pub enum OneOf<First, Other> {
     Other(Other),
 }
 
-// Whether the rule holds.
+// Whether the rule of this name holds.
 #[tactic(auto, using(crate::proofs::Steps::fault_is))]
 #[inline(always)]
-fn rule_holds<'b, A: Allocator + Copy>(
+fn named_rule_holds<'b, A: Allocator + Copy>(
     scope: &Scope<'b, A>,
     cursor: &Cursor<'b, A>,
     name: &'static str,
@@ -101,6 +110,22 @@ fn rule_holds<'b, A: Allocator + Copy>(
     }
 }
 
+// Whether the rule holds: by its parts, or else by its name.
+#[inline(always)]
+fn rule_holds<'b, R: Rule, A: Allocator + Copy>(
+    scope: &Scope<'b, A>,
+    cursor: &Cursor<'b, A>,
+    typ: TtlvType,
+) -> Step<bool, A>
+    requires there { cursor.now.pos + 4 ≤ length scope.now.bytes.now }
+    ensures { IsHeld (rule (codes "if " ++ R.condition) cursor.now.kept typ) scope.now.bytes.now cursor.now.pos typ result }
+{
+    match R::parts() {
+        Some(parts) => Ok(parts_hold(parts, cursor.kept_texts())),
+        None => named_rule_holds(scope, cursor, R::name(), typ),
+    }
+}
+
 // The variant, if its rule holds.
 #[inline(always)]
 fn read_variant<'b, R: Rule, E: Element<A>, A: Allocator + Copy>(
@@ -114,7 +139,7 @@ fn read_variant<'b, R: Rule, E: Element<A>, A: Allocator + Copy>(
     ensures within { IfOk result (λ _. IsWithin scope.now cursor.new) }
     ensures further { IfOk result (λ o. IfSome o (λ _. cursor.old.pos + 8 ≤ cursor.new.pos)) }
 {
-    let holds = rule_holds(scope, cursor, R::name(), typ)?;
+    let holds = rule_holds::<R, A>(scope, cursor, typ)?;
     if holds {
         return Ok(Some(E::read_one(scope, cursor)?));
     }

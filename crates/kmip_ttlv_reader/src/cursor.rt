@@ -10,7 +10,7 @@ ghost use Rattle.kmip_ttlv_reader.specs.Reads.{has_tag};
 ghost use Rattle.kmip_ttlv_reader.specs.Outcomes.{outcome, field_outcome, tag_wanted};
 ghost use Rattle.kmip_ttlv_reader.specs.Results.{IsRead, IsStep, IsFailureOf};
 ghost use Rattle.kmip_ttlv_reader.specs.ReadFaults.{in_struct};
-ghost use Rattle.kmip_ttlv_reader.specs.Spots.{Spot, IsWithin, IsReadTo, at, wrapper_name, wrapped_leaf, optional_value, field_there};
+ghost use Rattle.kmip_ttlv_reader.specs.Spots.{Spot, IsWithin, IsReadTo, at, wrapper_name, wrapped_leaf, optional_value, field_there, optional_there};
 ghost use Rattle.kmip_ttlv_reader.specs.ListedRows.{AreListed};
 
 use crate::failure::{Cause, Failure, Step, at_item, in_struct};
@@ -98,6 +98,20 @@ pub fn field_there<A: Allocator + Copy>(scope: &Scope<'_, A>, tag: u32, pos: usi
         tag_is(scope.alloc, tag, scope.bytes, pos, typ)?;
     }
     Ok(())
+}
+
+/// Whether a field that may be absent is there: an item of this tag.
+#[tactic(auto, using(crate::proofs::Steps::failure_then))]
+#[inline(always)]
+pub fn is_there<A: Allocator + Copy>(scope: &Scope<'_, A>, tag: u32, pos: usize) -> Step<bool, A>
+    requires inside { pos ≤ length scope.now.bytes.now }
+    ensures step { IsStep (λ b. b) (optional_there tag scope.now.bytes.now pos scope.now.end) result }
+{
+    if pos == scope.end {
+        return Ok(false);
+    }
+    let _ = type_there(scope.alloc, scope.bytes, pos)?;
+    Ok(is_tag(tag, tag_at(scope.bytes, pos)))
 }
 
 // A leaf within its wrapper.

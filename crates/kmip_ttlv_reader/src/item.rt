@@ -12,7 +12,7 @@ use crate::element::ItemElement;
 use crate::failure::Step;
 use crate::fields::Field;
 use crate::scope::Scope;
-use crate::sequence::{OptionalOf, Sequence, SeveralOf};
+use crate::sequence::{OptionalOf, OptionalSeveralOf, SeveralOf};
 use kmip_ttlv_base::types::TtlvTag;
 use std::alloc::Allocator;
 use std::marker::PhantomData;
@@ -70,8 +70,8 @@ pub type OptionalItem<T, const TAG: u32> = OptionalOf<ItemElement<T>, TAG>;
 /// A field that is a sequence of items of this tag: at least one.
 pub type SeveralItems<T, const TAG: u32> = SeveralOf<ItemElement<T>, TAG>;
 
-/// A field that is a sequence of items of this tag, and may be absent.
-pub type OptionalSeveralItems<T, const TAG: u32> = OptionalOf<Sequence<ItemElement<T>>, TAG>;
+/// A field that is a sequence of items of this tag: as many as there are, also none.
+pub type OptionalSeveralItems<T, const TAG: u32> = OptionalSeveralOf<ItemElement<T>, TAG>;
 
 // A field that is an item of this tag.
 #[inline(always)]

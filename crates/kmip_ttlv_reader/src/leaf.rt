@@ -11,7 +11,6 @@ ghost use Rattle.kmip_ttlv_reader.specs.LeafForms.{form_of_leaf};
 use crate::failure::Step;
 use crate::head::{content_there, inside, tag_at, type_there, type_wanted};
 use crate::keep::KeptTexts;
-use crate::number_text::number_string;
 use crate::scope::Scope;
 use kmip_ttlv_base::shape::Data;
 use kmip_ttlv_base::types::numbers::{number_of_eight, number_of_four};
@@ -103,7 +102,6 @@ fn leaf_data<A: Allocator + Copy>(
 // A text is kept under its item's tag, and so is the text of an Enumeration's number; no other leaf is.
 #[inline(always)]
 fn keep_leaf<'b, A: Allocator + Copy>(
-    alloc: A,
     leaf: Leaf,
     tag: TtlvTag,
     typ: TtlvType,
@@ -117,7 +115,7 @@ fn keep_leaf<'b, A: Allocator + Copy>(
 {
     match leaf {
         Leaf::Text => kept.keep(tag, text_of(content))?,
-        Leaf::U32 => kept.keep_own(tag, number_string(alloc, content)?)?,
+        Leaf::U32 => kept.keep_number(tag, content)?,
         Leaf::I32 | Leaf::I64 | Leaf::Bool | Leaf::Bytes | Leaf::Interval | Leaf::BigInteger => {}
     }
     Ok(())
@@ -149,14 +147,7 @@ pub fn read_leaf<'b, A: Allocator + Copy>(
     let (content, next) = content_there(scope.alloc, scope.bytes, pos, typ)?;
     inside(scope.alloc, scope.bytes, pos, scope.end, typ, next)?;
     let data = leaf_data(scope.alloc, leaf, typ, content)?;
-    keep_leaf(
-        scope.alloc,
-        leaf,
-        tag_at(scope.bytes, pos),
-        typ,
-        content,
-        kept,
-    )?;
+    keep_leaf(leaf, tag_at(scope.bytes, pos), typ, content, kept)?;
     Ok((data, next))
 }
 
@@ -207,13 +198,6 @@ pub fn read_leaf_as<'b, K: LeafValue<A>, A: Allocator + Copy>(
     let (content, next) = content_there(scope.alloc, scope.bytes, pos, item_type)?;
     inside(scope.alloc, scope.bytes, pos, scope.end, item_type, next)?;
     let value = K::decode(scope.alloc, item_type, content)?;
-    keep_leaf(
-        scope.alloc,
-        leaf,
-        tag_at(scope.bytes, pos),
-        item_type,
-        content,
-        kept,
-    )?;
+    keep_leaf(leaf, tag_at(scope.bytes, pos), item_type, content, kept)?;
     Ok((value, next))
 }

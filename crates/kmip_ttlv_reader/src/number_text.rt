@@ -1,11 +1,10 @@
 //! The text that a number is kept as.
 
-ghost use Rattle.std.specs.Prelude.{◌≡◌, ◌<◌, length, true, IfOk, string_bytes};
+ghost use Rattle.std.specs.Prelude.{◌≡◌, ◌<◌, length, true};
 ghost use Rattle.std.specs.Str.{IsAscii};
 ghost use Rattle.std.specs.Fmt.{digit_glyph};
 ghost use Rattle.kmip_ttlv_reader.specs.Reads.{number_text};
 
-use std::alloc::{AllocError, Allocator};
 use std::str;
 
 // A hexadecimal digit in upper case.
@@ -39,11 +38,30 @@ pub fn number_text(content: &[u8]) -> [u8; 10]
     ]
 }
 
-/// The same as a text of its own.
-pub fn number_string<A: Allocator>(alloc: A, content: &[u8]) -> Result<String<A>, AllocError>
-    requires { length content.now ≡ 4 }
-    ensures { IfOk result (λ s. string_bytes s ≡ number_text content.now) }
-{
-    let digits = number_text(content);
-    String::from_str(alloc, unsafe { str::from_utf8_unchecked(&digits) })
+/// The text of a number: `0x` and eight uppercase digits.
+#[derive(Clone, Copy, Drop)]
+pub struct NumberText {
+    digits: [u8; 10],
+    ghost ascii: { IsAscii digits },
+}
+
+impl NumberText {
+    /// That of the number of these four bytes.
+    #[inline(always)]
+    pub fn new(content: &[u8]) -> NumberText
+        requires { length content.now ≡ 4 }
+        ensures { result.digits ≡ number_text content.now }
+    {
+        NumberText {
+            digits: number_text(content),
+        }
+    }
+
+    /// The text.
+    #[inline(always)]
+    pub fn as_str(&self) -> &str
+        ensures { result.now ≡ self.now.digits }
+    {
+        unsafe { str::from_utf8_unchecked(&self.digits) }
+    }
 }

@@ -12,9 +12,11 @@ pub use crate::fields::{Field, FieldList, Four, Leaf, OptionalLeaf};
 pub use crate::item::{Item, OptionalItem, OptionalSeveralItems, ReadItem, SeveralItems};
 pub use crate::leaf::{Leaf as LeafShape, LeafValue};
 pub use crate::listed::Listed;
+pub use crate::rules::RuleParts;
 pub use crate::scope::Scope;
 pub use crate::sequence::{
-    OptionalOf, OptionalSeveral, OptionalSeveralLeaves, Sequence, Several, SeveralLeaves, SeveralOf,
+    OptionalOf, OptionalSeveral, OptionalSeveralLeaves, OptionalSeveralOf, Several, SeveralLeaves,
+    SeveralOf,
 };
 pub use crate::structure::{
     Nested, OptionalNested, ReadNested, ReadStructure, read_form, read_message,

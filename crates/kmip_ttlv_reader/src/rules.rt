@@ -4,10 +4,13 @@
 
 ghost use Rattle.std.specs.Prelude.{◌≡◌, ◌+◌, ◌≤◌, length, IfOk, option_map};
 ghost use Rattle.std.specs.Option.{option_copied};
+ghost use Rattle.std.specs.List.{list_any};
+ghost use Rattle.std.specs.Str.{bytes_eq};
 ghost use Rattle.kmip_ttlv_base.specs.Errors.{mismatch, view_of_serde};
 ghost use Rattle.kmip_ttlv_reader.specs.ReadFaults.{at_item};
 ghost use Rattle.kmip_ttlv_reader.specs.Results.{IsFailureOf};
 ghost use Rattle.kmip_ttlv_reader.specs.Rules.{rule, type_name, sides, in_brackets, equal, at_least, member, says};
+ghost use Rattle.kmip_ttlv_reader.specs.RuleParts.{wants, texts_of};
 ghost use Rattle.kmip_ttlv_reader.specs.Verdicts.{verdict_of, mismatch_of};
 
 use crate::failure::{Cause, Failure, at_item};
@@ -76,6 +79,39 @@ pub fn rule<'n, 'b, A: Allocator + Copy>(
         Some((left, right)) => member(left, right, kept),
         None => Verdict::Refused(RuleError::InvalidVariantMatcherSyntax(name)),
     }
+}
+
+/// A rule in parts: it holds where the last text kept under the tag is one of the texts. So a variant's rule is tested
+/// without its name being parsed.
+#[derive(Clone, Copy)]
+pub struct RuleParts {
+    /// The tag.
+    pub tag: u32,
+    /// The texts.
+    pub texts: &'static [&'static str],
+}
+
+/// Whether a rule in parts holds, by the kept texts.
+#[inline(always)]
+pub fn parts_hold<'b, A: Allocator + Copy>(parts: RuleParts, kept: &KeptTexts<'b, A>) -> bool
+    ensures { says result ≡ wants parts.tag (texts_of parts) kept.now }
+{
+    match kept.last_under(parts.tag) {
+        Some(text) => is_among(text, parts.texts),
+        None => false,
+    }
+}
+
+// Whether a text is one of these.
+fn is_among(text: &str, texts: &[&str]) -> bool
+    ensures { result ≡ list_any (λ one. bytes_eq one.now text.now) texts.now }
+{
+    for one in texts {
+        if *one == text {
+            return true;
+        }
+    }
+    false
 }
 
 // The verdict of a rule that is not refused.

@@ -1,13 +1,13 @@
 //! Sequences, and what may be absent: fields of elements of one kind, which is a type.
 
-ghost use Rattle.std.specs.Prelude.{◌≡◌, ◌+◌, ◌≤◌, length, IfOk};
+ghost use Rattle.std.specs.Prelude.{◌≡◌, ◌+◌, ◌<◌, ◌≤◌, length, IfOk};
 ghost use Rattle.kmip_ttlv_types.specs.Digits.{tag_text};
 ghost use Rattle.kmip_ttlv_base.specs.Values.{seq_value};
 ghost use Rattle.kmip_ttlv_base.specs.Forms.{option, seq};
 ghost use Rattle.kmip_ttlv_reader.specs.Outcomes.{outcome, field_outcome, seq_outcome};
-ghost use Rattle.kmip_ttlv_reader.specs.Spots.{IsWithin, IsReadTo, at, structure_form, structure_value, optional_value, values_by};
+ghost use Rattle.kmip_ttlv_reader.specs.Spots.{IsWithin, IsReadTo, at, structure_form, structure_value, optional_value, optional_values, values_by};
 
-use crate::cursor::{Cursor, field_there, is_tag};
+use crate::cursor::{Cursor, field_there, is_tag, is_there};
 use crate::element::{Element, LeafElement, StructureElement};
 use crate::failure::Step;
 use crate::fields::Field;
@@ -29,6 +29,7 @@ fn read_several<'b, E: Element<A>, A: Allocator + Copy>(
         (at (seq_outcome (outcome E.form)) scope.now cursor.old) result }
     ensures within { IfOk result (λ _. IsWithin scope.now cursor.new) }
     ensures further { IfOk result (λ _. cursor.old.pos + 8 ≤ cursor.new.pos) }
+    ensures some { IfOk result (λ xs. 0 < length xs.items) }
 {
     let first = cursor.pos();
     let mut values = Vec::new(scope.alloc);
@@ -52,6 +53,7 @@ fn read_sequence<'b, E: Element<A>, A: Allocator + Copy>(
         (at (outcome (seq E.form)) scope.now cursor.old) result }
     ensures within { IfOk result (λ _. IsWithin scope.now cursor.new) }
     ensures further { IfOk result (λ _. cursor.old.pos + 8 ≤ cursor.new.pos) }
+    ensures some { IfOk result (λ xs. 0 < length xs.items) }
 {
     read_several::<E, A>(scope, cursor)
 }
@@ -70,6 +72,25 @@ fn read_several_field<'b, E: Element<A>, A: Allocator + Copy>(
 {
     match field_there(scope, tag, cursor.pos()) {
         Ok(()) => read_sequence::<E, A>(scope, cursor),
+        Err(failure) => Err(failure),
+    }
+}
+
+// A field that is a sequence and may be empty: then it is absent.
+#[inline(always)]
+fn read_any_field<'b, E: Element<A>, A: Allocator + Copy>(
+    scope: &Scope<'b, A>,
+    tag: u32,
+    cursor: &mut Cursor<'b, A>,
+) -> Step<Vec<E::Read, A>, A>
+    requires within { IsWithin scope.now cursor.old }
+    ensures read { IsReadTo (λ xs. optional_values E.value xs.items) cursor.new
+        (at (field_outcome (tag_text tag) (option (seq E.form)) (outcome (option (seq E.form)))) scope.now cursor.old) result }
+    ensures within { IfOk result (λ _. IsWithin scope.now cursor.new) }
+{
+    match is_there(scope, tag, cursor.pos()) {
+        Ok(true) => read_sequence::<E, A>(scope, cursor),
+        Ok(false) => Ok(Vec::new(scope.alloc)),
         Err(failure) => Err(failure),
     }
 }
@@ -97,25 +118,6 @@ fn read_optional_field<'b, E: Element<A>, A: Allocator + Copy>(
     Ok(Some(E::read_one(scope, cursor)?))
 }
 
-/// A sequence, as what may be absent: at least one.
-#[derive(Drop)]
-pub struct Sequence<E> {
-    kind: PhantomData<E>,
-}
-
-impl<E: Element<A>, A: Allocator + Copy> Element<A> for Sequence<E> {
-    type Read = Vec<E::Read, A>;
-
-    ghost form = { seq E.form };
-
-    ghost value = { λ xs. seq_value (values_by E.value xs.items) };
-
-    #[inline(always)]
-    fn read_one<'b>(scope: &Scope<'b, A>, cursor: &mut Cursor<'b, A>) -> Step<Vec<E::Read, A>, A> {
-        read_sequence::<E, A>(scope, cursor)
-    }
-}
-
 /// A field that is a sequence of elements of this tag: at least one.
 #[derive(Drop)]
 pub struct SeveralOf<E, const TAG: u32> {
@@ -138,6 +140,31 @@ impl<E: Element<A>, const TAG: u32, A: Allocator + Copy> Field<A> for SeveralOf<
     #[inline(always)]
     fn read<'b>(scope: &Scope<'b, A>, cursor: &mut Cursor<'b, A>) -> Step<Vec<E::Read, A>, A> {
         read_several_field::<E, A>(scope, TAG, cursor)
+    }
+}
+
+/// A field that is a sequence of elements of this tag: as many as there are, also none.
+#[derive(Drop)]
+pub struct OptionalSeveralOf<E, const TAG: u32> {
+    kind: PhantomData<E>,
+}
+
+impl<E: Element<A>, const TAG: u32, A: Allocator + Copy> Field<A> for OptionalSeveralOf<E, TAG> {
+    type Read = Vec<E::Read, A>;
+
+    ghost name = { tag_text TAG };
+
+    ghost form = { option (seq E.form) };
+
+    ghost stands_for = { λ xs. optional_values E.value xs.items };
+
+    fn has_tag(tag: TtlvTag) -> bool {
+        is_tag(TAG, tag)
+    }
+
+    #[inline(always)]
+    fn read<'b>(scope: &Scope<'b, A>, cursor: &mut Cursor<'b, A>) -> Step<Vec<E::Read, A>, A> {
+        read_any_field::<E, A>(scope, TAG, cursor)
     }
 }
 
@@ -169,8 +196,8 @@ impl<E: Element<A>, const TAG: u32, A: Allocator + Copy> Field<A> for OptionalOf
 /// A field that is a sequence of leaves of this tag, each within its wrapper: at least one.
 pub type SeveralLeaves<K, const TAG: u32> = SeveralOf<LeafElement<K, TAG>, TAG>;
 
-/// A field that is a sequence of leaves of this tag, each within its wrapper, and may be absent.
-pub type OptionalSeveralLeaves<K, const TAG: u32> = OptionalOf<Sequence<LeafElement<K, TAG>>, TAG>;
+/// A field that is a sequence of leaves of this tag, each within its wrapper: as many as there are, also none.
+pub type OptionalSeveralLeaves<K, const TAG: u32> = OptionalSeveralOf<LeafElement<K, TAG>, TAG>;
 
 /// A field that is a sequence of structures, of the tag that their type says: at least one.
 #[derive(Drop)]
@@ -197,27 +224,27 @@ impl<T: ReadNested<A>, A: Allocator + Copy> Field<A> for Several<T> {
     }
 }
 
-/// A field that is a sequence of structures, of the tag that their type says, and may be absent.
+/// A field that is a sequence of structures, of the tag that their type says: as many as there are, also none.
 #[derive(Drop)]
 pub struct OptionalSeveral<T> {
     kind: PhantomData<T>,
 }
 
 impl<T: ReadNested<A>, A: Allocator + Copy> Field<A> for OptionalSeveral<T> {
-    type Read = Option<Vec<T, A>>;
+    type Read = Vec<T, A>;
 
     ghost name = { tag_text T.TAG };
 
     ghost form = { option (seq (structure_form T.TAG T.fields T.denies_unknown)) };
 
-    ghost stands_for = { optional_value (λ xs. seq_value (values_by (structure_value T.TAG T.values) xs.items)) };
+    ghost stands_for = { λ xs. optional_values (structure_value T.TAG T.values) xs.items };
 
     fn has_tag(tag: TtlvTag) -> bool {
         is_tag(T::TAG, tag)
     }
 
     #[inline(always)]
-    fn read<'b>(scope: &Scope<'b, A>, cursor: &mut Cursor<'b, A>) -> Step<Option<Vec<T, A>>, A> {
-        read_optional_field::<Sequence<StructureElement<T>>, A>(scope, T::TAG, cursor)
+    fn read<'b>(scope: &Scope<'b, A>, cursor: &mut Cursor<'b, A>) -> Step<Vec<T, A>, A> {
+        read_any_field::<StructureElement<T>, A>(scope, T::TAG, cursor)
     }
 }

@@ -2,7 +2,7 @@
 use Rattle.std.specs.Prelude.{codes, false, string_bytes}
 use Rattle.kmip_ttlv.specs.Values.{Value, Values, no_values, value, newtype_value, i32_value, text_value, struct_value, seq_value}
 use Rattle.kmip_ttlv.specs.Forms.{Form, struct, field, no_fields, newtype, option, seq, int32, text}
-use Rattle.kmip_ttlv.specs.Spots.{optional_value, values_by}
+use Rattle.kmip_ttlv.specs.Spots.{optional_value, optional_values, values_by}
 use Rattle.reading_vectors.specs.declared.selves.Mark.{Mark}
 use Rattle.reading_vectors.specs.declared.selves.Lists.{Lists}
 use Rattle.reading_vectors.specs.declared.selves.Maybes.{Maybes}
@@ -34,7 +34,7 @@ lists_values x =
 abbrev pub lists_value : {A : Type 0} → Lists A → Value
 lists_value x = struct_value (codes "0xAAAAAA") (lists_values x)
 
--- sequences that may be absent
+-- sequences that may be empty
 abbrev pub maybes_form : Form
 maybes_form =
     struct (codes "0xAAAAAA") (
@@ -44,9 +44,9 @@ maybes_form =
 
 abbrev pub maybes_values : {A : Type 0} → Maybes A → Values
 maybes_values x =
-    value (optional_value (λ ms. seq_value (values_by mark_value ms.items)) x.marks) (
-    value (optional_value (λ ts. seq_value (values_by (λ s. newtype_value (codes "Transparent:0xCCCCCC") (text_value (string_bytes s))) ts.items)) x.texts) (
-    value (optional_value (λ ps. seq_value (values_by (λ p. struct_value (codes "0xDDDDDD") (point_values p)) ps.items)) x.points) no_values))
+    value (optional_values mark_value x.marks.items) (
+    value (optional_values (λ s. newtype_value (codes "Transparent:0xCCCCCC") (text_value (string_bytes s))) x.texts.items) (
+    value (optional_values (λ p. struct_value (codes "0xDDDDDD") (point_values p)) x.points.items) no_values))
 
 abbrev pub maybes_value : {A : Type 0} → Maybes A → Value
 maybes_value x = struct_value (codes "0xAAAAAA") (maybes_values x)

@@ -3,7 +3,7 @@
 ghost use Rattle.std.specs.Prelude.{◌≡◌};
 
 use crate::parts::Part;
-use kmip_ttlv::shape::{Data, Deserialize, Shape};
+use kmip_ttlv::shape::{ByShape, Data, Deserialize, Shape};
 use std::alloc::{AllocError, Allocator, Global};
 use std::marker::PhantomData;
 
@@ -14,6 +14,8 @@ pub struct Reading<P, A: Allocator = Global> {
     pub text: String<A>,
     shape: PhantomData<P>,
 }
+
+impl<P, A: Allocator> ByShape for Reading<P, A> {}
 
 impl<P: Part, A: Allocator + Copy> Deserialize<A> for Reading<P, A> {
     ghost form = { P.part };

@@ -2,7 +2,7 @@
 //! Stands on `parts`.
 
 use crate::parts::Part;
-use kmip_ttlv::shape::{Data, Deserialize, Shape};
+use kmip_ttlv::shape::{ByShape, Data, Deserialize, Shape};
 use std::alloc::{AllocError, Global};
 use std::marker::PhantomData;
 
@@ -27,6 +27,8 @@ fn elements(value: &Data) -> &[Data] {
     }
     &[]
 }
+
+impl<P> ByShape for Run<P> {}
 
 impl<P: Part> Deserialize<Global> for Run<P> {
     ghost form = { P.part };

@@ -1,24 +1,23 @@
-//! Types that read themselves, with each kind of field, and what is read of them. One of them has a shape too,
-//! and reads itself where `from_slice` or `from_reader` is called.
+//! Types that read themselves, with each kind of field, and what is read of them. One of them is what `from_slice` and
+//! `from_reader` decode.
 
 ghost use Rattle.std.specs.Prelude.{◌≡◌, true, false, refl, codes};
 ghost use Rattle.kmip_ttlv.specs.Outcomes.{root_outcome};
 ghost use Rattle.kmip_ttlv.specs.ReadResults.{IsReadAs};
-ghost use Rattle.reading_vectors.specs.Selves.{number_fields, point_values, moment_fields, moment_values, whole_form, whole_values, whole_value, closed_form, closed_values, closed_value};
+ghost use Rattle.reading_vectors.specs.Selves.{number_fields, point_values, moment_fields, moment_values, whole_form, whole_values, whole_value, sorts_form, sorts_values, sorts_value, closed_form, closed_values, closed_value};
 ghost use Rattle.reading_vectors.specs.SelvesItems.{mark_form, mark_value, lists_form, lists_values, lists_value, maybes_form, maybes_values, maybes_value};
 ghost use Rattle.reading_vectors.specs.SelvesChoices.{order_form, order_variants, order_value, detail_form, detail_value, task_form, task_values, task_value};
 
 use kmip_ttlv::error::Error;
-use kmip_ttlv::messages::reading::Readable;
-use kmip_ttlv::messages::{reading, shapes};
 use kmip_ttlv::reader::{
-    BareLeaf, Choice, Cursor, Item, ItemElement, Leaf, LeafElement, Listed, Nested, OneOf,
-    OptionalItem, OptionalLeaf, OptionalNested, OptionalSeveral, OptionalSeveralItems,
-    OptionalSeveralLeaves, ReadItem, ReadNested, ReadStructure, Rule, Scope, Several, SeveralItems,
-    SeveralLeaves, Step, StructureElement, Variant, read_choice, read_form, read_message,
+    BareLeaf, BigInteger, Choice, Cursor, Four, Interval, Item, ItemElement, Leaf, LeafElement,
+    Listed, Nested, OneOf, OptionalItem, OptionalLeaf, OptionalNested, OptionalSeveral,
+    OptionalSeveralItems, OptionalSeveralLeaves, ReadItem, ReadNested, ReadStructure, Rule, Scope,
+    Several, SeveralItems, SeveralLeaves, Step, StructureElement, Variant, read_choice, read_form,
+    read_message,
 };
-use kmip_ttlv::shape::{Data, Deserialize, Shape};
-use std::alloc::{AllocError, Allocator, Global};
+use kmip_ttlv::shape::Decode;
+use std::alloc::{Allocator, Global};
 
 /// A structure of a number.
 #[derive(Clone, Copy, Debug, PartialEq, Eq)]
@@ -132,31 +131,13 @@ impl<A: Allocator + Copy> ReadStructure<A> for Closed {
     }
 }
 
-impl Readable for Closed {
-    ghost read_by = { closed_form };
-
-    ghost read_as = { closed_value };
-}
-
-impl<A: Allocator + Copy> Deserialize<A> for Closed {
+impl<A: Allocator + Copy> Decode<A> for Closed {
     ghost form = { closed_form };
 
     ghost is_value = { λ v x. v ≡ closed_value x };
 
-    fn shape(alloc: A) -> Result<Shape<A>, AllocError> {
-        let mut fields = Vec::new(alloc);
-        fields.push(shapes::integer(alloc, "0xBBBBBB", "Transparent:0xBBBBBB")?)?;
-        Ok(shapes::strict_structure("0xAAAAAA", fields))
-    }
-
-    fn from_data(_alloc: A, value: &mut Data<A>) -> Result<Closed, AllocError> {
-        let mut parts = reading::parts::<Self, A>(value);
-        let number = reading::integer::<Self, A>(&mut parts, 0, "Transparent:0xBBBBBB");
-        Ok(Closed { number })
-    }
-
     #[tactic(auto, unfolding(kmip_ttlv_types::specs::Digits::six_digits))]
-    fn read(alloc: A, bytes: &[u8]) -> Result<Closed, Error<A>> {
+    fn decode(alloc: A, bytes: &[u8]) -> Result<Closed, Error<A>> {
         read_message(alloc, bytes)
     }
 }
@@ -219,6 +200,68 @@ impl<A: Allocator + Copy> ReadStructure<A> for Whole<A> {
 #[tactic(auto, unfolding(kmip_ttlv_types::specs::Digits::six_digits))]
 pub fn read_whole<A: Allocator + Copy>(alloc: A, bytes: &[u8]) -> Result<Whole<A>, Error<A>>
     ensures { IsReadAs (λ v x. v ≡ whole_value x) (root_outcome whole_form bytes.now) result }
+{
+    read_message(alloc, bytes)
+}
+
+/// A structure with leaves of the other kinds.
+#[derive(Drop)]
+#[derive_where(Debug, PartialEq)]
+pub struct Sorts<A: Allocator = Global> {
+    pub truth: bool,
+    pub seconds: u32,
+    pub reason: Option<u32>,
+    pub bytes: Vec<u8, A>,
+    pub big: Option<Vec<u8, A>>,
+}
+
+impl<A: Allocator + Copy> ReadStructure<A> for Sorts<A> {
+    ghost TAG = { 11184810 };
+
+    ghost DENIES_UNKNOWN = { false };
+
+    ghost values = { sorts_values };
+
+    type Fields = Four<
+        Leaf<bool, 0xBBBBBB>,
+        Leaf<Interval, 0xCCCCCC>,
+        OptionalLeaf<u32, 0xDDDDDD>,
+        Leaf<Vec<u8, A>, 0xEEEEEE>,
+        (OptionalLeaf<BigInteger<A>, 0xBBBBBB>, ()),
+    >;
+
+    const TAG: u32 = 0xAAAAAA;
+
+    const DENIES_UNKNOWN: bool = false;
+
+    #[tactic(auto, unfolding(kmip_ttlv_types::specs::Digits::six_digits))]
+    fn from_fields(
+        fields: (
+            bool,
+            (
+                Interval,
+                (Option<u32>, (Vec<u8, A>, (Option<BigInteger<A>>, ()))),
+            ),
+        ),
+    ) -> Sorts<A> {
+        let (truth, (seconds, (reason, (bytes, (big, ()))))) = fields;
+        Sorts {
+            truth,
+            seconds: seconds.0,
+            reason,
+            bytes,
+            big: match big {
+                Some(held) => Some(held.0),
+                None => None,
+            },
+        }
+    }
+}
+
+/// A message that is such a structure: what its form reads.
+#[tactic(auto, unfolding(kmip_ttlv_types::specs::Digits::six_digits))]
+pub fn read_sorts<A: Allocator + Copy>(alloc: A, bytes: &[u8]) -> Result<Sorts<A>, Error<A>>
+    ensures { IsReadAs (λ v x. v ≡ sorts_value x) (root_outcome sorts_form bytes.now) result }
 {
     read_message(alloc, bytes)
 }
@@ -300,13 +343,13 @@ pub fn read_lists<A: Allocator + Copy>(alloc: A, bytes: &[u8]) -> Result<Lists<A
     read_message(alloc, bytes)
 }
 
-/// A structure with sequences that may be absent.
+/// A structure with sequences that may be empty.
 #[derive(Drop)]
 #[derive_where(Debug, PartialEq)]
 pub struct Maybes<A: Allocator = Global> {
-    pub marks: Option<Vec<Mark, A>>,
-    pub texts: Option<Vec<String<A>, A>>,
-    pub points: Option<Vec<Point, A>>,
+    pub marks: Vec<Mark, A>,
+    pub texts: Vec<String<A>, A>,
+    pub points: Vec<Point, A>,
 }
 
 impl<A: Allocator + Copy> ReadStructure<A> for Maybes<A> {
@@ -329,12 +372,7 @@ impl<A: Allocator + Copy> ReadStructure<A> for Maybes<A> {
     const DENIES_UNKNOWN: bool = false;
 
     #[tactic(auto, unfolding(kmip_ttlv_types::specs::Digits::six_digits))]
-    fn from_fields(
-        fields: (
-            Option<Vec<Mark, A>>,
-            (Option<Vec<String<A>, A>>, (Option<Vec<Point, A>>, ())),
-        ),
-    ) -> Maybes<A> {
+    fn from_fields(fields: (Vec<Mark, A>, (Vec<String<A>, A>, (Vec<Point, A>, ())))) -> Maybes<A> {
         let (marks, (texts, (points, ()))) = fields;
         Maybes {
             marks,

@@ -2,14 +2,15 @@
 //! rows, and for bytes that are cut or changed as the shape of the same form reads them.
 
 use crate::names::{
-    IfInteger, IfOne, IfText, IfTextAtLeastTwo, One, Seven, TagA, TagB, TagC, TagD,
+    IfInteger, IfOne, IfText, IfTextAtLeastTwo, One, Seven, TagA, TagB, TagC, TagD, TagE,
 };
 use crate::parts::{
-    AnyNumber, Choice, Content, Field, Maybe, NoContent, Number, OneField, Sequence, Structure,
-    Text, TwoVariants, Variant,
+    AnyNumber, BigNumber, Choice, Content, Field, Maybe, NoContent, Number, Octets, OneField,
+    Sequence, Span, Structure, Text, Truth, TwoVariants, Variant,
 };
 use crate::selves::{
-    Detail, Lists, Mark, Maybes, Order, Point, Task, read_lists, read_maybes, read_task,
+    Detail, Lists, Mark, Maybes, Order, Point, Sorts, Task, read_lists, read_maybes, read_sorts,
+    read_task,
 };
 use crate::selves_rows::{NUMBER, POINT, PointShape, TEXT, agree_nearby, check_rows};
 use kmip_ttlv::error::{Error, ErrorKind};
@@ -33,6 +34,19 @@ type MaybesShape = Structure<
         TagB,
         Maybe<Sequence<Number>>,
         Field<TagC, Maybe<Sequence<Text>>, OneField<TagD, Maybe<Sequence<PointShape>>>>,
+    >,
+>;
+
+type SortsShape = Structure<
+    TagA,
+    Field<
+        TagB,
+        Truth,
+        Field<
+            TagC,
+            Span,
+            Field<TagD, Maybe<AnyNumber>, Field<TagE, Octets, OneField<TagB, Maybe<BigNumber>>>>,
+        >,
     >,
 >;
 
@@ -115,27 +129,61 @@ fn lists_are_read(rt: HostRuntime) -> Result<(), Fail> {
     Ok(())
 }
 
+// Whether a message of sequences that may be empty is read as so many marks, texts and points.
+fn are_maybes(alloc: Global, text: &str, wanted: (usize, usize, usize)) -> Result<bool, Fail> {
+    let bytes = hex::decode(alloc, text)?;
+    match read_maybes(alloc, bytes.as_slice()) {
+        Ok(found) => Ok(
+            found.marks.iter().all(|mark| mark.number == 7)
+                && found.texts.iter().all(|text| text.as_str() == "a")
+                && found.points.iter().all(|point| point.number == 3)
+                && (found.marks.len(), found.texts.len(), found.points.len()) == wanted,
+        ),
+        Err(_) => Ok(false),
+    }
+}
+
 #[test]
 fn optional_lists_are_read(rt: HostRuntime) -> Result<(), Fail> {
-    let bytes = hex::decode(rt.alloc(), maybes(rt.alloc())?.as_str())?;
-    let mut marks = Vec::new(rt.alloc());
-    marks.push(Mark { number: 7 })?;
-    let mut texts = Vec::new(rt.alloc());
-    texts.push(String::from_str(rt.alloc(), "a")?)?;
-    texts.push(String::from_str(rt.alloc(), "a")?)?;
-    let mut points = Vec::new(rt.alloc());
-    points.push(Point { number: 3 })?;
-    points.push(Point { number: 3 })?;
-    let wanted = Maybes {
-        marks: Some(marks),
-        texts: Some(texts),
-        points: Some(points),
+    let heap = rt.alloc();
+    assert!(rt; are_maybes(heap, maybes(heap)?.as_str(), (1, 2, 2))?);
+    assert!(rt; are_maybes(heap, "AAAAAA0100000000", (0, 0, 0))?);
+    let text = format!(in heap; "AAAAAA0100000010{TEXT}")?;
+    assert!(rt; are_maybes(heap, text.as_str(), (0, 1, 0))?);
+    let points = format!(in heap; "AAAAAA0100000058{NUMBER}{POINT}{POINT}{POINT}")?;
+    assert!(rt; are_maybes(heap, points.as_str(), (1, 0, 3))?);
+    Ok(())
+}
+
+// Truth, an hour, a vendor's number, two bytes, and the number 257.
+const SORTS: &str =
+    "AAAAAA0100000050BBBBBB06000000080000000000000001CCCCCC0A0000000400000E1000000000\
+DDDDDD05000000048000000100000000EEEEEE0800000002FFFE000000000000BBBBBB04000000080000000000000101";
+
+#[test]
+fn leaves_are_read(rt: HostRuntime) -> Result<(), Fail> {
+    let bytes = hex::decode(rt.alloc(), SORTS)?;
+    let wanted = Sorts {
+        truth: true,
+        seconds: 3600,
+        reason: Some(0x8000_0001),
+        bytes: Vec::from_slice(rt.alloc(), &[0xFF, 0xFE])?,
+        big: Some(Vec::from_slice(rt.alloc(), &[0, 0, 0, 0, 0, 0, 1, 1])?),
     };
-    match read_maybes(rt.alloc(), bytes.as_slice()) {
+    match read_sorts(rt.alloc(), bytes.as_slice()) {
         Ok(found) => assert!(rt; found == wanted),
         Err(_) => return Err(Fail::new("it is not read")),
     }
     Ok(())
+}
+
+#[test]
+fn leaves_are_read_as_the_shape_does(rt: HostRuntime) -> Result<(), Fail> {
+    agree_nearby::<Sorts, SortsShape>(rt.alloc(), SORTS)?;
+    agree_nearby::<Sorts, SortsShape>(
+        rt.alloc(),
+        "AAAAAA0100000028BBBBBB06000000080000000000000000CCCCCC0A0000000400000E1000000000EEEEEE0800000000",
+    )
 }
 
 // Whether the message is read as this task.
@@ -215,7 +263,7 @@ const LISTS: [(&str, &str); 7] = [
     ),
 ];
 
-// Sequences that may be absent.
+// Sequences that may be empty.
 const MAYBES: [(&str, &str); 4] = [
     ("AAAAAA0100000000", "read"),
     (

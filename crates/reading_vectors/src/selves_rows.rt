@@ -9,7 +9,7 @@ use crate::reading::Reading;
 use crate::selves::{Closed, Moment, Point, Whole, read_whole};
 use kmip_ttlv::error::{Error, ErrorKind};
 use kmip_ttlv::reader::{ReadStructure, read_message};
-use kmip_ttlv::shape::Deserialize;
+use kmip_ttlv::shape::Decode;
 use kmip_ttlv::{Config, from_reader, from_slice};
 use kmip_ttlv_memory::BoundedAllocator;
 use std::alloc::{Allocator, Global};
@@ -249,7 +249,7 @@ fn it_reads_what_follows_as_the_shape_does(rt: HostRuntime) -> Result<(), Fail> 
     }
     agree_nearby::<Whole, WholeShape>(
         rt.alloc(),
-        "AAAAAA0100000060BBBBBB02000000040000000700000000EEEEEE0100000010BBBBBB09000000080000000000000009DDDDDD0100000010BBBBBB02000000040000000300000000FFFFFF08000000050102030405000000FFFFFF0100000000",
+        "AAAAAA0100000058BBBBBB02000000040000000700000000EEEEEE0100000010BBBBBB09000000080000000000000009DDDDDD0100000010BBBBBB02000000040000000300000000FFFFFF08000000050102030405000000FFFFFF0100000000",
     )
 }
 
@@ -285,18 +285,18 @@ const CALLS: [(&str, &str); 2] = [
     ),
 ];
 
-fn from_bytes<T: Deserialize<Global>>(alloc: Global, bytes: &[u8]) -> Result<String, Fail> {
+fn from_bytes<T: Decode<Global>>(alloc: Global, bytes: &[u8]) -> Result<String, Fail> {
     let found: Result<T, Error> = from_slice(alloc, bytes);
     error_of(alloc, &found)
 }
 
-fn from_stream<T: Deserialize<Global>>(alloc: Global, bytes: &[u8]) -> Result<String, Fail> {
+fn from_stream<T: Decode<Global>>(alloc: Global, bytes: &[u8]) -> Result<String, Fail> {
     let mut reader = bytes;
     let found: Result<T, Error> = from_reader(alloc, &mut reader, &mut Config::new(alloc));
     error_of(alloc, &found)
 }
 
-fn check_calls<T: Deserialize<Global>>(alloc: Global) -> Result<(), Fail> {
+fn check_calls<T: Decode<Global>>(alloc: Global) -> Result<(), Fail> {
     for row in CALLS {
         let bytes = hex::decode(alloc, row.0)?;
         let found = from_bytes::<T>(alloc, bytes.as_slice())?;

@@ -6,7 +6,7 @@ ghost use Rattle.kmip_ttlv_base.specs.Gives.{IsI32};
 ghost use Rattle.reading_vectors.specs.StreamSamples.{single_form, read_single};
 
 use kmip_ttlv::Config;
-use kmip_ttlv::shape::{Data, Deserialize, FieldShape, Shape};
+use kmip_ttlv::shape::{ByShape, Data, Deserialize, FieldShape, Shape};
 use kmip_ttlv_base::error::{Error, ErrorKind, ErrorLocation, MalformedTtlvError, SerdeError};
 use kmip_ttlv_base::types::{ByteOffset, TtlvType};
 use std::alloc::{AllocError, Allocator};
@@ -21,6 +21,8 @@ pub const MESSAGE: &str = "AAAAAA0100000010BBBBBB02000000040000000300000000";
 pub struct Single {
     pub number: i32,
 }
+
+impl ByShape for Single {}
 
 impl<A: Allocator + Copy> Deserialize<A> for Single {
     ghost form = { single_form };

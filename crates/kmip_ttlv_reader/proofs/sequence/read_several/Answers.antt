@@ -1,4 +1,4 @@
-use Rattle.std.proofs.Common.{◌≡◌, suc, ◌-◌, length, ◌∷◌, ◌++◌, [], ap, ◌∙◌, arith, refl}
+use Rattle.std.proofs.Common.{◌≡◌, ◌<◌, List, suc, ◌-◌, length, ◌∷◌, ◌++◌, [], lit<, ap, ◌∙◌, arith, refl}
 use Rattle.std.proofs.lemmas.Result.{err_from_is_err_and}
 use Rattle.kmip_ttlv_reader.specs.Steps.{gives}
 use Rattle.kmip_ttlv_reader.specs.Outcomes.{outcome, run_outcome, seq_outcome}
@@ -7,6 +7,10 @@ use Rattle.kmip_ttlv_reader.proofs.Steps.{failure_then}
 use Rattle.kmip_ttlv_reader.proofs.Loops.{with_front, more_steps}
 use Rattle.kmip_ttlv_reader.proofs.Items.{item_step, item_fails, item_stops, items_done}
 use Rattle.kmip_ttlv_reader.proofs.sequence.read_several.Goals as goal
+
+longer : {T : Type 0} (xs : List T) (x : T) → 0 < length (xs ++ x ∷ [])
+longer [] x = lit< tt
+longer (y ∷ xs) x = omega arith
 
 pub returns-in_err-value-clause-read : goal.returns-in_err-value-clause-read
 unfolding seq_outcome
@@ -20,7 +24,7 @@ loop-values-init g c =
     let vs : c.push.new.self.items ≡ c.in_ok-value.value ∷ [] = c.in_ok-push.ensures.items ∙ ap (λ l. l ++ c.in_ok-value.value ∷ []) c.new-values.ensures.items in
     let f = c.in_ok-value.ensures.further in
     let w = c.in_ok-value.ensures.within in
-    (length c.args.scope.now.bytes.now, rw (vs, c.in_ok-value.ensures.read) refl, omega (arith, f), omega (arith, f), omega (arith, w), omega (arith, w))
+    (length c.args.scope.now.bytes.now, rw (vs, c.in_ok-value.ensures.read) refl, omega (arith, f), omega (arith, f), omega (arith, w), omega (arith, w), rw vs (lit< tt))
 
 pub returns-in_err-goes_on-clause-read : goal.returns-in_err-goes_on-clause-read
 returns-in_err-goes_on-clause-read g c =
@@ -49,7 +53,7 @@ loop-values-preserved g c =
     let more : n ≡ suc (n - 1) = more_steps (length c.args.scope.now.bytes.now) n c.loop-values.cursor.pos new.pos c.loop-values.invariant.2 f w.1 in
     let step = item_step e.value read n c.args.cursor.now.pos c.loop-values.values.items c.in_ok-value-2.value c.args.scope.now.bytes.now c.args.scope.now.owner c.loop-values.cursor.kept new.kept c.loop-values.cursor.pos new.pos c.args.scope.now.end goes c.in_ok-value-2.ensures.read in
     let fewer = ap (λ m. with_front (values_by e.value (c.loop-values.values.items ++ c.in_ok-value-2.value ∷ [])) (run_outcome m read c.args.cursor.now.pos c.args.scope.now.bytes.now c.args.scope.now.owner new.kept new.pos c.args.scope.now.end)) more in
-    rw vs (n - 1, c.loop-values.invariant.1 ∙ step ∙ fewer, omega (arith, f), omega (arith, f), omega (arith, w), omega (arith, w))
+    rw vs (n - 1, c.loop-values.invariant.1 ∙ step ∙ fewer, omega (arith, f), omega (arith, f), omega (arith, w), omega (arith, w), longer c.loop-values.values.items c.in_ok-value-2.value)
 
 pub returns-clause-read : goal.returns-clause-read
 returns-clause-read g c =

@@ -1,0 +1,101 @@
+-- What a rule says by its parts.
+use Rattle.std.proofs.Common.{◌≡◌, ℕ, List, [], ◌∷◌, map, Bool, true, false, cond, ◌||◌, Option, Some, None, option_map, option_and_then, refl, sym, ap, ◌∙◌, ◌==◌, codes, rules}
+use Rattle.std.specs.Borrow.{Bor}
+use Rattle.std.specs.List.{list_any, slice_split}
+use Rattle.std.specs.Str.{bytes_eq, trim, trim_end, trim_start, chars}
+use lib.Utf8.{encode}
+use Rattle.std.proofs.lemmas.Slice.Eq.{bytes_eq-Decides}
+use Rattle.kmip_ttlv_types.specs.declared.typ.TtlvType.{TtlvType}
+use Rattle.kmip_ttlv_types.specs.Names.{after_prefix, number, tag_of}
+use Rattle.kmip_ttlv_reader.specs.Keeps.{Keep, last}
+use Rattle.kmip_ttlv_reader.specs.Rules.{Choice, first_by, Verdict, fails, says, needs, with_text, sides, in_brackets, type_name, by, equal, at_least, member, verdict, rule, refused}
+use Rattle.kmip_ttlv_base.specs.Errors.{invalid_rule}
+use Rattle.kmip_ttlv_reader.specs.Chosen.{if_held}
+use Rattle.kmip_ttlv_reader.specs.RuleParts.{wants, parts_of_equal, parts_of_member, parts_by, parts_of_body, parts_by_name, parts_of}
+
+-- what parts say, where there are some
+abbrev told_by : List Keep → Option (ℕ × List (List ℕ)) → Verdict
+told_by ks None = fails
+told_by ks (Some p) = wants p.0 p.1 ks
+
+-- texts are equal in either order
+alike : (a b : List ℕ) → bytes_eq a b ≡ bytes_eq b a || false
+alike a b = by (bytes_eq a b) (bytes_eq b a) refl refl
+  where
+    by : (x y : Bool) → bytes_eq a b ≡ x → bytes_eq b a ≡ y → x ≡ y || false
+    by true true e f = refl
+    by false false e f = refl
+    by true false e f = sym (sym f ∙ (bytes_eq-Decides b a).1 (sym ((bytes_eq-Decides a b).0 e)))
+    by false true e f = sym e ∙ (bytes_eq-Decides a b).1 (sym ((bytes_eq-Decides b a).0 f))
+
+one_text : (o : Option (List ℕ)) (x : List ℕ) → with_text o (λ text. says (bytes_eq text x)) ≡ with_text o (λ text. says (list_any (λ one. bytes_eq one text) (x ∷ [])))
+one_text None x = refl
+one_text (Some text) x = ap says (alike text x)
+
+trimmed : (text : List ℕ) (xs : List (List ℕ)) → list_any (λ m. bytes_eq (trim m) text) xs ≡ list_any (λ one. bytes_eq one text) (map trim xs)
+trimmed text [] = refl
+trimmed text (x ∷ xs) = ap (λ b. bytes_eq (trim x) text || b) (trimmed text xs)
+
+some_texts : (o : Option (List ℕ)) (xs : List (List ℕ)) → with_text o (λ text. says (list_any (λ m. bytes_eq (trim m) text) xs)) ≡ with_text o (λ text. says (list_any (λ one. bytes_eq one text) (map trim xs)))
+some_texts None xs = refl
+some_texts (Some text) xs = ap says (trimmed text xs)
+
+equal_in_parts : (ks : List Keep) (typ : TtlvType) (l x : List ℕ) (p : ℕ × List (List ℕ)) → parts_of_equal l x ≡ Some p → equal ks typ l x ≡ wants p.0 p.1 ks
+unfolding equal
+equal_in_parts ks typ l x p = go (bytes_eq l (codes "type")) (tag_of l)
+  where
+    go : (b : Bool) (o : Option ℕ) → cond b None (option_map (λ t. (t, x ∷ [])) o) ≡ Some p
+        → cond b (says (bytes_eq x (type_name typ))) (with_text (option_and_then (last ks) o) (λ text. says (bytes_eq text x))) ≡ wants p.0 p.1 ks
+    go true o e = absurd (search rules)
+    go false None e = absurd (search rules)
+    go false (Some t) e = one_text (last ks t) x ∙ ap (told_by ks) e
+
+member_in_parts : (ks : List Keep) (l x : List ℕ) (p : ℕ × List (List ℕ)) → parts_of_member l x ≡ Some p → member ks l x ≡ wants p.0 p.1 ks
+unfolding member
+member_in_parts ks l x p = go (in_brackets x) (tag_of l)
+  where
+    go : (o : Option (List ℕ)) (n : Option ℕ) → option_and_then (λ all. option_map (λ t. (t, map trim (slice_split (λ c. c == 44) all))) n) o ≡ Some p
+        → with_text o (λ all. needs n l (λ t. with_text (last ks t) (λ text. says (list_any (λ m. bytes_eq (trim m) text) (slice_split (λ c. c == 44) all))))) ≡ wants p.0 p.1 ks
+    go None n e = absurd (search rules)
+    go (Some all) None e = absurd (search rules)
+    go (Some all) (Some t) e = some_texts (last ks t) (slice_split (λ c. c == 44) all) ∙ ap (told_by ks) e
+
+by_sides : (ks : List Keep) (typ : TtlvType) (name : List ℕ) (a b c : Option (List ℕ × List ℕ)) (p : ℕ × List (List ℕ)) → parts_by a b c ≡ Some p
+    → by a (equal ks typ) (by b (at_least ks) (by c (member ks) (refused (invalid_rule name)))) ≡ wants p.0 p.1 ks
+by_sides ks typ name (Some x) b c p e = equal_in_parts ks typ x.0 x.1 p e
+by_sides ks typ name None (Some x) c p e = absurd (search rules)
+by_sides ks typ name None None (Some x) p e = member_in_parts ks x.0 x.1 p e
+by_sides ks typ name None None None p e = absurd (search rules)
+
+rule_by_name : (ks : List Keep) (typ : TtlvType) (name : List ℕ) (p : ℕ × List (List ℕ)) → parts_by_name name ≡ Some p → rule name ks typ ≡ wants p.0 p.1 ks
+unfolding rule
+rule_by_name ks typ name p = go (after_prefix (codes "if ") name)
+  where
+    go : (o : Option (List ℕ)) → option_and_then parts_of_body o ≡ Some p → verdict name o ks typ ≡ wants p.0 p.1 ks
+    go None e = absurd (search rules)
+    go (Some body) e = by_sides ks typ name (sides (codes "==") body) (sides (codes ">=") body) (sides (codes "in") body) p e
+
+computed : (name : List ℕ) → parts_of name ≡ parts_by_name name
+unfolding parts_of tag_of number sides in_brackets trim_end trim_start chars encode
+computed name = refl
+
+-- a rule says what its parts say
+pub rule_in_parts : (ks : List Keep) (typ : TtlvType) (name : List ℕ) (p : ℕ × List (List ℕ)) → parts_of name ≡ Some p → rule name ks typ ≡ wants p.0 p.1 ks
+rule_in_parts ks typ name p e = rule_by_name ks typ name p (sym (computed name) ∙ e)
+
+-- whether the last text is one of some texts
+pub is_wanted : (ks : List Keep) (t : ℕ) (texts : List (Bor (List ℕ))) (text : List ℕ) → Some text ≡ last ks t → says (list_any (λ one. bytes_eq one.now text) texts) ≡ wants t (map (λ one. one.now) texts) ks
+is_wanted ks t texts text kept =
+    ap says (seen texts) ∙ ap (λ o. with_text o (λ s. says (list_any (λ one. bytes_eq one s) (map (λ one. one.now) texts)))) kept
+  where
+    seen : (xs : List (Bor (List ℕ))) → list_any (λ one. bytes_eq one.now text) xs ≡ list_any (λ one. bytes_eq one text) (map (λ one. one.now) xs)
+    seen [] = refl
+    seen (x ∷ xs) = ap (λ b. bytes_eq x.now text || b) (seen xs)
+
+-- a rule holds where its parts do
+pub held_in_parts : (ks : List Keep) (typ : TtlvType) (name : List ℕ) (p : ℕ × List (List ℕ)) (held : Bool) → parts_of name ≡ Some p → says held ≡ wants p.0 p.1 ks → (c : Choice) → first_by (rule name ks typ) c ≡ if_held held c
+held_in_parts ks typ name p held e told c = ap (λ v. first_by v c) (rule_in_parts ks typ name p e ∙ sym told) ∙ by_held held
+  where
+    by_held : (b : Bool) → first_by (says b) c ≡ if_held b c
+    by_held true = refl
+    by_held false = refl

@@ -1,0 +1,19 @@
+use Rattle.std.proofs.Common.{◌≡◌, ap, sym, ◌∙◌, option_map, Option, Some, None, nat_cmp}
+use Rattle.std.specs.BTreeMap.{get}
+use Rattle.std.specs.Option.{option_copied}
+use Rattle.kmip_ttlv_reader.specs.declared.keep.HeldText.{HeldText}
+use Rattle.kmip_ttlv_reader.specs.HeldTexts.{held_of, in_rows}
+use Rattle.kmip_ttlv_reader.specs.Keeps.{last, with_number}
+use Rattle.kmip_ttlv_reader.proofs.HeldRows.{found_in, beside, alike}
+use Rattle.kmip_ttlv_reader.proofs.keep.KeptTexts.held.Goals as goal
+
+pub returns-in-Some : goal.returns-in-Some
+returns-in-Some g c =
+    let found : Some c.in-Some.held.now ≡ in_rows c.self.inside.rows.rows None c.args.tag = ap option_copied (sym c.in-Some.is) ∙ c.held.ensures in
+    ap (option_map held_of) (sym (found_in c.self.inside.rows.rows (get nat_cmp c.self.inside.others c.args.tag) c.args.tag c.in-Some.held.now found)) ∙ c.self.invariant c.args.tag ∙ ap (λ ks. option_map with_number (last ks c.args.tag)) c.self.view_is
+
+pub returns-in-None : goal.returns-in-None
+returns-in-None g c =
+    let found : None ≡ in_rows c.self.inside.rows.rows None c.args.tag = ap option_copied (sym c.in-None.is) ∙ c.held.ensures in
+    let there : option_copied c.get.result ≡ get nat_cmp c.self.inside.others c.args.tag = c.get.ensures.value in
+    alike c.get.result ∙ ap (option_map held_of) (there ∙ sym (beside c.self.inside.rows.rows (get nat_cmp c.self.inside.others c.args.tag) c.args.tag found)) ∙ c.self.invariant c.args.tag ∙ ap (λ ks. option_map with_number (last ks c.args.tag)) c.self.view_is

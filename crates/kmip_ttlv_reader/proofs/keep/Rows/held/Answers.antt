@@ -1,0 +1,7 @@
+use Rattle.std.proofs.Common.{◌≡◌, drop, sym, ap, ◌∙◌, None}
+use Rattle.kmip_ttlv_reader.specs.HeldTexts.{in_rows}
+use Rattle.kmip_ttlv_reader.proofs.HeldRows.{nothing_left}
+use Rattle.kmip_ttlv_reader.proofs.keep.Rows.held.Goals as goal
+
+pub returns : goal.returns
+returns c = sym (c.loop-row.invariant ∙ nothing_left c.args.self.now.rows c.loop-row.row-index c.args.tag c.loop-row-test.false)

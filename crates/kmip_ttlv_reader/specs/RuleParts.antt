@@ -1,0 +1,50 @@
+-- Rules in parts: a rule that asks whether the last text under a tag is one of some texts.
+use Rattle.std.specs.Prelude.{◌≡◌, ℕ, List, [], ◌∷◌, map, codes, ◌==◌, if◌then◌else◌, Option, Some, None, option_map, option_and_then}
+use Rattle.std.specs.List.{list_any, slice_split}
+use Rattle.std.specs.Str.{bytes_eq, trim, trim_end, trim_start, chars}
+use lib.Utf8.{encode}
+use Rattle.kmip_ttlv_types.specs.Names.{after_prefix, number, tag_of}
+use Rattle.kmip_ttlv_reader.specs.Keeps.{Keep, last}
+use Rattle.kmip_ttlv_reader.specs.Rules.{Verdict, says, with_text, sides, in_brackets}
+use Rattle.kmip_ttlv_reader.specs.declared.rules.RuleParts.{RuleParts}
+
+-- the last text kept under a tag is one of these; not where there is no such tag
+abbrev pub wants : ℕ → List (List ℕ) → List Keep → Verdict
+wants t texts ks = with_text (last ks t) (λ text. says (list_any (λ one. bytes_eq one text) texts))
+
+-- the texts that a rule in parts has
+abbrev pub texts_of : RuleParts → List (List ℕ)
+texts_of parts = map (λ one. one.now) parts.texts.now
+
+-- the tag and the one text of `==`, where it asks for no type
+abbrev pub parts_of_equal : List ℕ → List ℕ → Option (ℕ × List (List ℕ))
+parts_of_equal l x = if bytes_eq l (codes "type") then None else option_map (λ t. (t, x ∷ [])) (tag_of l)
+
+-- the tag and the texts of `in`, where it has brackets
+abbrev pub parts_of_member : List ℕ → List ℕ → Option (ℕ × List (List ℕ))
+parts_of_member l x =
+    option_and_then (λ all. option_map (λ t. (t, map trim (slice_split (λ c. c == 44) all))) (tag_of l)) (in_brackets x)
+
+-- the parts of a rule, by its sides at `==`, at `>=` and at `in`: at the first of these that it has
+abbrev pub parts_by : (equal at_least member : Option (List ℕ × List ℕ)) → Option (ℕ × List (List ℕ))
+parts_by (Some x) at_least member = parts_of_equal x.0 x.1
+parts_by None (Some x) member = None
+parts_by None None (Some x) = parts_of_member x.0 x.1
+parts_by None None None = None
+
+abbrev pub parts_of_body : List ℕ → Option (ℕ × List (List ℕ))
+parts_of_body body = parts_by (sides (codes "==") body) (sides (codes ">=") body) (sides (codes "in") body)
+
+-- the parts of a rule, by its name
+abbrev pub parts_by_name : List ℕ → Option (ℕ × List (List ℕ))
+parts_by_name name = option_and_then parts_of_body (after_prefix (codes "if ") name)
+
+-- the same: a proof that unfolds it computes them of a name
+unfoldable pub parts_of : List ℕ → Option (ℕ × List (List ℕ))
+unfolding tag_of number sides in_brackets trim_end trim_start chars encode
+parts_of name = parts_by_name name
+
+-- they are the parts of the rule of this name; there may be none of any rule
+abbrev pub AreParts : List ℕ → Option RuleParts → Type 0
+AreParts name None = Unit {0}
+AreParts name (Some parts) = parts_of name ≡ Some (parts.tag, texts_of parts)
