@@ -20,7 +20,6 @@ pub use Rattle.kmip_ttlv_base.specs.Gives
 pub use Rattle.kmip_ttlv_base.specs.Errors
 pub use Rattle.kmip_ttlv_base.specs.LocationTexts
 pub use Rattle.kmip_ttlv_messages.specs.MessageParts
-pub use Rattle.kmip_ttlv_messages.specs.MessageChoices
 pub use Rattle.kmip_ttlv_ser.specs.WrittenItems
 pub use Rattle.kmip_ttlv_ser.specs.Sizes
 pub use Rattle.kmip_ttlv_ser.specs.Faults
@@ -28,6 +27,7 @@ pub use Rattle.kmip_ttlv_ser.specs.Lengths
 pub use Rattle.kmip_ttlv_ser.specs.WriteAnswers
 pub use Rattle.kmip_ttlv_reader.specs.Keeps
 pub use Rattle.kmip_ttlv_reader.specs.Rules
+pub use Rattle.kmip_ttlv_reader.specs.RuleParts
 pub use Rattle.kmip_ttlv_reader.specs.Reads
 pub use Rattle.kmip_ttlv_reader.specs.Steps
 pub use Rattle.kmip_ttlv_reader.specs.ReadFaults
@@ -66,7 +66,10 @@ pub use Rattle.kmip_ttlv_laws.specs.Contents
 pub use Rattle.kmip_ttlv_laws.specs.Returns
 pub use Rattle.kmip_ttlv_laws.specs.Agreements
 pub use Rattle.kmip_ttlv_laws.specs.ReadingLaws
+pub use Rattle.kmip_ttlv_laws.specs.Equal
+pub use Rattle.kmip_ttlv_laws.specs.Rereads
 pub use Rattle.kmip_ttlv_laws.specs.WorkedAgreements
+pub use Rattle.kmip_ttlv_items.specs.Enclosing
 pub use Rattle.kmip_ttlv_items.specs.FoundItems
 pub use Rattle.kmip_ttlv_items.specs.ItemWalks
 pub use Rattle.kmip_ttlv_items.specs.Stepping
@@ -75,3 +78,4 @@ pub use Rattle.kmip_ttlv_write.specs.FlatWrites
 pub use Rattle.kmip_ttlv_write.specs.FlatLaws
 pub use Rattle.kmip_ttlv_names.specs.NameTables
 pub use Rattle.kmip_ttlv_names.specs.ValueNames
+pub use Rattle.kmip_ttlv_names.specs.OwnNames

@@ -1,4 +1,4 @@
-//! Reading: values from bytes, and from a stream of bytes.
+//! Decoding values from bytes, and from a stream of bytes.
 
 pub use kmip_ttlv_de::{
     from_slice, one_split, one_value, read_by_rules, results_stand, small_messages,

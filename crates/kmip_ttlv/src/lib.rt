@@ -1,13 +1,12 @@
-//! KMIP's TTLV encoding (OASIS KMIP 1.0, section 9.1): values to bytes, bytes to values, and bytes
-//! to text.
+//! KMIP's TTLV encoding (OASIS KMIP 1.0, section 9.1): encodes values, decodes them, and prints messages.
 //!
-//! This is the crate that users name. It has no code, and gives one path to the crates below it: `types`,
+//! This is the crate that users name. It has no code of its own, and reexports the crates below it: `types`,
 //! `error`, the traits of a user's type in `shape`, `visit` and `parts`; encoding in `ser`, decoding in `de`
 //! and, for types that read themselves, in `reader`; printing in `util` and `names`; flat items in `items` and
 //! `writing`; the parts of message types in `messages`; an allocator with limits in `memory`; and in `laws` what
-//! holds of encoding and decoding together.
+//! is true of encoding and decoding together.
 //!
-//! The lemmas by which a user's `from_data`, `shape` and `visit` are proved are in proofs/Views, proofs/Shapes
+//! The lemmas for the proofs of a user's `from_data`, `shape` and `visit` are in proofs/Views, proofs/Shapes
 //! and proofs/Visiting of `kmip_ttlv_base`.
 #![tactic(auto)]
 
@@ -15,7 +14,7 @@ pub mod de;
 pub mod shape;
 
 pub use kmip_ttlv_base::{error, parts, types, visit};
-pub use kmip_ttlv_de::from_slice;
+pub use kmip_ttlv_de::{ByShape, Decode, Deserialize, from_slice};
 pub use kmip_ttlv_items as items;
 pub use kmip_ttlv_laws as laws;
 pub use kmip_ttlv_memory as memory;

@@ -37,21 +37,21 @@ BeginsAs [] (Some x) = ⊥
 BeginsAs (t ∷ ts) None = ⊥
 BeginsAs (t ∷ ts) (Some x) = HasHead (raw_of t) x
 
--- a name of the next item is that of its head
+-- the next item has a name's tag if its head has
 named_first : (name : List ℕ) (ts : List Tree) (y : Option Head) → BeginsAs ts y → names name (map raw_of ts) ≡ is_named name y
 named_first name [] None h = refl
 named_first name [] (Some x) h = absurd h
 named_first name (t ∷ ts) None h = absurd h
 named_first name (t ∷ ts) (Some x) h = ap (has_tag name) h.0
 
--- and so is what the next item is like
+-- and it is like another item if its head is
 like_first : (r : Raw) (x : Head) (ts : List Tree) (y : Option Head) → HasHead r x → BeginsAs ts y → is_like r (map raw_of ts) ≡ is_alike x y
 like_first r x [] None e h = refl
 like_first r x [] (Some y) e h = absurd h
 like_first r x (t ∷ ts) None e h = absurd h
 like_first r x (t ∷ ts) (Some y) e h = rw (e.0, e.1, h.0, h.1) refl
 
--- of a sequence that ends, the next item isn't like the first
+-- the item after a sequence that ends isn't like its first
 not_alike : (v : Value) (x : Head) (y : Option Head) → goes_on v x y ≡ false → is_run v ≡ true → is_alike x y ≡ false
 not_alike v x y e is = sym (ap (λ (b : Bool). b && is_alike x y) is) ∙ e
 
@@ -73,17 +73,17 @@ items_same : (ts : List Tree) → items_below (trees_of ts) ≡ map raw_of ts
 items_same [] = refl
 items_same (t ∷ ts) = ap (λ (l : List Raw). raw_of t ∷ l) (items_same ts)
 
--- ---- what values are written as
+-- ---- what values are encoded as
 
 -- a value that gives an item, and then others
 two_steps : (w : Value) (ws : Values) (h : Held) (t : Tree) (ts us : List Tree) → items w h ≡ Some (t ∷ ts) → items_in ws Nothing ≡ Some us → items_in (value w ws) h ≡ Some (t ∷ (ts ++ us))
 two_steps w ws h t ts us e f = rw e (rw f refl)
 
--- nothing, and then others
+-- an empty sequence, and then others
 no_step : (ws : Values) (us : List Tree) → items_in ws Nothing ≡ Some us → items_in (value (seq_value no_values) ws) Nothing ≡ Some us
 no_step ws us f = rw f refl
 
--- the one value alone
+-- one value alone
 one_step : (w : Value) (us : List Tree) → items_in (value w no_values) Nothing ≡ Some us → items w Nothing ≡ Some us
 one_step w us e = by_items (items w Nothing) e
   where
@@ -91,14 +91,14 @@ one_step w us e = by_items (items w Nothing) e
     by_items None h = absurd cc
     by_items (Some ts) h = let e : ts ++ [] ≡ ts = append-nil ts in cc
 
--- within a wrapper
+-- a value in wrappers
 wrapped_items : {h i : Held} {w u : Value} (t : Tree) (ts : List Tree) → Wraps h w i u → items u i ≡ Some (t ∷ ts) → items w h ≡ Some (t ∷ ts)
 unfolding some_item
 wrapped_items t ts some_wraps e = e
 wrapped_items t ts (newtype_wraps named_is taken) e = rw named_is (rw taken (rw e refl))
 wrapped_items t ts (variant_wraps wrapper taken) e = rw wrapper (rw taken (rw e refl))
 
--- around what is within
+-- a structure around values
 enclosing_items : {h : Held} {w : Value} {t : ℕ} {ws : Values} (us : List Tree) → Encloses h w t ws → items_in ws Nothing ≡ Some us → items w h ≡ Some (node t (trees_of us) ∷ [])
 enclosing_items us (struct_encloses taken) e = rw taken (rw e refl)
 enclosing_items us (newtype_encloses {w = w} named_is taken) e = rw named_is (rw taken (rw (one_step w us e) refl))
@@ -111,15 +111,15 @@ unfolding enumeration
 numbered_items (unit_is_numbered taken number_is) = rw taken (rw number_is refl)
 numbered_items (number_is_numbered held small) = rw held refl
 
--- what is within a Structure splits its content
+-- the items of the values in a Structure split its content
 content_splits : (ws : Values) (us : List Tree) → items_in ws Nothing ≡ Some us → FitsBelow (trees_of us) → Splits (map raw_of us) (bytes_below (trees_of us))
 content_splits ws us e f =
     let made : AllMade Any us = items_in_made Any ws Nothing us (any_texts_in ws) tt e in
     subst (λ (l : List Raw). Splits l (bytes_below (trees_of us))) (items_same us) (below_splits (trees_of us) (below_made Any us made) f)
 
--- ---- what is read
+-- ---- what is decoded
 
--- the form reads the value from the items of the written one, whatever follows that doesn't go on with a sequence
+-- the form reads the value from the items of the encoded one, if what follows doesn't continue a sequence
 pub record IsRead (s : Form) (k : List Keep) (h : Held) (w : Value) (x : Head) (v : Value) (k' : List Keep) : Type 0 where
   pub first : Tree
   pub rest : List Tree
@@ -128,7 +128,7 @@ pub record IsRead (s : Form) (k : List Keep) (h : Held) (w : Value) (x : Head) (
   pub alone : is_run v ≡ false → rest ≡ []
   pub reads : AllByRecursion Fits (first ∷ rest) → (ys : List Raw) → (is_run v ≡ true → is_like (raw_of first) ys ≡ false) → Reads s k (raw_of first ∷ (map raw_of rest ++ ys)) v k' ys
 
--- so do the elements of a sequence, at its beginning and behind earlier elements
+-- so do the elements of a sequence, at its start and after earlier elements
 pub record RunIsRead (s : Form) (k : List Keep) (h : Held) (ws : Values) (x : Head) (vs : Values) (k' : List Keep) : Type 0 where
   pub first : Tree
   pub rest : List Tree
@@ -179,11 +179,11 @@ field_reads name s x r k k' xs ys v e h read = by_kind (is_struct s) refl
         let tagged : has_tag name x.tag ≡ true = sym (ap (λ (b : Bool). b || has_tag name x.tag) is) ∙ e in
         named (ap (has_tag name) h.0 ∙ tagged) is read
 
--- an item of the head of earlier ones goes on with their sequence
+-- an item of the same head as earlier ones continues their sequence
 like_head : (q r : Raw) (x : Head) (xs : List Raw) → HasHead q x → HasHead r x → is_like q (r ∷ xs) ≡ true
 like_head q r x xs h g = rw (eq-eqb r.tag q.tag (g.0 ∙ sym h.0), eq-eqb (code r.typ) (code q.typ) (ap code (g.1 ∙ sym h.1))) refl
 
--- and what goes on with the one goes on with the other
+-- and what continues the one continues the other
 like_same : (q r : Raw) (x : Head) (ys : List Raw) → HasHead q x → HasHead r x → is_like r ys ≡ is_like q ys
 like_same q r x [] h g = refl
 like_same q r x (y ∷ ys) h g = rw (h.0, h.1, g.0, g.1) refl
@@ -332,7 +332,7 @@ root_single e (tuple_agrees is variant encloses a) = refl
 root_single e (number_agrees numbered units) = refl
 root_single e (seq_agrees a) = absurd cc
 
--- so its item alone is read
+-- so it is read from its item alone
 alone_read : (s : Form) (k k' : List Keep) (h : Held) (w v : Value) (x : Head) (r : IsRead s k h w x v k') → is_run v ≡ false → AllByRecursion Fits (r.first ∷ r.rest) → Reads s k (raw_of r.first ∷ []) v k' []
 alone_read s k k' h w v x r single fits = one_read s k k' v r.first r.rest [] (r.alone single) single (λ f. r.reads f []) fits.0
 

@@ -1,4 +1,4 @@
--- Canonical bytes are texts of their trees.
+-- Canonical bytes encode their trees.
 use Rattle.std.proofs.Common.{◌≡◌, ℕ, true, List, [], ◌∷◌, length, Some, refl, sym, ap, subst, ◌∙◌, arith}
 use Rattle.std.specs.List.{AllByRecursion}
 use Rattle.std.proofs.lemmas.List.{length-append}
@@ -28,7 +28,7 @@ valid_of ByteString content h = h
 valid_of DateTime content h = h
 valid_of Interval content h = h
 
--- and the other way
+-- and conversely
 content_of : (typ : TtlvType) (content : List ℕ) → is_valid typ content ≡ true → IsContent Utf8 typ content
 content_of Structure content h = h
 content_of Integer content h = h
@@ -41,7 +41,7 @@ content_of ByteString content h = h
 content_of DateTime content h = h
 content_of Interval content h = h
 
--- canonical bytes of what fits are a text of it
+-- the canonical bytes of a tree that fits encode it
 mutual
   made_text : (t : Tree) → IsMade Utf8 t → Fits t → IsTreeText t (bytes t)
   made_text (leaf tag typ content) m f = (valid_of typ content m.1, text_of_tree Utf8 (leaf tag typ content) m f)
@@ -51,7 +51,7 @@ mutual
   made_texts no_trees m f = refl
   made_texts (tree t ts) m f = (bytes t, bytes_below ts, refl, made_text t m.0 f.0, made_texts ts m.1 f.1)
 
--- each tree's bytes are a text of it
+-- the canonical bytes of each tree of a list encode it
 each_text : (ts : List Tree) → AllMade Utf8 ts → AllByRecursion Fits ts → AllByRecursion (λ t. IsTreeText t (bytes t)) ts
 each_text [] m f = tt
 each_text (t ∷ ts) m f = (made_text t m.0 f.0, each_text ts m.1 f.1)
@@ -62,9 +62,9 @@ written_is_well_formed v n written ts w is utf8 =
     let fit : FitsAfter n ts = subst (FitsAfter n) same w.fit in
     (each_text ts (items_made Utf8 v Nothing ts utf8 tt is) fit.each, w.bytes_are ∙ ap bytes_all same)
 
--- ---- trees that have a text
+-- ---- trees that have an encoding
 
--- canonical bytes are as long as any text
+-- canonical bytes are as long as any encoding
 leaf_length : (tag : ℕ) (typ : TtlvType) (content a : List ℕ) → IsContent Utf8 typ content → IsTextOf record { tag = tag; typ = typ; content = content } a → length (leaf_bytes tag typ content) ≡ length a
 leaf_length tag typ content a m t =
     let p = text_of_tree Utf8 (leaf tag typ content) (t.tag_fits, m) t.length_fits in
@@ -74,7 +74,7 @@ node_length : (tag : ℕ) (content c a : List ℕ) → length content ≡ length
 unfolding node_bytes
 node_length tag content c a e t = omega (arith, e, ap length t.parts, length-append c t.pad, t.pad_length)
 
--- a tree that has a text is made of what fits, and its canonical bytes are as long
+-- a tree that has an encoding is made of what fits, and its canonical bytes are as long
 record Kept (t : Tree) (a : List ℕ) : Type 0 where
   made : IsMade Utf8 t
   fits : Fits t

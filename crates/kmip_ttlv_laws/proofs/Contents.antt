@@ -1,4 +1,4 @@
--- What is written is items, at every depth.
+-- Encoded bytes are items, at every depth.
 use Rattle.std.proofs.Common.{◌≡◌, ℕ, List, [], ◌∷◌, map, Some, refl, sym, ap, subst, ◌∙◌}
 use Rattle.std.specs.List.{AllByRecursion}
 use Rattle.kmip_ttlv_types.specs.Items.{Splits}
@@ -9,7 +9,7 @@ use Rattle.kmip_ttlv_laws.specs.Contents.{ContainBelow, ContainsItems, items_bel
 use Rattle.kmip_ttlv_laws.specs.ReadingLaws.{WrittenIsItems}
 use Rattle.kmip_ttlv_laws.proofs.Made.{AllMade, Any, AreMade, IsMade, any_texts, items_made, text_of_tree}
 
--- the bytes of trees are their items
+-- the bytes of trees are split by their items
 pub below_splits : (ts : Trees) → AreMade Any ts → FitsBelow ts → Splits (items_below ts) (bytes_below ts)
 below_splits no_trees m f = refl
 below_splits (tree t ts) m f = (bytes t, bytes_below ts, text_of_tree Any t m.0 f.0, refl, below_splits ts m.1 f.1)

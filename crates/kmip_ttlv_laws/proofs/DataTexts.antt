@@ -8,12 +8,12 @@ use Rattle.kmip_ttlv_base.specs.declared.shape.Data.TheFolds.{fold-roll-Data, in
 use Rattle.kmip_ttlv_base.specs.Values.{Value, values_of, view, view_step}
 use Rattle.kmip_ttlv_laws.specs.Texts.{Utf8, EachTextIn, TextsAreUtf8}
 
--- of data one after the other
+-- the texts in a list of data are UTF-8, if those of each data are
 values_texts : {A B : Type 0} (f : B → Data A) → ((b : B) → TextsAreUtf8 (view (f b))) → (bs : List B) → EachTextIn Utf8 (values_of (map view (map f bs)))
 values_texts f h [] = tt
 values_texts f h (b ∷ bs) = (h b, values_texts f h bs)
 
--- one layer of data, where the texts of each data in it are UTF-8
+-- the texts in one layer of data are UTF-8, if those of each data in it are
 layer_texts : {A B : Type 0} (f : B → Data A) → ((b : B) → TextsAreUtf8 (view (f b))) → (y : layer.Data-F A B) → TextsAreUtf8 (view_step (map-Data A (Data A) Value view (map-Data A B (Data A) f y)))
 layer_texts f h (layer.Bool b) = tt
 layer_texts f h (layer.I8 z) = tt

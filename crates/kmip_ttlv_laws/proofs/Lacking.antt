@@ -1,4 +1,4 @@
--- What lacks padding at its end is split by no items, and so is read by no form.
+-- What lacks padding at its end isn't split by any items, so no form reads it.
 use Rattle.std.proofs.Common.{◌≡◌, ℕ, ◌+◌, ◌^◌, ◌<◌, true, List, [], ◌∷◌, ◌++◌, length, get_or, take, drop, refl, sym, ap, subst, ◌∙◌, arith, append_assoc}
 use Rattle.std.specs.Int.{w32, from_be_bytes}
 use Rattle.std.proofs.lemmas.List.{take_at, drop_at, length-append}
@@ -18,22 +18,22 @@ use Rattle.kmip_ttlv_laws.specs.ReadingLaws.{PaddingIsRequired, PaddingOfRootsIs
 use Rattle.kmip_ttlv_laws.specs.Padding.{LacksPadding}
 use Rattle.kmip_ttlv_laws.proofs.Roots.{one_item, root_of_begins, text_length}
 
--- how long it is
+-- how long an item that lacks padding is
 lacking_length : (x : Raw) (a : List ℕ) (l : LacksPadding x a) → length a ≡ 8 + length x.content + length l.pad
 lacking_length x a l = ap length l.parts ∙ omega (arith, length-append x.content l.pad)
 
--- headers tell the type and the length
+-- equal headers have equal types and lengths
 header_typ : (m n : ℕ) (t u : TtlvType) (i j : ℕ) → header m t i ≡ header n u j → t ≡ u
 header_typ m n t u i j e = code_one t u (ap (λ (l : List ℕ). get_or l 3 0) e)
 
 header_length : (m n : ℕ) (t u : TtlvType) (i j : ℕ) → i < 2 ^ 32 → j < 2 ^ 32 → header m t i ≡ header n u j → i ≡ j
 header_length m n t u i j a b e = sym (from_be_bytes-to_be_bytes_4 i a) ∙ ap (λ (l : List ℕ). from_be_bytes w32 (drop 4 l)) e ∙ from_be_bytes-to_be_bytes_4 j b
 
--- what begins with a header tells the header
+-- bytes begin with at most one header
 headers_same : (m n : ℕ) (t u : TtlvType) (i j : ℕ) (a b : List ℕ) → header m t i ++ a ≡ header n u j ++ b → header m t i ≡ header n u j
 headers_same m n t u i j a b e = sym (take_at (header m t i) a 8 refl) ∙ ap (take 8) e ∙ take_at (header n u j) b 8 refl
 
--- no whole item begins what lacks padding
+-- what lacks padding doesn't begin with a whole item
 not_whole : (x z : Raw) (a t rest : List ℕ) → LacksPadding x a → IsTextOf z t → a ≡ t ++ rest → ⊥
 not_whole x z a t rest l w e =
     let split : header x.tag x.typ (length x.content) ++ (x.content ++ l.pad) ≡ header z.tag z.typ (length z.content) ++ ((z.content ++ w.pad) ++ rest) = sym l.parts ∙ e ∙ ap (λ (b : List ℕ). b ++ rest) w.parts in
@@ -43,7 +43,7 @@ not_whole x z a t rest l w e =
     let pads : padding x.typ (length x.content) ≡ padding z.typ (length z.content) = ap (λ y. padding y (length x.content)) types ∙ ap (padding z.typ) lengths in
     absurd (omega (arith, lacking_length x a l, text_length z t w, ap length e, length-append t rest, l.pad_short, pads, lengths))
 
--- what ends in an item that lacks padding is no list of items
+-- bytes that end in an item that lacks padding are no list of items
 not_split : (xs : List Raw) (x : Raw) (front back content : List ℕ) → content ≡ front ++ back → Splits xs front → LacksPadding x back → (zs : List Raw) → Splits zs content → ⊥
 not_split [] x front back content e s l [] z = absurd (omega (arith, ap length e, ap length z, length-append front back, lacking_length x back l))
 not_split [] x front back content e s l (y ∷ ys) z = not_whole x y back z.0 z.1 l z.2 (sym (e ∙ ap (λ (b : List ℕ). b ++ back) s) ∙ z.3)
@@ -56,7 +56,7 @@ not_split (w ∷ ws) x front back content e s l (y ∷ ys) z =
     let rest : z.1 ≡ s.1 ++ back = sym (drop_at z.0 z.1 (length s.0) long) ∙ ap (drop (length s.0)) (sym both) ∙ drop_at s.0 (s.1 ++ back) (length s.0) refl in
     not_split ws x s.1 back z.1 rest s.4 l ys z.4
 
--- ---- what a form reads of a Structure is split
+-- ---- what a form reads from a Structure is split
 
 mutual
   split_of_reads : {s : Form} {k k' : List Keep} {x : Raw} {xs ys : List Raw} {v : Value} → x.typ ≡ Structure → Reads s k (x ∷ xs) v k' ys → (zs : List Raw) × Splits zs x.content

@@ -12,4 +12,6 @@ pub mod OneTree
 pub mod Returns
 pub mod Contents
 pub mod Agreeing
+pub mod Equal
+pub mod Rereads
 pub mod WorkedAgreements

@@ -1,4 +1,4 @@
--- What the items of a value are made of: tags of three bytes, and contents that are valid where the value's texts are.
+-- What the items of a value are made of: tags of three bytes, and content that is valid if the value's texts are.
 use Rattle.std.proofs.Common.{◌≡◌, ℕ, ◌<◌, ◌^◌, Bool, true, false, cond, ltb, List, [], ◌∷◌, ◌++◌, length, replicate, Option, Some, None, refl, sym, subst, ◌∙◌}
 use Rattle.std.specs.Prelude.{option_and_then}
 use Rattle.std.specs.Int.{w32, w64, to_be_bytes, from_bool}
@@ -18,12 +18,12 @@ use Rattle.kmip_ttlv_ser.specs.declared.held.Held.TheVariants.{Nothing, Plain, O
 use Rattle.kmip_ttlv_ser.specs.WrittenItems.{◌>>=◌, take_tag, one_leaf, one_node, one_structure, some_item, left_over, without_override, held_over, enumeration, newtype_row, variant_row, is_wrapper, items, items_in}
 use Rattle.kmip_ttlv_laws.specs.Texts.{EachText, EachTextIn}
 
--- the content of a leaf of this type, where texts are such ones
+-- content of a leaf of this type, whose texts satisfy P
 abbrev pub IsContent : (List ℕ → Type 0) → TtlvType → List ℕ → Type 0
 IsContent P TextString content = P content
 IsContent P typ content = is_valid typ content ≡ true
 
--- each tag has three bytes, and each leaf has such a content
+-- each tag has three bytes, and each leaf has such content
 abbrev mutual
   pub IsMade : (List ℕ → Type 0) → Tree → Type 0
   IsMade P (leaf tag typ content) = (tag < 2 ^ 24) × IsContent P typ content
@@ -36,7 +36,7 @@ abbrev mutual
 abbrev pub AllMade : (List ℕ → Type 0) → List Tree → Type 0
 AllMade P ts = AllByRecursion (IsMade P) ts
 
--- a waiting tag has three bytes
+-- a held tag has three bytes
 abbrev pub TagFits : Held → Type 0
 TagFits Nothing = Unit {0}
 TagFits (Plain t) = t < 2 ^ 24
@@ -64,7 +64,7 @@ tag_small name t e = by_number (number name) e
     by_number None h = absurd cc
     by_number (Some n) h = below_limit n t h
 
--- and so has the tag that is taken
+-- and so does the tag that is taken
 take_small : (w : Held) (name : List ℕ) (t : ℕ) → TagFits w → take_tag w name ≡ Some t → t < 2 ^ 24
 unfolding take_tag
 take_small Nothing name t f e = tag_small name t e
@@ -94,7 +94,7 @@ unfolding some_item
 some_item_same [] ts e = absurd cc
 some_item_same (u ∷ us) ts e = cc
 
--- what a wrapper's content gives, under the tag that then waits
+-- the items of a wrapper's content, under the tag that is then held
 wrapper_made : (P : List ℕ → Type 0) (inside : Held → Option (List Tree)) (w : Held) (ts : List Tree) → TagFits w → ((u : Held) (us : List Tree) → TagFits u → inside u ≡ Some us → AllMade P us) → (inside w >>= some_item) ≡ Some ts → AllMade P ts
 wrapper_made P inside w ts f h e = let b = bind_some (inside w) some_item ts e in subst (AllMade P) (some_item_same b.0 ts b.2) (h w b.0 f b.1)
 
@@ -171,7 +171,7 @@ mutual
       let same : a.0 ++ b.0 ≡ ts = let k = b.2 in cc in
       subst (AllMade P) same (made_append P a.0 b.0 (items_made P v w a.0 h.0 f a.1) (items_in_made P vs (left_over w a.0) b.0 h.1 (left_over_fits w a.0 f) b.1))
 
--- any texts are texts
+-- no condition on texts
 abbrev pub Any : List ℕ → Type 0
 Any s = Unit {0}
 
@@ -202,9 +202,9 @@ mutual
   any_texts_in no_values = tt
   any_texts_in (value v vs) = (any_texts v, any_texts_in vs)
 
--- ---- canonical bytes are texts
+-- ---- canonical bytes are encodings
 
--- a leaf is padded up to a multiple of eight
+-- a leaf is padded to a multiple of eight bytes
 leaf_padding : (P : List ℕ → Type 0) (typ : TtlvType) (content : List ℕ) (n : ℕ) → IsContent P typ content → pad_len n ≡ padding typ n
 leaf_padding P Structure content n h = absurd cc
 leaf_padding P Integer content n h = refl
@@ -217,7 +217,7 @@ leaf_padding P ByteString content n h = refl
 leaf_padding P DateTime content n h = refl
 leaf_padding P Interval content n h = refl
 
--- the canonical bytes of a tree are a text of its item
+-- the canonical bytes of a tree encode its item
 pub text_of_tree : (P : List ℕ → Type 0) (t : Tree) → IsMade P t → Fits t → IsTextOf (raw_of t) (bytes t)
 unfolding leaf_bytes node_bytes
 text_of_tree P (leaf tag typ content) m f = record {

@@ -1,39 +1,46 @@
--- Structures whose parts agree with themselves, field by field: what a message type's own proof is made of.
-use Rattle.std.proofs.Common.{◌≡◌, ◌<◌, ◌^◌, subst, FitsSigned, ℤ, ℕ, Bool as Boole, true, false, List, [], ◌++◌, ◌∷◌, Some, None, Option, option_map, map, length, refl, sym, arith}
+-- Structures whose parts agree with themselves, field by field: lemmas for a message type's own proof.
+use Rattle.std.proofs.Common.{◌≡◌, ◌<◌, ◌^◌, subst, FitsSigned, ℤ, ℕ, Bool as Boole, true, false, List, [], ◌++◌, ◌∷◌, Some, None, Option, option_map, map, length, ◌==◌, refl, sym, ap, ◌∙◌, arith, String, string_bytes}
+use Rattle.std.proofs.lemmas.Bool.{eqb-true, false≢true}
 use Rattle.std.specs.Prelude.{◌&&◌}
 use Rattle.std.specs.List.{AllByRecursion}
 use Rattle.std.specs.Int.{w32, w64, cast_signed, cast_unsigned}
+use Rattle.std.specs.Str.{is_utf8}
+use Rattle.std.proofs.lemmas.Str.{IsUtf8-string_bytes, is_utf8-from_IsUtf8}
 use Rattle.std.proofs.Math.Facts.{Fits-of_z}
 use Rattle.std.proofs.lemmas.Int.{to_z-of_z}
 use Rattle.kmip_ttlv_types.specs.declared.typ.TtlvType.TheVariants.{Structure, Enumeration}
 use Rattle.kmip_ttlv_types.specs.Names.{number, transparent_name}
-use Rattle.kmip_ttlv_base.specs.Forms.{Form, int32, int64, struct, option, newtype, enum, seq, Fields, no_fields, field, Variants}
-use Rattle.kmip_ttlv_base.specs.Values.{Value, i32_value, i64_value, u64_value, newtype_value, unit_variant_value, some_value, none_value, seq_value, struct_value, Values, no_values, value, values_of}
+use Rattle.kmip_ttlv_base.specs.Forms.{Form, any_number, int32, int64, struct, option, newtype, enum, seq, Fields, no_fields, field, Variants}
+use Rattle.kmip_ttlv_base.specs.Values.{Value, i32_value, i64_value, u32_value, u64_value, newtype_value, unit_variant_value, some_value, none_value, seq_value, struct_value, Values, no_values, value, values_of}
 use Rattle.kmip_ttlv_base.specs.Visits.{joined, optional}
-use Rattle.kmip_ttlv_messages.specs.MessageParts.{by_bits, optional as read_optional, read_date, sequence, written_date}
+use Rattle.kmip_ttlv_messages.specs.MessageParts.{by_bits, optional as read_optional, optional_sequence, read_date, sequence, written_date}
 use Rattle.kmip_ttlv_ser.specs.declared.held.Held.{Held}
 use Rattle.kmip_ttlv_ser.specs.declared.held.Held.TheVariants.{Nothing}
 use Rattle.kmip_ttlv_ser.specs.WrittenItems.{take_tag, held_tag}
 use Rattle.kmip_ttlv_reader.specs.Keeps.{Keep}
 use Rattle.kmip_ttlv_reader.specs.Reads.{has_tag}
-use Rattle.kmip_ttlv_laws.specs.Agreements.{Head, Agrees, FieldsAgree, IsNumbered, MessageAgrees, RunAgrees, Wraps, absent_agrees, field_agrees, inner_agrees, is_alike, is_named, is_field_of, is_run, goes_on, last_agrees, leaf_agrees, leaf_type, newtype_agrees, newtype_encloses, newtype_wraps, next_agrees, no_field_agrees, number_agrees, option_agrees, seq_agrees, struct_agrees, struct_encloses, unit_is_numbered}
-use Rattle.kmip_ttlv_laws.specs.Returns.{ComesBack, as_date, as_int32, as_int64, NamesUnit, text_of_number}
+use Rattle.kmip_ttlv_laws.specs.Agreements.{Head, Agrees, FieldsAgree, IsNumbered, MessageAgrees, RunAgrees, Wraps, absent_agrees, field_agrees, inner_agrees, is_alike, is_named, is_field_of, is_run, goes_on, last_agrees, leaf_agrees, leaf_type, newtype_agrees, newtype_encloses, newtype_wraps, next_agrees, no_field_agrees, nothing_agrees, number_agrees, option_agrees, seq_agrees, struct_agrees, struct_encloses, unit_is_numbered}
+use Rattle.kmip_ttlv_laws.specs.Returns.{ComesBack, as_date, as_int32, as_int64, as_number, NamesUnit, text_of_number}
 
 -- whatever was kept before, the value agrees with the form as the other, as an item of this head
 pub record PartAgrees (s : Form) (w : Value) (x : Head) (v : Value) : Type 0 where
   pub kept : List Keep → List Keep
   pub agrees : (k : List Keep) → Agrees s k Nothing w x v (kept k)
 
--- the same of fields, of whose items, if there are any, the first has this head
+-- the same for fields; of their items, if there are any, the first has this head
 pub record PartsAgree (fs : Fields) (ws : Values) (y : Option Head) (vs : Values) : Type 0 where
   pub kept : List Keep → List Keep
   pub agrees : (k : List Keep) → FieldsAgree fs k ws y vs (kept k)
+
+-- the bytes of a text are UTF-8
+pub text_is_utf8 : {A : Type 0} (s : String A) → is_utf8 (string_bytes s) ≡ true
+text_is_utf8 s = is_utf8-from_IsUtf8 (string_bytes s) (IsUtf8-string_bytes s)
 
 -- no fields are left
 pub nothing_left : PartsAgree no_fields no_values None no_values
 nothing_left = record { kept = λ k. k; agrees = λ k. no_field_agrees }
 
--- what is no sequence doesn't go on
+-- a value that is no sequence isn't continued
 pub ends : (v : Value) (x : Head) (y : Option Head) → is_run v ≡ false → goes_on v x y ≡ false
 ends v x y single = rw single refl
 
@@ -83,7 +90,7 @@ message {s} {w} {v} {x} p = (x, p.kept [], p.agrees [])
 abbrev pub a_structure : ℕ → Head
 a_structure t = record { tag = t; typ = Structure }
 
--- a date comes back that was written by its 64 bits
+-- a date that is encoded by its 64 bits comes back
 pub as_seconds : (z : ℤ) → FitsSigned w64 z → ComesBack int64 (u64_value (cast_unsigned w64 z)) (i64_value z)
 as_seconds z fits =
     let within : cast_unsigned w64 z < 2 ^ 64 = (Fits-of_z {w = w64} {z = z} fits).fits in
@@ -91,7 +98,7 @@ as_seconds z fits =
     let P : ℤ → Type 0 = λ y. ComesBack int64 (u64_value (cast_unsigned w64 z)) (i64_value y) in
     subst P same (as_date within)
 
--- a number in an option, which was written by its bits, comes back as itself
+-- a number in an option that is encoded by its bits comes back as itself
 pub as_int32_by_bits : (z : ℤ) → FitsSigned w32 z → ComesBack int32 (i32_value (by_bits w32 z)) (i32_value z)
 as_int32_by_bits z fits =
     let same : by_bits w32 z ≡ z = to_z-of_z w32 z fits in
@@ -110,13 +117,13 @@ as_seconds_by_bits z fits =
     let P : ℤ → Type 0 = λ y. ComesBack int64 (written_date y) (read_date z) in
     subst P (sym same) (as_seconds z fits)
 
--- ---- leaves, units and structures alone, as the elements of a sequence and the content of a variant are
+-- ---- leaves, units and structures alone, as elements of a sequence and as the content of a variant
 
 -- a leaf in a newtype of the name `Transparent:TAG`
 pub leaf_part : {name inner : List ℕ} {s : Form} {w v : Value} {t : ℕ} → transparent_name name ≡ Some inner → take_tag Nothing inner ≡ Some t → ComesBack s w v → PartAgrees (newtype name s) (newtype_value name w) record { tag = t; typ = leaf_type w } (newtype_value name v)
 leaf_part wraps takes back = record { kept = _; agrees = λ k. newtype_agrees (inner_agrees (newtype_wraps wraps takes) (leaf_agrees refl back)) }
 
--- a leaf that is written in a wrapper, and read without one
+-- a leaf that is encoded in a wrapper, and decoded without one
 pub wrapped_leaf : {s : Form} {w u v : Value} {h : Held} {t : ℕ} → Wraps Nothing w h u → held_tag h ≡ Some t → ComesBack s u v → PartAgrees s w record { tag = t; typ = leaf_type u } v
 wrapped_leaf wraps held back = record { kept = _; agrees = λ k. inner_agrees wraps (leaf_agrees held back) }
 
@@ -124,29 +131,35 @@ wrapped_leaf wraps held back = record { kept = _; agrees = λ k. inner_agrees wr
 pub unit_part : {tag vname : List ℕ} {vs : Variants} {t n : ℕ} → take_tag Nothing tag ≡ Some t → number vname ≡ Some n → text_of_number n ≡ vname → ((k : List Keep) → NamesUnit vs k n) → PartAgrees (enum tag vs) (unit_variant_value tag vname) record { tag = t; typ = Enumeration } (unit_variant_value tag vname)
 unit_part {t = t} {n = n} takes numbered text units = record { kept = λ k. k ++ record { tag = t; text = text_of_number n } ∷ []; agrees = λ k. unit_agrees takes numbered text k (units k) }
 
--- one that is written in a wrapper, under any name, and read by an enum of another
+-- an open Enumeration, in a newtype of the name `Transparent:TAG`
+pub number_part : {name inner : List ℕ} {t n m : ℕ} → transparent_name name ≡ Some inner → take_tag Nothing inner ≡ Some t → n < 2 ^ 32 → m ≡ n → PartAgrees (newtype name any_number) (newtype_value name (u32_value n)) record { tag = t; typ = Enumeration } (newtype_value name (u32_value m))
+number_part {name = name} {t = t} {n = n} wraps takes fits same =
+    let P : ℕ → Type 0 = λ m. PartAgrees (newtype name any_number) (newtype_value name (u32_value n)) record { tag = t; typ = Enumeration } (newtype_value name (u32_value m)) in
+    subst P (sym same) (leaf_part wraps takes (as_number fits))
+
+-- one that is encoded in a wrapper, under any name, and decoded by an enum of another
 pub wrapped_unit : {own name : List ℕ} {vs : Variants} {w u : Value} {h : Held} {t n : ℕ} → Wraps Nothing w h u → IsNumbered h u t n → text_of_number n ≡ name → ((k : List Keep) → NamesUnit vs k n) → PartAgrees (enum own vs) w record { tag = t; typ = Enumeration } (unit_variant_value own name)
 wrapped_unit {own} {name} {vs} {w} {u} {h} {t} {n} wraps numbered text units =
     let P : List ℕ → List Keep → Type 0 = λ m k. Agrees (enum own vs) k Nothing w record { tag = t; typ = Enumeration } (unit_variant_value own m) (k ++ record { tag = t; text = text_of_number n } ∷ []) in
     record { kept = λ k. k ++ record { tag = t; text = text_of_number n } ∷ []; agrees = λ k. subst (λ m. P m k) text (inner_agrees wraps (number_agrees numbered (units k))) }
 
--- a structure that is written as a newtype which is no wrapper
+-- a structure that is encoded as a newtype which is no wrapper
 pub newtype_structure : {name : List ℕ} {fs : Fields} {deny : Boole} {w : Value} {vs : Values} {t : ℕ} {y : Option Head} → has_tag name t ≡ true → transparent_name name ≡ None → take_tag Nothing name ≡ Some t → PartsAgree fs (value w no_values) y vs → PartAgrees (struct name fs deny) (newtype_value name w) record { tag = t; typ = Structure } (struct_value name vs)
 newtype_structure named plain takes parts = record { kept = parts.kept; agrees = λ k. struct_agrees named (newtype_encloses plain takes) (parts.agrees k) }
 
 -- ---- options, whether they are there or not
 
--- the head of what comes first, where it may be absent
+-- the head of what comes first, if it may be absent
 abbrev pub head_or : {T : Type 0} → Option T → Head → Option Head → Option Head
 head_or None x y = y
 head_or (Some z) x y = Some x
 
--- what holds of either head
+-- what is true of both heads is true of that one
 pub either_head : {T : Type 0} (P : Option Head → Type 0) (o : Option T) {x : Head} {y : Option Head} → P (Some x) → P y → P (head_or o x y)
 either_head P None there absent = absent
 either_head P (Some z) there absent = there
 
--- the name is that of neither head
+-- a name that is neither head's
 pub neither_named : {T : Type 0} (name : List ℕ) (o : Option T) (x : Head) (y : Option Head) → is_named name (Some x) ≡ false → is_named name y ≡ false → is_named name (head_or o x y) ≡ false
 neither_named name o x y there absent = either_head (λ z. is_named name z ≡ false) o there absent
 
@@ -155,7 +168,7 @@ abbrev pub PresentAgrees : {T : Type 0} → (T → Value) → (T → Value) → 
 PresentAgrees f g s x None = Unit {0}
 PresentAgrees f g s x (Some z) = PartAgrees s (f z) x (g z) × (is_run (g z) ≡ false)
 
--- an option, whether it is there or left out: the name is that of its own head, and not of the next
+-- an option, there or left out: the name is that of its own head, and not of the next
 pub optional_then : {T : Type 0} {name : List ℕ} {s : Form} {fs : Fields} {ws vs : Values} {y : Option Head} (f g : T → Value) (x : Head) (o : Option T) → is_field_of name (option s) x ≡ true → is_named name y ≡ false → PresentAgrees f g s x o → PartsAgree fs ws y vs → PartsAgree (field name (option s) fs) (joined (optional (option_map f o)) ws) (head_or o x y) (value (read_optional g o) vs)
 optional_then f g x None named other p rest = absent_then other rest
 optional_then f g x (Some z) named other p rest = present_then named p.1 p.0 rest
@@ -166,7 +179,7 @@ none_alike : (b : Boole) → (b && false) ≡ false
 none_alike true = refl
 none_alike false = refl
 
--- what is last in a structure; a sequence may be
+-- what is last in a structure; it may be a sequence
 pub last_then : {name : List ℕ} {s : Form} {w v : Value} {x : Head} → is_field_of name s x ≡ true → PartAgrees s w x v → PartsAgree (field name s no_fields) (value w no_values) (Some x) (value v no_values)
 last_then {v = v} named p = record { kept = p.kept; agrees = λ k. field_agrees named (none_alike (is_run v)) (p.agrees k) no_field_agrees }
 
@@ -186,7 +199,7 @@ abbrev pub EachAgrees : {T : Type 0} → (T → Value) → (T → Value) → For
 EachAgrees f g s x [] = Unit {0}
 EachAgrees f g s x (t ∷ ts) = PartAgrees s (f t) x (g t) × (is_run (g t) ≡ false) × EachAgrees f g s x ts
 
--- which follows from what is known of each
+-- this follows from what is known of each
 pub each_agrees : {T : Type 0} {P : T → Type 0} {f g : T → Value} {s : Form} {x : Head} → ((t : T) → P t → PartAgrees s (f t) x (g t)) → ((t : T) → is_run (g t) ≡ false) → (ts : List T) → AllByRecursion P ts → EachAgrees f g s x ts
 each_agrees agrees single [] all = tt
 each_agrees agrees single (t ∷ ts) all = (agrees t all.0, single t, each_agrees agrees single ts all.1)
@@ -204,7 +217,29 @@ run_agrees f g s x t (u ∷ us) e k = next_agrees (e.0.agrees k) e.1 (run_agrees
 pub sequence_agrees : {T : Type 0} (f g : T → Value) (s : Form) (x : Head) (t : T) (ts : List T) → EachAgrees f g s x (t ∷ ts) → PartAgrees (seq s) (seq_value (values_of (map f (t ∷ ts)))) x (seq_value (values_of (map g (t ∷ ts))))
 sequence_agrees f g s x t ts e = record { kept = run_kept f g s x t ts e; agrees = λ k. seq_agrees (run_agrees f g s x t ts e k) }
 
--- the same of a list that isn't empty
+-- the same for a list that isn't empty
 pub sequence_part : {T : Type 0} {s : Form} {x : Head} (f g : T → Value) (ts : List T) → 0 < length ts → EachAgrees f g s x ts → PartAgrees (seq s) (sequence f ts) x (sequence g ts)
 sequence_part f g [] some e = absurd (omega arith)
 sequence_part {s = s} {x = x} f g (t ∷ ts) some e = sequence_agrees f g s x t ts e
+
+-- ---- sequences that may be empty
+
+-- the first of these, if there is one
+abbrev pub first_of : {T : Type 0} → List T → Option T
+first_of [] = None
+first_of (t ∷ ts) = Some t
+
+unlike : (name : List ℕ) (s : Form) (x : Head) (y : Option Head) → is_field_of name (option s) x ≡ true → is_named name y ≡ false → is_alike x y ≡ false
+unlike name s x None named other = refl
+unlike name s x (Some z) named other = by_tag (z.tag == x.tag) refl
+  where
+    by_tag : (b : Boole) → (z.tag == x.tag) ≡ b → is_alike x (Some z) ≡ false
+    by_tag false differ = rw differ refl
+    by_tag true same = absurd (false≢true (sym other ∙ ap (has_tag name) (eqb-true z.tag x.tag same) ∙ named))
+
+-- a sequence that may be empty: the name is that of its items, and not of the next
+pub any_then : {T : Type 0} {name : List ℕ} {s : Form} {fs : Fields} {ws vs : Values} {y : Option Head} (f g : T → Value) (x : Head) (ts : List T) → is_field_of name (option (seq s)) x ≡ true → is_named name y ≡ false → EachAgrees f g s x ts → PartsAgree fs ws y vs → PartsAgree (field name (option (seq s)) fs) (value (sequence f ts) ws) (head_or (first_of ts) x y) (value (optional_sequence g ts) vs)
+any_then f g x [] named other each rest = record { kept = rest.kept; agrees = λ k. nothing_agrees (absent_agrees other (rest.agrees k)) }
+any_then {name = name} {s = s} {y = y} f g x (t ∷ ts) named other each rest =
+    let p = sequence_agrees f g s x t ts each in
+    run_then named (unlike name (seq s) x y named other) record { kept = p.kept; agrees = λ k. option_agrees (p.agrees k) } rest

@@ -1,4 +1,4 @@
--- Parts of messages that a rule chooses by the texts that were kept before them, and parts that are kept for such rules.
+-- Parts of messages that a rule chooses by the texts that were kept before, and parts that are kept for such rules.
 use Rattle.std.proofs.Common.{◌≡◌, ◌<◌, ◌^◌, subst, ℕ, Bool as Boole, true, false, cond, List, [], ◌++◌, ◌∷◌, Some, None, Option, option_map, filter, refl, ap, sym, ◌∙◌, ◌==◌}
 use Rattle.std.specs.List.{last_or}
 use Rattle.std.specs.Str.{is_utf8}
@@ -30,11 +30,11 @@ skips : (o : Option Keep) (k : List Keep) (r : Keep) (t : ℕ) → (r.tag == t) 
 skips o [] r t other = rw other refl
 skips o (q ∷ k) r t other = elim (q.tag == t) as (λ b. last_or o (cond b (q ∷ filter (λ p. p.tag == t) (k ++ r ∷ [])) (filter (λ p. p.tag == t) (k ++ r ∷ []))) ≡ last_or o (cond b (q ∷ filter (λ p. p.tag == t) k) (filter (λ p. p.tag == t) k))) [ true ↦ skips (Some q) k r t other | false ↦ skips o k r t other ]
 
--- and still is behind a text under another tag
+-- and it still is after a text under another tag
 pub still_kept : (k : List Keep) (r : Keep) (t : ℕ) → (r.tag == t) ≡ false → last (k ++ r ∷ []) t ≡ last k t
 still_kept k r t other = ap (option_map (λ q. q.text)) (skips None k r t other)
 
--- of each tag that is among these texts, the last of these is the last that was kept
+-- for each tag that is among these texts, the last of these is the last that was kept
 abbrev pub Finds : List Keep → List Keep → Type 0
 Finds known k = (t : ℕ) (text : List ℕ) → last known t ≡ Some text → last k t ≡ Some text
 
@@ -49,12 +49,12 @@ finds_more known k r found t text e =
       | false ↦ λ other. still_kept k r t other ∙ found t text (sym (still_kept known r t other) ∙ e)
     ] refl
 
--- where these texts are the last of their tags, the value agrees with the form as the other, as an item of this head
+-- if these texts are the last of their tags, the value agrees with the form as the other, as an item of this head
 pub record PartFollows (known : List Keep) (s : Form) (w : Value) (x : Head) (v : Value) : Type 0 where
   pub kept : List Keep → List Keep
   pub agrees : (k : List Keep) → Finds known k → Agrees s k Nothing w x v (kept k)
 
--- the same of fields
+-- the same for fields
 pub record PartsFollow (known : List Keep) (fs : Fields) (ws : Values) (y : Option Head) (vs : Values) : Type 0 where
   pub kept : List Keep → List Keep
   pub agrees : (k : List Keep) → Finds known k → FieldsAgree fs k ws y vs (kept k)
@@ -63,7 +63,7 @@ pub record PartsFollow (known : List Keep) (fs : Fields) (ws : Values) (y : Opti
 pub in_any_case : {known : List Keep} {s : Form} {w v : Value} {x : Head} → PartAgrees s w x v → PartFollows known s w x v
 in_any_case p = record { kept = p.kept; agrees = λ k found. p.agrees k }
 
--- what agrees where nothing is known
+-- what agrees if nothing is known
 pub by_itself : {s : Form} {w v : Value} {x : Head} → PartFollows [] s w x v → PartAgrees s w x v
 by_itself p = record { kept = p.kept; agrees = λ k. p.agrees k (λ t text e. absurd (none-some text e)) }
 
@@ -75,7 +75,7 @@ by_rules p = record { kept = p.kept; agrees = λ k. p.agrees k (λ t text e. abs
 pub structure_follows : {known : List Keep} {name : List ℕ} {fs : Fields} {deny : Boole} {ws vs : Values} {t : ℕ} {y : Option Head} → has_tag name t ≡ true → take_tag Nothing name ≡ Some t → PartsFollow known fs ws y vs → PartFollows known (struct name fs deny) (struct_value name ws) record { tag = t; typ = Structure } (struct_value name vs)
 structure_follows named takes parts = record { kept = parts.kept; agrees = λ k found. struct_agrees named (struct_encloses takes) (parts.agrees k found) }
 
--- the value agrees with the form as the other, and this one text is kept of it
+-- the value agrees with the form as the other, and this one text of it is kept
 pub record PartKeeps (s : Form) (w : Value) (x : Head) (v : Value) (r : Keep) : Type 0 where
   pub agrees : (k : List Keep) → Agrees s k Nothing w x v (k ++ r ∷ [])
 
@@ -83,7 +83,7 @@ pub record PartKeeps (s : Form) (w : Value) (x : Head) (v : Value) (r : Keep) : 
 pub text_kept : {name inner bytes : List ℕ} {t : ℕ} → transparent_name name ≡ Some inner → take_tag Nothing inner ≡ Some t → is_utf8 bytes ≡ true → PartKeeps (newtype name text_form) (newtype_value name (text_value bytes)) record { tag = t; typ = TextString } (newtype_value name (text_value bytes)) record { tag = t; text = bytes }
 text_kept wraps takes valid = record { agrees = λ k. newtype_agrees (inner_agrees (newtype_wraps wraps takes) (leaf_agrees refl (as_text valid))) }
 
--- one that is read without its newtype
+-- one that is decoded without its newtype
 pub wrapped_text_kept : {w : Value} {h : Held} {bytes : List ℕ} {t : ℕ} → Wraps Nothing w h (text_value bytes) → held_tag h ≡ Some t → is_utf8 bytes ≡ true → PartKeeps text_form w record { tag = t; typ = TextString } (text_value bytes) record { tag = t; text = bytes }
 wrapped_text_kept wraps held valid = record { agrees = λ k. inner_agrees wraps (leaf_agrees held (as_text valid)) }
 
@@ -103,7 +103,7 @@ kept_then {known} {v = v} {x = x} {y = y} {r = r} named single p rest =
       agrees = λ k found. field_agrees named (ends v x y single) (p.agrees k) (rest.agrees (k ++ r ∷ []) (finds_more known k r found));
     }
 
--- a part of which nothing is kept, so that what was known is known behind it
+-- a part of which nothing is kept, so that what was known is known after it
 pub silent_then : {known : List Keep} {name : List ℕ} {s : Form} {fs : Fields} {w v : Value} {ws vs : Values} {x : Head} {y : Option Head} → is_field_of name s x ≡ true → is_run v ≡ false → (p : PartAgrees s w x v) → ((k : List Keep) → p.kept k ≡ k) → PartsFollow known fs ws y vs → PartsFollow known (field name s fs) (value w ws) (Some x) (value v vs)
 silent_then {known} {name} {s} {fs} {w} {v} {ws} {vs} {x} {y} named single p silent rest =
     record {
@@ -115,7 +115,7 @@ silent_then {known} {name} {s} {fs} {w} {v} {ws} {vs} {x} {y} named single p sil
 pub chosen_part : {known : List Keep} {s : Form} {own name : List ℕ} {vs : Variants} {i : ℕ} {w v : Value} {x : Head} → ((k : List Keep) → Finds known k → choice vs k x.typ ≡ chosen i) → HasVariant vs i name (wrapped s) → PartFollows known s w x v → PartFollows known (enum own vs) w x (newtype_variant_value own name v)
 chosen_part chooses at p = record { kept = p.kept; agrees = λ k found. rule_agrees (chooses k found) at (p.agrees k found) }
 
--- a field of which what is known is needed; behind it nothing is
+-- a field that needs what is known; after it nothing is
 pub follows_then : {known : List Keep} {name : List ℕ} {s : Form} {fs : Fields} {w v : Value} {ws vs : Values} {x : Head} {y : Option Head} → is_field_of name s x ≡ true → is_run v ≡ false → PartFollows known s w x v → PartsAgree fs ws y vs → PartsFollow known (field name s fs) (value w ws) (Some x) (value v vs)
 follows_then {v = v} {x = x} {y = y} named single p rest =
     record {
@@ -123,6 +123,6 @@ follows_then {v = v} {x = x} {y = y} named single p rest =
       agrees = λ k found. field_agrees named (ends v x y single) (p.agrees k found) (rest.agrees (p.kept k));
     }
 
--- a field that a rule chooses; behind it nothing is known of what was kept
+-- a field that a rule chooses; after it nothing is known of what was kept
 pub rule_then : {known : List Keep} {field_name own name : List ℕ} {s : Form} {cs : Variants} {fs : Fields} {i : ℕ} {w v : Value} {ws vs : Values} {x : Head} {y : Option Head} → is_field_of field_name (enum own cs) x ≡ true → is_run v ≡ false → ((k : List Keep) → Finds known k → choice cs k x.typ ≡ chosen i) → HasVariant cs i name (wrapped s) → PartFollows known s w x v → PartsAgree fs ws y vs → PartsFollow known (field field_name (enum own cs) fs) (value w ws) (Some x) (value (newtype_variant_value own name v) vs)
 rule_then named single chooses at p rest = follows_then named single (chosen_part chooses at p) rest

@@ -1,4 +1,4 @@
--- A text is that of one tree.
+-- Bytes encode at most one tree.
 use Rattle.std.proofs.Common.{◌≡◌, ℕ, true, List, [], ◌++◌, length, take, drop, refl, sym, ap, subst, ◌∙◌, arith}
 use Rattle.std.proofs.lemmas.List.{drop_at, length-append, take_at}
 use Rattle.kmip_ttlv_types.specs.declared.typ.TtlvType.{TtlvType}
@@ -14,16 +14,16 @@ use Rattle.kmip_ttlv_laws.proofs.TreeTexts.{one_of_text}
 leaf_apart : (typ : TtlvType) (content : List ℕ) → is_valid typ content ≡ true → typ ≡ Structure → ⊥
 leaf_apart typ content v e = let k : is_valid Structure content ≡ true = subst (λ (y : TtlvType). is_valid y content ≡ true) e v in absurd cc
 
--- a tree's text is an item's
+-- an encoding of a tree encodes an item
 item_of : (t : Tree) (a : List ℕ) → IsTreeText t a → (x : Raw) × IsTextOf x a
 item_of (leaf tag typ content) a h = (record { tag = tag; typ = typ; content = content }, h.1)
 item_of (node tag below) a h = (record { tag = tag; typ = Structure; content = h.0 }, h.1)
 
--- a text is not empty
+-- an encoding isn't empty
 not_empty : (t : Tree) (a rest : List ℕ) → IsTreeText t a → [] ≡ a ++ rest → ⊥
 not_empty t a rest h e = let x = item_of t a h in absurd (omega (arith, ap length e, length-append a rest, text_length x.0 a x.1))
 
--- texts at the front of the same bytes are equal
+-- encodings at the front of the same bytes are equal
 fronts : (t u : Tree) (a b r s : List ℕ) → IsTreeText t a → IsTreeText u b → a ++ r ≡ b ++ s → (a ≡ b) × (r ≡ s)
 fronts t u a b r s h k e =
     let x = item_of t a h in
@@ -32,7 +32,7 @@ fronts t u a b r s h k e =
     let long : length b ≡ length a = text_length y.0 b y.1 ∙ ap (λ (z : Raw). size z.typ (length z.content)) (sym same) ∙ sym (text_length x.0 a x.1) in
     (sym (take_at a r (length a) refl) ∙ ap (take (length a)) e ∙ take_at b s (length a) long, sym (drop_at a r (length a) refl) ∙ ap (drop (length a)) e ∙ drop_at b s (length a) long)
 
--- a text has one tree
+-- at most one tree has this encoding
 mutual
   pub tree_same : (t u : Tree) (a : List ℕ) → IsTreeText t a → IsTreeText u a → t ≡ u
   tree_same (leaf tag typ content) (leaf tag' typ' content') a h k =

@@ -1,4 +1,4 @@
--- Items that are the same but for padding are read alike.
+-- Items that are the same but for padding are decoded alike.
 use Rattle.std.proofs.Common.{◌≡◌, ℕ, Bool, true, List, [], ◌∷◌, ◌++◌, refl, sym, ap, subst, ◌∙◌}
 use Rattle.kmip_ttlv_types.specs.declared.typ.TtlvType.{TtlvType}
 use Rattle.kmip_ttlv_types.specs.declared.typ.TtlvType.TheVariants.{Structure}
@@ -12,7 +12,7 @@ use Rattle.kmip_ttlv_reader.specs.Reads.{Reads, ReadsContent, ReadsField, ReadsF
 use Rattle.kmip_ttlv_reader.specs.Rules.{choice, chosen}
 use Rattle.kmip_ttlv_laws.specs.Padding.{AllSameButPadding, SameButPadding, both_go_on, both_end, equal_items, split_alike}
 
--- items are the same as themselves, and the two may be turned round
+-- the relation is reflexive and symmetric
 pub all_same : (xs : List Raw) → AllSameButPadding xs xs
 all_same [] = both_end
 all_same (x ∷ xs) = both_go_on equal_items (all_same xs)
@@ -41,7 +41,7 @@ leaves_same : {x y : Raw} → is_valid x.typ x.content ≡ true → SameButPaddi
 leaves_same v equal_items = refl
 leaves_same {x = x} v (split_alike t u w a b s) = let none : is_valid Structure x.content ≡ true = subst (λ (y : TtlvType). is_valid y x.content ≡ true) u v in absurd cc
 
--- the first of the others, beside the first
+-- what is the first of the others, if the first item is like this
 record Beside (x : Raw) (xs zs : List Raw) : Type 0 where
   other : Raw
   others : List Raw
@@ -81,9 +81,9 @@ parted : {x y : Raw} (zs : List Raw) → Splits zs x.content → SameButPadding 
 parted zs z equal_items = record { parts_of = zs; split = z; alike = all_same zs }
 parted {x = x} zs z (split_alike {xs = xs} {ys = ys} t u w a b s) = record { parts_of = ys; split = b; alike = subst (λ (l : List Raw). AllSameButPadding l ys) (splits_one x.content xs zs a z) s }
 
--- ---- reading the others
+-- ---- reading from the others
 
--- what reading leaves of the others is the same but for padding
+-- what is left of the others is the same but for padding
 abbrev Leaves : (List Raw → Type 0) → List Raw → Type 0
 Leaves R ys = (left : List Raw) × R left × AllSameButPadding ys left
 

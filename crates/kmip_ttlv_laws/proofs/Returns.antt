@@ -1,4 +1,4 @@
--- Leaves and unit variants that were written are read back.
+-- Leaves and unit variants that were encoded are decoded again.
 use Rattle.std.proofs.Common.{◌≡◌, ℕ, ℤ, Bool, true, false, List, [], ◌∷◌, Option, Some, refl, ap, subst, ◌∙◌, FitsSigned, arith}
 use Rattle.std.specs.Int.{w32, w64, to_be_bytes, from_be_bytes, cast_signed, cast_unsigned}
 use Rattle.std.proofs.lemmas.Int.{to_z-of_z}
@@ -20,7 +20,7 @@ use Rattle.kmip_ttlv_laws.specs.Agreements.{is_run, leaf_type, with_value}
 use Rattle.kmip_ttlv_laws.specs.ReadingLaws.{LeavesComeBack, UnitsComeBack}
 use Rattle.kmip_ttlv_laws.specs.Returns.{ComesBack, as_big_integer, as_big_octets, as_boolean, as_date, as_int16, as_int32, as_int64, as_int8, as_interval, as_number, as_octets, as_text}
 
--- a value is written as one leaf, whose content the form takes, and for whose content it gives the other value
+-- a value is encoded as one leaf, whose type and content the form takes, and it reads the other value from these
 pub record LeafIs (s : Form) (w v : Value) : Type 0 where
   pub content : List ℕ
   pub written : (h : Held) (t : ℕ) → held_tag h ≡ Some t → items w h ≡ Some (leaf_tree t (leaf_type w) content ∷ [])
@@ -53,7 +53,7 @@ bool_is : (b : Bool) → LeafIs boolean (boolean_value b) (boolean_value b)
 bool_is true = leaf_by boolean (boolean_value true) (boolean_value true) (to_be_bytes w64 1) (λ h. refl) refl refl refl refl (λ t k. refl)
 bool_is false = leaf_by boolean (boolean_value false) (boolean_value false) (to_be_bytes w64 0) (λ h. refl) refl refl refl refl (λ t k. refl)
 
--- by each rule
+-- for each rule
 pub leaf_of : (s : Form) (w v : Value) → ComesBack s w v → LeafIs s w v
 leaf_of s w v (as_int8 {z = z} f) = leaf_by int32 (i8_value z) (i32_value z) (to_be_bytes w32 (cast_unsigned w32 z)) (λ h. refl) refl refl (ap i32_value (four_back z f)) refl (λ t k. refl)
 leaf_of s w v (as_int16 {z = z} f) = leaf_by int32 (i16_value z) (i32_value z) (to_be_bytes w32 (cast_unsigned w32 z)) (λ h. refl) refl refl (ap i32_value (four_back z f)) refl (λ t k. refl)
@@ -68,7 +68,7 @@ leaf_of s w v (as_number {n = n} lt) = leaf_by any_number (u32_value n) (u32_val
 leaf_of s w v (as_big_integer {s = c}) = leaf_by big_integer (big_integer_value c) (big_integer_value (sign_extended c)) (sign_extended c) (λ h. refl) refl refl refl refl (λ t k. refl)
 leaf_of s w v (as_big_octets {s = c}) = leaf_by octets (big_integer_value c) (bytes_value (sign_extended c)) (sign_extended c) (λ h. refl) refl refl refl refl (λ t k. refl)
 
--- which comes back, whatever was kept before and follows
+-- it comes back, whatever was kept before and whatever follows
 pub leaves_come_back : LeavesComeBack
 leaves_come_back s v w t k xs c =
     let l = leaf_of s v w c in

@@ -1,4 +1,4 @@
--- What bytes that begin with a known item begin with.
+-- Bytes that begin with a known item, and the values that they begin with.
 use Rattle.std.proofs.Common.{◌≡◌, ℕ, true, ◌+◌, List, [], ◌∷◌, ◌++◌, length, take, drop, Some, refl, sym, ap, subst, ◌∙◌, append_assoc, append-nil, arith}
 use Rattle.std.specs.Prelude.{◌↔◌}
 use Rattle.std.proofs.lemmas.List.{length-append, length-take-le, take_at, take-append-drop}
@@ -21,11 +21,11 @@ use Rattle.kmip_ttlv_laws.specs.Padding.{AllSameButPadding, SameButPadding, both
 use Rattle.kmip_ttlv_laws.proofs.Made.{AllMade, Any, any_texts, items_made, text_of_tree}
 use Rattle.kmip_ttlv_laws.specs.ReadingLaws.{LaterBytes, MessageAlone, CutMessages, ReadsAlone, ReadingWhatWasWritten, PaddingIsFree}
 
--- a text is as long as its item is
+-- an encoding is as long as its item's size
 pub text_length : (x : Raw) (a : List ℕ) → IsTextOf x a → length a ≡ size x.typ (length x.content)
 text_length x a t = ap length t.parts ∙ omega (arith, length-append x.content t.pad, t.pad_length)
 
--- at most one item has a text at the front of the same bytes
+-- at most one item has an encoding at the front of the same bytes
 pub one_item : (x y : Raw) (a b after other : List ℕ) → IsTextOf x a → IsTextOf y b → a ++ after ≡ b ++ other → x ≡ y
 one_item x y a b after other p q e =
     item_one (a ++ after) 0 x y
@@ -39,7 +39,7 @@ pub record ReadsRoot (s : Form) (x : Raw) (v : Value) : Type 0 where
   pub kept : List Keep
   pub reads : Reads s [] (x ∷ []) v kept []
 
--- what bytes that begin with an item's text begin with, a form reads from the item; and the other way
+-- a form reads from the item what bytes with the item's encoding in front begin with; and conversely
 pub root_of_begins : (s : Form) (x : Raw) (text after : List ℕ) (v : Value) → IsTextOf x text → Begins s (text ++ after) v → ReadsRoot s x v
 root_of_begins s x text after v t g =
     let same : g.item ≡ x = one_item g.item x g.item_text text g.after after g.is_text t (sym g.parts) in
@@ -53,7 +53,7 @@ pub later_bytes : LaterBytes
 later_bytes s x text after other v t =
     (λ g. begins_of_root s x text other v t (root_of_begins s x text after v t g), λ g. begins_of_root s x text after v t (root_of_begins s x text other v t g))
 
--- what stands within an item is no item
+-- an item that is cut isn't an item
 pub cut_messages : CutMessages
 cut_messages s x front back v t lt g = (λ w h. absurd (shorter w h), λ refused. refused back v g)
   where
@@ -65,7 +65,7 @@ cut_messages s x front back v t lt g = (λ w h. absurd (shorter w h), λ refused
         let long : length (front ++ back) ≡ length h.item_text = text_length x (front ++ back) t ∙ ap (λ (y : Raw). size y.typ (length y.content)) same ∙ sym (text_length h.item h.item_text h.is_text) in
         omega (arith, lt, long, length-append front back, ap length h.parts, length-append h.item_text h.after)
 
--- the text of a Structure that bytes begin with, by its length
+-- the encoding of a Structure in front of bytes, by its length
 front_text : (w : List ℕ) (x : Raw) (text after : List ℕ) → w ≡ text ++ after → x.typ ≡ Structure → IsTextOf x text → take (8 + length_at w 0) w ≡ text
 front_text w x text after e s t =
     let item : ItemAt w 0 x = item_at_text w 0 x text after (omega arith) e t in
@@ -81,7 +81,7 @@ message_alone s w after v le = (there, back)
         let h : Begins s (g.item_text ++ after) v = begins_of_root s g.item g.item_text after v g.is_text record { root = g.root; is_structure = g.is_structure; kept = g.kept; reads = g.reads } in
         subst (λ (l : List ℕ). Begins s (l ++ after) v) (sym e) h
 
-    -- the length stands within the message
+    -- the length is the same, because it is within the message
     len_same : length_at (take (8 + length_at w 0) w ++ after) 0 ≡ length_at w 0
     len_same =
         let front = take (8 + length_at w 0) w in
@@ -100,7 +100,7 @@ message_alone s w after v le = (there, back)
         let h : Begins s (front ++ drop (8 + length_at w 0) w) v = begins_of_root s g.item front (drop (8 + length_at w 0) w) v text record { root = g.root; is_structure = g.is_structure; kept = g.kept; reads = g.reads } in
         subst (λ (l : List ℕ). Begins s l v) (take-append-drop (8 + length_at w 0) w) h
 
--- a root form begins with what it reads from the item alone
+-- bytes begin with what a root form reads from their first item alone
 pub begins_alone : (s : Form) (x : Raw) (text after : List ℕ) (v : Value) → is_root s ≡ true → IsTextOf x text → Begins s (text ++ after) v ↔ ReadsAlone s x v
 begins_alone s x text after v e t =
     (λ g. let r = root_of_begins s x text after v t g in (r.kept, r.reads), λ r. begins_of_root s x text after v t record { root = e; is_structure = root_structure e r.1; kept = r.0; reads = r.1 })
@@ -113,7 +113,7 @@ reading_what_was_written v d n written r rest s w is root =
     let parts : written ≡ bytes r ++ bytes_all rest = w.bytes_are ∙ ap bytes_all same in
     rw parts (begins_alone s (raw_of r) (bytes r) (bytes_all rest) d root (text_of_tree Any r made.0 fit.each.0))
 
--- an item that is the same but for padding is read alike
+-- an item that is the same but for padding is decoded alike
 root_alike : (s : Form) (x y : Raw) (v : Value) → SameButPadding x y → ReadsRoot s x v → ReadsRoot s y v
 root_alike s x y v e r =
     let b = reads_same r.reads (y ∷ []) (both_go_on e both_end) in
@@ -122,7 +122,7 @@ root_alike s x y v e r =
     nothing_left : (l : List Raw) → AllSameButPadding [] l → l ≡ []
     nothing_left l both_end = refl
 
--- texts of such items begin with the same values
+-- encodings of such items begin with the same values
 begins_alike : (s : Form) (x y : Raw) (a b after other : List ℕ) (v : Value) → SameButPadding x y → IsTextOf x a → IsTextOf y b → Begins s (a ++ after) v → Begins s (b ++ other) v
 begins_alike s x y a b after other v e t u g = begins_of_root s y b other v u (root_alike s x y v e (root_of_begins s x a after v t g))
 

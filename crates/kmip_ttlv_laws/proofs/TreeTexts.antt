@@ -1,4 +1,4 @@
--- Texts of one tree.
+-- Encodings of one tree.
 use Rattle.std.proofs.Common.{◌≡◌, ℕ, List, [], ◌∷◌, refl, subst}
 use Rattle.kmip_ttlv_types.specs.declared.typ.TtlvType.TheVariants.{Structure}
 use Rattle.kmip_ttlv_types.specs.Items.{Raw, IsTextOf, Splits}
@@ -7,7 +7,7 @@ use Rattle.kmip_ttlv_laws.specs.ReadingLaws.{TextsDifferInPadding, PaddingOfTree
 use Rattle.kmip_ttlv_laws.specs.Padding.{AllSameButPadding, SameButPadding, both_go_on, both_end, equal_items, split_alike}
 use Rattle.kmip_ttlv_laws.proofs.Roots.{one_item, padding_is_free}
 
--- the items that two texts are texts of
+-- the items that two encodings encode
 record Pair (a b : List ℕ) : Type 0 where
   one : Raw
   two : Raw
@@ -22,7 +22,7 @@ record Pairs (a b : List ℕ) : Type 0 where
   twos_split : Splits twos b
   all_alike : AllSameButPadding ones twos
 
--- two texts of a tree are texts of items that are the same but for padding
+-- two encodings of a tree encode items that are the same but for padding
 mutual
   pair_of : (t : Tree) (a b : List ℕ) → IsTreeText t a → IsTreeText t b → Pair a b
   pair_of (leaf tag typ content) a b h k = record { one = record { tag = tag; typ = typ; content = content }; two = record { tag = tag; typ = typ; content = content }; one_text = h.1; two_text = k.1; alike = equal_items }
@@ -37,7 +37,7 @@ mutual
       let q = pairs_of ts h.1 k.1 h.4 k.4 in
       record { ones = p.one ∷ q.ones; twos = p.two ∷ q.twos; ones_split = (h.0, h.1, p.one_text, h.2, q.ones_split); twos_split = (k.0, k.1, p.two_text, k.2, q.twos_split); all_alike = both_go_on p.alike q.all_alike }
 
--- a text is that of one item
+-- bytes encode at most one item
 pub one_of_text : (x y : Raw) (a : List ℕ) → IsTextOf x a → IsTextOf y a → x ≡ y
 one_of_text x y a t u = one_item x y a a [] [] t u refl
 

@@ -1,17 +1,20 @@
--- Worked values agree with their forms, by the definitions.
-use Rattle.std.proofs.Common.{◌≡◌, pos, true, refl, codes, List, [], ◌∷◌, FitsSigned, lit<}
+-- Worked values agree with their forms, computed on the definitions.
+use Rattle.std.proofs.Common.{◌≡◌, ℤ, pos, true, None, refl, codes, List, [], ◌∷◌, FitsSigned, lit<}
 use Rattle.std.specs.Int.{w32}
+use Rattle.std.proofs.lemmas.List.Elements.{recursion_from_All}
 use Rattle.std.specs.Str.{chars, is_utf8, trim_end, trim_start}
 use lib.Utf8.{encode}
 use Rattle.kmip_ttlv_types.specs.Names.{number, override_name, tag_of, transparent_name}
 use Rattle.kmip_ttlv_ser.specs.WrittenItems.{held_over, is_wrapper, take_tag}
 use Rattle.kmip_ttlv_reader.specs.Rules.{at_least, equal, in_brackets, member, rule, sides}
+use Rattle.kmip_ttlv_types.specs.declared.typ.TtlvType.TheVariants.{Integer}
+use Rattle.kmip_ttlv_base.specs.Forms.{int32, newtype}
 use Rattle.kmip_ttlv_base.specs.Values.{Value, i32_value, unit_variant_value}
-use Rattle.kmip_ttlv_laws.specs.Agreements.{absent_agrees, field_agrees, first_variant, inner_agrees, later_variant, leaf_agrees, newtype_wraps, no_field_agrees, nothing_agrees, option_agrees, struct_agrees, struct_encloses, unit_is_numbered, variant_wraps}
-use Rattle.kmip_ttlv_laws.proofs.MessageParts.{PartAgrees, a_structure, last_then, message, newtype_structure, nothing_left, sequence_part, structure, wrapped_leaf, wrapped_unit}
+use Rattle.kmip_ttlv_laws.specs.Agreements.{Head, absent_agrees, field_agrees, first_variant, inner_agrees, later_variant, leaf_agrees, newtype_wraps, no_field_agrees, nothing_agrees, option_agrees, struct_agrees, struct_encloses, unit_is_numbered, variant_wraps}
+use Rattle.kmip_ttlv_laws.proofs.MessageParts.{PartAgrees, a_structure, any_then, each_agrees, first_of, last_then, leaf_part, message, neither_named, newtype_structure, nothing_left, sequence_part, structure, wrapped_leaf, wrapped_unit}
 use Rattle.kmip_ttlv_laws.proofs.MessageRules.{by_rules, in_any_case, kept_then, rule_then, wrapped_text_kept}
 use Rattle.kmip_ttlv_laws.specs.Returns.{as_int32}
-use Rattle.kmip_ttlv_laws.specs.WorkedAgreements.{AttributesAgree, OptionsAgree, attribute_form, written_attribute, read_attribute}
+use Rattle.kmip_ttlv_laws.specs.WorkedAgreements.{AttributesAgree, OptionsAgree, SequencesAgree, attribute_form, number_under, written_attribute, read_attribute}
 
 three_fits : FitsSigned w32 (pos 3)
 three_fits = record { sfits = lit< tt }
@@ -61,7 +64,7 @@ length_agrees =
     rule_then refl refl (λ k found. rw (found 0x42000A _ refl) refl) (later_variant first_variant) (in_any_case (
     wrapped_leaf (variant_wraps refl refl) refl (as_int32 bits_fit))) nothing_left)))
 
--- both, each as it is written and as it is read
+-- both, each as it is encoded and as it is decoded
 both : List (Value × Value)
 both = (
   written_attribute (codes "Cryptographic Algorithm") (unit_variant_value (codes "420028") (codes "0x00000003")),
@@ -79,3 +82,24 @@ attributes_agree =
     message (newtype_structure refl refl refl (
     last_then refl (
     sequence_part (λ p. p.0) (λ p. p.1) both (lit< tt) (algorithm_agrees, refl, (length_agrees, refl, tt)))))
+
+-- an integer under its tag
+number_agrees : (z : ℤ) → FitsSigned w32 z → PartAgrees (newtype (codes "Transparent:0xBBBBBB") int32) (number_under (codes "Transparent:0xBBBBBB") z) record { tag = 0xBBBBBB; typ = Integer } (number_under (codes "Transparent:0xBBBBBB") z)
+unfolding take_tag tag_of number transparent_name
+number_agrees z fits = leaf_part refl refl (as_int32 fits)
+
+next_agrees : (z : ℤ) → FitsSigned w32 z → PartAgrees (newtype (codes "Transparent:0xBBBBBC") int32) (number_under (codes "Transparent:0xBBBBBC") z) record { tag = 0xBBBBBC; typ = Integer } (number_under (codes "Transparent:0xBBBBBC") z)
+unfolding take_tag tag_of number transparent_name
+next_agrees z fits = leaf_part refl refl (as_int32 fits)
+
+pub sequences_agree : SequencesAgree
+unfolding take_tag tag_of number
+sequences_agree xs ys fit next_fit =
+    let first = number_under (codes "Transparent:0xBBBBBB") in
+    let second = number_under (codes "Transparent:0xBBBBBC") in
+    let head : Head = record { tag = 0xBBBBBC; typ = Integer } in
+    message (structure refl refl (
+    any_then first first record { tag = 0xBBBBBB; typ = Integer } xs refl (neither_named (codes "0xBBBBBB") (first_of ys) head None refl refl)
+    (each_agrees number_agrees (λ z. refl) xs (recursion_from_All (FitsSigned w32) xs fit)) (
+    any_then second second head ys refl refl
+    (each_agrees next_agrees (λ z. refl) ys (recursion_from_All (FitsSigned w32) ys next_fit)) nothing_left)))

@@ -1,4 +1,4 @@
--- Which value is read where another was written: what is written of the one agrees with a form as the other.
+-- Which value is decoded if another was encoded: what the one is encoded as agrees with a form as the other.
 use Rattle.std.specs.Prelude.{◌≡◌, ℕ, zero, suc, ◌<◌, ◌^◌, Bool, true, false, ◌==◌, ◌&&◌, ◌||◌, List, ◌∷◌, [], ◌++◌}
 use Rattle.std.specs.Prelude.{Option, Some, None}
 use Rattle.kmip_ttlv_types.specs.declared.typ.TtlvType.{TtlvType}
@@ -41,7 +41,7 @@ is_alike x (Some y) = (y.tag == x.tag) && (code y.typ == code x.typ)
 abbrev pub is_field_of : List ℕ → Form → Head → Bool
 is_field_of name s x = is_struct s || has_tag name x.tag
 
--- a sequence, or a value around one: it was read from all items in a row that are alike
+-- a sequence, or a value around one: it was decoded from all items in a row that are alike
 abbrev pub is_run : Value → Bool
 is_run (seq_value vs) = true
 is_run (some_value v) = is_run v
@@ -49,11 +49,11 @@ is_run (newtype_value name v) = is_run v
 is_run (newtype_variant_value name vname v) = is_run v
 is_run _ = false
 
--- the next item would be read into a sequence that was meant to end
+-- the next item would be read into a sequence that is meant to end
 abbrev pub goes_on : Value → Head → Option Head → Bool
 goes_on v x y = is_run v && is_alike x y
 
--- the type of the leaf that a value is written as
+-- the type of the leaf that a value is encoded as
 abbrev pub leaf_type : Value → TtlvType
 leaf_type (boolean_value b) = Boolean
 leaf_type (i8_value z) = Integer
@@ -75,11 +75,11 @@ with_value text t (text_value s) k = k ++ record { tag = t; text = s } ∷ []
 with_value any_number t (u32_value n) k = k ++ record { tag = t; text = text_of_number n } ∷ []
 with_value _ t _ k = k
 
--- no tag is held, as at the beginning of a message and of each field
+-- no tag is held, as at the start of a message and of each field
 abbrev pub unheld : Held
 unheld = Nothing
 
--- under the first held tag the value is written as the other is under the second
+-- under the first held tag the value is encoded as the other is under the second
 pub data Wraps : Held → Value → Held → Value → Type 0 where
   some_wraps : {h : Held} {w : Value} → Wraps h (some_value w) h w
   newtype_wraps :
@@ -93,7 +93,7 @@ pub data Wraps : Held → Value → Held → Value → Type 0 where
       → take_tag h (without_override name) ≡ Some t
       → Wraps h (newtype_variant_value name vname w) (held_over h name t) w
 
--- under the held tag the value is written as a Structure of this tag, around what these values are written as
+-- under the held tag the value is encoded as a Structure of this tag, around what these values are encoded as
 pub data Encloses : Held → Value → ℕ → Values → Type 0 where
   struct_encloses :
       {h : Held} {name : List ℕ} {t : ℕ} {ws : Values}
@@ -114,7 +114,7 @@ pub data Encloses : Held → Value → ℕ → Values → Type 0 where
       → take_tag h (without_override name) ≡ Some t
       → Encloses h (tuple_variant_value name vname ws) t ws
 
--- under the held tag the value is written as an Enumeration of this tag and number
+-- under the held tag the value is encoded as an Enumeration of this tag and number
 pub data IsNumbered : Held → Value → ℕ → ℕ → Type 0 where
   unit_is_numbered :
       {h : Held} {name vname : List ℕ} {t n : ℕ}
@@ -136,7 +136,7 @@ pub data HasVariant : Variants → ℕ → List ℕ → Content → Type 0 where
       → HasVariant (variant other d vs) (suc i) name c
 
 mutual
-  -- With these texts kept before and those after: under the held tag the value is written as items, the first of
+  -- With these texts kept before and those after: under the held tag the value is encoded as items, the first of
   -- this head, from which the form reads the other value.
   pub data Agrees : Form → List Keep → Held → Value → Head → Value → List Keep → Type 0 where
     -- a leaf under the held tag
@@ -145,7 +145,7 @@ mutual
         → held_tag h ≡ Some t
         → ComesBack s w v
         → Agrees s k h w record { tag = t; typ = leaf_type w } v (with_value s t w k)
-    -- what is written within a wrapper
+    -- what is encoded within a wrapper
     inner_agrees :
         {s : Form} {k k' : List Keep} {h i : Held} {w u v : Value} {x : Head}
         → Wraps h w i u
@@ -211,15 +211,15 @@ mutual
         → RunAgrees s k' Nothing ws x vs k''
         → RunAgrees s k h (value w ws) x (value v vs) k''
 
-  -- the values, one after the other, agree with the fields; of their items, if there are any, the first has this head
+  -- the values, in order, agree with the fields; of their items, if there are any, the first has this head
   pub data FieldsAgree : Fields → List Keep → Values → Option Head → Values → List Keep → Type 0 where
     no_field_agrees : {k : List Keep} → FieldsAgree no_fields k no_values None no_values k
-    -- a sequence of nothing is written as nothing
+    -- an empty sequence is encoded as nothing
     nothing_agrees :
         {fs : Fields} {k k' : List Keep} {ws vs : Values} {y : Option Head}
         → FieldsAgree fs k ws y vs k'
         → FieldsAgree fs k (value (seq_value no_values) ws) y vs k'
-    -- an option is left out where its name isn't the next item's
+    -- an option is left out if its name isn't the next item's
     absent_agrees :
         {name : List ℕ} {s : Form} {fs : Fields} {k k' : List Keep} {ws vs : Values} {y : Option Head}
         → is_named name y ≡ false
@@ -235,7 +235,7 @@ mutual
         → FieldsAgree fs k' ws y vs k''
         → FieldsAgree (field name s fs) k (value w ws) (Some x) (value v vs) k''
 
-  -- the values, one after the other, agree with the forms; of their items, if there are any, the first has this head
+  -- the values, in order, agree with the forms; of their items, if there are any, the first has this head
   pub data FormsAgree : Forms → List Keep → Values → Option Head → Values → List Keep → Type 0 where
     no_form_agrees : {k : List Keep} → FormsAgree no_forms k no_values None no_values k
     form_agrees :

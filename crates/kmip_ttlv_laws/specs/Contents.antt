@@ -8,7 +8,7 @@ abbrev pub items_below : Trees → List Raw
 items_below no_trees = []
 items_below (tree t ts) = raw_of t ∷ items_below ts
 
--- the content of a structure is the items of the trees in it, one after the other, and so at every depth
+-- the content of a structure is the items of the trees in it, in order, and so is that of each structure below
 abbrev mutual
   pub ContainsItems : Tree → Type 0
   ContainsItems (leaf tag typ content) = Unit {0}

@@ -5,3 +5,5 @@ pub mod Returns
 pub mod Agreements
 pub mod WorkedAgreements
 pub mod ReadingLaws
+pub mod Equal
+pub mod Rereads

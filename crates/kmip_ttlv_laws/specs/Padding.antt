@@ -1,11 +1,11 @@
--- Items that differ in nothing but the values of padding bytes within them.
+-- Items that differ only in the values of padding bytes within them.
 use Rattle.std.specs.Prelude.{◌≡◌, ℕ, ◌<◌, ◌^◌, List, [], ◌∷◌, ◌++◌, length}
 use Rattle.kmip_ttlv_types.specs.declared.typ.TtlvType.TheVariants.{Structure}
 use Rattle.kmip_ttlv_types.specs.ItemTypes.{padding}
 use Rattle.kmip_ttlv_types.specs.Items.{Raw, Splits, header}
 
 mutual
-  -- equal items; or Structures of one tag that contain items which are pairwise the same but for padding
+  -- equal items; or Structures of one tag whose items are pairwise the same but for padding
   pub data SameButPadding : Raw → Raw → Type 0 where
     equal_items : {x : Raw} → SameButPadding x x
     split_alike :
@@ -27,7 +27,7 @@ mutual
         → AllSameButPadding xs ys
         → AllSameButPadding (x ∷ xs) (y ∷ ys)
 
--- the header and the content of an item, with fewer bytes behind them than pad it
+-- the header and the content of an item, with less padding than it needs
 pub record LacksPadding (x : Raw) (text : List ℕ) : Type 0 where
   pub tag_fits : x.tag < 2 ^ 24
   pub length_fits : length x.content < 2 ^ 32
@@ -35,7 +35,7 @@ pub record LacksPadding (x : Raw) (text : List ℕ) : Type 0 where
   pub pad_short : length pad < padding x.typ (length x.content)
   pub parts : text ≡ header x.tag x.typ (length x.content) ++ x.content ++ pad
 
--- a Structure's content is whole items and then one that lacks padding
+-- a Structure's content is whole items, and then one that lacks padding
 pub record EndsInLack (x : Raw) : Type 0 where
   pub is_structure : x.typ ≡ Structure
   pub whole : List Raw

@@ -1,4 +1,4 @@
--- What the laws state.
+-- The statements of the laws.
 use Rattle.std.specs.Prelude.{◌≡◌, ◌↔◌, ℕ, ◌+◌, ◌<◌, ◌≤◌, true, List, [], ◌∷◌, ◌++◌, length, map, take, Some}
 use Rattle.std.specs.List.{AllByRecursion}
 use Rattle.kmip_ttlv_types.specs.Items.{Raw, IsTextOf, Splits}
@@ -20,21 +20,21 @@ use Rattle.kmip_ttlv_laws.specs.Agreements.{Head, Agrees, MessageAgrees}
 use Rattle.kmip_ttlv_laws.specs.Returns.{ComesBack, NamesUnit, text_of_number}
 use Rattle.kmip_ttlv_laws.specs.Padding.{SameButPadding, EndsInLack}
 
--- behind the whole text of an item any bytes may follow in place of any others
+-- after the whole encoding of an item any bytes may follow in place of any others
 abbrev pub LaterBytes : Type 0
 LaterBytes =
     (s : Form) (x : Raw) (text after later : List ℕ) (v : Value)
     → IsTextOf x text
     → Begins s (text ++ after) v ↔ Begins s (text ++ later) v
 
--- so too behind the bytes that the first item's length states, where they are all there, whatever they are
+-- and so they may after the bytes that the first item's length states, if they are all there, whatever they are
 abbrev pub MessageAlone : Type 0
 MessageAlone =
     (s : Form) (bytes after : List ℕ) (v : Value)
     → 8 + length_at bytes 0 ≤ length bytes
     → Begins s bytes v ↔ Begins s (take (8 + length_at bytes 0) bytes ++ after) v
 
--- a message without its last bytes begins with no value, and is refused for no cause but an early end or want of memory
+-- a message that is cut before its end begins with no value, and has no error but an early end or out of memory
 abbrev pub CutMessages : Type 0
 CutMessages =
     (s : Form) (x : Raw) (front back : List ℕ) (v : Value)
@@ -43,7 +43,7 @@ CutMessages =
     → Begins s (front ++ back) v
     → ((w : Value) → Begins s front w → ⊥) × (NothingBegins s front other → ⊥)
 
--- at most one tree has the same text
+-- bytes encode at most one tree
 abbrev pub OneTree : Type 0
 OneTree = (t u : Tree) (text : List ℕ) → IsTreeText t text → IsTreeText u text → t ≡ u
 
@@ -51,7 +51,7 @@ OneTree = (t u : Tree) (text : List ℕ) → IsTreeText t text → IsTreeText u 
 abbrev pub ReadsAlone : Form → Raw → Value → Type 0
 ReadsAlone s x v = (kept : List Keep) × Reads s [] (x ∷ []) v kept []
 
--- what is written, after however many bytes, begins with what a root form reads from the first of the items
+-- encoded bytes, after any number of others, begin with what a root form reads from the first of the items
 abbrev pub ReadingWhatWasWritten : Type 0
 ReadingWhatWasWritten =
     (v d : Value) (n : ℕ) (written : List ℕ) (r : Tree) (rest : List Tree) (s : Form)
@@ -60,7 +60,7 @@ ReadingWhatWasWritten =
     → is_root s ≡ true
     → Begins s written d ↔ ReadsAlone s (raw_of r) d
 
--- texts of two items that are the same but for padding, whatever follows them, begin with the same values
+-- encodings of two items that are the same but for padding, whatever follows them, begin with the same values
 abbrev pub PaddingIsFree : Type 0
 PaddingIsFree =
     (s : Form) (x y : Raw) (a b after later : List ℕ) (v : Value)
@@ -69,7 +69,7 @@ PaddingIsFree =
     → IsTextOf y b
     → Begins s (a ++ after) v ↔ Begins s (b ++ later) v
 
--- all texts of one tree are texts of items that are the same but for padding
+-- all encodings of one tree encode items that are the same but for padding
 abbrev pub TextsDifferInPadding : Type 0
 TextsDifferInPadding =
     (t : Tree) (x y : Raw) (a b : List ℕ)
@@ -79,7 +79,7 @@ TextsDifferInPadding =
     → IsTextOf y b
     → SameButPadding x y
 
--- all texts of one tree, whatever follows them, begin with the same values
+-- all encodings of one tree, whatever follows them, begin with the same values
 abbrev pub PaddingOfTreesIsFree : Type 0
 PaddingOfTreesIsFree =
     (s : Form) (t : Tree) (a b after later : List ℕ) (v : Value)
@@ -87,7 +87,7 @@ PaddingOfTreesIsFree =
     → IsTreeText t b
     → Begins s (a ++ after) v ↔ Begins s (b ++ later) v
 
--- no form reads from a Structure whose last item lacks padding, whatever was kept before and follows
+-- no form reads from a Structure whose last item lacks padding, whatever was kept before and whatever follows
 abbrev pub PaddingIsRequired : Type 0
 PaddingIsRequired =
     (s : Form) (k k' : List Keep) (x : Raw) (xs ys : List Raw) (v : Value)
@@ -104,7 +104,7 @@ PaddingOfRootsIsRequired =
     → Begins s (text ++ after) v
     → ⊥
 
--- what is written of a value whose texts are UTF-8 is one text of each of its items, one after the other
+-- a value whose texts are UTF-8 is encoded as the canonical bytes of each of its items, which encode it, in order
 abbrev pub WrittenIsWellFormed : Type 0
 WrittenIsWellFormed =
     (v : Value) (n : ℕ) (written : List ℕ) (ts : List Tree)
@@ -113,14 +113,14 @@ WrittenIsWellFormed =
     → TextsAreUtf8 v
     → AllByRecursion (λ t. IsTreeText t (bytes t)) ts × (written ≡ bytes_all ts)
 
--- a tree that has any text has its canonical bytes as a text, and these are as long
+-- a tree that has any encoding has its canonical bytes as one, and these are as long
 abbrev pub CanonicalIsText : Type 0
 CanonicalIsText =
     (t : Tree) (text : List ℕ)
     → IsTreeText t text
     → IsTreeText t (bytes t) × (length (bytes t) ≡ length text)
 
--- a text of a tree begins with what a root form reads from the tree's item
+-- an encoding of a tree begins with what a root form reads from the tree's item
 abbrev pub ReadingTrees : Type 0
 ReadingTrees =
     (s : Form) (t : Tree) (text after : List ℕ) (v : Value)
@@ -128,8 +128,8 @@ ReadingTrees =
     → IsTreeText t text
     → Begins s (text ++ after) v ↔ ReadsAlone s (raw_of t) v
 
--- the one value is written under this tag as one leaf, from which the form reads the other, whatever was kept before
--- and follows
+-- the one value is encoded under this tag as one leaf, from which the form reads the other, whatever was kept before
+-- and whatever follows
 abbrev pub LeafComesBack : Form → Value → Value → ℕ → List Keep → List Raw → Type 0
 LeafComesBack s v w t k xs =
     (x : Tree) × (items v (Plain t) ≡ Some (x ∷ [])) × Reads s k (raw_of x ∷ xs) w (with_leaf s (raw_of x) k) xs
@@ -141,33 +141,33 @@ LeavesComeBack =
     → ComesBack s v w
     → LeafComesBack s v w t k xs
 
--- the variant is written under the held tag as one leaf, from which the enum reads the unit of the number's
--- text, and keeps that text, whatever was kept before and follows
+-- the variant is encoded under the held tag as one leaf, from which the enum reads the unit named by the number's
+-- text, and keeps that text, whatever was kept before and whatever follows
 abbrev pub UnitComesBack : (name vname own : List ℕ) → Variants → Held → (t n : ℕ) → List Keep → List Raw → Type 0
 UnitComesBack name vname own vs w t n k xs =
     let kept = k ++ record { tag = t; text = text_of_number n } ∷ [] in
     (x : Tree) × (items (unit_variant_value name vname) w ≡ Some (x ∷ []))
     × Reads (enum own vs) k (raw_of x ∷ xs) (unit_variant_value own (text_of_number n)) kept xs
 
--- each unit variant of a number does so, where the enum names a unit by that number
+-- each unit variant of a number does so, if the enum names a unit by that number
 abbrev pub UnitsComeBack : Type 0
 UnitsComeBack =
     (name vname own : List ℕ) (vs : Variants) (w : Held) (t n : ℕ) (k : List Keep) (xs : List Raw)
     → take_tag w name ≡ Some t → number vname ≡ Some n → NamesUnit vs k n → UnitComesBack name vname own vs w t n k xs
 
--- what agrees with a form is written as items, the first of the head
+-- what agrees with a form is encoded as items, the first of this head
 abbrev pub AgreeingIsWritten : Type 0
 AgreeingIsWritten =
     (s : Form) (k k' : List Keep) (h : Held) (w v : Value) (x : Head) → Agrees s k h w x v k'
     → (t : Tree) × (ts : List Tree) × (items w h ≡ Some (t ∷ ts)) × ((raw_of t).tag ≡ x.tag) × ((raw_of t).typ ≡ x.typ)
 
--- where a value agrees with a root form, as another one, and is written, the bytes begin with that one and no other
+-- if a value agrees with a root form, as another one, and is encoded, the bytes begin with that one and no other
 abbrev pub AgreeingIsRead : Type 0
 AgreeingIsRead =
     (s : Form) (w v d : Value) (n : ℕ) (written : List ℕ)
     → is_root s ≡ true → MessageAgrees s w v → IsWrittenAs w n written → Begins s written d ↔ (d ≡ v)
 
--- what is written is the items of the trees, one after the other, and so is each content, at every depth
+-- encoded bytes are the items of the trees, in order, and so is each content, at every depth
 abbrev pub WrittenIsItems : Type 0
 WrittenIsItems =
     (v : Value) (n : ℕ) (written : List ℕ) (ts : List Tree)

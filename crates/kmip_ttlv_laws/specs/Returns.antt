@@ -1,4 +1,4 @@
--- What leaves and unit variants come back as.
+-- What leaves and unit variants are decoded as after they were encoded.
 use Rattle.std.specs.Prelude.{◌≡◌, ℕ, ℤ, Bool, true, ◌<◌, ◌^◌, List, Some, FitsSigned}
 use Rattle.std.specs.Int.{w32, w64, cast_signed, to_be_bytes}
 use Rattle.std.specs.Str.{is_utf8}
@@ -12,7 +12,7 @@ use Rattle.kmip_ttlv_reader.specs.Keeps.{Keep}
 use Rattle.kmip_ttlv_reader.specs.Reads.{number_text, first_named}
 use Rattle.kmip_ttlv_reader.specs.Rules.{by_value, choice}
 
--- by this form the one value, written as a leaf, is read back as the other
+-- by this form the one value, encoded as a leaf, is decoded as the other
 pub data ComesBack : Form → Value → Value → Type 0 where
   as_int8 : {z : ℤ} → FitsSigned w32 z → ComesBack int32 (i8_value z) (i32_value z)
   as_int16 : {z : ℤ} → FitsSigned w32 z → ComesBack int32 (i16_value z) (i32_value z)
@@ -27,11 +27,11 @@ pub data ComesBack : Form → Value → Value → Type 0 where
   as_number : {n : ℕ} → n < 2 ^ 32 → ComesBack any_number (u32_value n) (u32_value n)
   as_big_octets : {s : List ℕ} → ComesBack octets (big_integer_value s) (bytes_value (sign_extended s))
 
--- a number of four bytes in the text by which an enum looks for it
+-- a number of four bytes, as the text by which an enum looks for it
 abbrev pub text_of_number : ℕ → List ℕ
 text_of_number n = number_text (to_be_bytes w32 n)
 
--- of an Enumeration no rule chooses a variant, and the first that bears the number's text is a unit
+-- no rule chooses a variant for an Enumeration, and the first variant of the number's text is a unit
 pub record NamesUnit (vs : Variants) (k : List Keep) (n : ℕ) : Type 0 where
   pub no_rule : choice vs k Enumeration ≡ by_value
   pub named : first_named (text_of_number n) vs ≡ Some unit

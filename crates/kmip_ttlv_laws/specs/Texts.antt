@@ -1,4 +1,4 @@
--- The texts that a value holds.
+-- The texts in a value.
 use Rattle.std.specs.Prelude.{◌≡◌, ℕ, true, List}
 use Rattle.std.specs.Str.{is_utf8}
 use Rattle.kmip_ttlv_base.specs.Values.{Value, boolean_value, i8_value, i16_value, i32_value, u32_value, i64_value}
@@ -7,7 +7,7 @@ use Rattle.kmip_ttlv_base.specs.Values.{none_value, some_value, seq_value, struc
 use Rattle.kmip_ttlv_base.specs.Values.{unit_variant_value, newtype_variant_value, tuple_variant_value}
 use Rattle.kmip_ttlv_base.specs.Values.{unsupported_value, Values, no_values, value}
 
--- each text in the value is such a one
+-- this is true of each text in the value
 abbrev mutual
   pub EachText : (List ℕ → Type 0) → Value → Type 0
   EachText P (text_value s) = P s

@@ -1,11 +1,10 @@
-//! Laws of the encoding: what holds between the calls of writing and reading, whatever the values,
-//! shapes and bytes are.
+//! Laws of encoding and decoding together: what is true of them for any values, shapes and bytes.
 //!
-//! Each law is a function that does nothing and whose contract is the law, so that a proof can cite
-//! it. The statements stand in specs/ReadingLaws, and speak of what the writer's and the reader's calls
-//! promise: `IsWrittenAs` is what `to_vec` answers, and `Begins` what `from_slice` finds. Items that
-//! are the same but for padding are defined in specs/Padding. Beside each law a comment says which
-//! of its premises is needed and gives a small example without it.
+//! Each law is the contract of a function with an empty body, so that a proof can call it. specs/ReadingLaws
+//! has the statements, in terms of the contracts of encoding and decoding: `IsWrittenAs` is what `to_vec`
+//! returns, and `Begins` what `from_slice` finds. specs/Padding defines items that are the same but for
+//! padding. A comment at each law says which of its premises is needed, with a small example
+//! without it.
 #![tactic(auto)]
 
 ghost use Rattle.kmip_ttlv_base.specs.declared.shape.Data.{Data};
@@ -16,174 +15,180 @@ ghost use Rattle.kmip_ttlv_laws.specs.ReadingLaws.{ReadingWhatWasWritten, Paddin
 ghost use Rattle.kmip_ttlv_laws.specs.ReadingLaws.{PaddingOfTreesIsFree, PaddingIsRequired, PaddingOfRootsIsRequired};
 ghost use Rattle.kmip_ttlv_laws.specs.ReadingLaws.{WrittenIsWellFormed, WrittenIsItems, CanonicalIsText, ReadingTrees};
 ghost use Rattle.kmip_ttlv_laws.specs.ReadingLaws.{LeavesComeBack, UnitsComeBack, AgreeingIsWritten, AgreeingIsRead};
-ghost use Rattle.kmip_ttlv_laws.specs.WorkedAgreements.{AttributesAgree, OptionsAgree};
+ghost use Rattle.kmip_ttlv_laws.specs.WorkedAgreements.{AttributesAgree, OptionsAgree, SequencesAgree};
 
+mod known;
+mod message;
+
+pub use crate::known::Known;
+pub use crate::message::{Message, reread};
 use std::alloc::Allocator;
 
-/// Where the bytes of the root item are all there, bytes behind it change neither whether a value
-/// comes nor which.
+/// If the root item's bytes are all there, bytes after it change neither whether it is decoded as a value
+/// nor as which.
 ///
-/// A framer relies on it: it may hand over a message by itself, or with whatever its buffer has
-/// behind the message. By `message` it need not look at more than the length: the first 8 + length
-/// bytes are all that counts, whether or not they are an item.
+/// So framing code may pass on a message by itself, or with whatever follows it in a buffer. By `message`
+/// it needs to look at no more than the length: only the first 8 + length bytes count, whether or not they
+/// are an item.
 pub fn later_bytes()
-    // The item's bytes have to be there: the first seven bytes of `42 00 01 01 00 00 00 00` begin
-    // with no value, and with the eighth behind them they are an empty Structure.
+    // The item's bytes must be there: the first seven bytes of `42 00 01 01 00 00 00 00` begin with no
+    // value, and followed by the eighth they are an empty Structure.
     ensures item { LaterBytes }
-    // So have the bytes that the length states: `42 00 01 01 00 00 00 08` begins with no value, and
-    // does so with `42 00 02 01 00 00 00 00` behind it.
+    // So must those that the length states: `42 00 01 01 00 00 00 08` begins with no value, and does
+    // so when `42 00 02 01 00 00 00 00` follows.
     ensures message { MessageAlone }
 {}
 
-/// A message that is cut anywhere before its end is waited for: it begins with no value, and no
-/// refusal of it says that it never will, so `from_slice` answers an early end or want of memory.
+/// If a message is cut anywhere before its end, the rest may still come: it begins with no value, and no
+/// error of it stays, so `from_slice` returns an early end or out of memory.
 ///
-/// Framers that read until a message is whole rely on it: a cut message is never taken for a whole
-/// one, nor for one that lacks a field.
+/// So code that reads until a message is whole never takes a cut message for a whole one, nor for one that
+/// lacks a field.
 pub fn cut_messages_end_early()
-    // The whole has to be a message that is read: one that has another tag than the shape's is
-    // refused for it, cut or whole. And bytes have to be missing.
+    // The whole must be a message that is decoded: if its tag isn't the shape's, that is the error, cut
+    // or not. And bytes must be missing.
     ensures { CutMessages }
 {}
 
-/// Bytes are a text of one tree or of none.
+/// Bytes encode at most one tree.
 ///
-/// Whoever speaks of the tree of a message relies on it: readers, printers and what is proved of them.
+/// So one can speak of the tree of a message, as decoding, printing and their proofs do.
 pub fn one_tree()
-    // The leaves have to be valid, as a tree's text has them: else the same bytes could be a leaf of
-    // type Structure and a Structure.
+    // The leaves must be valid, as they are in a tree that bytes encode: otherwise the same bytes could be
+    // a leaf of type Structure and a Structure.
     ensures { OneTree }
 {}
 
-/// What was written is read back as its first item reads: a shape that is a struct, with newtypes and
-/// options around it or none, finds a value in the bytes exactly where it reads that value from the
-/// first of the written items alone.
+/// Encoded bytes are decoded as their first item is: a shape that is a struct, possibly within newtypes and
+/// options, finds a value in the bytes if and only if it reads that value from the first of the encoded
+/// items alone.
 ///
-/// Clients and servers that share types rely on it, and each round trip of a type rests on it. It holds
-/// too of what a serializer appends to the bytes of earlier calls.
+/// Every round trip of a type that clients and servers share rests on it. It is also true of what a serializer
+/// appends to the bytes of earlier calls.
 pub fn reading_what_was_written()
-    // That the bytes were written says that the items fit: the length of a content of 2^32 bytes
-    // would be written as 0, and its item read as an empty one. A shape that is no such struct is no
-    // message's: the integer 1 in a newtype `Transparent:0x420001` is written as one leaf, which the
-    // shape of an integer reads, while no message begins with a leaf.
+    // That the bytes were encoded means that the items fit: the length of content of 2^32 bytes
+    // would be written as 0, and its item read as an empty one. A shape that is no such struct isn't a
+    // message's: the integer 1 in a newtype `Transparent:0x420001` is encoded as one leaf, which the
+    // shape of an integer reads, but no message begins with a leaf.
     ensures { ReadingWhatWasWritten }
 {}
 
-/// A well-formed message is read as its tree reads: the same as the law above for any bytes that are
-/// a text of a tree, whoever wrote them.
+/// A well-formed message is decoded as its tree is: the same as the law above for any bytes that encode a
+/// tree, whoever wrote them.
 ///
-/// Servers of other makers rely on it: a message of theirs means what its tree means.
+/// So a message from another implementation means what its tree means.
 pub fn reading_trees()
-    // A shape that is no struct reads leaves, with which no message begins.
+    // A shape that is no struct reads leaves, and no message begins with one.
     ensures { ReadingTrees }
 {}
 
-/// Padding bytes change neither whether a value comes nor which: items that differ in the values of
-/// padding bytes alone are read alike, at every depth, whatever follows them.
+/// Padding changes neither whether a message is decoded as a value nor as which: items that differ in the
+/// values of padding bytes alone are decoded alike, at every depth, whatever follows them.
 ///
-/// Servers of other makers rely on it: what they pad with is theirs to choose.
+/// So other implementations may pad with any bytes.
 pub fn padding_is_free()
-    // The items have to be the same but for padding: the last four bytes of the Integer
+    // The items must be the same but for padding: the last four bytes of the Integer
     // `42 00 02 02 00 00 00 04 00 00 00 01 00 00 00 00` are padding, and the four before them are
-    // its value. Within a content that is not items one after the other no byte is padding.
+    // its value. In content that isn't a list of items no byte is padding.
     ensures { PaddingIsFree }
 {}
 
-/// The same of well-formed messages: all texts of one tree begin with the same values.
+/// The same for well-formed messages: all encodings of one tree begin with the same values.
 ///
-/// Servers of other makers rely on it, as above, and who compares messages by their trees.
+/// So messages, of other implementations too, may be compared by their trees.
 pub fn padding_of_trees_is_free()
-    // All texts of a tree are texts of items that are the same but for padding.
+    // All encodings of a tree encode items that are the same but for padding.
     ensures items { TextsDifferInPadding }
-    // Both have to be texts of the same tree: an Integer 1 and an Integer 2 are not.
+    // Both must encode the same tree: an Integer 1 and an Integer 2 don't.
     ensures values { PaddingOfTreesIsFree }
 {}
 
-/// Padding bytes have to be there: from a Structure whose last item has too few of them no shape
-/// reads a value, wherever the Structure stands, and no message begins with it.
+/// Padding must be there: from a Structure whose last item has too little of it no shape reads a value,
+/// wherever the Structure is, and no message begins with it.
 ///
-/// Servers of other makers rely on it: what is read has no item cut short.
+/// So no item is cut short in what is decoded, whoever wrote it.
 pub fn padding_is_required()
-    // It has to be the last item: behind another, the next item's first bytes are the padding. So
+    // It must be the last item: otherwise the first bytes of the next item are the padding. So
     // `42 00 02 02 00 00 00 04 00 00 00 01` and `42 00 03 08 00 00 00 01 00 00 00 04 00 00 00 00`, an
-    // Integer that lacks its padding and a ByteString, are an Integer with the padding `42 00 03 08`
-    // and a Structure of four bytes. And a Structure that is ignored need not be items at all, so
-    // this speaks of what is read.
+    // Integer that lacks its padding and a Byte String, are an Integer with the padding `42 00 03 08`
+    // and a Structure of four bytes. And a Structure that is ignored needn't be items at all, so
+    // this law is about what is read.
     ensures anywhere { PaddingIsRequired }
     ensures root { PaddingOfRootsIsRequired }
 {}
 
-/// What is written is the items of the value, one after the other, and each Structure's content is
-/// the items of what is in it, at every depth.
+/// Encoded bytes are the items of the value, in order, and each Structure's content is the items of what is in
+/// it, at every depth.
 ///
-/// Round trips of users' types rest on it, structure by structure: it says what a shape finds when it
-/// opens a Structure that was written.
+/// Round trips of users' types rest on it, structure by structure: it says what a shape finds in a
+/// Structure that was encoded.
 pub fn written_is_items()
-    // The value has to be written, so that it fits: a content of 2^32 bytes would be the text of no item.
+    // The value must have an encoding, so that it fits: content of 2^32 bytes would be that of no item.
     ensures { WrittenIsItems }
 {}
 
-/// What is written is well-formed: one canonical text of each item, one after the other, and each
-/// leaf's content is valid for its type.
+/// Encoded bytes are well-formed: the canonical bytes of each item, in order, and each leaf's content is valid
+/// for its type.
 ///
-/// Servers rely on it, and printers: what holds of well-formed messages holds of what is written.
+/// So what is true of well-formed messages, when they are decoded or printed, is true of what was encoded.
 pub fn written_is_well_formed()
-    // The value's texts have to be UTF-8, as those of data are, by the law below: the text of the
-    // one byte FF would be written as it stands, and be no valid TextString.
+    // The value's texts must be UTF-8, as those of data are, by the law below: a text of the one byte FF
+    // would be written as it is, and be no valid Text String.
     ensures { WrittenIsWellFormed }
 {}
 
-/// The texts in data are UTF-8, so that what is written of data is well-formed.
+/// The texts in data are UTF-8, so data is encoded as well-formed bytes.
 ///
-/// Whoever uses `written_is_well_formed` for data relies on it.
+/// It is what `written_is_well_formed` needs for data.
 pub fn texts_of_data_are_utf8<A: Allocator>()
     ensures { (d : Data A) → TextsAreUtf8 (view d) }
 {}
 
-/// A tree that has a text has its canonical bytes as one, of the same length.
+/// A tree that has an encoding has its canonical bytes as one, of the same length.
 ///
-/// Proxies rely on it that write again what they read: it fits where it fitted.
+/// So a proxy that encodes again what it decoded needs no more room.
 pub fn canonical_is_text()
-    // There has to be a text: a tree whose content has 2^32 bytes, or whose leaf is not valid, has none.
+    // It must have one: a tree whose content has 2^32 bytes, or with an invalid leaf, has none.
     ensures { CanonicalIsText }
 {}
 
-/// A leaf that was written is read back: an integer of 8, 16 or 32 bits as the same integer of 32, a
-/// Long Integer, Boolean, Text, Bytes and Interval as itself, a Date-Time as its signed number, and a
-/// Big Integer as its sign-extended bytes.
+/// A leaf that was encoded is decoded again: an integer of 8, 16 or 32 bits as the same integer of 32, a
+/// Long Integer, Boolean, Text String, Byte String, Interval and Enumeration as itself, a Date-Time as its signed
+/// number, and a Big Integer as its sign-extended bytes.
 ///
 /// Round trips of users' types rest on it, field by field.
 pub fn leaves_are_read_back()
-    // The numbers have to fit, and the text has to be UTF-8: 2^31 would come back as -2^31.
+    // The numbers must fit, and the text must be UTF-8: 2^31 would come back as -2^31.
     ensures { LeavesComeBack }
 {}
 
-/// A unit variant that was written is read back by its number: as the unit that an enum's shape names by
-/// that number in eight uppercase digits behind `0x`, and so as itself where its own name is that text.
+/// A unit variant that was encoded is decoded by its number: as the unit whose name, in an enum's shape, is that
+/// number as `0x` and eight uppercase digits, and so as itself if its own name is that text.
 ///
 /// Round trips of users' enums rest on it.
 pub fn units_are_read_back()
-    // No rule may choose a variant before the number does, and the first variant of that text has to be
-    // a unit: a variant named `0x1` is written as 00000001, and looked for as `0x00000001`. A tag has to
-    // be there to be taken: under one that was taken before without `Override:`, nothing is written.
+    // No rule may choose a variant before the number does, and the first variant of that name must be a
+    // unit: a variant named `0x1` is encoded as 00000001, and looked for as `0x00000001`. The name must be
+    // one that can be taken: under a held tag that doesn't override nothing is encoded.
     ensures { UnitsComeBack }
 {}
 
-/// What was written is read back: where a value agrees with a shape's form, its bytes begin with the value that
-/// it agrees as, and with no other.
+/// An encoded value is decoded: if it agrees with a shape's form, its bytes begin with the value that it agrees
+/// as, and with no other.
 ///
-/// Round trips of users' messages rest on it: a type shows that what it is written as agrees with its form as what
-/// it is read as, and has the rest from here.
+/// Round trips of users' messages rest on it: a type shows that what it is encoded as agrees with its form, as
+/// what it is decoded as, and this law gives the rest.
 pub fn agreeing_values_come_back()
-    // A sequence of nothing and an option that is left out are written as no item, so what agrees is more than these.
+    // An empty sequence and an option that is left out are encoded as no item, so what agrees is more than these.
     ensures written { AgreeingIsWritten }
-    // The bytes have to be what is written, so that all lengths fit. Of a shape that is no struct no message begins.
+    // The bytes must be those of the value, so that all lengths fit. A shape that is no struct decodes no message.
     ensures read { AgreeingIsRead }
 {}
 
-/// Worked values that agree with a form: attributes of a key, each read by the rule that its own name chooses,
-/// and options of which one is left out.
+/// Worked values that agree with a form: attributes of a key, each decoded by the rule that its own name
+/// chooses, options of which one is left out, and sequences that may be empty.
 pub fn worked_values_agree()
     ensures attributes { AttributesAgree }
     ensures options { OptionsAgree }
+    ensures sequences { SequencesAgree }
 {}

@@ -1,4 +1,4 @@
-use Rattle.kmip_ttlv_laws.proofs.WorkedAgreements.{attributes_agree, options_agree}
+use Rattle.kmip_ttlv_laws.proofs.WorkedAgreements.{attributes_agree, options_agree, sequences_agree}
 use Rattle.kmip_ttlv_laws.proofs.worked_values_agree.Goals as goal
 
 pub returns-clause-attributes : goal.returns-clause-attributes
@@ -6,3 +6,6 @@ returns-clause-attributes c = attributes_agree
 
 pub returns-clause-options : goal.returns-clause-options
 returns-clause-options c = options_agree
+
+pub returns-clause-sequences : goal.returns-clause-sequences
+returns-clause-sequences c = sequences_agree

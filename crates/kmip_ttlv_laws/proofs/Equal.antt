@@ -1,0 +1,103 @@
+-- Parts of types whose values are equal if they stand for the same.
+use Rattle.std.proofs.Common.{◌≡◌, refl, sym, ap, ◌∙◌, true, ℕ, ℤ, Bool, List, [], ◌∷◌, map, Option, Some, None, String, string_bytes}
+use Rattle.std.specs.Prelude.{if◌then◌else◌, ◌&&◌, ◌==◌}
+use Rattle.std.specs.Option.{option_eq}
+use Rattle.std.specs.String.{string_eq}
+use mathlib.Core.Bool.{beq}
+use Rattle.std.specs.Ordering.{int_eq}
+use Rattle.std.specs.Cmp.{booleans_Decides}
+use Rattle.std.proofs.lemmas.Bool.Decides.{Decides-eqb, Decides-int_eq}
+use Rattle.std.proofs.lemmas.Slice.Eq.{bytes_eq-Decides, slice_eq-Decides}
+use Rattle.kmip_ttlv_messages.specs.MessageParts.{optional}
+use Rattle.std.specs.Str.{bytes_eq}
+use Rattle.std.specs.Cmp.Lexicographic.{pointwise}
+use Rattle.kmip_ttlv_base.specs.Forms.{Form}
+use Rattle.kmip_ttlv_base.specs.Values.{Value, values_of}
+use Rattle.kmip_ttlv_reader.specs.Reads.{is_root}
+use Rattle.kmip_ttlv_laws.specs.Agreements.{MessageAgrees}
+use Rattle.kmip_ttlv_laws.specs.Equal.{AreEqual}
+use Rattle.kmip_ttlv_laws.specs.Rereads.{Rereads}
+use Rattle.kmip_ttlv_laws.proofs.Agreeing.{agreeing_is_read, agreeing_is_written}
+
+-- parts that are equal each
+pub both : {a b : Bool} → a ≡ true → b ≡ true → a && b ≡ true
+both e f = rw e f
+
+-- the same numbers, and the same flags
+pub signed_equal : (x y : ℤ) → x ≡ y → int_eq x y ≡ true
+signed_equal x y e = (Decides-int_eq x y).1 e
+
+pub unsigned_equal : (x y : ℕ) → x ≡ y → (x == y) ≡ true
+unsigned_equal x y e = (Decides-eqb x y).1 e
+
+pub booleans_equal : (x y : Bool) → x ≡ y → beq x y ≡ true
+booleans_equal x y e = (booleans_Decides x y).1 e
+
+-- texts of the same bytes
+pub texts_equal : {A : Type 0} (s t : String A) → string_bytes s ≡ string_bytes t → string_eq s t ≡ true
+texts_equal s t e = (bytes_eq-Decides (string_bytes s) (string_bytes t)).1 e
+
+-- the same bytes
+pub bytes_equal : (xs ys : List ℕ) → xs ≡ ys → pointwise (λ x y. x == y) xs ys ≡ true
+bytes_equal xs ys e = (slice_eq-Decides Decides-eqb xs ys _ refl).1 e
+
+-- what may be absent
+pub options_equal : {T : Type 0} (f : T → Value) (E : T → T → Bool) → AreEqual f E → (x y : Option T) → optional f x ≡ optional f y → option_eq E x y ≡ true
+options_equal f E equal None None e = refl
+options_equal f E equal None (Some y) e = absurd cc
+options_equal f E equal (Some x) None e = absurd cc
+options_equal f E equal (Some x) (Some y) e = let same : f x ≡ f y = cc in equal x y same
+
+-- elements of a sequence
+pub sequences_equal :
+    {T : Type 0} (f : T → Value) (E : T → T → Bool)
+    → AreEqual f E
+    → (xs ys : List T)
+    → values_of (map f xs) ≡ values_of (map f ys)
+    → pointwise E xs ys ≡ true
+sequences_equal f E equal [] [] e = refl
+sequences_equal f E equal [] (y ∷ ys) e = absurd cc
+sequences_equal f E equal (x ∷ xs) [] e = absurd cc
+sequences_equal f E equal (x ∷ xs) (y ∷ ys) e =
+    let head : f x ≡ f y = cc in
+    let rest : values_of (map f xs) ≡ values_of (map f ys) = cc in
+    rw (equal x y head) (sequences_equal f E equal xs ys rest)
+
+-- the first row of a text
+abbrev pub row_of : {T : Type 0} → List ℕ → List (List ℕ × T) → Option T
+row_of text [] = None
+row_of text ((name, x) ∷ rows) = if bytes_eq text name then Some x else row_of text rows
+
+-- values that a table finds by their texts are the same if their texts are
+pub found_same :
+    {T : Type 0} (name : T → List ℕ) (rows : List (List ℕ × T))
+    → ((x : T) → row_of (name x) rows ≡ Some x)
+    → (x y : T)
+    → name x ≡ name y
+    → x ≡ y
+found_same name rows found x y e =
+    let a : row_of (name x) rows ≡ Some x = found x in
+    let b : row_of (name y) rows ≡ Some y = found y in
+    let c : row_of (name x) rows ≡ row_of (name y) rows = ap (λ t. row_of t rows) e in
+    let d : Some x ≡ Some y = cc in
+    cc
+
+-- messages whose values agree with their form come back
+pub agreeing_rereads :
+    {T : Type 0} (stated decoded : T → Value) (s : Form) (eq : T → T → Bool) (IsSound : T → Type 0)
+    → is_root s ≡ true
+    → ((x : T) → IsSound x → MessageAgrees s (stated x) (decoded x))
+    → AreEqual decoded eq
+    → Rereads stated s (λ v y. v ≡ decoded y) eq IsSound
+agreeing_rereads stated decoded s eq IsSound root agrees equal =
+    record {
+      has_items = λ x is.
+          let (head, k, a) = agrees x is in
+          let (t, ts, are, tag, typ) = agreeing_is_written s _ k _ (stated x) (decoded x) head a in
+          (t ∷ ts, are);
+      begins = λ x written is w.
+          (decoded x, (agreeing_is_read s (stated x) (decoded x) (decoded x) 0 written root (agrees x is) w).1 refl);
+      equal = λ x y written v is w b e.
+          let same : v ≡ decoded x = (agreeing_is_read s (stated x) (decoded x) v 0 written root (agrees x is) w).0 b in
+          equal x y (sym same ∙ e);
+    }

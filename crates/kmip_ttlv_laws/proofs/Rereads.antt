@@ -1,0 +1,51 @@
+-- What decoding says of a message that was encoded.
+use Rattle.std.proofs.Common.{◌≡◌, refl, sym, subst, ℕ, List, [], ◌++◌, Option, Some, None, Result, Ok, Err}
+use Rattle.std.specs.Prelude.{IfOk, IfErr}
+use Rattle.std.proofs.lemmas.List.{append-nil}
+use Rattle.kmip_ttlv_types.specs.Trees.{Tree}
+use Rattle.kmip_ttlv_base.specs.declared.error.Error.{Error}
+use Rattle.kmip_ttlv_base.specs.Errors.{Kind, Location, io_error, exceeds_limit, malformed, mismatch, out_of_memory, length_overflow}
+use Rattle.kmip_ttlv_base.specs.Errors.{view_of_kind, view_of_location, kind_of, location_of}
+use Rattle.kmip_ttlv_base.specs.Forms.{Form}
+use Rattle.kmip_ttlv_base.specs.Values.{Value}
+use Rattle.kmip_ttlv_ser.specs.declared.held.Held.TheVariants.{Nothing}
+use Rattle.kmip_ttlv_ser.specs.WrittenItems.{items}
+use Rattle.kmip_ttlv_ser.specs.WriteAnswers.{IsRefusedAs, Refuses, origin}
+use Rattle.kmip_ttlv_reader.specs.Reads.{Begins}
+use Rattle.kmip_ttlv_reader.specs.ReadResults.{ErrorStands, NothingBegins, sort_of_kind}
+use Rattle.kmip_ttlv_laws.specs.Rereads.{IsOfSize}
+
+-- what is decoded has what follows from the value with which the bytes begin
+pub if_decoded :
+    {T E : Type 0} {s : Form} {bytes : List ℕ} {is_value : Value → T → Type 0} {P : T → Type 0} (r : Result T E)
+    → ((y : T) (v : Value) → Begins s bytes v → is_value v y → P y)
+    → IfOk r (λ y. (v : Value) × Begins s bytes v × is_value v y)
+    → IfOk r P
+if_decoded (Ok y) follows (v, b, is) = follows y v b is
+if_decoded (Err e) follows found = tt
+
+-- where the bytes begin with a value, decoding fails for want of memory alone
+pub decoding_fails : (k : Kind) (s : Form) (bytes : List ℕ) (v : Value) → Begins s bytes v → NothingBegins s bytes (sort_of_kind k) → IsOfSize k
+decoding_fails out_of_memory s bytes v b n = tt
+decoding_fails length_overflow s bytes v b n = tt
+decoding_fails (io_error x) s bytes v b n = absurd (n v b)
+decoding_fails (exceeds_limit x) s bytes v b n = absurd (n [] v (subst (λ all. Begins s all v) (sym (append-nil bytes)) b))
+decoding_fails (malformed x) s bytes v b n = absurd (n [] v (subst (λ all. Begins s all v) (sym (append-nil bytes)) b))
+decoding_fails (mismatch x) s bytes v b n = absurd (n [] v (subst (λ all. Begins s all v) (sym (append-nil bytes)) b))
+
+pub if_decoding_fails :
+    {T A : Type 0} {s : Form} {bytes : List ℕ} (r : Result T (Error A))
+    → ((v : Value) × Begins s bytes v)
+    → IfErr r (λ e. ErrorStands s bytes e)
+    → IfErr r (λ e. IsOfSize (view_of_kind (kind_of e)))
+if_decoding_fails (Ok y) begins stands = tt
+if_decoding_fails {s = s} {bytes = bytes} (Err e) (v, b) stands = decoding_fails (view_of_kind (kind_of e)) s bytes v b stands
+
+-- what has items is refused by their size, or for want of memory
+pub refused_by_size : (v : Value) (ts : List Tree) (k : Kind) (l : Location) → items v Nothing ≡ Some ts → IsRefusedAs v origin k l → IsOfSize k
+refused_by_size v ts out_of_memory l are r = tt
+refused_by_size v ts length_overflow l are r = tt
+refused_by_size v ts (malformed x) l are r = let no : items v Nothing ≡ None = r.no_items in absurd cc
+refused_by_size v ts (mismatch x) l are r = let no : items v Nothing ≡ None = r.no_items in absurd cc
+refused_by_size v ts (io_error x) l are r = absurd r
+refused_by_size v ts (exceeds_limit x) l are r = absurd r

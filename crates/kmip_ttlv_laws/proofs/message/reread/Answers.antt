@@ -1,0 +1,14 @@
+use Rattle.std.proofs.Common.{rules, ◌≡◌, true, sym, subst, IfOk, IfErr, List, []}
+use Rattle.kmip_ttlv_ser.specs.WriteAnswers.{IsWrittenAs}
+use Rattle.kmip_ttlv_laws.proofs.Rereads.{if_decoded, if_decoding_fails}
+use Rattle.kmip_ttlv_laws.proofs.message.reread.Goals as goal
+
+pub returns-clause-equal : goal.returns-clause-equal
+returns-clause-equal g c is =
+    let w = subst (IsWrittenAs (g.T.Serialize.stated c.args.message.now) 0) (sym c.as_slice.ensures.value) c.in_ok-bytes.ensures in
+    if_decoded c.from_slice.result (λ y v b of. c.comes_back.ensures.equal c.args.message.now y c.as_slice.result.now v is w b of) c.from_slice.ensures.found
+
+pub returns-clause-why : goal.returns-clause-why
+returns-clause-why g c is =
+    let w = subst (IsWrittenAs (g.T.Serialize.stated c.args.message.now) 0) (sym c.as_slice.ensures.value) c.in_ok-bytes.ensures in
+    if_decoding_fails c.from_slice.result (c.comes_back.ensures.begins c.args.message.now c.as_slice.result.now is w) c.from_slice.ensures.refused

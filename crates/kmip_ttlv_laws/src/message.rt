@@ -1,0 +1,39 @@
+//! Messages that come back: what is encoded is decoded as an equal message.
+
+ghost use Rattle.std.specs.Prelude.{◌≡◌, true, IfOk, IfErr};
+ghost use Rattle.kmip_ttlv_base.specs.Errors.{view_of_kind, kind_of};
+ghost use Rattle.kmip_ttlv_laws.specs.Rereads.{IsOfSize};
+
+use kmip_ttlv_base::error::Error;
+use kmip_ttlv_base::shape::Serialize;
+use kmip_ttlv_de::{Decode, from_slice};
+use kmip_ttlv_ser::to_vec;
+use std::alloc::Allocator;
+
+/// A type of messages of which the sound ones come back: what is encoded is decoded as an equal message.
+pub trait Message<A: Allocator + Copy>: Serialize + Decode<A> + PartialEq {
+    ghost use Rattle.kmip_ttlv_laws.specs.Rereads.{Rereads};
+
+    // What `is_sound` checks.
+    ghost IsSound: { Self → Type 0 };
+
+    /// Whether the message has what its type wants of it, as an element in each list that must not be empty.
+    fn is_sound(&self) -> bool
+        ensures { result ≡ true → IsSound self.now };
+
+    /// A sound message comes back: the law of the type.
+    fn comes_back()
+        ensures { Rereads Self.stated Self.form Self.is_value Self.eq IsSound };
+}
+
+/// Encodes a message and decodes it again. A sound message comes back as one that is equal to it.
+///
+/// The only errors of a sound message are `OutOfMemory`, and `LengthOverflow` if its bytes don't fit a length.
+pub fn reread<T: Message<A>, A: Allocator + Copy>(alloc: A, message: &T) -> Result<T, Error<A>>
+    ensures equal { T.IsSound message.now → IfOk result (λ other. T.eq message.now other ≡ true) }
+    ensures why { T.IsSound message.now → IfErr result (λ e. IsOfSize (view_of_kind (kind_of e))) }
+{
+    T::comes_back();
+    let bytes = to_vec(alloc, message)?;
+    from_slice(alloc, bytes.as_slice())
+}
