@@ -11,7 +11,7 @@ use Rattle.kmip_ttlv.specs.Values.{Value, text_value, newtype_value, struct_valu
 use Rattle.kmip_ttlv.specs.Agreements.{MessageAgrees, first_variant, later_variant, unit_is_numbered, variant_wraps}
 use Rattle.kmip_ttlv.specs.Rules.{at_least, equal, in_brackets, member, rule, sides}
 use Rattle.kmip_ttlv.specs.Returns.{as_int32, as_text}
-use Rattle.kmip_ttlv_laws.proofs.MessageParts.{PartAgrees, a_structure, constant_then, each_agrees, last_then, leaf_then, message, newtype_structure, nothing_left, part_then, sequence_part, structure, wrapped_leaf, wrapped_unit}
+use Rattle.kmip_ttlv_laws.proofs.MessageParts.{PartAgrees, a_structure, constant_then, each_agrees, last_then, leaf_then, message, newtype_structure, nothing_left, part_then, sequence_part, structure, text_is_utf8, wrapped_leaf, wrapped_unit}
 use Rattle.kmip_ttlv_laws.proofs.MessageRules.{by_rules, in_any_case, kept_then, rule_then, text_kept, unit_kept}
 use Rattle.get_messages.specs.Headers.{request_header_value, response_header_value}
 use Rattle.get_messages.proofs.Agreeing.{request_header_agrees, response_header_agrees}
@@ -20,7 +20,7 @@ use Rattle.create_destroy.specs.Attributes.{attribute_form, attribute_value_cont
 use Rattle.create_destroy.specs.Requests.{create_payload_form, destroy_payload_form, read_create_payload, read_destroy_payload, read_request, read_request_item, read_request_payload, request_form, request_header, request_item_form, written_create_payload, written_destroy_payload, written_request, written_request_item, written_request_payload}
 use Rattle.create_destroy.specs.Responses.{created_form, created_value, destroyed_form, destroyed_value, read_response, read_response_item, read_response_payload, response_form, response_header, response_item_form, written_response, written_response_item, written_response_payload}
 use Rattle.create_destroy.specs.Consistent.{Answers, Asks, Chooses, IsConsistentAnswer, IsConsistentAttribute, IsConsistentItem, IsConsistentRequest, IsConsistentResponse}
-use Rattle.create_destroy.specs.Ranges.{IsAnswered, IsAsked, IsAttributeValue, IsRequest, IsResponse}
+use Rattle.create_destroy.specs.Ranges.{IsAsked, IsAttributeValue, IsRequest, IsResponse}
 use Rattle.create_destroy.specs.declared.attribute.Attribute.{Attribute}
 use Rattle.create_destroy.specs.declared.attribute.AttributeValue.{AttributeValue}
 use Rattle.create_destroy.specs.declared.attribute.AttributeValue.TheVariants as kinds
@@ -120,11 +120,11 @@ creating x some all =
     constant_then {n = 2} refl refl refl refl (λ k. record { no_rule = refl; named = refl }) (
     part_then refl refl (template x.template some all) nothing_left))
 
-destroying : {A : Type 0} (x : DestroyPayload A) → is_utf8 (string_bytes x.unique_identifier) ≡ true → PartAgrees destroy_payload_form (written_destroy_payload x) (a_structure 0x420079) (read_destroy_payload x)
+destroying : {A : Type 0} (x : DestroyPayload A) → PartAgrees destroy_payload_form (written_destroy_payload x) (a_structure 0x420079) (read_destroy_payload x)
 unfolding take_tag tag_of number transparent_name written_destroy_payload read_destroy_payload
-destroying x is =
+destroying x =
     newtype_structure refl refl refl (
-    leaf_then refl refl refl refl (as_text is) nothing_left)
+    leaf_then refl refl refl refl (as_text (text_is_utf8 x.unique_identifier)) nothing_left)
 
 -- an item of this operation and payload
 abbrev asking : Operation → Value → Value
@@ -141,7 +141,7 @@ asking_agrees operations.Destroy (asked.Destroy identifier) is consistent =
     structure refl refl (by_rules (
     kept_then refl refl (unit_kept {n = 20} refl refl refl (λ k. record { no_rule = refl; named = refl })) (
     rule_then refl refl (λ k found. rw (found 0x42005C _ refl) refl) (later_variant first_variant) (in_any_case (
-    destroying record { unique_identifier = identifier } is)) nothing_left)))
+    destroying record { unique_identifier = identifier })) nothing_left)))
 asking_agrees operations.Create (asked.Destroy identifier) is consistent = absurd consistent
 asking_agrees operations.Destroy (asked.Create xs) is consistent = absurd consistent
 
@@ -160,18 +160,18 @@ request_agrees x is consistent =
 
 -- ---- responses
 
-created : {A : Type 0} (x : Created A) → is_utf8 (string_bytes x.unique_identifier) ≡ true → PartAgrees created_form (created_value x) (a_structure 0x42007C) (created_value x)
+created : {A : Type 0} (x : Created A) → PartAgrees created_form (created_value x) (a_structure 0x42007C) (created_value x)
 unfolding take_tag tag_of number transparent_name rule created_value
-created x is =
+created x =
     structure refl refl (
     constant_then {n = 2} refl refl refl refl (λ k. record { no_rule = refl; named = refl }) (
-    leaf_then refl refl refl refl (as_text is) nothing_left))
+    leaf_then refl refl refl refl (as_text (text_is_utf8 x.unique_identifier)) nothing_left))
 
-destroyed : {A : Type 0} (x : Destroyed A) → is_utf8 (string_bytes x.unique_identifier) ≡ true → PartAgrees destroyed_form (destroyed_value x) (a_structure 0x42007C) (destroyed_value x)
+destroyed : {A : Type 0} (x : Destroyed A) → PartAgrees destroyed_form (destroyed_value x) (a_structure 0x42007C) (destroyed_value x)
 unfolding take_tag tag_of number transparent_name destroyed_value
-destroyed x is =
+destroyed x =
     structure refl refl (
-    leaf_then refl refl refl refl (as_text is) nothing_left)
+    leaf_then refl refl refl refl (as_text (text_is_utf8 x.unique_identifier)) nothing_left)
 
 -- an item of this operation, which succeeded, and payload
 abbrev answering : Operation → Value → Value
@@ -181,31 +181,31 @@ answering operation payload =
     value (unit_variant_value (codes "0x42007F") (codes "0x00000000")) (
     value payload no_values)))
 
-answering_agrees : {A : Type 0} (operation : Operation) (payload : ResponsePayload A) → IsAnswered payload → Answers operation payload → PartAgrees response_item_form (answering operation (written_response_payload payload)) (a_structure 0x42000F) (answering operation (read_response_payload payload))
+answering_agrees : {A : Type 0} (operation : Operation) (payload : ResponsePayload A) → Answers operation payload → PartAgrees response_item_form (answering operation (written_response_payload payload)) (a_structure 0x42000F) (answering operation (read_response_payload payload))
 unfolding take_tag tag_of number transparent_name rule sides equal at_least member in_brackets trim_end chars trim_start encode operation_value written_response_payload read_response_payload created_value destroyed_value
-answering_agrees operations.Create (answered.Create identifier) is consistent =
+answering_agrees operations.Create (answered.Create identifier) consistent =
     structure refl refl (by_rules (
     kept_then refl refl (unit_kept {n = 1} refl refl refl (λ k. record { no_rule = refl; named = refl })) (
     kept_then refl refl (unit_kept {n = 0} refl refl refl (λ k. record { no_rule = refl; named = refl })) (
     rule_then refl refl (λ k found. rw (found 0x42005C _ refl) refl) first_variant (in_any_case (
-    created record { unique_identifier = identifier } is)) nothing_left))))
-answering_agrees operations.Destroy (answered.Destroy identifier) is consistent =
+    created record { unique_identifier = identifier })) nothing_left))))
+answering_agrees operations.Destroy (answered.Destroy identifier) consistent =
     structure refl refl (by_rules (
     kept_then refl refl (unit_kept {n = 20} refl refl refl (λ k. record { no_rule = refl; named = refl })) (
     kept_then refl refl (unit_kept {n = 0} refl refl refl (λ k. record { no_rule = refl; named = refl })) (
     rule_then refl refl (λ k found. rw (found 0x42005C _ refl) refl) (later_variant first_variant) (in_any_case (
-    destroyed record { unique_identifier = identifier } is)) nothing_left))))
-answering_agrees operations.Create (answered.Destroy identifier) is consistent = absurd consistent
-answering_agrees operations.Destroy (answered.Create identifier) is consistent = absurd consistent
+    destroyed record { unique_identifier = identifier })) nothing_left))))
+answering_agrees operations.Create (answered.Destroy identifier) consistent = absurd consistent
+answering_agrees operations.Destroy (answered.Create identifier) consistent = absurd consistent
 
-response_item : {A : Type 0} (x : ResponseItem A) → IsAnswered x.payload × IsConsistentAnswer x → PartAgrees response_item_form (written_response_item x) (a_structure 0x42000F) (read_response_item x)
+response_item : {A : Type 0} (x : ResponseItem A) → IsConsistentAnswer x → PartAgrees response_item_form (written_response_item x) (a_structure 0x42000F) (read_response_item x)
 unfolding written_response_item read_response_item
-response_item x sound = answering_agrees x.operation x.payload sound.0 sound.1
+response_item x consistent = answering_agrees x.operation x.payload consistent
 
 pub response_agrees : {A : Type 0} (x : Response A) → IsResponse x → IsConsistentResponse x → MessageAgrees response_form (written_response x) (read_response x)
 unfolding take_tag tag_of number transparent_name written_response read_response response_header_value read_response_item
 response_agrees x is consistent =
-    let items = recursion_from_All (λ i. IsAnswered i.payload × IsConsistentAnswer i) x.items.items (λ k d l. (is.4 k d l, consistent.1 k d l)) in
+    let items = recursion_from_All IsConsistentAnswer x.items.items consistent.1 in
     message (structure refl refl (
     part_then refl refl (response_header_agrees (response_header x) ((is.0, is.1), is.2, is.3)) (
     last_then refl (

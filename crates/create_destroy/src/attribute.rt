@@ -3,15 +3,13 @@
 
 ghost use Rattle.std.specs.Prelude.{◌≡◌, refl, OnErr, OnOk, codes, false};
 ghost use Rattle.kmip_ttlv.specs.Forms.{enum, no_variants, unit, variant};
-ghost use Rattle.kmip_ttlv.specs.Gives.{IsI32};
 ghost use Rattle.kmip_ttlv.specs.Spots.{fields_in, struct_fields};
-ghost use Rattle.kmip_ttlv.specs.Values.{i32_value, unit_variant_value, view};
+ghost use Rattle.kmip_ttlv.specs.Values.{unit_variant_value};
 ghost use Rattle.kmip_ttlv.specs.Visits.{Tells, leaf_value};
 ghost use Rattle.create_destroy.specs.Attributes.{attribute_value_form, written_attribute_value, read_attribute_value, attribute_value_content, attribute_form, written_attribute, read_attribute, template_form, written_template, read_template};
 
-use kmip_ttlv::messages::reading::Readable;
-use kmip_ttlv::messages::{choices, reading, shapes, writing};
-use kmip_ttlv::shape::{Data, Deserialize, Serialize, Shape};
+use kmip_ttlv::messages::writing;
+use kmip_ttlv::shape::{Decode, Serialize};
 use kmip_ttlv::visit::{Leaf, Visitor};
 use kmip_ttlv::{error, reader};
 use std::alloc::{AllocError, Allocator, Global};
@@ -24,12 +22,6 @@ pub enum AttributeValue {
     /// A number: of bits, or the sum of flags.
     Integer(i32),
 }
-
-// The rules that choose, one for each variant.
-const ATTRIBUTE_VALUE: [&str; 2] = [
-    "if 0x42000A==Cryptographic Algorithm",
-    "if 0x42000A in [Cryptographic Length, Cryptographic Usage Mask]",
-];
 
 impl AttributeValue {
     // What it holds, as a leaf.
@@ -54,17 +46,6 @@ impl AttributeValue {
         visitor.leaf(self.leaf())?;
         Ok(())
     }
-
-    // The number that data is.
-    fn number_of<A: Allocator>(value: &Data<A>) -> i32
-        requires { IsI32 (view value.now) }
-        ensures { view value.now ≡ i32_value result }
-    {
-        match value {
-            Data::I32(number) => *number,
-            _ => unreachable!(),
-        }
-    }
 }
 
 impl Serialize for AttributeValue {
@@ -79,36 +60,6 @@ impl Serialize for AttributeValue {
     }
 }
 
-impl Readable for AttributeValue {
-    ghost read_by = { attribute_value_form };
-
-    ghost read_as = { read_attribute_value };
-}
-
-impl<A: Allocator + Copy> Deserialize<A> for AttributeValue {
-    ghost form = { attribute_value_form };
-
-    ghost is_value = { λ v x. v ≡ read_attribute_value x };
-
-    fn shape(alloc: A) -> Result<Shape<A>, AllocError> {
-        let mut variants = Vec::new(alloc);
-        let field = shapes::constant(alloc, "algorithm", "0x00000003")?;
-        variants.push(shapes::rule(alloc, ATTRIBUTE_VALUE[0], field.shape)?)?;
-        variants.push(shapes::rule(alloc, ATTRIBUTE_VALUE[1], Shape::I32)?)?;
-        Ok(shapes::enumeration("value", variants))
-    }
-
-    #[tactic(auto, unfolding(crate::specs::Attributes::read_attribute_value))]
-    fn from_data(_alloc: A, value: &mut Data<A>) -> Result<Self, AllocError> {
-        let (which, inner) = choices::variant::<Self, A>(value, &ATTRIBUTE_VALUE);
-        match which {
-            0 => Ok(AttributeValue::Aes),
-            1 => Ok(AttributeValue::Integer(Self::number_of(&inner))),
-            _ => unreachable!(),
-        }
-    }
-}
-
 /// The rule that chooses `AttributeValue::Aes`.
 pub struct AttributeValueAesRule;
 
@@ -117,6 +68,14 @@ impl reader::Rule for AttributeValueAesRule {
 
     fn name() -> &'static str {
         "if 0x42000A==Cryptographic Algorithm"
+    }
+
+    #[tactic(auto, unfolding(kmip_ttlv_reader::specs::RuleParts::parts_of))]
+    fn parts() -> Option<reader::RuleParts> {
+        Some(reader::RuleParts {
+            tag: 0x42000A,
+            texts: &["Cryptographic Algorithm"],
+        })
     }
 }
 
@@ -155,6 +114,14 @@ impl reader::Rule for AttributeValueIntegerRule {
 
     fn name() -> &'static str {
         "if 0x42000A in [Cryptographic Length, Cryptographic Usage Mask]"
+    }
+
+    #[tactic(auto, unfolding(kmip_ttlv_reader::specs::RuleParts::parts_of))]
+    fn parts() -> Option<reader::RuleParts> {
+        Some(reader::RuleParts {
+            tag: 0x42000A,
+            texts: &["Cryptographic Length", "Cryptographic Usage Mask"],
+        })
     }
 }
 
@@ -209,38 +176,6 @@ impl<B: Allocator> Serialize for Attribute<B> {
     }
 }
 
-impl<A: Allocator> Readable for Attribute<A> {
-    ghost read_by = { attribute_form };
-
-    ghost read_as = { read_attribute };
-}
-
-impl<A: Allocator + Copy> Deserialize<A> for Attribute<A> {
-    ghost form = { attribute_form };
-
-    ghost is_value = { λ v x. v ≡ read_attribute x };
-
-    fn shape(alloc: A) -> Result<Shape<A>, AllocError> {
-        let mut fields = Vec::new(alloc);
-        fields.push(shapes::text_string(alloc, "0x42000A", "Transparent:0x42000A")?)?;
-        fields.push(shapes::field("0x42000B", AttributeValue::shape(alloc)?))?;
-        Ok(shapes::structure("0x420008", fields))
-    }
-
-    #[tactic(auto, unfolding(crate::specs::Attributes::read_attribute))]
-    fn from_data(alloc: A, value: &mut Data<A>) -> Result<Self, AllocError> {
-        let mut parts = reading::parts::<Self, A>(value);
-        let name = reading::text_string::<Self, A>(&mut parts, 0, "Transparent:0x42000A");
-        let value = reading::nested::<Self, AttributeValue, A>(alloc, &mut parts, 1)?;
-        Ok(Attribute { name, value })
-    }
-
-    #[tactic(auto, unfolding(kmip_ttlv_types::specs::Digits::six_digits, crate::specs::Attributes::read_attribute))]
-    fn read(alloc: A, bytes: &[u8]) -> Result<Self, error::Error<A>> {
-        reader::read_message(alloc, bytes)
-    }
-}
-
 impl<A: Allocator + Copy> reader::ReadStructure<A> for Attribute<A> {
     ghost TAG = { 0x420008 };
 
@@ -261,6 +196,17 @@ impl<A: Allocator + Copy> reader::ReadStructure<A> for Attribute<A> {
     fn from_fields(fields: (String<A>, (AttributeValue, ()))) -> Self {
         let (name, (value, ())) = fields;
         Attribute { name, value }
+    }
+}
+
+impl<A: Allocator + Copy> Decode<A> for Attribute<A> {
+    ghost form = { attribute_form };
+
+    ghost is_value = { λ v x. v ≡ read_attribute x };
+
+    #[tactic(auto, unfolding(kmip_ttlv_types::specs::Digits::six_digits, crate::specs::Attributes::read_attribute))]
+    fn decode(alloc: A, bytes: &[u8]) -> Result<Self, error::Error<A>> {
+        reader::read_message(alloc, bytes)
     }
 }
 
@@ -309,36 +255,6 @@ impl<A: Allocator> Template<A> {
     }
 }
 
-impl<A: Allocator> Readable for Template<A> {
-    ghost read_by = { template_form };
-
-    ghost read_as = { read_template };
-}
-
-impl<A: Allocator + Copy> Deserialize<A> for Template<A> {
-    ghost form = { template_form };
-
-    ghost is_value = { λ v x. v ≡ read_template x };
-
-    fn shape(alloc: A) -> Result<Shape<A>, AllocError> {
-        let mut fields = Vec::new(alloc);
-        fields.push(shapes::sequence(alloc, "0x420008", Attribute::<A>::shape(alloc)?)?)?;
-        Ok(shapes::structure("0x420091", fields))
-    }
-
-    #[tactic(auto, unfolding(crate::specs::Attributes::read_template))]
-    fn from_data(alloc: A, value: &mut Data<A>) -> Result<Self, AllocError> {
-        let mut parts = reading::parts::<Self, A>(value);
-        let attributes = reading::sequence::<Self, Attribute<A>, A>(alloc, &mut parts, 0)?;
-        Ok(Template { attributes })
-    }
-
-    #[tactic(auto, unfolding(kmip_ttlv_types::specs::Digits::six_digits, crate::specs::Attributes::read_template))]
-    fn read(alloc: A, bytes: &[u8]) -> Result<Self, error::Error<A>> {
-        reader::read_message(alloc, bytes)
-    }
-}
-
 impl<A: Allocator + Copy> reader::ReadStructure<A> for Template<A> {
     ghost TAG = { 0x420091 };
 
@@ -356,6 +272,17 @@ impl<A: Allocator + Copy> reader::ReadStructure<A> for Template<A> {
     fn from_fields(fields: (Vec<Attribute<A>, A>, ())) -> Self {
         let (attributes, ()) = fields;
         Template { attributes }
+    }
+}
+
+impl<A: Allocator + Copy> Decode<A> for Template<A> {
+    ghost form = { template_form };
+
+    ghost is_value = { λ v x. v ≡ read_template x };
+
+    #[tactic(auto, unfolding(kmip_ttlv_types::specs::Digits::six_digits, crate::specs::Attributes::read_template))]
+    fn decode(alloc: A, bytes: &[u8]) -> Result<Self, error::Error<A>> {
+        reader::read_message(alloc, bytes)
     }
 }
 

@@ -4,10 +4,9 @@
 ghost use Rattle.std.specs.Prelude.{◌≡◌, refl, codes};
 ghost use Rattle.create_destroy.specs.Operations.{operation_form, operation_value, operation_number, operation_variants};
 
-use kmip_ttlv::messages::reading::Readable;
-use kmip_ttlv::messages::{choices, shapes, writing};
+use kmip_ttlv::messages::writing;
 use kmip_ttlv::reader;
-use kmip_ttlv::shape::{Data, Deserialize, Serialize, Shape};
+use kmip_ttlv::shape::Serialize;
 use kmip_ttlv::visit::Visitor;
 use std::alloc::{AllocError, Allocator};
 
@@ -45,27 +44,6 @@ impl Serialize for Operation {
     fn visit<V: Visitor>(&self, visitor: &mut V) -> Result<(), AllocError> {
         writing::unit_variant(visitor, "0x42005C", self.number())?;
         Ok(())
-    }
-}
-
-impl Readable for Operation {
-    ghost read_by = { operation_form };
-
-    ghost read_as = { operation_value };
-}
-
-impl<A: Allocator + Copy> Deserialize<A> for Operation {
-    ghost form = { operation_form };
-
-    ghost is_value = { λ v x. v ≡ operation_value x };
-
-    fn shape(alloc: A) -> Result<Shape<A>, AllocError> {
-        shapes::units(alloc, "0x42005C", &OPERATION)
-    }
-
-    #[tactic(auto, unfolding(crate::specs::Operations::operation_value))]
-    fn from_data(_alloc: A, value: &mut Data<A>) -> Result<Self, AllocError> {
-        Ok(choices::unit::<Self, A>(value, &OPERATION))
     }
 }
 

@@ -12,9 +12,8 @@ ghost use Rattle.create_destroy.specs.Requests.{create_payload_form, written_cre
 use crate::attribute::{Attribute, Template};
 use crate::operation::Operation;
 use get_messages::header::{ProtocolVersion, RequestHeader};
-use kmip_ttlv::messages::reading::Readable;
-use kmip_ttlv::messages::{choices, reading, shapes, writing};
-use kmip_ttlv::shape::{Data, Deserialize, Serialize, Shape};
+use kmip_ttlv::messages::writing;
+use kmip_ttlv::shape::{Decode, Serialize};
 use kmip_ttlv::visit::Visitor;
 use kmip_ttlv::{error, reader};
 use std::alloc::{AllocError, Allocator, Global};
@@ -45,38 +44,6 @@ impl<A: Allocator> CreatePayload<A> {
     }
 }
 
-impl<A: Allocator> Readable for CreatePayload<A> {
-    ghost read_by = { create_payload_form };
-
-    ghost read_as = { read_create_payload };
-}
-
-impl<A: Allocator + Copy> Deserialize<A> for CreatePayload<A> {
-    ghost form = { create_payload_form };
-
-    ghost is_value = { λ v x. v ≡ read_create_payload x };
-
-    fn shape(alloc: A) -> Result<Shape<A>, AllocError> {
-        let mut fields = Vec::new(alloc);
-        fields.push(shapes::constant(alloc, "0x420057", "0x00000002")?)?;
-        fields.push(shapes::field("0x420091", Template::<A>::shape(alloc)?))?;
-        Ok(shapes::structure("0x420079", fields))
-    }
-
-    #[tactic(auto, unfolding(crate::specs::Requests::read_create_payload))]
-    fn from_data(alloc: A, value: &mut Data<A>) -> Result<Self, AllocError> {
-        let mut parts = reading::parts::<Self, A>(value);
-        reading::constant::<Self, A>(&mut parts, 0, "0x420057", "0x00000002");
-        let template = reading::nested::<Self, Template<A>, A>(alloc, &mut parts, 1)?;
-        Ok(CreatePayload { template })
-    }
-
-    #[tactic(auto, unfolding(kmip_ttlv_types::specs::Digits::six_digits, crate::specs::Requests::read_create_payload))]
-    fn read(alloc: A, bytes: &[u8]) -> Result<Self, error::Error<A>> {
-        reader::read_message(alloc, bytes)
-    }
-}
-
 impl<A: Allocator + Copy> reader::ReadStructure<A> for CreatePayload<A> {
     ghost TAG = { 0x420079 };
 
@@ -97,6 +64,17 @@ impl<A: Allocator + Copy> reader::ReadStructure<A> for CreatePayload<A> {
     fn from_fields(fields: (CreatePayloadObjectType, (Template<A>, ()))) -> Self {
         let (_, (template, ())) = fields;
         CreatePayload { template }
+    }
+}
+
+impl<A: Allocator + Copy> Decode<A> for CreatePayload<A> {
+    ghost form = { create_payload_form };
+
+    ghost is_value = { λ v x. v ≡ read_create_payload x };
+
+    #[tactic(auto, unfolding(kmip_ttlv_types::specs::Digits::six_digits, crate::specs::Requests::read_create_payload))]
+    fn decode(alloc: A, bytes: &[u8]) -> Result<Self, error::Error<A>> {
+        reader::read_message(alloc, bytes)
     }
 }
 
@@ -184,40 +162,6 @@ impl<A: Allocator> DestroyPayload<A> {
     }
 }
 
-impl<A: Allocator> Readable for DestroyPayload<A> {
-    ghost read_by = { destroy_payload_form };
-
-    ghost read_as = { read_destroy_payload };
-}
-
-impl<A: Allocator + Copy> Deserialize<A> for DestroyPayload<A> {
-    ghost form = { destroy_payload_form };
-
-    ghost is_value = { λ v x. v ≡ read_destroy_payload x };
-
-    fn shape(alloc: A) -> Result<Shape<A>, AllocError> {
-        let mut fields = Vec::new(alloc);
-        fields.push(shapes::text_string(alloc, "0x420094", "Transparent:0x420094")?)?;
-        Ok(shapes::structure("0x420079", fields))
-    }
-
-    #[tactic(auto, unfolding(crate::specs::Requests::read_destroy_payload))]
-    fn from_data(_alloc: A, value: &mut Data<A>) -> Result<Self, AllocError> {
-        let mut parts = reading::parts::<Self, A>(value);
-        let unique_identifier = reading::text_string::<Self, A>(
-            &mut parts,
-            0,
-            "Transparent:0x420094",
-        );
-        Ok(DestroyPayload { unique_identifier })
-    }
-
-    #[tactic(auto, unfolding(kmip_ttlv_types::specs::Digits::six_digits, crate::specs::Requests::read_destroy_payload))]
-    fn read(alloc: A, bytes: &[u8]) -> Result<Self, error::Error<A>> {
-        reader::read_message(alloc, bytes)
-    }
-}
-
 impl<A: Allocator + Copy> reader::ReadStructure<A> for DestroyPayload<A> {
     ghost TAG = { 0x420079 };
 
@@ -235,6 +179,17 @@ impl<A: Allocator + Copy> reader::ReadStructure<A> for DestroyPayload<A> {
     fn from_fields(fields: (String<A>, ())) -> Self {
         let (unique_identifier, ()) = fields;
         DestroyPayload { unique_identifier }
+    }
+}
+
+impl<A: Allocator + Copy> Decode<A> for DestroyPayload<A> {
+    ghost form = { destroy_payload_form };
+
+    ghost is_value = { λ v x. v ≡ read_destroy_payload x };
+
+    #[tactic(auto, unfolding(kmip_ttlv_types::specs::Digits::six_digits, crate::specs::Requests::read_destroy_payload))]
+    fn decode(alloc: A, bytes: &[u8]) -> Result<Self, error::Error<A>> {
+        reader::read_message(alloc, bytes)
     }
 }
 
@@ -268,9 +223,6 @@ pub enum RequestPayload<A: Allocator = Global> {
     Destroy(String<A>),
 }
 
-// The rules that choose, one for each variant.
-const REQUEST_PAYLOAD: [&str; 2] = ["if 0x42005C==0x00000001", "if 0x42005C==0x00000014"];
-
 impl<B: Allocator> Serialize for RequestPayload<B> {
     ghost stated = { written_request_payload };
 
@@ -288,43 +240,6 @@ impl<B: Allocator> Serialize for RequestPayload<B> {
     }
 }
 
-impl<A: Allocator> Readable for RequestPayload<A> {
-    ghost read_by = { request_payload_form };
-
-    ghost read_as = { read_request_payload };
-}
-
-impl<A: Allocator + Copy> Deserialize<A> for RequestPayload<A> {
-    ghost form = { request_payload_form };
-
-    ghost is_value = { λ v x. v ≡ read_request_payload x };
-
-    fn shape(alloc: A) -> Result<Shape<A>, AllocError> {
-        let mut variants = Vec::new(alloc);
-        let shape = CreatePayload::<A>::shape(alloc)?;
-        variants.push(shapes::rule(alloc, REQUEST_PAYLOAD[0], shape)?)?;
-        let shape = DestroyPayload::<A>::shape(alloc)?;
-        variants.push(shapes::rule(alloc, REQUEST_PAYLOAD[1], shape)?)?;
-        Ok(shapes::enumeration("payload", variants))
-    }
-
-    #[tactic(auto, unfolding(crate::specs::Requests::read_request_payload))]
-    fn from_data(alloc: A, value: &mut Data<A>) -> Result<Self, AllocError> {
-        let (which, mut inner) = choices::variant::<Self, A>(value, &REQUEST_PAYLOAD);
-        match which {
-            0 => {
-                let held = CreatePayload::from_data(alloc, &mut inner)?;
-                Ok(RequestPayload::Create(held.template.attributes))
-            }
-            1 => {
-                let held = DestroyPayload::from_data(alloc, &mut inner)?;
-                Ok(RequestPayload::Destroy(held.unique_identifier))
-            }
-            _ => unreachable!(),
-        }
-    }
-}
-
 /// The rule that chooses `RequestPayload::Create`.
 pub struct RequestPayloadCreateRule;
 
@@ -333,6 +248,14 @@ impl reader::Rule for RequestPayloadCreateRule {
 
     fn name() -> &'static str {
         "if 0x42005C==0x00000001"
+    }
+
+    #[tactic(auto, unfolding(kmip_ttlv_reader::specs::RuleParts::parts_of))]
+    fn parts() -> Option<reader::RuleParts> {
+        Some(reader::RuleParts {
+            tag: 0x42005C,
+            texts: &["0x00000001"],
+        })
     }
 }
 
@@ -344,6 +267,14 @@ impl reader::Rule for RequestPayloadDestroyRule {
 
     fn name() -> &'static str {
         "if 0x42005C==0x00000014"
+    }
+
+    #[tactic(auto, unfolding(kmip_ttlv_reader::specs::RuleParts::parts_of))]
+    fn parts() -> Option<reader::RuleParts> {
+        Some(reader::RuleParts {
+            tag: 0x42005C,
+            texts: &["0x00000014"],
+        })
     }
 }
 
@@ -398,38 +329,6 @@ impl<B: Allocator> Serialize for RequestItem<B> {
     }
 }
 
-impl<A: Allocator> Readable for RequestItem<A> {
-    ghost read_by = { request_item_form };
-
-    ghost read_as = { read_request_item };
-}
-
-impl<A: Allocator + Copy> Deserialize<A> for RequestItem<A> {
-    ghost form = { request_item_form };
-
-    ghost is_value = { λ v x. v ≡ read_request_item x };
-
-    fn shape(alloc: A) -> Result<Shape<A>, AllocError> {
-        let mut fields = Vec::new(alloc);
-        fields.push(shapes::field("0x42005C", Operation::shape(alloc)?))?;
-        fields.push(shapes::field("0x420079", RequestPayload::<A>::shape(alloc)?))?;
-        Ok(shapes::structure("0x42000F", fields))
-    }
-
-    #[tactic(auto, unfolding(crate::specs::Requests::read_request_item))]
-    fn from_data(alloc: A, value: &mut Data<A>) -> Result<Self, AllocError> {
-        let mut parts = reading::parts::<Self, A>(value);
-        let operation = reading::nested::<Self, Operation, A>(alloc, &mut parts, 0)?;
-        let payload = reading::nested::<Self, RequestPayload<A>, A>(alloc, &mut parts, 1)?;
-        Ok(RequestItem { operation, payload })
-    }
-
-    #[tactic(auto, unfolding(kmip_ttlv_types::specs::Digits::six_digits, crate::specs::Requests::read_request_item))]
-    fn read(alloc: A, bytes: &[u8]) -> Result<Self, error::Error<A>> {
-        reader::read_message(alloc, bytes)
-    }
-}
-
 impl<A: Allocator + Copy> reader::ReadStructure<A> for RequestItem<A> {
     ghost TAG = { 0x42000F };
 
@@ -450,6 +349,17 @@ impl<A: Allocator + Copy> reader::ReadStructure<A> for RequestItem<A> {
     fn from_fields(fields: (Operation, (RequestPayload<A>, ()))) -> Self {
         let (operation, (payload, ())) = fields;
         RequestItem { operation, payload }
+    }
+}
+
+impl<A: Allocator + Copy> Decode<A> for RequestItem<A> {
+    ghost form = { request_item_form };
+
+    ghost is_value = { λ v x. v ≡ read_request_item x };
+
+    #[tactic(auto, unfolding(kmip_ttlv_types::specs::Digits::six_digits, crate::specs::Requests::read_request_item))]
+    fn decode(alloc: A, bytes: &[u8]) -> Result<Self, error::Error<A>> {
+        reader::read_message(alloc, bytes)
     }
 }
 
@@ -537,38 +447,6 @@ impl<B: Allocator> Serialize for Request<B> {
     }
 }
 
-impl<A: Allocator> Readable for Request<A> {
-    ghost read_by = { request_form };
-
-    ghost read_as = { read_request };
-}
-
-impl<A: Allocator + Copy> Deserialize<A> for Request<A> {
-    ghost form = { request_form };
-
-    ghost is_value = { λ v x. v ≡ read_request x };
-
-    fn shape(alloc: A) -> Result<Shape<A>, AllocError> {
-        let mut fields = Vec::new(alloc);
-        fields.push(shapes::field("0x420077", RequestHeader::shape(alloc)?))?;
-        fields.push(shapes::sequence(alloc, "0x42000F", RequestItem::<A>::shape(alloc)?)?)?;
-        Ok(shapes::structure("0x420078", fields))
-    }
-
-    #[tactic(auto, unfolding(crate::specs::Requests::read_request))]
-    fn from_data(alloc: A, value: &mut Data<A>) -> Result<Self, AllocError> {
-        let mut parts = reading::parts::<Self, A>(value);
-        let header = reading::nested::<Self, RequestHeader, A>(alloc, &mut parts, 0)?;
-        let items = reading::sequence::<Self, RequestItem<A>, A>(alloc, &mut parts, 1)?;
-        Ok(Request::with_header(header, items))
-    }
-
-    #[tactic(auto, unfolding(kmip_ttlv_types::specs::Digits::six_digits, crate::specs::Requests::read_request))]
-    fn read(alloc: A, bytes: &[u8]) -> Result<Self, error::Error<A>> {
-        reader::read_message(alloc, bytes)
-    }
-}
-
 impl<A: Allocator + Copy> reader::ReadStructure<A> for Request<A> {
     ghost TAG = { 0x420078 };
 
@@ -589,6 +467,17 @@ impl<A: Allocator + Copy> reader::ReadStructure<A> for Request<A> {
     fn from_fields(fields: (RequestHeader, (Vec<RequestItem<A>, A>, ()))) -> Self {
         let (header, (items, ())) = fields;
         Request::with_header(header, items)
+    }
+}
+
+impl<A: Allocator + Copy> Decode<A> for Request<A> {
+    ghost form = { request_form };
+
+    ghost is_value = { λ v x. v ≡ read_request x };
+
+    #[tactic(auto, unfolding(kmip_ttlv_types::specs::Digits::six_digits, crate::specs::Requests::read_request))]
+    fn decode(alloc: A, bytes: &[u8]) -> Result<Self, error::Error<A>> {
+        reader::read_message(alloc, bytes)
     }
 }
 

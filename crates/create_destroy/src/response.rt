@@ -12,9 +12,8 @@ ghost use Rattle.create_destroy.specs.Responses.{created_form, created_value, de
 
 use crate::operation::Operation;
 use get_messages::header::{ProtocolVersion, ResponseHeader};
-use kmip_ttlv::messages::reading::Readable;
-use kmip_ttlv::messages::{choices, reading, shapes, writing};
-use kmip_ttlv::shape::{Data, Deserialize, Serialize, Shape};
+use kmip_ttlv::messages::writing;
+use kmip_ttlv::shape::{Decode, Serialize};
 use kmip_ttlv::visit::Visitor;
 use kmip_ttlv::{error, reader};
 use std::alloc::{AllocError, Allocator, Global};
@@ -57,42 +56,6 @@ impl<A: Allocator> Created<A> {
     }
 }
 
-impl<A: Allocator> Readable for Created<A> {
-    ghost read_by = { created_form };
-
-    ghost read_as = { created_value };
-}
-
-impl<A: Allocator + Copy> Deserialize<A> for Created<A> {
-    ghost form = { created_form };
-
-    ghost is_value = { λ v x. v ≡ created_value x };
-
-    fn shape(alloc: A) -> Result<Shape<A>, AllocError> {
-        let mut fields = Vec::new(alloc);
-        fields.push(shapes::constant(alloc, "0x420057", "0x00000002")?)?;
-        fields.push(shapes::text_string(alloc, "0x420094", "Transparent:0x420094")?)?;
-        Ok(shapes::structure("0x42007C", fields))
-    }
-
-    #[tactic(auto, unfolding(crate::specs::Responses::created_value))]
-    fn from_data(_alloc: A, value: &mut Data<A>) -> Result<Self, AllocError> {
-        let mut parts = reading::parts::<Self, A>(value);
-        reading::constant::<Self, A>(&mut parts, 0, "0x420057", "0x00000002");
-        let unique_identifier = reading::text_string::<Self, A>(
-            &mut parts,
-            1,
-            "Transparent:0x420094",
-        );
-        Ok(Created { unique_identifier })
-    }
-
-    #[tactic(auto, unfolding(kmip_ttlv_types::specs::Digits::six_digits, crate::specs::Responses::created_value))]
-    fn read(alloc: A, bytes: &[u8]) -> Result<Self, error::Error<A>> {
-        reader::read_message(alloc, bytes)
-    }
-}
-
 impl<A: Allocator + Copy> reader::ReadStructure<A> for Created<A> {
     ghost TAG = { 0x42007C };
 
@@ -113,6 +76,17 @@ impl<A: Allocator + Copy> reader::ReadStructure<A> for Created<A> {
     fn from_fields(fields: (CreatedObjectType, (String<A>, ()))) -> Self {
         let (_, (unique_identifier, ())) = fields;
         Created { unique_identifier }
+    }
+}
+
+impl<A: Allocator + Copy> Decode<A> for Created<A> {
+    ghost form = { created_form };
+
+    ghost is_value = { λ v x. v ≡ created_value x };
+
+    #[tactic(auto, unfolding(kmip_ttlv_types::specs::Digits::six_digits, crate::specs::Responses::created_value))]
+    fn decode(alloc: A, bytes: &[u8]) -> Result<Self, error::Error<A>> {
+        reader::read_message(alloc, bytes)
     }
 }
 
@@ -200,40 +174,6 @@ impl<A: Allocator> Destroyed<A> {
     }
 }
 
-impl<A: Allocator> Readable for Destroyed<A> {
-    ghost read_by = { destroyed_form };
-
-    ghost read_as = { destroyed_value };
-}
-
-impl<A: Allocator + Copy> Deserialize<A> for Destroyed<A> {
-    ghost form = { destroyed_form };
-
-    ghost is_value = { λ v x. v ≡ destroyed_value x };
-
-    fn shape(alloc: A) -> Result<Shape<A>, AllocError> {
-        let mut fields = Vec::new(alloc);
-        fields.push(shapes::text_string(alloc, "0x420094", "Transparent:0x420094")?)?;
-        Ok(shapes::structure("0x42007C", fields))
-    }
-
-    #[tactic(auto, unfolding(crate::specs::Responses::destroyed_value))]
-    fn from_data(_alloc: A, value: &mut Data<A>) -> Result<Self, AllocError> {
-        let mut parts = reading::parts::<Self, A>(value);
-        let unique_identifier = reading::text_string::<Self, A>(
-            &mut parts,
-            0,
-            "Transparent:0x420094",
-        );
-        Ok(Destroyed { unique_identifier })
-    }
-
-    #[tactic(auto, unfolding(kmip_ttlv_types::specs::Digits::six_digits, crate::specs::Responses::destroyed_value))]
-    fn read(alloc: A, bytes: &[u8]) -> Result<Self, error::Error<A>> {
-        reader::read_message(alloc, bytes)
-    }
-}
-
 impl<A: Allocator + Copy> reader::ReadStructure<A> for Destroyed<A> {
     ghost TAG = { 0x42007C };
 
@@ -251,6 +191,17 @@ impl<A: Allocator + Copy> reader::ReadStructure<A> for Destroyed<A> {
     fn from_fields(fields: (String<A>, ())) -> Self {
         let (unique_identifier, ()) = fields;
         Destroyed { unique_identifier }
+    }
+}
+
+impl<A: Allocator + Copy> Decode<A> for Destroyed<A> {
+    ghost form = { destroyed_form };
+
+    ghost is_value = { λ v x. v ≡ destroyed_value x };
+
+    #[tactic(auto, unfolding(kmip_ttlv_types::specs::Digits::six_digits, crate::specs::Responses::destroyed_value))]
+    fn decode(alloc: A, bytes: &[u8]) -> Result<Self, error::Error<A>> {
+        reader::read_message(alloc, bytes)
     }
 }
 
@@ -284,9 +235,6 @@ pub enum ResponsePayload<A: Allocator = Global> {
     Destroy(String<A>),
 }
 
-// The rules that choose, one for each variant.
-const RESPONSE_PAYLOAD: [&str; 2] = ["if 0x42005C==0x00000001", "if 0x42005C==0x00000014"];
-
 impl<B: Allocator> Serialize for ResponsePayload<B> {
     ghost stated = { written_response_payload };
 
@@ -304,43 +252,6 @@ impl<B: Allocator> Serialize for ResponsePayload<B> {
     }
 }
 
-impl<A: Allocator> Readable for ResponsePayload<A> {
-    ghost read_by = { response_payload_form };
-
-    ghost read_as = { read_response_payload };
-}
-
-impl<A: Allocator + Copy> Deserialize<A> for ResponsePayload<A> {
-    ghost form = { response_payload_form };
-
-    ghost is_value = { λ v x. v ≡ read_response_payload x };
-
-    fn shape(alloc: A) -> Result<Shape<A>, AllocError> {
-        let mut variants = Vec::new(alloc);
-        let shape = Created::<A>::shape(alloc)?;
-        variants.push(shapes::rule(alloc, RESPONSE_PAYLOAD[0], shape)?)?;
-        let shape = Destroyed::<A>::shape(alloc)?;
-        variants.push(shapes::rule(alloc, RESPONSE_PAYLOAD[1], shape)?)?;
-        Ok(shapes::enumeration("payload", variants))
-    }
-
-    #[tactic(auto, unfolding(crate::specs::Responses::read_response_payload))]
-    fn from_data(alloc: A, value: &mut Data<A>) -> Result<Self, AllocError> {
-        let (which, mut inner) = choices::variant::<Self, A>(value, &RESPONSE_PAYLOAD);
-        match which {
-            0 => {
-                let held = Created::from_data(alloc, &mut inner)?;
-                Ok(ResponsePayload::Create(held.unique_identifier))
-            }
-            1 => {
-                let held = Destroyed::from_data(alloc, &mut inner)?;
-                Ok(ResponsePayload::Destroy(held.unique_identifier))
-            }
-            _ => unreachable!(),
-        }
-    }
-}
-
 /// The rule that chooses `ResponsePayload::Create`.
 pub struct ResponsePayloadCreateRule;
 
@@ -349,6 +260,14 @@ impl reader::Rule for ResponsePayloadCreateRule {
 
     fn name() -> &'static str {
         "if 0x42005C==0x00000001"
+    }
+
+    #[tactic(auto, unfolding(kmip_ttlv_reader::specs::RuleParts::parts_of))]
+    fn parts() -> Option<reader::RuleParts> {
+        Some(reader::RuleParts {
+            tag: 0x42005C,
+            texts: &["0x00000001"],
+        })
     }
 }
 
@@ -360,6 +279,14 @@ impl reader::Rule for ResponsePayloadDestroyRule {
 
     fn name() -> &'static str {
         "if 0x42005C==0x00000014"
+    }
+
+    #[tactic(auto, unfolding(kmip_ttlv_reader::specs::RuleParts::parts_of))]
+    fn parts() -> Option<reader::RuleParts> {
+        Some(reader::RuleParts {
+            tag: 0x42005C,
+            texts: &["0x00000014"],
+        })
     }
 }
 
@@ -415,40 +342,6 @@ impl<B: Allocator> Serialize for ResponseItem<B> {
     }
 }
 
-impl<A: Allocator> Readable for ResponseItem<A> {
-    ghost read_by = { response_item_form };
-
-    ghost read_as = { read_response_item };
-}
-
-impl<A: Allocator + Copy> Deserialize<A> for ResponseItem<A> {
-    ghost form = { response_item_form };
-
-    ghost is_value = { λ v x. v ≡ read_response_item x };
-
-    fn shape(alloc: A) -> Result<Shape<A>, AllocError> {
-        let mut fields = Vec::new(alloc);
-        fields.push(shapes::field("0x42005C", Operation::shape(alloc)?))?;
-        fields.push(shapes::constant(alloc, "0x42007F", "0x00000000")?)?;
-        fields.push(shapes::field("0x42007C", ResponsePayload::<A>::shape(alloc)?))?;
-        Ok(shapes::structure("0x42000F", fields))
-    }
-
-    #[tactic(auto, unfolding(crate::specs::Responses::read_response_item))]
-    fn from_data(alloc: A, value: &mut Data<A>) -> Result<Self, AllocError> {
-        let mut parts = reading::parts::<Self, A>(value);
-        let operation = reading::nested::<Self, Operation, A>(alloc, &mut parts, 0)?;
-        reading::constant::<Self, A>(&mut parts, 1, "0x42007F", "0x00000000");
-        let payload = reading::nested::<Self, ResponsePayload<A>, A>(alloc, &mut parts, 2)?;
-        Ok(ResponseItem { operation, payload })
-    }
-
-    #[tactic(auto, unfolding(kmip_ttlv_types::specs::Digits::six_digits, crate::specs::Responses::read_response_item))]
-    fn read(alloc: A, bytes: &[u8]) -> Result<Self, error::Error<A>> {
-        reader::read_message(alloc, bytes)
-    }
-}
-
 impl<A: Allocator + Copy> reader::ReadStructure<A> for ResponseItem<A> {
     ghost TAG = { 0x42000F };
 
@@ -477,6 +370,17 @@ impl<A: Allocator + Copy> reader::ReadStructure<A> for ResponseItem<A> {
     ) -> Self {
         let (operation, (_, (payload, ()))) = fields;
         ResponseItem { operation, payload }
+    }
+}
+
+impl<A: Allocator + Copy> Decode<A> for ResponseItem<A> {
+    ghost form = { response_item_form };
+
+    ghost is_value = { λ v x. v ≡ read_response_item x };
+
+    #[tactic(auto, unfolding(kmip_ttlv_types::specs::Digits::six_digits, crate::specs::Responses::read_response_item))]
+    fn decode(alloc: A, bytes: &[u8]) -> Result<Self, error::Error<A>> {
+        reader::read_message(alloc, bytes)
     }
 }
 
@@ -595,38 +499,6 @@ impl<B: Allocator> Serialize for Response<B> {
     }
 }
 
-impl<A: Allocator> Readable for Response<A> {
-    ghost read_by = { response_form };
-
-    ghost read_as = { read_response };
-}
-
-impl<A: Allocator + Copy> Deserialize<A> for Response<A> {
-    ghost form = { response_form };
-
-    ghost is_value = { λ v x. v ≡ read_response x };
-
-    fn shape(alloc: A) -> Result<Shape<A>, AllocError> {
-        let mut fields = Vec::new(alloc);
-        fields.push(shapes::field("0x42007A", ResponseHeader::shape(alloc)?))?;
-        fields.push(shapes::sequence(alloc, "0x42000F", ResponseItem::<A>::shape(alloc)?)?)?;
-        Ok(shapes::structure("0x42007B", fields))
-    }
-
-    #[tactic(auto, unfolding(crate::specs::Responses::read_response))]
-    fn from_data(alloc: A, value: &mut Data<A>) -> Result<Self, AllocError> {
-        let mut parts = reading::parts::<Self, A>(value);
-        let header = reading::nested::<Self, ResponseHeader, A>(alloc, &mut parts, 0)?;
-        let items = reading::sequence::<Self, ResponseItem<A>, A>(alloc, &mut parts, 1)?;
-        Ok(Response::with_header(header, items))
-    }
-
-    #[tactic(auto, unfolding(kmip_ttlv_types::specs::Digits::six_digits, crate::specs::Responses::read_response))]
-    fn read(alloc: A, bytes: &[u8]) -> Result<Self, error::Error<A>> {
-        reader::read_message(alloc, bytes)
-    }
-}
-
 impl<A: Allocator + Copy> reader::ReadStructure<A> for Response<A> {
     ghost TAG = { 0x42007B };
 
@@ -647,6 +519,17 @@ impl<A: Allocator + Copy> reader::ReadStructure<A> for Response<A> {
     fn from_fields(fields: (ResponseHeader, (Vec<ResponseItem<A>, A>, ()))) -> Self {
         let (header, (items, ())) = fields;
         Response::with_header(header, items)
+    }
+}
+
+impl<A: Allocator + Copy> Decode<A> for Response<A> {
+    ghost form = { response_form };
+
+    ghost is_value = { λ v x. v ≡ read_response x };
+
+    #[tactic(auto, unfolding(kmip_ttlv_types::specs::Digits::six_digits, crate::specs::Responses::read_response))]
+    fn decode(alloc: A, bytes: &[u8]) -> Result<Self, error::Error<A>> {
+        reader::read_message(alloc, bytes)
     }
 }
 

@@ -10,11 +10,10 @@ use Rattle.kmip_ttlv.specs.Values.{bytes_value, newtype_value}
 use Rattle.kmip_ttlv.specs.WrittenItems.{take_tag}
 use Rattle.kmip_ttlv_laws.proofs.MessageParts.{PartAgrees, PresentAgrees, a_structure, as_seconds, constant_then}
 use Rattle.kmip_ttlv_laws.proofs.MessageParts.{head_or, leaf_part, leaf_then, message, neither_named, nothing_left}
-use Rattle.kmip_ttlv_laws.proofs.MessageParts.{optional_then, part_then, structure, unit_part}
+use Rattle.kmip_ttlv_laws.proofs.MessageParts.{optional_then, part_then, structure, text_is_utf8, unit_part}
 use Rattle.std.proofs.Common.{Vec, refl}
 use Rattle.std.specs.Prelude.{None, Option, Some, codes, ℕ}
 use Rattle.kmip_ttlv.specs.declared.types.TtlvType.TheVariants as types
-use Rattle.get_messages.specs.Ranges.{IfThere}
 use Rattle.get_messages.specs.Headers.{protocol_version_form, protocol_version_value}
 use Rattle.get_messages.specs.Ranges.{IsProtocolVersion}
 use Rattle.get_messages.specs.declared.header.ProtocolVersion.{ProtocolVersion}
@@ -42,13 +41,10 @@ use Rattle.get_messages.specs.declared.wrapping.RoleType.TheVariants as role_typ
 use Rattle.get_messages.specs.Wrappings.{cryptographic_parameters_form, written_cryptographic_parameters, read_cryptographic_parameters}
 use Rattle.get_messages.specs.declared.wrapping.CryptographicParameters.{CryptographicParameters}
 use Rattle.get_messages.specs.Wrappings.{encryption_key_information_form, written_encryption_key_information, read_encryption_key_information}
-use Rattle.get_messages.specs.Ranges.{IsEncryptionKeyInformation}
 use Rattle.get_messages.specs.declared.wrapping.EncryptionKeyInformation.{EncryptionKeyInformation}
 use Rattle.get_messages.specs.Wrappings.{mac_signature_key_information_form, written_mac_signature_key_information, read_mac_signature_key_information}
-use Rattle.get_messages.specs.Ranges.{IsMacSignatureKeyInformation}
 use Rattle.get_messages.specs.declared.wrapping.MacSignatureKeyInformation.{MacSignatureKeyInformation}
 use Rattle.get_messages.specs.Wrappings.{key_wrapping_data_form, written_key_wrapping_data, read_key_wrapping_data}
-use Rattle.get_messages.specs.Ranges.{IsKeyWrappingData}
 use Rattle.get_messages.specs.declared.wrapping.KeyWrappingData.{KeyWrappingData}
 use Rattle.get_messages.specs.Keys.{key_value_form, key_value_value}
 use Rattle.get_messages.specs.declared.key.KeyValue.{KeyValue}
@@ -59,10 +55,8 @@ use Rattle.get_messages.specs.Keys.{symmetric_key_form, written_symmetric_key, r
 use Rattle.get_messages.specs.Ranges.{IsSymmetricKey}
 use Rattle.get_messages.specs.declared.key.SymmetricKey.{SymmetricKey}
 use Rattle.get_messages.specs.Requests.{get_request_payload_form, get_request_payload_value}
-use Rattle.get_messages.specs.Ranges.{IsGetRequestPayload}
 use Rattle.get_messages.specs.declared.request.GetRequestPayload.{GetRequestPayload}
 use Rattle.get_messages.specs.Requests.{get_request_item_form, get_request_item_value}
-use Rattle.get_messages.specs.Ranges.{IsGetRequestItem}
 use Rattle.get_messages.specs.declared.request.GetRequestItem.{GetRequestItem}
 use Rattle.get_messages.specs.Requests.{get_request_form, get_request_value}
 use Rattle.get_messages.specs.Ranges.{IsGetRequest}
@@ -307,14 +301,14 @@ unfolding take_tag tag_of number transparent_name read_cryptographic_parameters
 encryption_key_information_cryptographic_parameters_there None = tt
 encryption_key_information_cryptographic_parameters_there (Some y) = (cryptographic_parameters_agrees y, refl)
 
-pub encryption_key_information_agrees : {A : Type 0} (x : EncryptionKeyInformation A) → IsEncryptionKeyInformation x
+pub encryption_key_information_agrees : {A : Type 0} (x : EncryptionKeyInformation A)
     → PartAgrees encryption_key_information_form
     (written_encryption_key_information x) (a_structure 0x420036)
     (read_encryption_key_information x)
 unfolding take_tag tag_of number transparent_name rule written_encryption_key_information read_encryption_key_information
-encryption_key_information_agrees x is =
+encryption_key_information_agrees x =
     structure refl refl (
-    leaf_then refl refl refl refl (as_text is) (
+    leaf_then refl refl refl refl (as_text (text_is_utf8 x.unique_identifier)) (
     optional_then written_cryptographic_parameters read_cryptographic_parameters (a_structure 0x42002B) x.cryptographic_parameters refl refl (encryption_key_information_cryptographic_parameters_there x.cryptographic_parameters) nothing_left))
 
 mac_signature_key_information_cryptographic_parameters_there : (x : Option CryptographicParameters)
@@ -324,29 +318,29 @@ unfolding take_tag tag_of number transparent_name read_cryptographic_parameters
 mac_signature_key_information_cryptographic_parameters_there None = tt
 mac_signature_key_information_cryptographic_parameters_there (Some y) = (cryptographic_parameters_agrees y, refl)
 
-pub mac_signature_key_information_agrees : {A : Type 0} (x : MacSignatureKeyInformation A) → IsMacSignatureKeyInformation x
+pub mac_signature_key_information_agrees : {A : Type 0} (x : MacSignatureKeyInformation A)
     → PartAgrees mac_signature_key_information_form
     (written_mac_signature_key_information x) (a_structure 0x42004E)
     (read_mac_signature_key_information x)
 unfolding take_tag tag_of number transparent_name rule written_mac_signature_key_information read_mac_signature_key_information
-mac_signature_key_information_agrees x is =
+mac_signature_key_information_agrees x =
     structure refl refl (
-    leaf_then refl refl refl refl (as_text is) (
+    leaf_then refl refl refl refl (as_text (text_is_utf8 x.unique_identifier)) (
     optional_then written_cryptographic_parameters read_cryptographic_parameters (a_structure 0x42002B) x.cryptographic_parameters refl refl (mac_signature_key_information_cryptographic_parameters_there x.cryptographic_parameters) nothing_left))
 
-key_wrapping_data_encryption_key_information_there : {A : Type 0} (x : Option (EncryptionKeyInformation A)) → IfThere IsEncryptionKeyInformation x
+key_wrapping_data_encryption_key_information_there : {A : Type 0} (x : Option (EncryptionKeyInformation A))
     → PresentAgrees written_encryption_key_information read_encryption_key_information encryption_key_information_form
     (a_structure 0x420036) x
 unfolding take_tag tag_of number transparent_name read_encryption_key_information
-key_wrapping_data_encryption_key_information_there None is = tt
-key_wrapping_data_encryption_key_information_there (Some y) is = (encryption_key_information_agrees y is, refl)
+key_wrapping_data_encryption_key_information_there None = tt
+key_wrapping_data_encryption_key_information_there (Some y) = (encryption_key_information_agrees y, refl)
 
-key_wrapping_data_mac_signature_key_information_there : {A : Type 0} (x : Option (MacSignatureKeyInformation A)) → IfThere IsMacSignatureKeyInformation x
+key_wrapping_data_mac_signature_key_information_there : {A : Type 0} (x : Option (MacSignatureKeyInformation A))
     → PresentAgrees written_mac_signature_key_information read_mac_signature_key_information mac_signature_key_information_form
     (a_structure 0x42004E) x
 unfolding take_tag tag_of number transparent_name read_mac_signature_key_information
-key_wrapping_data_mac_signature_key_information_there None is = tt
-key_wrapping_data_mac_signature_key_information_there (Some y) is = (mac_signature_key_information_agrees y is, refl)
+key_wrapping_data_mac_signature_key_information_there None = tt
+key_wrapping_data_mac_signature_key_information_there (Some y) = (mac_signature_key_information_agrees y, refl)
 
 key_wrapping_data_mac_signature_there : {A : Type 0} (x : Option (Vec ℕ A))
     → PresentAgrees (λ y. newtype_value (codes "Transparent:0x42004D") (bytes_value y.items)) (λ y. newtype_value (codes "Transparent:0x42004D") (bytes_value y.items)) (newtype (codes "Transparent:0x42004D") octets)
@@ -362,16 +356,16 @@ unfolding take_tag tag_of number transparent_name
 key_wrapping_data_iv_counter_nonce_there None = tt
 key_wrapping_data_iv_counter_nonce_there (Some y) = (leaf_part refl refl (as_octets), refl)
 
-pub key_wrapping_data_agrees : {A : Type 0} (x : KeyWrappingData A) → IsKeyWrappingData x
+pub key_wrapping_data_agrees : {A : Type 0} (x : KeyWrappingData A)
     → PartAgrees key_wrapping_data_form
     (written_key_wrapping_data x) (a_structure 0x420046)
     (read_key_wrapping_data x)
 unfolding take_tag tag_of number transparent_name rule written_key_wrapping_data read_key_wrapping_data wrapping_method_value
-key_wrapping_data_agrees x is =
+key_wrapping_data_agrees x =
     structure refl refl (
     part_then refl refl (wrapping_method_agrees x.wrapping_method) (
-    optional_then written_encryption_key_information read_encryption_key_information (a_structure 0x420036) x.encryption_key_information refl (neither_named (codes "0x420036") x.mac_signature_key_information (a_structure 0x42004E) (head_or x.mac_signature record { tag = 0x42004D; typ = types.ByteString } (head_or x.iv_counter_nonce record { tag = 0x42003D; typ = types.ByteString } None)) refl (neither_named (codes "0x420036") x.mac_signature record { tag = 0x42004D; typ = types.ByteString } (head_or x.iv_counter_nonce record { tag = 0x42003D; typ = types.ByteString } None) refl (neither_named (codes "0x420036") x.iv_counter_nonce record { tag = 0x42003D; typ = types.ByteString } None refl refl))) (key_wrapping_data_encryption_key_information_there x.encryption_key_information is.0) (
-    optional_then written_mac_signature_key_information read_mac_signature_key_information (a_structure 0x42004E) x.mac_signature_key_information refl (neither_named (codes "0x42004E") x.mac_signature record { tag = 0x42004D; typ = types.ByteString } (head_or x.iv_counter_nonce record { tag = 0x42003D; typ = types.ByteString } None) refl (neither_named (codes "0x42004E") x.iv_counter_nonce record { tag = 0x42003D; typ = types.ByteString } None refl refl)) (key_wrapping_data_mac_signature_key_information_there x.mac_signature_key_information is.1) (
+    optional_then written_encryption_key_information read_encryption_key_information (a_structure 0x420036) x.encryption_key_information refl (neither_named (codes "0x420036") x.mac_signature_key_information (a_structure 0x42004E) (head_or x.mac_signature record { tag = 0x42004D; typ = types.ByteString } (head_or x.iv_counter_nonce record { tag = 0x42003D; typ = types.ByteString } None)) refl (neither_named (codes "0x420036") x.mac_signature record { tag = 0x42004D; typ = types.ByteString } (head_or x.iv_counter_nonce record { tag = 0x42003D; typ = types.ByteString } None) refl (neither_named (codes "0x420036") x.iv_counter_nonce record { tag = 0x42003D; typ = types.ByteString } None refl refl))) (key_wrapping_data_encryption_key_information_there x.encryption_key_information) (
+    optional_then written_mac_signature_key_information read_mac_signature_key_information (a_structure 0x42004E) x.mac_signature_key_information refl (neither_named (codes "0x42004E") x.mac_signature record { tag = 0x42004D; typ = types.ByteString } (head_or x.iv_counter_nonce record { tag = 0x42003D; typ = types.ByteString } None) refl (neither_named (codes "0x42004E") x.iv_counter_nonce record { tag = 0x42003D; typ = types.ByteString } None refl refl)) (key_wrapping_data_mac_signature_key_information_there x.mac_signature_key_information) (
     optional_then (λ y. newtype_value (codes "Transparent:0x42004D") (bytes_value y.items)) (λ y. newtype_value (codes "Transparent:0x42004D") (bytes_value y.items)) record { tag = 0x42004D; typ = types.ByteString } x.mac_signature refl (neither_named (codes "0x42004D") x.iv_counter_nonce record { tag = 0x42003D; typ = types.ByteString } None refl refl) (key_wrapping_data_mac_signature_there x.mac_signature) (
     optional_then (λ y. newtype_value (codes "Transparent:0x42003D") (bytes_value y.items)) (λ y. newtype_value (codes "Transparent:0x42003D") (bytes_value y.items)) record { tag = 0x42003D; typ = types.ByteString } x.iv_counter_nonce refl refl (key_wrapping_data_iv_counter_nonce_there x.iv_counter_nonce) nothing_left)))))
 
@@ -384,12 +378,12 @@ key_value_agrees x =
     structure refl refl (
     leaf_then refl refl refl refl (as_octets) nothing_left)
 
-key_block_key_wrapping_data_there : {A : Type 0} (x : Option (KeyWrappingData A)) → IfThere IsKeyWrappingData x
+key_block_key_wrapping_data_there : {A : Type 0} (x : Option (KeyWrappingData A))
     → PresentAgrees written_key_wrapping_data read_key_wrapping_data key_wrapping_data_form
     (a_structure 0x420046) x
 unfolding take_tag tag_of number transparent_name read_key_wrapping_data
-key_block_key_wrapping_data_there None is = tt
-key_block_key_wrapping_data_there (Some y) is = (key_wrapping_data_agrees y is, refl)
+key_block_key_wrapping_data_there None = tt
+key_block_key_wrapping_data_there (Some y) = (key_wrapping_data_agrees y, refl)
 
 pub key_block_agrees : {A : Type 0} (x : KeyBlock A) → IsKeyBlock x
     → PartAgrees key_block_form
@@ -401,8 +395,8 @@ key_block_agrees x is =
     constant_then {n = 0x00000001} refl refl refl refl (λ k. record { no_rule = refl; named = refl }) (
     part_then refl refl (key_value_agrees x.key_value) (
     constant_then {n = 0x00000003} refl refl refl refl (λ k. record { no_rule = refl; named = refl }) (
-    leaf_then refl refl refl refl (as_int32 is.0) (
-    optional_then written_key_wrapping_data read_key_wrapping_data (a_structure 0x420046) x.key_wrapping_data refl refl (key_block_key_wrapping_data_there x.key_wrapping_data is.1) nothing_left)))))
+    leaf_then refl refl refl refl (as_int32 is) (
+    optional_then written_key_wrapping_data read_key_wrapping_data (a_structure 0x420046) x.key_wrapping_data refl refl (key_block_key_wrapping_data_there x.key_wrapping_data) nothing_left)))))
 
 pub symmetric_key_agrees : {A : Type 0} (x : SymmetricKey A) → IsSymmetricKey x
     → PartAgrees symmetric_key_form
@@ -413,24 +407,24 @@ symmetric_key_agrees x is =
     structure refl refl (
     part_then refl refl (key_block_agrees x.key_block is) nothing_left)
 
-pub get_request_payload_agrees : {A : Type 0} (x : GetRequestPayload A) → IsGetRequestPayload x
+pub get_request_payload_agrees : {A : Type 0} (x : GetRequestPayload A)
     → PartAgrees get_request_payload_form
     (get_request_payload_value x) (a_structure 0x420079)
     (get_request_payload_value x)
 unfolding take_tag tag_of number transparent_name rule get_request_payload_value
-get_request_payload_agrees x is =
+get_request_payload_agrees x =
     structure refl refl (
-    leaf_then refl refl refl refl (as_text is) nothing_left)
+    leaf_then refl refl refl refl (as_text (text_is_utf8 x.unique_identifier)) nothing_left)
 
-pub get_request_item_agrees : {A : Type 0} (x : GetRequestItem A) → IsGetRequestItem x
+pub get_request_item_agrees : {A : Type 0} (x : GetRequestItem A)
     → PartAgrees get_request_item_form
     (get_request_item_value x) (a_structure 0x42000F)
     (get_request_item_value x)
 unfolding take_tag tag_of number transparent_name rule get_request_item_value get_request_payload_value
-get_request_item_agrees x is =
+get_request_item_agrees x =
     structure refl refl (
     constant_then {n = 0x0000000A} refl refl refl refl (λ k. record { no_rule = refl; named = refl }) (
-    part_then refl refl (get_request_payload_agrees x.payload is) nothing_left))
+    part_then refl refl (get_request_payload_agrees x.payload) nothing_left))
 
 pub get_request_agrees : {A : Type 0} (x : GetRequest A) → IsGetRequest x
     → MessageAgrees get_request_form
@@ -439,8 +433,8 @@ pub get_request_agrees : {A : Type 0} (x : GetRequest A) → IsGetRequest x
 unfolding take_tag tag_of number transparent_name rule get_request_value request_header_value get_request_item_value
 get_request_agrees x is =
     message (structure refl refl (
-    part_then refl refl (request_header_agrees x.header is.0) (
-    part_then refl refl (get_request_item_agrees x.item is.1) nothing_left)))
+    part_then refl refl (request_header_agrees x.header is) (
+    part_then refl refl (get_request_item_agrees x.item) nothing_left)))
 
 pub get_response_payload_agrees : {A : Type 0} (x : GetResponsePayload A) → IsGetResponsePayload x
     → PartAgrees get_response_payload_form
@@ -450,8 +444,8 @@ unfolding take_tag tag_of number transparent_name rule written_get_response_payl
 get_response_payload_agrees x is =
     structure refl refl (
     constant_then {n = 0x00000002} refl refl refl refl (λ k. record { no_rule = refl; named = refl }) (
-    leaf_then refl refl refl refl (as_text is.0) (
-    part_then refl refl (symmetric_key_agrees x.symmetric_key is.1) nothing_left)))
+    leaf_then refl refl refl refl (as_text (text_is_utf8 x.unique_identifier)) (
+    part_then refl refl (symmetric_key_agrees x.symmetric_key is) nothing_left)))
 
 pub get_response_item_agrees : {A : Type 0} (x : GetResponseItem A) → IsGetResponseItem x
     → PartAgrees get_response_item_form

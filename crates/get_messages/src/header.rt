@@ -6,9 +6,8 @@ ghost use Rattle.kmip_ttlv.specs.MessageParts.{read_date, written_date};
 ghost use Rattle.kmip_ttlv.specs.Spots.{fields_in, struct_fields};
 ghost use Rattle.get_messages.specs.Headers.{protocol_version_form, protocol_version_value, request_header_form, request_header_value, response_header_form, response_header_value};
 
-use kmip_ttlv::messages::reading::Readable;
-use kmip_ttlv::messages::{reading, shapes, writing};
-use kmip_ttlv::shape::{Data, Deserialize, Serialize, Shape};
+use kmip_ttlv::messages::writing;
+use kmip_ttlv::shape::{Decode, Serialize};
 use kmip_ttlv::visit::Visitor;
 use kmip_ttlv::{error, reader};
 use std::alloc::{AllocError, Allocator};
@@ -35,38 +34,6 @@ impl Serialize for ProtocolVersion {
     }
 }
 
-impl Readable for ProtocolVersion {
-    ghost read_by = { protocol_version_form };
-
-    ghost read_as = { protocol_version_value };
-}
-
-impl<A: Allocator + Copy> Deserialize<A> for ProtocolVersion {
-    ghost form = { protocol_version_form };
-
-    ghost is_value = { λ v x. v ≡ protocol_version_value x };
-
-    fn shape(alloc: A) -> Result<Shape<A>, AllocError> {
-        let mut fields = Vec::new(alloc);
-        fields.push(shapes::integer(alloc, "0x42006A", "Transparent:0x42006A")?)?;
-        fields.push(shapes::integer(alloc, "0x42006B", "Transparent:0x42006B")?)?;
-        Ok(shapes::structure("0x420069", fields))
-    }
-
-    #[tactic(auto, unfolding(crate::specs::Headers::protocol_version_value))]
-    fn from_data(_alloc: A, value: &mut Data<A>) -> Result<Self, AllocError> {
-        let mut parts = reading::parts::<Self, A>(value);
-        let major = reading::integer::<Self, A>(&mut parts, 0, "Transparent:0x42006A");
-        let minor = reading::integer::<Self, A>(&mut parts, 1, "Transparent:0x42006B");
-        Ok(ProtocolVersion { major, minor })
-    }
-
-    #[tactic(auto, unfolding(kmip_ttlv_types::specs::Digits::six_digits, crate::specs::Headers::protocol_version_value))]
-    fn read(alloc: A, bytes: &[u8]) -> Result<Self, error::Error<A>> {
-        reader::read_message(alloc, bytes)
-    }
-}
-
 impl<A: Allocator + Copy> reader::ReadStructure<A> for ProtocolVersion {
     ghost TAG = { 0x420069 };
 
@@ -87,6 +54,17 @@ impl<A: Allocator + Copy> reader::ReadStructure<A> for ProtocolVersion {
     fn from_fields(fields: (i32, (i32, ()))) -> Self {
         let (major, (minor, ())) = fields;
         ProtocolVersion { major, minor }
+    }
+}
+
+impl<A: Allocator + Copy> Decode<A> for ProtocolVersion {
+    ghost form = { protocol_version_form };
+
+    ghost is_value = { λ v x. v ≡ protocol_version_value x };
+
+    #[tactic(auto, unfolding(kmip_ttlv_types::specs::Digits::six_digits, crate::specs::Headers::protocol_version_value))]
+    fn decode(alloc: A, bytes: &[u8]) -> Result<Self, error::Error<A>> {
+        reader::read_message(alloc, bytes)
     }
 }
 
@@ -132,41 +110,6 @@ impl Serialize for RequestHeader {
     }
 }
 
-impl Readable for RequestHeader {
-    ghost read_by = { request_header_form };
-
-    ghost read_as = { request_header_value };
-}
-
-impl<A: Allocator + Copy> Deserialize<A> for RequestHeader {
-    ghost form = { request_header_form };
-
-    ghost is_value = { λ v x. v ≡ request_header_value x };
-
-    fn shape(alloc: A) -> Result<Shape<A>, AllocError> {
-        let mut fields = Vec::new(alloc);
-        fields.push(shapes::field("0x420069", ProtocolVersion::shape(alloc)?))?;
-        fields.push(shapes::integer(alloc, "0x42000D", "Transparent:0x42000D")?)?;
-        Ok(shapes::structure("0x420077", fields))
-    }
-
-    #[tactic(auto, unfolding(crate::specs::Headers::request_header_value))]
-    fn from_data(alloc: A, value: &mut Data<A>) -> Result<Self, AllocError> {
-        let mut parts = reading::parts::<Self, A>(value);
-        let version = reading::nested::<Self, ProtocolVersion, A>(alloc, &mut parts, 0)?;
-        let batch_count = reading::integer::<Self, A>(&mut parts, 1, "Transparent:0x42000D");
-        Ok(RequestHeader {
-            version,
-            batch_count,
-        })
-    }
-
-    #[tactic(auto, unfolding(kmip_ttlv_types::specs::Digits::six_digits, crate::specs::Headers::request_header_value))]
-    fn read(alloc: A, bytes: &[u8]) -> Result<Self, error::Error<A>> {
-        reader::read_message(alloc, bytes)
-    }
-}
-
 impl<A: Allocator + Copy> reader::ReadStructure<A> for RequestHeader {
     ghost TAG = { 0x420077 };
 
@@ -190,6 +133,17 @@ impl<A: Allocator + Copy> reader::ReadStructure<A> for RequestHeader {
             version,
             batch_count,
         }
+    }
+}
+
+impl<A: Allocator + Copy> Decode<A> for RequestHeader {
+    ghost form = { request_header_form };
+
+    ghost is_value = { λ v x. v ≡ request_header_value x };
+
+    #[tactic(auto, unfolding(kmip_ttlv_types::specs::Digits::six_digits, crate::specs::Headers::request_header_value))]
+    fn decode(alloc: A, bytes: &[u8]) -> Result<Self, error::Error<A>> {
+        reader::read_message(alloc, bytes)
     }
 }
 
@@ -238,44 +192,6 @@ impl Serialize for ResponseHeader {
     }
 }
 
-impl Readable for ResponseHeader {
-    ghost read_by = { response_header_form };
-
-    ghost read_as = { response_header_value read_date };
-}
-
-impl<A: Allocator + Copy> Deserialize<A> for ResponseHeader {
-    ghost form = { response_header_form };
-
-    ghost is_value = { λ v x. v ≡ response_header_value read_date x };
-
-    fn shape(alloc: A) -> Result<Shape<A>, AllocError> {
-        let mut fields = Vec::new(alloc);
-        fields.push(shapes::field("0x420069", ProtocolVersion::shape(alloc)?))?;
-        fields.push(shapes::date_time(alloc, "0x420092", "Transparent:0x420092")?)?;
-        fields.push(shapes::integer(alloc, "0x42000D", "Transparent:0x42000D")?)?;
-        Ok(shapes::structure("0x42007A", fields))
-    }
-
-    #[tactic(auto, unfolding(crate::specs::Headers::response_header_value))]
-    fn from_data(alloc: A, value: &mut Data<A>) -> Result<Self, AllocError> {
-        let mut parts = reading::parts::<Self, A>(value);
-        let version = reading::nested::<Self, ProtocolVersion, A>(alloc, &mut parts, 0)?;
-        let time_stamp = reading::date_time::<Self, A>(&mut parts, 1, "Transparent:0x420092");
-        let batch_count = reading::integer::<Self, A>(&mut parts, 2, "Transparent:0x42000D");
-        Ok(ResponseHeader {
-            version,
-            time_stamp,
-            batch_count,
-        })
-    }
-
-    #[tactic(auto, unfolding(kmip_ttlv_types::specs::Digits::six_digits, crate::specs::Headers::response_header_value))]
-    fn read(alloc: A, bytes: &[u8]) -> Result<Self, error::Error<A>> {
-        reader::read_message(alloc, bytes)
-    }
-}
-
 impl<A: Allocator + Copy> reader::ReadStructure<A> for ResponseHeader {
     ghost TAG = { 0x42007A };
 
@@ -303,6 +219,17 @@ impl<A: Allocator + Copy> reader::ReadStructure<A> for ResponseHeader {
             time_stamp,
             batch_count,
         }
+    }
+}
+
+impl<A: Allocator + Copy> Decode<A> for ResponseHeader {
+    ghost form = { response_header_form };
+
+    ghost is_value = { λ v x. v ≡ response_header_value read_date x };
+
+    #[tactic(auto, unfolding(kmip_ttlv_types::specs::Digits::six_digits, crate::specs::Headers::response_header_value))]
+    fn decode(alloc: A, bytes: &[u8]) -> Result<Self, error::Error<A>> {
+        reader::read_message(alloc, bytes)
     }
 }
 

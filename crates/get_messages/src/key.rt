@@ -8,13 +8,11 @@ ghost use Rattle.kmip_ttlv.specs.Values.{unit_variant_value};
 ghost use Rattle.get_messages.specs.Keys.{key_value_form, key_value_value, key_length_form, key_length_value, key_block_form, written_key_block, read_key_block, symmetric_key_form, written_symmetric_key, read_symmetric_key};
 
 use crate::wrapping::KeyWrappingData;
-use kmip_ttlv::messages::reading::Readable;
-use kmip_ttlv::messages::{leaves, reading, shapes, writing};
-use kmip_ttlv::shape::{Data, Deserialize, Serialize, Shape};
+use kmip_ttlv::messages::writing;
+use kmip_ttlv::shape::{Decode, Serialize};
 use kmip_ttlv::visit::Visitor;
 use kmip_ttlv::{error, reader};
 use std::alloc::{AllocError, Allocator, Global};
-use std::mem;
 
 /// The value of a key in raw form.
 #[derive(Drop)]
@@ -40,36 +38,6 @@ impl<B: Allocator> Serialize for KeyValue<B> {
     }
 }
 
-impl<A: Allocator> Readable for KeyValue<A> {
-    ghost read_by = { key_value_form };
-
-    ghost read_as = { key_value_value };
-}
-
-impl<A: Allocator + Copy> Deserialize<A> for KeyValue<A> {
-    ghost form = { key_value_form };
-
-    ghost is_value = { λ v x. v ≡ key_value_value x };
-
-    fn shape(alloc: A) -> Result<Shape<A>, AllocError> {
-        let mut fields = Vec::new(alloc);
-        fields.push(shapes::byte_string(alloc, "0x420043", "Transparent:0x420043")?)?;
-        Ok(shapes::structure("0x420045", fields))
-    }
-
-    #[tactic(auto, unfolding(crate::specs::Keys::key_value_value))]
-    fn from_data(_alloc: A, value: &mut Data<A>) -> Result<Self, AllocError> {
-        let mut parts = reading::parts::<Self, A>(value);
-        let key_material = reading::byte_string::<Self, A>(&mut parts, 0, "Transparent:0x420043");
-        Ok(KeyValue { key_material })
-    }
-
-    #[tactic(auto, unfolding(kmip_ttlv_types::specs::Digits::six_digits, crate::specs::Keys::key_value_value))]
-    fn read(alloc: A, bytes: &[u8]) -> Result<Self, error::Error<A>> {
-        reader::read_message(alloc, bytes)
-    }
-}
-
 impl<A: Allocator + Copy> reader::ReadStructure<A> for KeyValue<A> {
     ghost TAG = { 0x420045 };
 
@@ -87,6 +55,17 @@ impl<A: Allocator + Copy> reader::ReadStructure<A> for KeyValue<A> {
     fn from_fields(fields: (Vec<u8, A>, ())) -> Self {
         let (key_material, ()) = fields;
         KeyValue { key_material }
+    }
+}
+
+impl<A: Allocator + Copy> Decode<A> for KeyValue<A> {
+    ghost form = { key_value_form };
+
+    ghost is_value = { λ v x. v ≡ key_value_value x };
+
+    #[tactic(auto, unfolding(kmip_ttlv_types::specs::Digits::six_digits, crate::specs::Keys::key_value_value))]
+    fn decode(alloc: A, bytes: &[u8]) -> Result<Self, error::Error<A>> {
+        reader::read_message(alloc, bytes)
     }
 }
 
@@ -123,29 +102,6 @@ impl Serialize for KeyLength {
     fn visit<V: Visitor>(&self, visitor: &mut V) -> Result<(), AllocError> {
         writing::integer(visitor, "Transparent:0x42002A", self.bits)?;
         Ok(())
-    }
-}
-
-impl Readable for KeyLength {
-    ghost read_by = { key_length_form };
-
-    ghost read_as = { key_length_value };
-}
-
-impl<A: Allocator + Copy> Deserialize<A> for KeyLength {
-    ghost form = { key_length_form };
-
-    ghost is_value = { λ v x. v ≡ key_length_value x };
-
-    fn shape(alloc: A) -> Result<Shape<A>, AllocError> {
-        let field = shapes::integer(alloc, "0x42002A", "Transparent:0x42002A")?;
-        Ok(field.shape)
-    }
-
-    fn from_data(_alloc: A, value: &mut Data<A>) -> Result<Self, AllocError> {
-        let value = mem::replace(value, Data::None);
-        let bits = leaves::integer(value, "Transparent:0x42002A");
-        Ok(KeyLength { bits })
     }
 }
 
@@ -194,51 +150,6 @@ impl<B: Allocator> Serialize for KeyBlock<B> {
     }
 }
 
-impl<A: Allocator> Readable for KeyBlock<A> {
-    ghost read_by = { key_block_form };
-
-    ghost read_as = { read_key_block };
-}
-
-impl<A: Allocator + Copy> Deserialize<A> for KeyBlock<A> {
-    ghost form = { key_block_form };
-
-    ghost is_value = { λ v x. v ≡ read_key_block x };
-
-    fn shape(alloc: A) -> Result<Shape<A>, AllocError> {
-        let mut fields = Vec::new(alloc);
-        fields.push(shapes::constant(alloc, "0x420042", "0x00000001")?)?;
-        fields.push(shapes::field("0x420045", KeyValue::<A>::shape(alloc)?))?;
-        fields.push(shapes::constant(alloc, "0x420028", "0x00000003")?)?;
-        fields.push(shapes::field("0x42002A", KeyLength::shape(alloc)?))?;
-        let field = shapes::field("0x420046", KeyWrappingData::<A>::shape(alloc)?);
-        fields.push(shapes::optional(alloc, field)?)?;
-        Ok(shapes::strict_structure("0x420040", fields))
-    }
-
-    #[tactic(auto, unfolding(crate::specs::Keys::read_key_block))]
-    fn from_data(alloc: A, value: &mut Data<A>) -> Result<Self, AllocError> {
-        let mut parts = reading::parts::<Self, A>(value);
-        reading::constant::<Self, A>(&mut parts, 0, "0x420042", "0x00000001");
-        let key_value = reading::nested::<Self, KeyValue<A>, A>(alloc, &mut parts, 1)?;
-        reading::constant::<Self, A>(&mut parts, 2, "0x420028", "0x00000003");
-        let cryptographic_length = reading::nested::<Self, KeyLength, A>(alloc, &mut parts, 3)?;
-        let key_wrapping_data = reading::optional::<Self, KeyWrappingData<A>, A>(
-            alloc, &mut parts, 4,
-        )?;
-        Ok(KeyBlock {
-            key_value,
-            cryptographic_length,
-            key_wrapping_data,
-        })
-    }
-
-    #[tactic(auto, unfolding(kmip_ttlv_types::specs::Digits::six_digits, crate::specs::Keys::read_key_block))]
-    fn read(alloc: A, bytes: &[u8]) -> Result<Self, error::Error<A>> {
-        reader::read_message(alloc, bytes)
-    }
-}
-
 impl<A: Allocator + Copy> reader::ReadStructure<A> for KeyBlock<A> {
     ghost TAG = { 0x420040 };
 
@@ -277,6 +188,17 @@ impl<A: Allocator + Copy> reader::ReadStructure<A> for KeyBlock<A> {
             cryptographic_length,
             key_wrapping_data,
         }
+    }
+}
+
+impl<A: Allocator + Copy> Decode<A> for KeyBlock<A> {
+    ghost form = { key_block_form };
+
+    ghost is_value = { λ v x. v ≡ read_key_block x };
+
+    #[tactic(auto, unfolding(kmip_ttlv_types::specs::Digits::six_digits, crate::specs::Keys::read_key_block))]
+    fn decode(alloc: A, bytes: &[u8]) -> Result<Self, error::Error<A>> {
+        reader::read_message(alloc, bytes)
     }
 }
 
@@ -374,36 +296,6 @@ impl<B: Allocator> Serialize for SymmetricKey<B> {
     }
 }
 
-impl<A: Allocator> Readable for SymmetricKey<A> {
-    ghost read_by = { symmetric_key_form };
-
-    ghost read_as = { read_symmetric_key };
-}
-
-impl<A: Allocator + Copy> Deserialize<A> for SymmetricKey<A> {
-    ghost form = { symmetric_key_form };
-
-    ghost is_value = { λ v x. v ≡ read_symmetric_key x };
-
-    fn shape(alloc: A) -> Result<Shape<A>, AllocError> {
-        let mut fields = Vec::new(alloc);
-        fields.push(shapes::field("0x420040", KeyBlock::<A>::shape(alloc)?))?;
-        Ok(shapes::structure("0x42008F", fields))
-    }
-
-    #[tactic(auto, unfolding(crate::specs::Keys::read_symmetric_key))]
-    fn from_data(alloc: A, value: &mut Data<A>) -> Result<Self, AllocError> {
-        let mut parts = reading::parts::<Self, A>(value);
-        let key_block = reading::nested::<Self, KeyBlock<A>, A>(alloc, &mut parts, 0)?;
-        Ok(SymmetricKey { key_block })
-    }
-
-    #[tactic(auto, unfolding(kmip_ttlv_types::specs::Digits::six_digits, crate::specs::Keys::read_symmetric_key))]
-    fn read(alloc: A, bytes: &[u8]) -> Result<Self, error::Error<A>> {
-        reader::read_message(alloc, bytes)
-    }
-}
-
 impl<A: Allocator + Copy> reader::ReadStructure<A> for SymmetricKey<A> {
     ghost TAG = { 0x42008F };
 
@@ -421,6 +313,17 @@ impl<A: Allocator + Copy> reader::ReadStructure<A> for SymmetricKey<A> {
     fn from_fields(fields: (KeyBlock<A>, ())) -> Self {
         let (key_block, ()) = fields;
         SymmetricKey { key_block }
+    }
+}
+
+impl<A: Allocator + Copy> Decode<A> for SymmetricKey<A> {
+    ghost form = { symmetric_key_form };
+
+    ghost is_value = { λ v x. v ≡ read_symmetric_key x };
+
+    #[tactic(auto, unfolding(kmip_ttlv_types::specs::Digits::six_digits, crate::specs::Keys::read_symmetric_key))]
+    fn decode(alloc: A, bytes: &[u8]) -> Result<Self, error::Error<A>> {
+        reader::read_message(alloc, bytes)
     }
 }
 

@@ -8,9 +8,8 @@ ghost use Rattle.kmip_ttlv.specs.Values.{unit_variant_value};
 ghost use Rattle.get_messages.specs.Requests.{get_request_payload_form, get_request_payload_value, get_request_item_form, get_request_item_value, get_request_form, get_request_value};
 
 use crate::header::RequestHeader;
-use kmip_ttlv::messages::reading::Readable;
-use kmip_ttlv::messages::{reading, shapes, writing};
-use kmip_ttlv::shape::{Data, Deserialize, Serialize, Shape};
+use kmip_ttlv::messages::writing;
+use kmip_ttlv::shape::{Decode, Serialize};
 use kmip_ttlv::visit::Visitor;
 use kmip_ttlv::{error, reader};
 use std::alloc::{AllocError, Allocator, Global};
@@ -39,40 +38,6 @@ impl<B: Allocator> Serialize for GetRequestPayload<B> {
     }
 }
 
-impl<A: Allocator> Readable for GetRequestPayload<A> {
-    ghost read_by = { get_request_payload_form };
-
-    ghost read_as = { get_request_payload_value };
-}
-
-impl<A: Allocator + Copy> Deserialize<A> for GetRequestPayload<A> {
-    ghost form = { get_request_payload_form };
-
-    ghost is_value = { λ v x. v ≡ get_request_payload_value x };
-
-    fn shape(alloc: A) -> Result<Shape<A>, AllocError> {
-        let mut fields = Vec::new(alloc);
-        fields.push(shapes::text_string(alloc, "0x420094", "Transparent:0x420094")?)?;
-        Ok(shapes::structure("0x420079", fields))
-    }
-
-    #[tactic(auto, unfolding(crate::specs::Requests::get_request_payload_value))]
-    fn from_data(_alloc: A, value: &mut Data<A>) -> Result<Self, AllocError> {
-        let mut parts = reading::parts::<Self, A>(value);
-        let unique_identifier = reading::text_string::<Self, A>(
-            &mut parts,
-            0,
-            "Transparent:0x420094",
-        );
-        Ok(GetRequestPayload { unique_identifier })
-    }
-
-    #[tactic(auto, unfolding(kmip_ttlv_types::specs::Digits::six_digits, crate::specs::Requests::get_request_payload_value))]
-    fn read(alloc: A, bytes: &[u8]) -> Result<Self, error::Error<A>> {
-        reader::read_message(alloc, bytes)
-    }
-}
-
 impl<A: Allocator + Copy> reader::ReadStructure<A> for GetRequestPayload<A> {
     ghost TAG = { 0x420079 };
 
@@ -90,6 +55,17 @@ impl<A: Allocator + Copy> reader::ReadStructure<A> for GetRequestPayload<A> {
     fn from_fields(fields: (String<A>, ())) -> Self {
         let (unique_identifier, ()) = fields;
         GetRequestPayload { unique_identifier }
+    }
+}
+
+impl<A: Allocator + Copy> Decode<A> for GetRequestPayload<A> {
+    ghost form = { get_request_payload_form };
+
+    ghost is_value = { λ v x. v ≡ get_request_payload_value x };
+
+    #[tactic(auto, unfolding(kmip_ttlv_types::specs::Digits::six_digits, crate::specs::Requests::get_request_payload_value))]
+    fn decode(alloc: A, bytes: &[u8]) -> Result<Self, error::Error<A>> {
+        reader::read_message(alloc, bytes)
     }
 }
 
@@ -134,38 +110,6 @@ impl<B: Allocator> Serialize for GetRequestItem<B> {
     }
 }
 
-impl<A: Allocator> Readable for GetRequestItem<A> {
-    ghost read_by = { get_request_item_form };
-
-    ghost read_as = { get_request_item_value };
-}
-
-impl<A: Allocator + Copy> Deserialize<A> for GetRequestItem<A> {
-    ghost form = { get_request_item_form };
-
-    ghost is_value = { λ v x. v ≡ get_request_item_value x };
-
-    fn shape(alloc: A) -> Result<Shape<A>, AllocError> {
-        let mut fields = Vec::new(alloc);
-        fields.push(shapes::constant(alloc, "0x42005C", "0x0000000A")?)?;
-        fields.push(shapes::field("0x420079", GetRequestPayload::<A>::shape(alloc)?))?;
-        Ok(shapes::structure("0x42000F", fields))
-    }
-
-    #[tactic(auto, unfolding(crate::specs::Requests::get_request_item_value))]
-    fn from_data(alloc: A, value: &mut Data<A>) -> Result<Self, AllocError> {
-        let mut parts = reading::parts::<Self, A>(value);
-        reading::constant::<Self, A>(&mut parts, 0, "0x42005C", "0x0000000A");
-        let payload = reading::nested::<Self, GetRequestPayload<A>, A>(alloc, &mut parts, 1)?;
-        Ok(GetRequestItem { payload })
-    }
-
-    #[tactic(auto, unfolding(kmip_ttlv_types::specs::Digits::six_digits, crate::specs::Requests::get_request_item_value))]
-    fn read(alloc: A, bytes: &[u8]) -> Result<Self, error::Error<A>> {
-        reader::read_message(alloc, bytes)
-    }
-}
-
 impl<A: Allocator + Copy> reader::ReadStructure<A> for GetRequestItem<A> {
     ghost TAG = { 0x42000F };
 
@@ -186,6 +130,17 @@ impl<A: Allocator + Copy> reader::ReadStructure<A> for GetRequestItem<A> {
     fn from_fields(fields: (GetRequestItemOperation, (GetRequestPayload<A>, ()))) -> Self {
         let (_, (payload, ())) = fields;
         GetRequestItem { payload }
+    }
+}
+
+impl<A: Allocator + Copy> Decode<A> for GetRequestItem<A> {
+    ghost form = { get_request_item_form };
+
+    ghost is_value = { λ v x. v ≡ get_request_item_value x };
+
+    #[tactic(auto, unfolding(kmip_ttlv_types::specs::Digits::six_digits, crate::specs::Requests::get_request_item_value))]
+    fn decode(alloc: A, bytes: &[u8]) -> Result<Self, error::Error<A>> {
+        reader::read_message(alloc, bytes)
     }
 }
 
@@ -259,38 +214,6 @@ impl<B: Allocator> Serialize for GetRequest<B> {
     }
 }
 
-impl<A: Allocator> Readable for GetRequest<A> {
-    ghost read_by = { get_request_form };
-
-    ghost read_as = { get_request_value };
-}
-
-impl<A: Allocator + Copy> Deserialize<A> for GetRequest<A> {
-    ghost form = { get_request_form };
-
-    ghost is_value = { λ v x. v ≡ get_request_value x };
-
-    fn shape(alloc: A) -> Result<Shape<A>, AllocError> {
-        let mut fields = Vec::new(alloc);
-        fields.push(shapes::field("0x420077", RequestHeader::shape(alloc)?))?;
-        fields.push(shapes::field("0x42000F", GetRequestItem::<A>::shape(alloc)?))?;
-        Ok(shapes::structure("0x420078", fields))
-    }
-
-    #[tactic(auto, unfolding(crate::specs::Requests::get_request_value))]
-    fn from_data(alloc: A, value: &mut Data<A>) -> Result<Self, AllocError> {
-        let mut parts = reading::parts::<Self, A>(value);
-        let header = reading::nested::<Self, RequestHeader, A>(alloc, &mut parts, 0)?;
-        let item = reading::nested::<Self, GetRequestItem<A>, A>(alloc, &mut parts, 1)?;
-        Ok(GetRequest { header, item })
-    }
-
-    #[tactic(auto, unfolding(kmip_ttlv_types::specs::Digits::six_digits, crate::specs::Requests::get_request_value))]
-    fn read(alloc: A, bytes: &[u8]) -> Result<Self, error::Error<A>> {
-        reader::read_message(alloc, bytes)
-    }
-}
-
 impl<A: Allocator + Copy> reader::ReadStructure<A> for GetRequest<A> {
     ghost TAG = { 0x420078 };
 
@@ -311,6 +234,17 @@ impl<A: Allocator + Copy> reader::ReadStructure<A> for GetRequest<A> {
     fn from_fields(fields: (RequestHeader, (GetRequestItem<A>, ()))) -> Self {
         let (header, (item, ())) = fields;
         GetRequest { header, item }
+    }
+}
+
+impl<A: Allocator + Copy> Decode<A> for GetRequest<A> {
+    ghost form = { get_request_form };
+
+    ghost is_value = { λ v x. v ≡ get_request_value x };
+
+    #[tactic(auto, unfolding(kmip_ttlv_types::specs::Digits::six_digits, crate::specs::Requests::get_request_value))]
+    fn decode(alloc: A, bytes: &[u8]) -> Result<Self, error::Error<A>> {
+        reader::read_message(alloc, bytes)
     }
 }
 

@@ -9,9 +9,8 @@ ghost use Rattle.get_messages.specs.Responses.{get_response_payload_form, writte
 
 use crate::header::ResponseHeader;
 use crate::key::SymmetricKey;
-use kmip_ttlv::messages::reading::Readable;
-use kmip_ttlv::messages::{reading, shapes, writing};
-use kmip_ttlv::shape::{Data, Deserialize, Serialize, Shape};
+use kmip_ttlv::messages::writing;
+use kmip_ttlv::shape::{Decode, Serialize};
 use kmip_ttlv::visit::Visitor;
 use kmip_ttlv::{error, reader};
 use std::alloc::{AllocError, Allocator, Global};
@@ -41,47 +40,6 @@ impl<B: Allocator> Serialize for GetResponsePayload<B> {
         self.symmetric_key.visit(visitor)?;
         writing::end_struct(visitor, "0x42007C")?;
         Ok(())
-    }
-}
-
-impl<A: Allocator> Readable for GetResponsePayload<A> {
-    ghost read_by = { get_response_payload_form };
-
-    ghost read_as = { read_get_response_payload };
-}
-
-impl<A: Allocator + Copy> Deserialize<A> for GetResponsePayload<A> {
-    ghost form = { get_response_payload_form };
-
-    ghost is_value = { λ v x. v ≡ read_get_response_payload x };
-
-    fn shape(alloc: A) -> Result<Shape<A>, AllocError> {
-        let mut fields = Vec::new(alloc);
-        fields.push(shapes::constant(alloc, "0x420057", "0x00000002")?)?;
-        fields.push(shapes::text_string(alloc, "0x420094", "Transparent:0x420094")?)?;
-        fields.push(shapes::field("0x42008F", SymmetricKey::<A>::shape(alloc)?))?;
-        Ok(shapes::structure("0x42007C", fields))
-    }
-
-    #[tactic(auto, unfolding(crate::specs::Responses::read_get_response_payload))]
-    fn from_data(alloc: A, value: &mut Data<A>) -> Result<Self, AllocError> {
-        let mut parts = reading::parts::<Self, A>(value);
-        reading::constant::<Self, A>(&mut parts, 0, "0x420057", "0x00000002");
-        let unique_identifier = reading::text_string::<Self, A>(
-            &mut parts,
-            1,
-            "Transparent:0x420094",
-        );
-        let symmetric_key = reading::nested::<Self, SymmetricKey<A>, A>(alloc, &mut parts, 2)?;
-        Ok(GetResponsePayload {
-            unique_identifier,
-            symmetric_key,
-        })
-    }
-
-    #[tactic(auto, unfolding(kmip_ttlv_types::specs::Digits::six_digits, crate::specs::Responses::read_get_response_payload))]
-    fn read(alloc: A, bytes: &[u8]) -> Result<Self, error::Error<A>> {
-        reader::read_message(alloc, bytes)
     }
 }
 
@@ -116,6 +74,17 @@ impl<A: Allocator + Copy> reader::ReadStructure<A> for GetResponsePayload<A> {
             unique_identifier,
             symmetric_key,
         }
+    }
+}
+
+impl<A: Allocator + Copy> Decode<A> for GetResponsePayload<A> {
+    ghost form = { get_response_payload_form };
+
+    ghost is_value = { λ v x. v ≡ read_get_response_payload x };
+
+    #[tactic(auto, unfolding(kmip_ttlv_types::specs::Digits::six_digits, crate::specs::Responses::read_get_response_payload))]
+    fn decode(alloc: A, bytes: &[u8]) -> Result<Self, error::Error<A>> {
+        reader::read_message(alloc, bytes)
     }
 }
 
@@ -188,40 +157,6 @@ impl<B: Allocator> Serialize for GetResponseItem<B> {
     }
 }
 
-impl<A: Allocator> Readable for GetResponseItem<A> {
-    ghost read_by = { get_response_item_form };
-
-    ghost read_as = { read_get_response_item };
-}
-
-impl<A: Allocator + Copy> Deserialize<A> for GetResponseItem<A> {
-    ghost form = { get_response_item_form };
-
-    ghost is_value = { λ v x. v ≡ read_get_response_item x };
-
-    fn shape(alloc: A) -> Result<Shape<A>, AllocError> {
-        let mut fields = Vec::new(alloc);
-        fields.push(shapes::constant(alloc, "0x42005C", "0x0000000A")?)?;
-        fields.push(shapes::constant(alloc, "0x42007F", "0x00000000")?)?;
-        fields.push(shapes::field("0x42007C", GetResponsePayload::<A>::shape(alloc)?))?;
-        Ok(shapes::structure("0x42000F", fields))
-    }
-
-    #[tactic(auto, unfolding(crate::specs::Responses::read_get_response_item))]
-    fn from_data(alloc: A, value: &mut Data<A>) -> Result<Self, AllocError> {
-        let mut parts = reading::parts::<Self, A>(value);
-        reading::constant::<Self, A>(&mut parts, 0, "0x42005C", "0x0000000A");
-        reading::constant::<Self, A>(&mut parts, 1, "0x42007F", "0x00000000");
-        let payload = reading::nested::<Self, GetResponsePayload<A>, A>(alloc, &mut parts, 2)?;
-        Ok(GetResponseItem { payload })
-    }
-
-    #[tactic(auto, unfolding(kmip_ttlv_types::specs::Digits::six_digits, crate::specs::Responses::read_get_response_item))]
-    fn read(alloc: A, bytes: &[u8]) -> Result<Self, error::Error<A>> {
-        reader::read_message(alloc, bytes)
-    }
-}
-
 impl<A: Allocator + Copy> reader::ReadStructure<A> for GetResponseItem<A> {
     ghost TAG = { 0x42000F };
 
@@ -250,6 +185,17 @@ impl<A: Allocator + Copy> reader::ReadStructure<A> for GetResponseItem<A> {
     ) -> Self {
         let (_, (_, (payload, ()))) = fields;
         GetResponseItem { payload }
+    }
+}
+
+impl<A: Allocator + Copy> Decode<A> for GetResponseItem<A> {
+    ghost form = { get_response_item_form };
+
+    ghost is_value = { λ v x. v ≡ read_get_response_item x };
+
+    #[tactic(auto, unfolding(kmip_ttlv_types::specs::Digits::six_digits, crate::specs::Responses::read_get_response_item))]
+    fn decode(alloc: A, bytes: &[u8]) -> Result<Self, error::Error<A>> {
+        reader::read_message(alloc, bytes)
     }
 }
 
@@ -350,38 +296,6 @@ impl<B: Allocator> Serialize for GetResponse<B> {
     }
 }
 
-impl<A: Allocator> Readable for GetResponse<A> {
-    ghost read_by = { get_response_form };
-
-    ghost read_as = { read_get_response };
-}
-
-impl<A: Allocator + Copy> Deserialize<A> for GetResponse<A> {
-    ghost form = { get_response_form };
-
-    ghost is_value = { λ v x. v ≡ read_get_response x };
-
-    fn shape(alloc: A) -> Result<Shape<A>, AllocError> {
-        let mut fields = Vec::new(alloc);
-        fields.push(shapes::field("0x42007A", ResponseHeader::shape(alloc)?))?;
-        fields.push(shapes::field("0x42000F", GetResponseItem::<A>::shape(alloc)?))?;
-        Ok(shapes::structure("0x42007B", fields))
-    }
-
-    #[tactic(auto, unfolding(crate::specs::Responses::read_get_response))]
-    fn from_data(alloc: A, value: &mut Data<A>) -> Result<Self, AllocError> {
-        let mut parts = reading::parts::<Self, A>(value);
-        let header = reading::nested::<Self, ResponseHeader, A>(alloc, &mut parts, 0)?;
-        let item = reading::nested::<Self, GetResponseItem<A>, A>(alloc, &mut parts, 1)?;
-        Ok(GetResponse { header, item })
-    }
-
-    #[tactic(auto, unfolding(kmip_ttlv_types::specs::Digits::six_digits, crate::specs::Responses::read_get_response))]
-    fn read(alloc: A, bytes: &[u8]) -> Result<Self, error::Error<A>> {
-        reader::read_message(alloc, bytes)
-    }
-}
-
 impl<A: Allocator + Copy> reader::ReadStructure<A> for GetResponse<A> {
     ghost TAG = { 0x42007B };
 
@@ -402,6 +316,17 @@ impl<A: Allocator + Copy> reader::ReadStructure<A> for GetResponse<A> {
     fn from_fields(fields: (ResponseHeader, (GetResponseItem<A>, ()))) -> Self {
         let (header, (item, ())) = fields;
         GetResponse { header, item }
+    }
+}
+
+impl<A: Allocator + Copy> Decode<A> for GetResponse<A> {
+    ghost form = { get_response_form };
+
+    ghost is_value = { λ v x. v ≡ read_get_response x };
+
+    #[tactic(auto, unfolding(kmip_ttlv_types::specs::Digits::six_digits, crate::specs::Responses::read_get_response))]
+    fn decode(alloc: A, bytes: &[u8]) -> Result<Self, error::Error<A>> {
+        reader::read_message(alloc, bytes)
     }
 }
 

@@ -5,9 +5,8 @@ ghost use Rattle.std.specs.Prelude.{◌≡◌, refl, codes, true};
 ghost use Rattle.kmip_ttlv.specs.Spots.{fields_in, struct_fields};
 ghost use Rattle.get_messages.specs.Wrappings.{wrapping_method_form, wrapping_method_value, wrapping_method_number, wrapping_method_variants, block_cipher_mode_form, block_cipher_mode_value, block_cipher_mode_number, block_cipher_mode_variants, padding_method_form, padding_method_value, padding_method_number, padding_method_variants, hashing_algorithm_form, hashing_algorithm_value, hashing_algorithm_number, hashing_algorithm_variants, role_type_form, role_type_value, role_type_number, role_type_variants, cryptographic_parameters_form, written_cryptographic_parameters, read_cryptographic_parameters, encryption_key_information_form, written_encryption_key_information, read_encryption_key_information, mac_signature_key_information_form, written_mac_signature_key_information, read_mac_signature_key_information, key_wrapping_data_form, written_key_wrapping_data, read_key_wrapping_data};
 
-use kmip_ttlv::messages::reading::Readable;
-use kmip_ttlv::messages::{choices, reading, shapes, writing};
-use kmip_ttlv::shape::{Data, Deserialize, Serialize, Shape};
+use kmip_ttlv::messages::writing;
+use kmip_ttlv::shape::{Decode, Serialize};
 use kmip_ttlv::visit::Visitor;
 use kmip_ttlv::{error, reader};
 use std::alloc::{AllocError, Allocator, Global};
@@ -58,27 +57,6 @@ impl Serialize for WrappingMethod {
     fn visit<V: Visitor>(&self, visitor: &mut V) -> Result<(), AllocError> {
         writing::unit_variant(visitor, "0x42009E", self.number())?;
         Ok(())
-    }
-}
-
-impl Readable for WrappingMethod {
-    ghost read_by = { wrapping_method_form };
-
-    ghost read_as = { wrapping_method_value };
-}
-
-impl<A: Allocator + Copy> Deserialize<A> for WrappingMethod {
-    ghost form = { wrapping_method_form };
-
-    ghost is_value = { λ v x. v ≡ wrapping_method_value x };
-
-    fn shape(alloc: A) -> Result<Shape<A>, AllocError> {
-        shapes::units(alloc, "0x42009E", &WRAPPING_METHOD)
-    }
-
-    #[tactic(auto, unfolding(crate::specs::Wrappings::wrapping_method_value))]
-    fn from_data(_alloc: A, value: &mut Data<A>) -> Result<Self, AllocError> {
-        Ok(choices::unit::<Self, A>(value, &WRAPPING_METHOD))
     }
 }
 
@@ -203,27 +181,6 @@ impl Serialize for BlockCipherMode {
     }
 }
 
-impl Readable for BlockCipherMode {
-    ghost read_by = { block_cipher_mode_form };
-
-    ghost read_as = { block_cipher_mode_value };
-}
-
-impl<A: Allocator + Copy> Deserialize<A> for BlockCipherMode {
-    ghost form = { block_cipher_mode_form };
-
-    ghost is_value = { λ v x. v ≡ block_cipher_mode_value x };
-
-    fn shape(alloc: A) -> Result<Shape<A>, AllocError> {
-        shapes::units(alloc, "0x420011", &BLOCK_CIPHER_MODE)
-    }
-
-    #[tactic(auto, unfolding(crate::specs::Wrappings::block_cipher_mode_value))]
-    fn from_data(_alloc: A, value: &mut Data<A>) -> Result<Self, AllocError> {
-        Ok(choices::unit::<Self, A>(value, &BLOCK_CIPHER_MODE))
-    }
-}
-
 impl reader::Listed for BlockCipherMode {
     ghost own = { codes "0x420011" };
 
@@ -317,27 +274,6 @@ impl Serialize for PaddingMethod {
     }
 }
 
-impl Readable for PaddingMethod {
-    ghost read_by = { padding_method_form };
-
-    ghost read_as = { padding_method_value };
-}
-
-impl<A: Allocator + Copy> Deserialize<A> for PaddingMethod {
-    ghost form = { padding_method_form };
-
-    ghost is_value = { λ v x. v ≡ padding_method_value x };
-
-    fn shape(alloc: A) -> Result<Shape<A>, AllocError> {
-        shapes::units(alloc, "0x42005F", &PADDING_METHOD)
-    }
-
-    #[tactic(auto, unfolding(crate::specs::Wrappings::padding_method_value))]
-    fn from_data(_alloc: A, value: &mut Data<A>) -> Result<Self, AllocError> {
-        Ok(choices::unit::<Self, A>(value, &PADDING_METHOD))
-    }
-}
-
 impl reader::Listed for PaddingMethod {
     ghost own = { codes "0x42005F" };
 
@@ -420,27 +356,6 @@ impl Serialize for HashingAlgorithm {
     fn visit<V: Visitor>(&self, visitor: &mut V) -> Result<(), AllocError> {
         writing::unit_variant(visitor, "0x420038", self.number())?;
         Ok(())
-    }
-}
-
-impl Readable for HashingAlgorithm {
-    ghost read_by = { hashing_algorithm_form };
-
-    ghost read_as = { hashing_algorithm_value };
-}
-
-impl<A: Allocator + Copy> Deserialize<A> for HashingAlgorithm {
-    ghost form = { hashing_algorithm_form };
-
-    ghost is_value = { λ v x. v ≡ hashing_algorithm_value x };
-
-    fn shape(alloc: A) -> Result<Shape<A>, AllocError> {
-        shapes::units(alloc, "0x420038", &HASHING_ALGORITHM)
-    }
-
-    #[tactic(auto, unfolding(crate::specs::Wrappings::hashing_algorithm_value))]
-    fn from_data(_alloc: A, value: &mut Data<A>) -> Result<Self, AllocError> {
-        Ok(choices::unit::<Self, A>(value, &HASHING_ALGORITHM))
     }
 }
 
@@ -581,27 +496,6 @@ impl Serialize for RoleType {
     }
 }
 
-impl Readable for RoleType {
-    ghost read_by = { role_type_form };
-
-    ghost read_as = { role_type_value };
-}
-
-impl<A: Allocator + Copy> Deserialize<A> for RoleType {
-    ghost form = { role_type_form };
-
-    ghost is_value = { λ v x. v ≡ role_type_value x };
-
-    fn shape(alloc: A) -> Result<Shape<A>, AllocError> {
-        shapes::units(alloc, "0x420083", &ROLE_TYPE)
-    }
-
-    #[tactic(auto, unfolding(crate::specs::Wrappings::role_type_value))]
-    fn from_data(_alloc: A, value: &mut Data<A>) -> Result<Self, AllocError> {
-        Ok(choices::unit::<Self, A>(value, &ROLE_TYPE))
-    }
-}
-
 impl reader::Listed for RoleType {
     ghost own = { codes "0x420083" };
 
@@ -654,55 +548,6 @@ impl Serialize for CryptographicParameters {
     }
 }
 
-impl Readable for CryptographicParameters {
-    ghost read_by = { cryptographic_parameters_form };
-
-    ghost read_as = { read_cryptographic_parameters };
-}
-
-impl<A: Allocator + Copy> Deserialize<A> for CryptographicParameters {
-    ghost form = { cryptographic_parameters_form };
-
-    ghost is_value = { λ v x. v ≡ read_cryptographic_parameters x };
-
-    fn shape(alloc: A) -> Result<Shape<A>, AllocError> {
-        let mut fields = Vec::new(alloc);
-        let field = shapes::field("0x420011", BlockCipherMode::shape(alloc)?);
-        fields.push(shapes::optional(alloc, field)?)?;
-        let field = shapes::field("0x42005F", PaddingMethod::shape(alloc)?);
-        fields.push(shapes::optional(alloc, field)?)?;
-        let field = shapes::field("0x420038", HashingAlgorithm::shape(alloc)?);
-        fields.push(shapes::optional(alloc, field)?)?;
-        let field = shapes::field("0x420083", RoleType::shape(alloc)?);
-        fields.push(shapes::optional(alloc, field)?)?;
-        Ok(shapes::strict_structure("0x42002B", fields))
-    }
-
-    #[tactic(auto, unfolding(crate::specs::Wrappings::read_cryptographic_parameters))]
-    fn from_data(alloc: A, value: &mut Data<A>) -> Result<Self, AllocError> {
-        let mut parts = reading::parts::<Self, A>(value);
-        let block_cipher_mode = reading::optional::<Self, BlockCipherMode, A>(
-            alloc, &mut parts, 0,
-        )?;
-        let padding_method = reading::optional::<Self, PaddingMethod, A>(alloc, &mut parts, 1)?;
-        let hashing_algorithm = reading::optional::<Self, HashingAlgorithm, A>(
-            alloc, &mut parts, 2,
-        )?;
-        let role_type = reading::optional::<Self, RoleType, A>(alloc, &mut parts, 3)?;
-        Ok(CryptographicParameters {
-            block_cipher_mode,
-            padding_method,
-            hashing_algorithm,
-            role_type,
-        })
-    }
-
-    #[tactic(auto, unfolding(kmip_ttlv_types::specs::Digits::six_digits, crate::specs::Wrappings::read_cryptographic_parameters))]
-    fn read(alloc: A, bytes: &[u8]) -> Result<Self, error::Error<A>> {
-        reader::read_message(alloc, bytes)
-    }
-}
-
 impl<A: Allocator + Copy> reader::ReadStructure<A> for CryptographicParameters {
     ghost TAG = { 0x42002B };
 
@@ -739,6 +584,17 @@ impl<A: Allocator + Copy> reader::ReadStructure<A> for CryptographicParameters {
             hashing_algorithm,
             role_type,
         }
+    }
+}
+
+impl<A: Allocator + Copy> Decode<A> for CryptographicParameters {
+    ghost form = { cryptographic_parameters_form };
+
+    ghost is_value = { λ v x. v ≡ read_cryptographic_parameters x };
+
+    #[tactic(auto, unfolding(kmip_ttlv_types::specs::Digits::six_digits, crate::specs::Wrappings::read_cryptographic_parameters))]
+    fn decode(alloc: A, bytes: &[u8]) -> Result<Self, error::Error<A>> {
+        reader::read_message(alloc, bytes)
     }
 }
 
@@ -789,48 +645,6 @@ impl<B: Allocator> Serialize for EncryptionKeyInformation<B> {
     }
 }
 
-impl<A: Allocator> Readable for EncryptionKeyInformation<A> {
-    ghost read_by = { encryption_key_information_form };
-
-    ghost read_as = { read_encryption_key_information };
-}
-
-impl<A: Allocator + Copy> Deserialize<A> for EncryptionKeyInformation<A> {
-    ghost form = { encryption_key_information_form };
-
-    ghost is_value = { λ v x. v ≡ read_encryption_key_information x };
-
-    fn shape(alloc: A) -> Result<Shape<A>, AllocError> {
-        let mut fields = Vec::new(alloc);
-        fields.push(shapes::text_string(alloc, "0x420094", "Transparent:0x420094")?)?;
-        let field = shapes::field("0x42002B", CryptographicParameters::shape(alloc)?);
-        fields.push(shapes::optional(alloc, field)?)?;
-        Ok(shapes::strict_structure("0x420036", fields))
-    }
-
-    #[tactic(auto, unfolding(crate::specs::Wrappings::read_encryption_key_information))]
-    fn from_data(alloc: A, value: &mut Data<A>) -> Result<Self, AllocError> {
-        let mut parts = reading::parts::<Self, A>(value);
-        let unique_identifier = reading::text_string::<Self, A>(
-            &mut parts,
-            0,
-            "Transparent:0x420094",
-        );
-        let cryptographic_parameters = reading::optional::<Self, CryptographicParameters, A>(
-            alloc, &mut parts, 1,
-        )?;
-        Ok(EncryptionKeyInformation {
-            unique_identifier,
-            cryptographic_parameters,
-        })
-    }
-
-    #[tactic(auto, unfolding(kmip_ttlv_types::specs::Digits::six_digits, crate::specs::Wrappings::read_encryption_key_information))]
-    fn read(alloc: A, bytes: &[u8]) -> Result<Self, error::Error<A>> {
-        reader::read_message(alloc, bytes)
-    }
-}
-
 impl<A: Allocator + Copy> reader::ReadStructure<A> for EncryptionKeyInformation<A> {
     ghost TAG = { 0x420036 };
 
@@ -854,6 +668,17 @@ impl<A: Allocator + Copy> reader::ReadStructure<A> for EncryptionKeyInformation<
             unique_identifier,
             cryptographic_parameters,
         }
+    }
+}
+
+impl<A: Allocator + Copy> Decode<A> for EncryptionKeyInformation<A> {
+    ghost form = { encryption_key_information_form };
+
+    ghost is_value = { λ v x. v ≡ read_encryption_key_information x };
+
+    #[tactic(auto, unfolding(kmip_ttlv_types::specs::Digits::six_digits, crate::specs::Wrappings::read_encryption_key_information))]
+    fn decode(alloc: A, bytes: &[u8]) -> Result<Self, error::Error<A>> {
+        reader::read_message(alloc, bytes)
     }
 }
 
@@ -904,48 +729,6 @@ impl<B: Allocator> Serialize for MacSignatureKeyInformation<B> {
     }
 }
 
-impl<A: Allocator> Readable for MacSignatureKeyInformation<A> {
-    ghost read_by = { mac_signature_key_information_form };
-
-    ghost read_as = { read_mac_signature_key_information };
-}
-
-impl<A: Allocator + Copy> Deserialize<A> for MacSignatureKeyInformation<A> {
-    ghost form = { mac_signature_key_information_form };
-
-    ghost is_value = { λ v x. v ≡ read_mac_signature_key_information x };
-
-    fn shape(alloc: A) -> Result<Shape<A>, AllocError> {
-        let mut fields = Vec::new(alloc);
-        fields.push(shapes::text_string(alloc, "0x420094", "Transparent:0x420094")?)?;
-        let field = shapes::field("0x42002B", CryptographicParameters::shape(alloc)?);
-        fields.push(shapes::optional(alloc, field)?)?;
-        Ok(shapes::strict_structure("0x42004E", fields))
-    }
-
-    #[tactic(auto, unfolding(crate::specs::Wrappings::read_mac_signature_key_information))]
-    fn from_data(alloc: A, value: &mut Data<A>) -> Result<Self, AllocError> {
-        let mut parts = reading::parts::<Self, A>(value);
-        let unique_identifier = reading::text_string::<Self, A>(
-            &mut parts,
-            0,
-            "Transparent:0x420094",
-        );
-        let cryptographic_parameters = reading::optional::<Self, CryptographicParameters, A>(
-            alloc, &mut parts, 1,
-        )?;
-        Ok(MacSignatureKeyInformation {
-            unique_identifier,
-            cryptographic_parameters,
-        })
-    }
-
-    #[tactic(auto, unfolding(kmip_ttlv_types::specs::Digits::six_digits, crate::specs::Wrappings::read_mac_signature_key_information))]
-    fn read(alloc: A, bytes: &[u8]) -> Result<Self, error::Error<A>> {
-        reader::read_message(alloc, bytes)
-    }
-}
-
 impl<A: Allocator + Copy> reader::ReadStructure<A> for MacSignatureKeyInformation<A> {
     ghost TAG = { 0x42004E };
 
@@ -969,6 +752,17 @@ impl<A: Allocator + Copy> reader::ReadStructure<A> for MacSignatureKeyInformatio
             unique_identifier,
             cryptographic_parameters,
         }
+    }
+}
+
+impl<A: Allocator + Copy> Decode<A> for MacSignatureKeyInformation<A> {
+    ghost form = { mac_signature_key_information_form };
+
+    ghost is_value = { λ v x. v ≡ read_mac_signature_key_information x };
+
+    #[tactic(auto, unfolding(kmip_ttlv_types::specs::Digits::six_digits, crate::specs::Wrappings::read_mac_signature_key_information))]
+    fn decode(alloc: A, bytes: &[u8]) -> Result<Self, error::Error<A>> {
+        reader::read_message(alloc, bytes)
     }
 }
 
@@ -1024,68 +818,6 @@ impl<B: Allocator> Serialize for KeyWrappingData<B> {
     }
 }
 
-impl<A: Allocator> Readable for KeyWrappingData<A> {
-    ghost read_by = { key_wrapping_data_form };
-
-    ghost read_as = { read_key_wrapping_data };
-}
-
-impl<A: Allocator + Copy> Deserialize<A> for KeyWrappingData<A> {
-    ghost form = { key_wrapping_data_form };
-
-    ghost is_value = { λ v x. v ≡ read_key_wrapping_data x };
-
-    fn shape(alloc: A) -> Result<Shape<A>, AllocError> {
-        let mut fields = Vec::new(alloc);
-        fields.push(shapes::field("0x42009E", WrappingMethod::shape(alloc)?))?;
-        let field = shapes::field("0x420036", EncryptionKeyInformation::<A>::shape(alloc)?);
-        fields.push(shapes::optional(alloc, field)?)?;
-        let field = shapes::field("0x42004E", MacSignatureKeyInformation::<A>::shape(alloc)?);
-        fields.push(shapes::optional(alloc, field)?)?;
-        let field = shapes::byte_string(alloc, "0x42004D", "Transparent:0x42004D")?;
-        fields.push(shapes::optional(alloc, field)?)?;
-        let field = shapes::byte_string(alloc, "0x42003D", "Transparent:0x42003D")?;
-        fields.push(shapes::optional(alloc, field)?)?;
-        Ok(shapes::strict_structure("0x420046", fields))
-    }
-
-    #[tactic(auto, unfolding(crate::specs::Wrappings::read_key_wrapping_data))]
-    fn from_data(alloc: A, value: &mut Data<A>) -> Result<Self, AllocError> {
-        let mut parts = reading::parts::<Self, A>(value);
-        let wrapping_method = reading::nested::<Self, WrappingMethod, A>(alloc, &mut parts, 0)?;
-        let encryption_key_information = reading::optional::<Self, EncryptionKeyInformation<A>, A>(
-            alloc, &mut parts, 1,
-        )?;
-        let mac_signature_key_information = reading::optional::<
-            Self,
-            MacSignatureKeyInformation<A>,
-            A,
-        >(alloc, &mut parts, 2)?;
-        let mac_signature = reading::optional_byte_string::<Self, A>(
-            &mut parts,
-            3,
-            "Transparent:0x42004D",
-        );
-        let iv_counter_nonce = reading::optional_byte_string::<Self, A>(
-            &mut parts,
-            4,
-            "Transparent:0x42003D",
-        );
-        Ok(KeyWrappingData {
-            wrapping_method,
-            encryption_key_information,
-            mac_signature_key_information,
-            mac_signature,
-            iv_counter_nonce,
-        })
-    }
-
-    #[tactic(auto, unfolding(kmip_ttlv_types::specs::Digits::six_digits, crate::specs::Wrappings::read_key_wrapping_data))]
-    fn read(alloc: A, bytes: &[u8]) -> Result<Self, error::Error<A>> {
-        reader::read_message(alloc, bytes)
-    }
-}
-
 impl<A: Allocator + Copy> reader::ReadStructure<A> for KeyWrappingData<A> {
     ghost TAG = { 0x420046 };
 
@@ -1132,6 +864,17 @@ impl<A: Allocator + Copy> reader::ReadStructure<A> for KeyWrappingData<A> {
             mac_signature,
             iv_counter_nonce,
         }
+    }
+}
+
+impl<A: Allocator + Copy> Decode<A> for KeyWrappingData<A> {
+    ghost form = { key_wrapping_data_form };
+
+    ghost is_value = { λ v x. v ≡ read_key_wrapping_data x };
+
+    #[tactic(auto, unfolding(kmip_ttlv_types::specs::Digits::six_digits, crate::specs::Wrappings::read_key_wrapping_data))]
+    fn decode(alloc: A, bytes: &[u8]) -> Result<Self, error::Error<A>> {
+        reader::read_message(alloc, bytes)
     }
 }
 

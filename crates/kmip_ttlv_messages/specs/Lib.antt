@@ -1,2 +1,1 @@
 pub mod MessageParts
-pub mod MessageChoices

@@ -1,12 +1,7 @@
-//! Parts of messages, for types that are written and read as one and the same value: telling them, their
-//! shapes, and taking apart what was read. docs/MESSAGES.md shows a type made of them.
+//! Parts of messages, for the `visit` of message types. docs/MESSAGES.md shows a type made of them.
 //!
-//! A leaf is read by `Shape::Newtype` of the name `Transparent:TAG` in the field of that tag: so the value
-//! that is read is the value that is written, and one definition serves both traits.
+//! A leaf is visited in a newtype named `Transparent:TAG`, and a form has that newtype in the field of the tag: so the
+//! value that is decoded is the value that was encoded, and one definition serves both ways.
 #![tactic(auto)]
 
-pub mod choices;
-pub mod leaves;
-pub mod reading;
-pub mod shapes;
 pub mod writing;

@@ -1,5 +1,5 @@
-//! Telling leaves that may be absent, and Date-Times, as their readers in `reading` give them. All else that a
-//! `visit` is made of is that of `kmip_ttlv_base::parts`, which is reexported here.
+//! Telling leaves that may be absent, and Date-Times. All else that a `visit` is made of is that of `kmip_ttlv_base::parts`,
+//! which is reexported here.
 //!
 //! Of a number with a sign in an option the prover doesn't know that it fits its type. So what is told of one
 //! is stated by its bits, which are those of the number itself where it fits.

@@ -1,2 +1,3 @@
+pub mod Agreeing
 mod SingleData
 mod SingleBack

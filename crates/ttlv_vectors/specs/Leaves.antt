@@ -1,6 +1,7 @@
+-- Written by codegen from types.table: change that, and run codegen/codegen.
 -- Forms and values of the types in `leaves`.
-use Rattle.kmip_ttlv.specs.Forms.{Form, big_integer, boolean, enum, field, int32, int64, interval, newtype, no_fields}
-use Rattle.kmip_ttlv.specs.Forms.{no_variants, octets, option, struct, text, unit, variant}
+use Rattle.kmip_ttlv.specs.Forms.{Form, Variants, big_integer, boolean, enum, field, int32, int64, interval, newtype}
+use Rattle.kmip_ttlv.specs.Forms.{no_fields, no_variants, octets, option, struct, text, unit, variant}
 use Rattle.kmip_ttlv.specs.MessageParts.{optional}
 use Rattle.kmip_ttlv.specs.Values.{Value, big_integer_value, boolean_value, bytes_value, i32_value, i64_value}
 use Rattle.kmip_ttlv.specs.Values.{interval_value, newtype_value, no_values, struct_value, text_value}
@@ -101,12 +102,15 @@ read_optional_contents x =
     value (optional
     (λ y. newtype_value (codes "Transparent:0x540023") (big_integer_value y.items)) x.big) no_values)))))
 
+-- the numbers of a `Kind`
+abbrev pub kind_variants : Variants
+kind_variants =
+    variant (codes "0x00000001") unit (
+    variant (codes "0x00000002") unit no_variants)
+
 -- the form of a `Kind`
 abbrev pub kind_form : Form
-kind_form =
-    enum (codes "0x540040") (
-    variant (codes "0x00000001") unit (
-    variant (codes "0x00000002") unit no_variants))
+kind_form = enum (codes "0x540040") kind_variants
 
 -- the number of a `Kind`
 abbrev pub kind_number : Kind → List ℕ

@@ -5,3 +5,6 @@ pub mod Choices
 pub mod Leaves
 pub mod Messages
 pub mod Numbers
+pub mod Queries
+pub mod Ranges
+pub mod Laws

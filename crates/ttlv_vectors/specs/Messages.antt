@@ -1,16 +1,21 @@
--- A message of parts of every kind: its form and its value.
+-- Written by codegen from types.table: change that, and run codegen/codegen.
+-- Forms and values of the types in `message`.
 use Rattle.kmip_ttlv.specs.Forms.{Form, enum, field, no_fields, no_variants, option, seq, struct, unit, variant}
-use Rattle.kmip_ttlv.specs.MessageParts.{optional, read_date, sequence}
+use Rattle.kmip_ttlv.specs.MessageParts.{optional, read_date, sequence, written_date}
 use Rattle.kmip_ttlv.specs.Values.{Value, no_values, struct_value, unit_variant_value, value}
-use Rattle.std.specs.Prelude.{codes, false}
-use Rattle.ttlv_vectors.specs.Choices.{choice_form, read_choice}
-use Rattle.ttlv_vectors.specs.Leaves.{contents_form, contents_value, kind_form, kind_value, moments_form}
-use Rattle.ttlv_vectors.specs.Leaves.{moments_value, numbers_form, numbers_value, optional_contents_form}
-use Rattle.ttlv_vectors.specs.Leaves.{read_optional_contents}
-use Rattle.ttlv_vectors.specs.Numbers.{optional_numbers_form, read_optional_numbers, read_reasons, reasons_form}
+use Rattle.kmip_ttlv.specs.Visits.{joined}
+use Rattle.std.specs.Prelude.{codes, false, option_map}
+use Rattle.kmip_ttlv.specs.Visits as told
 use Rattle.ttlv_vectors.specs.declared.message.Every.{Every}
+use Rattle.ttlv_vectors.specs.Leaves.{numbers_form, numbers_value}
+use Rattle.ttlv_vectors.specs.Leaves.{moments_form, moments_value}
+use Rattle.ttlv_vectors.specs.Leaves.{contents_form, contents_value}
+use Rattle.ttlv_vectors.specs.Leaves.{optional_contents_form, written_optional_contents, read_optional_contents}
+use Rattle.ttlv_vectors.specs.Leaves.{kind_form, kind_value}
+use Rattle.ttlv_vectors.specs.Numbers.{optional_numbers_form, written_optional_numbers, read_optional_numbers}
+use Rattle.ttlv_vectors.specs.Numbers.{reasons_form, written_reasons, read_reasons}
 
--- a constant, and parts that are there, may be absent, or come often
+-- the form of a `Every`
 abbrev pub every_form : Form
 every_form =
     struct (codes "0x540060") (
@@ -19,12 +24,24 @@ every_form =
     field (codes "0x540001") numbers_form (
     field (codes "0x540009") moments_form (
     field (codes "0x540010") (option optional_numbers_form) (
-    field (codes "0x540020") contents_form (
     field (codes "0x540030") (option optional_contents_form) (
     field (codes "0x540015") reasons_form (
-    field (codes "0x540050") (seq choice_form) no_fields))))))))) false
+    field (codes "0x540020") (seq contents_form) no_fields)))))))) false
 
--- what is read of it
+-- what is written of a `Every`
+unfoldable pub written_every : {A : Type 0} → Every A → Value
+written_every x =
+    struct_value (codes "0x540060") (
+    value (unit_variant_value (codes "0x540061") (codes "0x00000001")) (
+    value (kind_value x.kind) (
+    value (numbers_value x.numbers) (
+    value (moments_value written_date x.moments) (
+    joined (told.optional (option_map written_optional_numbers x.optional_numbers)) (
+    joined (told.optional (option_map written_optional_contents x.optional_contents)) (
+    value (written_reasons x.reasons) (
+    value (sequence contents_value x.contents.items) no_values))))))))
+
+-- what is read of a `Every`
 unfoldable pub read_every : {A : Type 0} → Every A → Value
 read_every x =
     struct_value (codes "0x540060") (
@@ -33,7 +50,6 @@ read_every x =
     value (numbers_value x.numbers) (
     value (moments_value read_date x.moments) (
     value (optional read_optional_numbers x.optional_numbers) (
-    value (contents_value x.contents) (
     value (optional read_optional_contents x.optional_contents) (
     value (read_reasons x.reasons) (
-    value (sequence read_choice x.choices.items) no_values)))))))))
+    value (sequence contents_value x.contents.items) no_values))))))))

@@ -6,7 +6,7 @@ use Rattle.kmip_ttlv.specs.Values.{Value, i32_value, i64_value, u32_value, newty
 use Rattle.kmip_ttlv.specs.Values.{boolean_value, interval_value, text_value, value}
 use Rattle.kmip_ttlv.specs.Visits.{joined}
 use Rattle.std.specs.Int.{w32, w64}
-use Rattle.std.specs.Prelude.{codes, false, option_map, string_bytes}
+use Rattle.std.specs.Prelude.{ℤ, codes, false, option_map, string_bytes}
 use Rattle.kmip_ttlv.specs.Visits as told
 use Rattle.ttlv_vectors.specs.declared.numbers.OptionalNumbers.{OptionalNumbers}
 use Rattle.ttlv_vectors.specs.declared.numbers.Many.{Many}
@@ -36,9 +36,9 @@ written_optional_numbers x =
 unfoldable pub read_optional_numbers : OptionalNumbers → Value
 read_optional_numbers x =
     struct_value (codes "0x540010") (
-    value (optional (λ y. newtype_value (codes "Transparent:0x540002") (i32_value y)) x.count) (
-    value (optional (λ y. newtype_value (codes "Transparent:0x540003") (i64_value y)) x.long) (
-    value (optional (λ y. newtype_value (codes "Transparent:0x540004") (read_date y)) x.date) no_values)))
+    value (optional (λ y. newtype_value (codes "Transparent:0x540002") (i32_value (by_bits w32 y))) x.count) (
+    value (optional (λ y. newtype_value (codes "Transparent:0x540003") (i64_value (by_bits w64 y))) x.long) (
+    value (optional (λ y. newtype_value (codes "Transparent:0x540004") (read_date (by_bits w64 y))) x.date) no_values)))
 
 -- an Enumeration of any number, and another that may be absent
 abbrev pub reasons_form : Form
@@ -70,21 +70,13 @@ named_form =
     field (codes "0x540002") (newtype (codes "Transparent:0x540002") int32) (
     field (codes "0x540004") (newtype (codes "Transparent:0x540004") int64) no_fields))) false
 
--- what is written of them
-unfoldable pub written_named : {A : Type 0} → Named A → Value
-written_named x =
+-- their value; a date is written and read as this says
+unfoldable pub named_value : {A : Type 0} → (ℤ → Value) → Named A → Value
+named_value date x =
     struct_value (codes "0x540070") (
     value (newtype_value (codes "Transparent:0x540042") (text_value (string_bytes x.name))) (
     value (newtype_value (codes "Transparent:0x540002") (i32_value (by_bits w32 x.count))) (
-    value (newtype_value (codes "Transparent:0x540004") (written_date (by_bits w64 x.date))) no_values)))
-
--- what is read of them
-unfoldable pub read_named : {A : Type 0} → Named A → Value
-read_named x =
-    struct_value (codes "0x540070") (
-    value (newtype_value (codes "Transparent:0x540042") (text_value (string_bytes x.name))) (
-    value (newtype_value (codes "Transparent:0x540002") (i32_value x.count)) (
-    value (newtype_value (codes "Transparent:0x540004") (read_date x.date)) no_values)))
+    value (newtype_value (codes "Transparent:0x540004") (date (by_bits w64 x.date))) no_values)))
 
 -- six leaves
 abbrev pub many_form : Form
@@ -97,24 +89,13 @@ many_form =
     field (codes "0x540005") (newtype (codes "Transparent:0x540005") boolean) (
     field (codes "0x540006") (newtype (codes "Transparent:0x540006") interval) no_fields)))))) false
 
--- what is written of them
-unfoldable pub written_many : Many → Value
-written_many x =
+-- their value; a date is written and read as this says
+unfoldable pub many_value : (ℤ → Value) → Many → Value
+many_value date x =
     struct_value (codes "0x540080") (
     value (newtype_value (codes "Transparent:0x540002") (i32_value (by_bits w32 x.count))) (
     value (newtype_value (codes "Transparent:0x540081") (i32_value (by_bits w32 x.other))) (
     value (newtype_value (codes "Transparent:0x540003") (i64_value (by_bits w64 x.long))) (
-    value (newtype_value (codes "Transparent:0x540004") (written_date (by_bits w64 x.date))) (
-    value (newtype_value (codes "Transparent:0x540005") (boolean_value x.truth)) (
-    value (newtype_value (codes "Transparent:0x540006") (interval_value x.seconds)) no_values))))))
-
--- what is read of them
-unfoldable pub read_many : Many → Value
-read_many x =
-    struct_value (codes "0x540080") (
-    value (newtype_value (codes "Transparent:0x540002") (i32_value x.count)) (
-    value (newtype_value (codes "Transparent:0x540081") (i32_value x.other)) (
-    value (newtype_value (codes "Transparent:0x540003") (i64_value x.long)) (
-    value (newtype_value (codes "Transparent:0x540004") (read_date x.date)) (
+    value (newtype_value (codes "Transparent:0x540004") (date (by_bits w64 x.date))) (
     value (newtype_value (codes "Transparent:0x540005") (boolean_value x.truth)) (
     value (newtype_value (codes "Transparent:0x540006") (interval_value x.seconds)) no_values))))))

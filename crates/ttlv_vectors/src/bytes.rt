@@ -58,9 +58,9 @@ pub const CONSTANT: &str = "54006105000000040000000100000000";
 pub const SECOND: &str = "54004005000000040000000200000000";
 
 /// The header of a message of all of these parts, and of one without those that may be absent.
-pub const WHOLE: &str = "5400600100000200";
+pub const WHOLE: &str = "54006001000001A8";
 
-pub const SMALL: &str = "5400600100000170";
+pub const SMALL: &str = "54006001000000E0";
 
 /// The bytes of texts in hexadecimal, one after the other.
 pub fn joined(alloc: Global, texts: &[&str]) -> Result<Vec<u8>, Fail> {

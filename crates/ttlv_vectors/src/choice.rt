@@ -1,110 +1,101 @@
-//! A choice whose variants contain one form, several forms, or none.
+//! A choice whose variants contain one form, several forms, or none: a type with a shape, whose value is the data that is read.
 
-ghost use Rattle.std.specs.Prelude.{◌≡◌};
-ghost use Rattle.ttlv_vectors.specs.Choices.{choice_form, read_choice, read_selection, selection_form};
+ghost use Rattle.std.specs.Prelude.{◌≡◌, IfOk, false};
+ghost use Rattle.kmip_ttlv.specs.Forms.{enum, struct, tuple, wrapped, content_of, fields_of, form_of, forms_of, variants_of};
+ghost use Rattle.kmip_ttlv.specs.Values.{view};
+ghost use Rattle.ttlv_vectors.specs.Choices.{IsField, IsVariant, choice_form, selection_form};
 
-use kmip_ttlv::messages::reading::Readable;
-use kmip_ttlv::messages::{choices, leaves, reading, shapes};
-use kmip_ttlv::shape::{Data, Deserialize, Shape};
+use kmip_ttlv::shape::{
+    ByShape, Data, Deserialize, FieldShape, Shape, VariantContent, VariantShape,
+};
 use std::alloc::{AllocError, Allocator, Global};
+use std::mem;
 
-/// What a name before it chooses.
-#[derive(Drop)]
-#[derive_where(Debug, PartialEq)]
-pub enum Selection<A: Allocator = Global> {
-    /// A text.
-    Text(String<A>),
-    /// A number and bytes, in a Structure.
-    Pair(i32, Vec<u8, A>),
-    /// An Enumeration of the number 3.
-    Three,
-}
-
-// The rules that choose by the name before it, and a number that needs none.
-const BY_NAME: [&str; 3] = [
-    "if 0x540042==Text",
-    "if 0x540042 in [Pair, Two]",
-    "0x00000003",
-];
-
-impl<A: Allocator> Readable for Selection<A> {
-    ghost read_by = { selection_form };
-
-    ghost read_as = { read_selection };
-}
-
-impl<A: Allocator + Copy> Deserialize<A> for Selection<A> {
-    ghost form = { selection_form };
-
-    ghost is_value = { λ v x. v ≡ read_selection x };
-
-    fn shape(alloc: A) -> Result<Shape<A>, AllocError> {
-        let text = shapes::text_string(alloc, "0x540041", "Transparent:0x540041")?;
-        let count = shapes::integer(alloc, "0x540002", "Transparent:0x540002")?;
-        let bytes = shapes::byte_string(alloc, "0x540022", "Transparent:0x540022")?;
-        let mut pair = Vec::new(alloc);
-        pair.push(count.shape)?;
-        pair.push(bytes.shape)?;
-        let mut variants = Vec::new(alloc);
-        variants.push(shapes::rule(alloc, BY_NAME[0], text.shape)?)?;
-        variants.push(shapes::tuple_rule(BY_NAME[1], pair))?;
-        variants.push(shapes::unit(BY_NAME[2]))?;
-        Ok(shapes::enumeration("0x540041", variants))
-    }
-
-    #[tactic(auto, unfolding(crate::specs::Choices::read_selection))]
-    fn from_data(_alloc: A, value: &mut Data<A>) -> Result<Selection<A>, AllocError> {
-        match choices::which::<Self, A>(value, &BY_NAME) {
-            0 => {
-                let inner = choices::inner::<Self, A>(value, 0);
-                Ok(Selection::Text(leaves::text_string(inner, "Transparent:0x540041")))
-            }
-            1 => {
-                let mut parts = choices::parts::<Self, A>(value, 1);
-                let count = choices::part::<Self, A>(&mut parts, 1, 0);
-                let bytes = choices::part::<Self, A>(&mut parts, 1, 1);
-                let count = leaves::integer(count, "Transparent:0x540002");
-                let bytes = leaves::byte_string(bytes, "Transparent:0x540022");
-                Ok(Selection::Pair(count, bytes))
-            }
-            _ => Ok(Selection::Three),
-        }
-    }
-}
-
-/// A name, and what it chooses.
+/// A name, and what it chooses: a text, a number and bytes in a Structure, or an Enumeration of 3.
 #[derive(Drop)]
 #[derive_where(Debug, PartialEq)]
 pub struct Choice<A: Allocator = Global> {
-    /// The name.
-    pub name: String<A>,
-    /// What it chooses.
-    pub selection: Selection<A>,
+    /// Both, as they are read.
+    pub data: Data<A>,
 }
 
-impl<A: Allocator> Readable for Choice<A> {
-    ghost read_by = { choice_form };
-
-    ghost read_as = { read_choice };
+// A field of this name.
+fn field<A: Allocator>(name: &'static str, shape: Shape<A>) -> FieldShape<A>
+    ensures { IsField name.now (form_of shape) result }
+{
+    FieldShape { name, shape }
 }
+
+// A variant of this name.
+fn variant<A: Allocator>(name: &'static str, content: VariantContent<A>) -> VariantShape<A>
+    ensures { IsVariant name.now (content_of content) result }
+{
+    VariantShape { name, content }
+}
+
+// What one shape reads.
+fn one<A: Allocator + Copy>(alloc: A, shape: Shape<A>) -> Result<VariantContent<A>, AllocError>
+    ensures { IfOk result (λ c. content_of c ≡ wrapped (form_of shape)) }
+{
+    Ok(VariantContent::Newtype(Box::new(alloc, shape)?))
+}
+
+// What several shapes read from the items of a Structure.
+fn several<A: Allocator>(shapes: Vec<Shape<A>, A>) -> VariantContent<A>
+    ensures { content_of result ≡ tuple (forms_of shapes.items) }
+{
+    VariantContent::Tuple(shapes)
+}
+
+// A choice of these variants.
+fn enumeration<A: Allocator>(name: &'static str, variants: Vec<VariantShape<A>, A>) -> Shape<A>
+    ensures { form_of result ≡ enum name.now (variants_of variants.items) }
+{
+    Shape::Enum { name, variants }
+}
+
+// A Structure of these fields.
+fn structure<A: Allocator>(name: &'static str, fields: Vec<FieldShape<A>, A>) -> Shape<A>
+    ensures { form_of result ≡ struct name.now (fields_of fields.items) false }
+{
+    Shape::Struct {
+        name,
+        fields,
+        deny_unknown: false,
+    }
+}
+
+// What the name chooses.
+fn selection<A: Allocator + Copy>(alloc: A) -> Result<Shape<A>, AllocError>
+    ensures { IfOk result (λ s. form_of s ≡ selection_form) }
+{
+    let mut pair = Vec::new(alloc);
+    pair.push(Shape::I32)?;
+    pair.push(Shape::Bytes)?;
+    let text = one(alloc, Shape::Text)?;
+    let mut variants = Vec::new(alloc);
+    variants.push(variant("if 0x540042==Text", text))?;
+    variants.push(variant("if 0x540042 in [Pair, Two]", several(pair)))?;
+    variants.push(variant("0x00000003", VariantContent::Unit))?;
+    Ok(enumeration("0x540041", variants))
+}
+
+impl<A: Allocator> ByShape for Choice<A> {}
 
 impl<A: Allocator + Copy> Deserialize<A> for Choice<A> {
     ghost form = { choice_form };
 
-    ghost is_value = { λ v x. v ≡ read_choice x };
+    ghost is_value = { λ v x. v ≡ view x.data };
 
     fn shape(alloc: A) -> Result<Shape<A>, AllocError> {
         let mut fields = Vec::new(alloc);
-        fields.push(shapes::text_string(alloc, "0x540042", "Transparent:0x540042")?)?;
-        fields.push(shapes::field("0x540041", Selection::<A>::shape(alloc)?))?;
-        Ok(shapes::structure("0x540050", fields))
+        fields.push(field("0x540042", Shape::Text))?;
+        fields.push(field("0x540041", selection(alloc)?))?;
+        Ok(structure("0x540050", fields))
     }
 
-    #[tactic(auto, unfolding(crate::specs::Choices::read_choice))]
-    fn from_data(alloc: A, value: &mut Data<A>) -> Result<Choice<A>, AllocError> {
-        let mut parts = reading::parts::<Self, A>(value);
-        let name = reading::text_string::<Self, A>(&mut parts, 0, "Transparent:0x540042");
-        let selection = reading::nested::<Self, Selection<A>, A>(alloc, &mut parts, 1)?;
-        Ok(Choice { name, selection })
+    fn from_data(_alloc: A, value: &mut Data<A>) -> Result<Choice<A>, AllocError> {
+        let data = mem::replace(value, Data::None);
+        Ok(Choice { data })
     }
 }

@@ -2,6 +2,7 @@
 
 use create_destroy::calls::{read_request, read_response, write_request, write_response};
 use kmip_ttlv::PrettyPrinter;
+use kmip_ttlv_memory::BoundedAllocator;
 use std::alloc::Global;
 use std::test::Fail;
 
@@ -136,5 +137,41 @@ fn responses_there_and_back(rt: HostRuntime) -> Result<(), Fail> {
             "{text}"
         );
     }
+    Ok(())
+}
+
+// How many blocks of memory a request takes that is read, and how many a response; none on an error other than out of
+// memory.
+fn blocks_of_request(alloc: Global, bytes: &[u8]) -> Option<u64> {
+    for before in 0..100u64 {
+        let memory = BoundedAllocator::failing_after(alloc, before);
+        let is_read = read_request(&memory, bytes).is_ok();
+        if !memory.has_failed() {
+            return if is_read { Some(before) } else { None };
+        }
+    }
+    None
+}
+
+fn blocks_of_response(alloc: Global, bytes: &[u8]) -> Option<u64> {
+    for before in 0..100u64 {
+        let memory = BoundedAllocator::failing_after(alloc, before);
+        let is_read = read_response(&memory, bytes).is_ok();
+        if !memory.has_failed() {
+            return if is_read { Some(before) } else { None };
+        }
+    }
+    None
+}
+
+// None is for the texts that rules ask for: a request has a list of items, one of attributes, and three names; a response
+// a list of items, and an identifier.
+#[test]
+fn memory_is_for_lists_and_texts_alone(rt: HostRuntime) -> Result<(), Fail> {
+    let alloc = rt.alloc();
+    let request = hex::decode(alloc, CREATE_REQUEST)?;
+    assert!(rt; blocks_of_request(alloc, request.as_slice()) == Some(5));
+    let response = hex::decode(alloc, CREATE_RESPONSE)?;
+    assert!(rt; blocks_of_response(alloc, response.as_slice()) == Some(2));
     Ok(())
 }

@@ -1,13 +1,15 @@
+// Written by codegen from types.table: change that, and run codegen/codegen.
 //! Leaves of every kind.
 
-ghost use Rattle.std.specs.Prelude.{◌≡◌};
+ghost use Rattle.std.specs.Prelude.{◌≡◌, refl, codes, false};
 ghost use Rattle.kmip_ttlv.specs.MessageParts.{read_date, written_date};
-ghost use Rattle.ttlv_vectors.specs.Leaves.{numbers_form, numbers_value, moments_form, moments_value, contents_form, contents_value, optional_contents_form, written_optional_contents, read_optional_contents, kind_form, kind_value, kind_number};
+ghost use Rattle.kmip_ttlv.specs.Spots.{fields_in, struct_fields};
+ghost use Rattle.ttlv_vectors.specs.Leaves.{numbers_form, numbers_value, moments_form, moments_value, contents_form, contents_value, optional_contents_form, written_optional_contents, read_optional_contents, kind_form, kind_value, kind_number, kind_variants};
 
-use kmip_ttlv::messages::reading::Readable;
-use kmip_ttlv::messages::{choices, reading, shapes, writing};
-use kmip_ttlv::shape::{Data, Deserialize, Serialize, Shape};
+use kmip_ttlv::messages::writing;
+use kmip_ttlv::shape::{Decode, Serialize};
 use kmip_ttlv::visit::Visitor;
+use kmip_ttlv::{error, reader};
 use std::alloc::{AllocError, Allocator, Global};
 
 /// Numbers with a sign.
@@ -32,30 +34,57 @@ impl Serialize for Numbers {
     }
 }
 
-impl Readable for Numbers {
-    ghost read_by = { numbers_form };
+impl<A: Allocator + Copy> reader::ReadStructure<A> for Numbers {
+    ghost TAG = { 0x540001 };
 
-    ghost read_as = { numbers_value };
+    ghost DENIES_UNKNOWN = { false };
+
+    ghost values = { λ x. fields_in (numbers_value x) };
+
+    type Fields = (
+        reader::Leaf<i32, 0x540002>,
+        (reader::Leaf<i64, 0x540003>, ()),
+    );
+
+    const TAG: u32 = 0x540001;
+
+    const DENIES_UNKNOWN: bool = false;
+
+    #[tactic(auto, unfolding(kmip_ttlv_types::specs::Digits::six_digits, crate::specs::Leaves::numbers_value))]
+    fn from_fields(fields: (i32, (i64, ()))) -> Self {
+        let (count, (long, ())) = fields;
+        Numbers { count, long }
+    }
 }
 
-impl<A: Allocator + Copy> Deserialize<A> for Numbers {
+impl<A: Allocator + Copy> Decode<A> for Numbers {
     ghost form = { numbers_form };
 
     ghost is_value = { λ v x. v ≡ numbers_value x };
 
-    fn shape(alloc: A) -> Result<Shape<A>, AllocError> {
-        let mut fields = Vec::new(alloc);
-        fields.push(shapes::integer(alloc, "0x540002", "Transparent:0x540002")?)?;
-        fields.push(shapes::long_integer(alloc, "0x540003", "Transparent:0x540003")?)?;
-        Ok(shapes::structure("0x540001", fields))
+    #[tactic(auto, unfolding(kmip_ttlv_types::specs::Digits::six_digits, crate::specs::Leaves::numbers_value))]
+    fn decode(alloc: A, bytes: &[u8]) -> Result<Self, error::Error<A>> {
+        reader::read_message(alloc, bytes)
     }
+}
 
-    #[tactic(auto, unfolding(crate::specs::Leaves::numbers_value))]
-    fn from_data(_alloc: A, value: &mut Data<A>) -> Result<Self, AllocError> {
-        let mut parts = reading::parts::<Self, A>(value);
-        let count = reading::integer::<Self, A>(&mut parts, 0, "Transparent:0x540002");
-        let long = reading::long_integer::<Self, A>(&mut parts, 1, "Transparent:0x540003");
-        Ok(Numbers { count, long })
+impl<A: Allocator + Copy> reader::ReadNested<A> for Numbers {
+    ghost TAG = { 0x540001 };
+
+    ghost fields = { struct_fields numbers_form };
+
+    ghost denies_unknown = { false };
+
+    ghost values = { λ x. fields_in (numbers_value x) };
+
+    const TAG: u32 = 0x540001;
+
+    #[tactic(auto, unfolding(kmip_ttlv_types::specs::Digits::six_digits, crate::specs::Leaves::numbers_value))]
+    fn read_nested<'b>(
+        scope: &reader::Scope<'b, A>,
+        cursor: &mut reader::Cursor<'b, A>,
+    ) -> reader::Step<Self, A> {
+        reader::read_form(scope, cursor)
     }
 }
 
@@ -84,36 +113,64 @@ impl Serialize for Moments {
     }
 }
 
-impl Readable for Moments {
-    ghost read_by = { moments_form };
+impl<A: Allocator + Copy> reader::ReadStructure<A> for Moments {
+    ghost TAG = { 0x540009 };
 
-    ghost read_as = { moments_value read_date };
+    ghost DENIES_UNKNOWN = { false };
+
+    ghost values = { λ x. fields_in (moments_value read_date x) };
+
+    type Fields = (
+        reader::Leaf<i64, 0x540004>,
+        (
+            reader::Leaf<bool, 0x540005>,
+            (reader::Leaf<reader::Interval, 0x540006>, ()),
+        ),
+    );
+
+    const TAG: u32 = 0x540009;
+
+    const DENIES_UNKNOWN: bool = false;
+
+    #[tactic(auto, unfolding(kmip_ttlv_types::specs::Digits::six_digits, crate::specs::Leaves::moments_value))]
+    fn from_fields(fields: (i64, (bool, (reader::Interval, ())))) -> Self {
+        let (date, (truth, (seconds, ()))) = fields;
+        Moments {
+            date,
+            truth,
+            seconds: seconds.0,
+        }
+    }
 }
 
-impl<A: Allocator + Copy> Deserialize<A> for Moments {
+impl<A: Allocator + Copy> Decode<A> for Moments {
     ghost form = { moments_form };
 
     ghost is_value = { λ v x. v ≡ moments_value read_date x };
 
-    fn shape(alloc: A) -> Result<Shape<A>, AllocError> {
-        let mut fields = Vec::new(alloc);
-        fields.push(shapes::date_time(alloc, "0x540004", "Transparent:0x540004")?)?;
-        fields.push(shapes::boolean(alloc, "0x540005", "Transparent:0x540005")?)?;
-        fields.push(shapes::interval(alloc, "0x540006", "Transparent:0x540006")?)?;
-        Ok(shapes::structure("0x540009", fields))
+    #[tactic(auto, unfolding(kmip_ttlv_types::specs::Digits::six_digits, crate::specs::Leaves::moments_value))]
+    fn decode(alloc: A, bytes: &[u8]) -> Result<Self, error::Error<A>> {
+        reader::read_message(alloc, bytes)
     }
+}
 
-    #[tactic(auto, unfolding(crate::specs::Leaves::moments_value))]
-    fn from_data(_alloc: A, value: &mut Data<A>) -> Result<Self, AllocError> {
-        let mut parts = reading::parts::<Self, A>(value);
-        let date = reading::date_time::<Self, A>(&mut parts, 0, "Transparent:0x540004");
-        let truth = reading::boolean::<Self, A>(&mut parts, 1, "Transparent:0x540005");
-        let seconds = reading::interval::<Self, A>(&mut parts, 2, "Transparent:0x540006");
-        Ok(Moments {
-            date,
-            truth,
-            seconds,
-        })
+impl<A: Allocator + Copy> reader::ReadNested<A> for Moments {
+    ghost TAG = { 0x540009 };
+
+    ghost fields = { struct_fields moments_form };
+
+    ghost denies_unknown = { false };
+
+    ghost values = { λ x. fields_in (moments_value read_date x) };
+
+    const TAG: u32 = 0x540009;
+
+    #[tactic(auto, unfolding(kmip_ttlv_types::specs::Digits::six_digits, crate::specs::Leaves::moments_value))]
+    fn read_nested<'b>(
+        scope: &reader::Scope<'b, A>,
+        cursor: &mut reader::Cursor<'b, A>,
+    ) -> reader::Step<Self, A> {
+        reader::read_form(scope, cursor)
     }
 }
 
@@ -143,32 +200,64 @@ impl<B: Allocator> Serialize for Contents<B> {
     }
 }
 
-impl<A: Allocator> Readable for Contents<A> {
-    ghost read_by = { contents_form };
+impl<A: Allocator + Copy> reader::ReadStructure<A> for Contents<A> {
+    ghost TAG = { 0x540020 };
 
-    ghost read_as = { contents_value };
+    ghost DENIES_UNKNOWN = { false };
+
+    ghost values = { λ x. fields_in (contents_value x) };
+
+    type Fields = (
+        reader::Leaf<String<A>, 0x540021>,
+        (
+            reader::Leaf<Vec<u8, A>, 0x540022>,
+            (reader::Leaf<reader::BigInteger<A>, 0x540023>, ()),
+        ),
+    );
+
+    const TAG: u32 = 0x540020;
+
+    const DENIES_UNKNOWN: bool = false;
+
+    #[tactic(auto, unfolding(kmip_ttlv_types::specs::Digits::six_digits, crate::specs::Leaves::contents_value))]
+    fn from_fields(fields: (String<A>, (Vec<u8, A>, (reader::BigInteger<A>, ())))) -> Self {
+        let (text, (bytes, (big, ()))) = fields;
+        Contents {
+            text,
+            bytes,
+            big: big.0,
+        }
+    }
 }
 
-impl<A: Allocator + Copy> Deserialize<A> for Contents<A> {
+impl<A: Allocator + Copy> Decode<A> for Contents<A> {
     ghost form = { contents_form };
 
     ghost is_value = { λ v x. v ≡ contents_value x };
 
-    fn shape(alloc: A) -> Result<Shape<A>, AllocError> {
-        let mut fields = Vec::new(alloc);
-        fields.push(shapes::text_string(alloc, "0x540021", "Transparent:0x540021")?)?;
-        fields.push(shapes::byte_string(alloc, "0x540022", "Transparent:0x540022")?)?;
-        fields.push(shapes::big_integer(alloc, "0x540023", "Transparent:0x540023")?)?;
-        Ok(shapes::structure("0x540020", fields))
+    #[tactic(auto, unfolding(kmip_ttlv_types::specs::Digits::six_digits, crate::specs::Leaves::contents_value))]
+    fn decode(alloc: A, bytes: &[u8]) -> Result<Self, error::Error<A>> {
+        reader::read_message(alloc, bytes)
     }
+}
 
-    #[tactic(auto, unfolding(crate::specs::Leaves::contents_value))]
-    fn from_data(_alloc: A, value: &mut Data<A>) -> Result<Self, AllocError> {
-        let mut parts = reading::parts::<Self, A>(value);
-        let text = reading::text_string::<Self, A>(&mut parts, 0, "Transparent:0x540021");
-        let bytes = reading::byte_string::<Self, A>(&mut parts, 1, "Transparent:0x540022");
-        let big = reading::big_integer::<Self, A>(&mut parts, 2, "Transparent:0x540023");
-        Ok(Contents { text, bytes, big })
+impl<A: Allocator + Copy> reader::ReadNested<A> for Contents<A> {
+    ghost TAG = { 0x540020 };
+
+    ghost fields = { struct_fields contents_form };
+
+    ghost denies_unknown = { false };
+
+    ghost values = { λ x. fields_in (contents_value x) };
+
+    const TAG: u32 = 0x540020;
+
+    #[tactic(auto, unfolding(kmip_ttlv_types::specs::Digits::six_digits, crate::specs::Leaves::contents_value))]
+    fn read_nested<'b>(
+        scope: &reader::Scope<'b, A>,
+        cursor: &mut reader::Cursor<'b, A>,
+    ) -> reader::Step<Self, A> {
+        reader::read_form(scope, cursor)
     }
 }
 
@@ -204,47 +293,83 @@ impl<B: Allocator> Serialize for OptionalContents<B> {
     }
 }
 
-impl<A: Allocator> Readable for OptionalContents<A> {
-    ghost read_by = { optional_contents_form };
+impl<A: Allocator + Copy> reader::ReadStructure<A> for OptionalContents<A> {
+    ghost TAG = { 0x540030 };
 
-    ghost read_as = { read_optional_contents };
+    ghost DENIES_UNKNOWN = { false };
+
+    ghost values = { λ x. fields_in (read_optional_contents x) };
+
+    type Fields = reader::Four<
+        reader::OptionalLeaf<bool, 0x540005>,
+        reader::OptionalLeaf<reader::Interval, 0x540006>,
+        reader::OptionalLeaf<String<A>, 0x540021>,
+        reader::OptionalLeaf<Vec<u8, A>, 0x540022>,
+        (reader::OptionalLeaf<reader::BigInteger<A>, 0x540023>, ()),
+    >;
+
+    const TAG: u32 = 0x540030;
+
+    const DENIES_UNKNOWN: bool = false;
+
+    #[tactic(auto, unfolding(kmip_ttlv_types::specs::Digits::six_digits, crate::specs::Leaves::read_optional_contents))]
+    fn from_fields(
+        fields: (
+            Option<bool>,
+            (
+                Option<reader::Interval>,
+                (
+                    Option<String<A>>,
+                    (Option<Vec<u8, A>>, (Option<reader::BigInteger<A>>, ())),
+                ),
+            ),
+        ),
+    ) -> Self {
+        let (truth, (seconds, (text, (bytes, (big, ()))))) = fields;
+        OptionalContents {
+            truth,
+            seconds: match seconds {
+                Some(held) => Some(held.0),
+                None => None
+            },
+            text,
+            bytes,
+            big: match big {
+                Some(held) => Some(held.0),
+                None => None
+            },
+        }
+    }
 }
 
-impl<A: Allocator + Copy> Deserialize<A> for OptionalContents<A> {
+impl<A: Allocator + Copy> Decode<A> for OptionalContents<A> {
     ghost form = { optional_contents_form };
 
     ghost is_value = { λ v x. v ≡ read_optional_contents x };
 
-    fn shape(alloc: A) -> Result<Shape<A>, AllocError> {
-        let mut fields = Vec::new(alloc);
-        let field = shapes::boolean(alloc, "0x540005", "Transparent:0x540005")?;
-        fields.push(shapes::optional(alloc, field)?)?;
-        let field = shapes::interval(alloc, "0x540006", "Transparent:0x540006")?;
-        fields.push(shapes::optional(alloc, field)?)?;
-        let field = shapes::text_string(alloc, "0x540021", "Transparent:0x540021")?;
-        fields.push(shapes::optional(alloc, field)?)?;
-        let field = shapes::byte_string(alloc, "0x540022", "Transparent:0x540022")?;
-        fields.push(shapes::optional(alloc, field)?)?;
-        let field = shapes::big_integer(alloc, "0x540023", "Transparent:0x540023")?;
-        fields.push(shapes::optional(alloc, field)?)?;
-        Ok(shapes::structure("0x540030", fields))
+    #[tactic(auto, unfolding(kmip_ttlv_types::specs::Digits::six_digits, crate::specs::Leaves::read_optional_contents))]
+    fn decode(alloc: A, bytes: &[u8]) -> Result<Self, error::Error<A>> {
+        reader::read_message(alloc, bytes)
     }
+}
 
-    #[tactic(auto, unfolding(crate::specs::Leaves::read_optional_contents))]
-    fn from_data(_alloc: A, value: &mut Data<A>) -> Result<Self, AllocError> {
-        let mut parts = reading::parts::<Self, A>(value);
-        let truth = reading::optional_boolean::<Self, A>(&mut parts, 0, "Transparent:0x540005");
-        let seconds = reading::optional_interval::<Self, A>(&mut parts, 1, "Transparent:0x540006");
-        let text = reading::optional_text_string::<Self, A>(&mut parts, 2, "Transparent:0x540021");
-        let bytes = reading::optional_byte_string::<Self, A>(&mut parts, 3, "Transparent:0x540022");
-        let big = reading::optional_big_integer::<Self, A>(&mut parts, 4, "Transparent:0x540023");
-        Ok(OptionalContents {
-            truth,
-            seconds,
-            text,
-            bytes,
-            big,
-        })
+impl<A: Allocator + Copy> reader::ReadNested<A> for OptionalContents<A> {
+    ghost TAG = { 0x540030 };
+
+    ghost fields = { struct_fields optional_contents_form };
+
+    ghost denies_unknown = { false };
+
+    ghost values = { λ x. fields_in (read_optional_contents x) };
+
+    const TAG: u32 = 0x540030;
+
+    #[tactic(auto, unfolding(kmip_ttlv_types::specs::Digits::six_digits, crate::specs::Leaves::read_optional_contents))]
+    fn read_nested<'b>(
+        scope: &reader::Scope<'b, A>,
+        cursor: &mut reader::Cursor<'b, A>,
+    ) -> reader::Step<Self, A> {
+        reader::read_form(scope, cursor)
     }
 }
 
@@ -282,23 +407,26 @@ impl Serialize for Kind {
     }
 }
 
-impl Readable for Kind {
-    ghost read_by = { kind_form };
+impl reader::Listed for Kind {
+    ghost own = { codes "0x540040" };
 
-    ghost read_as = { kind_value };
+    ghost variants = { kind_variants };
+
+    ghost value = { kind_value };
 }
 
-impl<A: Allocator + Copy> Deserialize<A> for Kind {
+impl<A: Allocator + Copy> reader::ReadItem<A> for Kind {
     ghost form = { kind_form };
 
-    ghost is_value = { λ v x. v ≡ kind_value x };
+    ghost value = { kind_value };
 
-    fn shape(alloc: A) -> Result<Shape<A>, AllocError> {
-        shapes::units(alloc, "0x540040", &KIND)
-    }
+    ghost plain = { (refl, refl) };
 
-    #[tactic(auto, unfolding(crate::specs::Leaves::kind_value))]
-    fn from_data(_alloc: A, value: &mut Data<A>) -> Result<Self, AllocError> {
-        Ok(choices::unit::<Self, A>(value, &KIND))
+    #[tactic(auto, unfolding(kmip_ttlv_types::specs::Digits::six_digits, crate::specs::Leaves::kind_value))]
+    fn read_item<'b>(
+        scope: &reader::Scope<'b, A>,
+        cursor: &mut reader::Cursor<'b, A>,
+    ) -> reader::Step<Self, A> {
+        cursor.listed(scope, &KIND)
     }
 }

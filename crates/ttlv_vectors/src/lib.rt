@@ -3,13 +3,12 @@
 //! proves their laws. Reading by other shapes is tested in reading_vectors, printing in
 //! printing_vectors, and the low-level calls in types_vectors.
 //!
-//! `message` has a part of every kind: `leaves` has the leaves, `numbers` those that may be absent and
-//! Enumerations of any number, `choice` what rules choose. `key_gets` and `key_messages` are tests of the
-//! crates get_messages and create_destroy.
+//! `message` has a part of every kind, `leaves` the leaves, and `query` sequences that may be empty and open Enumerations: these
+//! are what `codegen/codegen` writes of `types.table`.
+//! `numbers` has the parts that are written by hand, `choice` and `samples` types with a shape. `key_gets` and
+//! `key_messages` are tests of the crates get_messages and create_destroy.
 #![tactic(auto)]
 
-#[cfg(test)]
-mod both_ways;
 #[cfg(test)]
 mod bytes;
 pub mod choice;
@@ -20,6 +19,7 @@ mod get_attributes;
 mod key_gets;
 #[cfg(test)]
 mod key_messages;
+pub mod laws;
 pub mod leaves;
 #[cfg(test)]
 mod low_level;
@@ -32,11 +32,16 @@ mod parts_read;
 #[cfg(test)]
 mod parts_written;
 #[cfg(test)]
+mod queries;
+pub mod query;
+#[cfg(test)]
 mod reading;
 #[cfg(test)]
 mod request;
 #[cfg(test)]
 mod requesting;
+#[cfg(test)]
+mod rereads;
 pub mod samples;
 #[cfg(test)]
 mod writes;

@@ -1,15 +1,18 @@
-//! A message of parts of every kind: a constant, an Enumeration of several numbers, structures that are there or may be absent, and
-//! a sequence.
+// Written by codegen from types.table: change that, and run codegen/codegen.
+//! A message with a part of every kind, some of whose types are written by hand.
 
-ghost use Rattle.std.specs.Prelude.{◌≡◌};
-ghost use Rattle.ttlv_vectors.specs.Messages.{every_form, read_every};
+ghost use Rattle.std.specs.Prelude.{◌≡◌, refl, codes, false};
+ghost use Rattle.kmip_ttlv.specs.Forms.{enum, no_variants, unit, variant};
+ghost use Rattle.kmip_ttlv.specs.Spots.{fields_in, struct_fields};
+ghost use Rattle.kmip_ttlv.specs.Values.{unit_variant_value};
+ghost use Rattle.ttlv_vectors.specs.Messages.{every_form, written_every, read_every};
 
-use crate::choice::Choice;
 use crate::leaves::{Contents, Kind, Moments, Numbers, OptionalContents};
 use crate::numbers::{OptionalNumbers, Reasons};
-use kmip_ttlv::messages::reading::Readable;
-use kmip_ttlv::messages::{reading, shapes};
-use kmip_ttlv::shape::{Data, Deserialize, Shape};
+use kmip_ttlv::messages::writing;
+use kmip_ttlv::shape::{Decode, Serialize};
+use kmip_ttlv::visit::Visitor;
+use kmip_ttlv::{error, reader};
 use std::alloc::{AllocError, Allocator, Global};
 
 /// A message with every kind of part.
@@ -24,69 +27,156 @@ pub struct Every<A: Allocator = Global> {
     pub moments: Moments,
     /// Numbers that may be absent, as they may all together.
     pub optional_numbers: Option<OptionalNumbers>,
-    /// Texts and bytes.
-    pub contents: Contents<A>,
-    /// The same, which may be absent, as they may all together.
+    /// Texts and bytes that may be absent, as they may all together.
     pub optional_contents: Option<OptionalContents<A>>,
     /// Enumerations of any number.
     pub reasons: Reasons,
-    /// Choices, one at least.
-    pub choices: Vec<Choice<A>, A>,
+    /// Texts and bytes, once or more.
+    pub contents: Vec<Contents<A>, A>,
 }
 
-impl<A: Allocator> Readable for Every<A> {
-    ghost read_by = { every_form };
+impl<B: Allocator> Serialize for Every<B> {
+    ghost stated = { written_every };
 
-    ghost read_as = { read_every };
-}
-
-impl<A: Allocator + Copy> Deserialize<A> for Every<A> {
-    ghost form = { every_form };
-
-    ghost is_value = { λ v x. v ≡ read_every x };
-
-    fn shape(alloc: A) -> Result<Shape<A>, AllocError> {
-        let mut fields = Vec::new(alloc);
-        fields.push(shapes::constant(alloc, "0x540061", "0x00000001")?)?;
-        let kind = Kind::shape(alloc)?;
-        fields.push(shapes::field("0x540040", kind))?;
-        let numbers = Numbers::shape(alloc)?;
-        fields.push(shapes::field("0x540001", numbers))?;
-        let moments = Moments::shape(alloc)?;
-        fields.push(shapes::field("0x540009", moments))?;
-        let optional_numbers = shapes::field("0x540010", OptionalNumbers::shape(alloc)?);
-        fields.push(shapes::optional(alloc, optional_numbers)?)?;
-        fields.push(shapes::field("0x540020", Contents::<A>::shape(alloc)?))?;
-        let optional_contents = shapes::field("0x540030", OptionalContents::<A>::shape(alloc)?);
-        fields.push(shapes::optional(alloc, optional_contents)?)?;
-        fields.push(shapes::field("0x540015", Reasons::shape(alloc)?))?;
-        fields.push(shapes::sequence(alloc, "0x540050", Choice::<A>::shape(alloc)?)?)?;
-        Ok(shapes::structure("0x540060", fields))
+    #[tactic(auto, using(kmip_ttlv_base::proofs::Visiting::visited_joined), unfolding(crate::specs::Messages::written_every))]
+    fn visit<V: Visitor>(&self, visitor: &mut V) -> Result<(), AllocError> {
+        writing::begin_struct(visitor, "0x540060")?;
+        writing::unit_variant(visitor, "0x540061", "0x00000001")?;
+        self.kind.visit(visitor)?;
+        self.numbers.visit(visitor)?;
+        self.moments.visit(visitor)?;
+        writing::option(visitor, &self.optional_numbers)?;
+        writing::option(visitor, &self.optional_contents)?;
+        self.reasons.visit(visitor)?;
+        writing::seq(visitor, self.contents.as_slice())?;
+        writing::end_struct(visitor, "0x540060")?;
+        Ok(())
     }
+}
 
-    #[tactic(auto, unfolding(crate::specs::Messages::read_every))]
-    fn from_data(alloc: A, value: &mut Data<A>) -> Result<Every<A>, AllocError> {
-        let mut parts = reading::parts::<Self, A>(value);
-        reading::constant::<Self, A>(&mut parts, 0, "0x540061", "0x00000001");
-        let kind = reading::nested::<Self, Kind, A>(alloc, &mut parts, 1)?;
-        let numbers = reading::nested::<Self, Numbers, A>(alloc, &mut parts, 2)?;
-        let moments = reading::nested::<Self, Moments, A>(alloc, &mut parts, 3)?;
-        let optional_numbers = reading::optional::<Self, OptionalNumbers, A>(alloc, &mut parts, 4)?;
-        let contents = reading::nested::<Self, Contents<A>, A>(alloc, &mut parts, 5)?;
-        let optional_contents = reading::optional::<Self, OptionalContents<A>, A>(
-            alloc, &mut parts, 6,
-        )?;
-        let reasons = reading::nested::<Self, Reasons, A>(alloc, &mut parts, 7)?;
-        let choices = reading::sequence::<Self, Choice<A>, A>(alloc, &mut parts, 8)?;
-        Ok(Every {
+impl<A: Allocator + Copy> reader::ReadStructure<A> for Every<A> {
+    ghost TAG = { 0x540060 };
+
+    ghost DENIES_UNKNOWN = { false };
+
+    ghost values = { λ x. fields_in (read_every x) };
+
+    type Fields = reader::Four<
+        reader::Item<EveryConstant, 0x540061>,
+        reader::Item<Kind, 0x540040>,
+        reader::Nested<Numbers>,
+        reader::Nested<Moments>,
+        reader::Four<
+            reader::OptionalNested<OptionalNumbers>,
+            reader::OptionalNested<OptionalContents<A>>,
+            reader::Nested<Reasons>,
+            reader::Several<Contents<A>>,
+            (),
+        >,
+    >;
+
+    const TAG: u32 = 0x540060;
+
+    const DENIES_UNKNOWN: bool = false;
+
+    #[tactic(auto, unfolding(kmip_ttlv_types::specs::Digits::six_digits, crate::specs::Messages::read_every, crate::specs::Leaves::numbers_value, crate::specs::Leaves::moments_value, crate::specs::Numbers::read_optional_numbers, crate::specs::Leaves::read_optional_contents, crate::specs::Numbers::read_reasons, crate::specs::Leaves::contents_value))]
+    fn from_fields(
+        fields: (
+            EveryConstant,
+            (
+                Kind,
+                (
+                    Numbers,
+                    (
+                        Moments,
+                        (
+                            Option<OptionalNumbers>,
+                            (
+                                Option<OptionalContents<A>>,
+                                (Reasons, (Vec<Contents<A>, A>, ())),
+                            ),
+                        ),
+                    ),
+                ),
+            ),
+        ),
+    ) -> Self {
+        let (
+            _,
+            (
+                kind,
+                (
+                    numbers,
+                    (moments, (optional_numbers, (optional_contents, (reasons, (contents, ()))))),
+                ),
+            ),
+        ) = fields;
+        Every {
             kind,
             numbers,
             moments,
             optional_numbers,
-            contents,
             optional_contents,
             reasons,
-            choices,
-        })
+            contents,
+        }
+    }
+}
+
+impl<A: Allocator + Copy> Decode<A> for Every<A> {
+    ghost form = { every_form };
+
+    ghost is_value = { λ v x. v ≡ read_every x };
+
+    #[tactic(auto, unfolding(kmip_ttlv_types::specs::Digits::six_digits, crate::specs::Messages::read_every))]
+    fn decode(alloc: A, bytes: &[u8]) -> Result<Self, error::Error<A>> {
+        reader::read_message(alloc, bytes)
+    }
+}
+
+impl<A: Allocator + Copy> reader::ReadNested<A> for Every<A> {
+    ghost TAG = { 0x540060 };
+
+    ghost fields = { struct_fields every_form };
+
+    ghost denies_unknown = { false };
+
+    ghost values = { λ x. fields_in (read_every x) };
+
+    const TAG: u32 = 0x540060;
+
+    #[tactic(auto, unfolding(kmip_ttlv_types::specs::Digits::six_digits, crate::specs::Messages::read_every))]
+    fn read_nested<'b>(
+        scope: &reader::Scope<'b, A>,
+        cursor: &mut reader::Cursor<'b, A>,
+    ) -> reader::Step<Self, A> {
+        reader::read_form(scope, cursor)
+    }
+}
+
+/// What `constant` of a `Every` always is.
+#[derive(Clone, Copy, Debug, PartialEq, Eq)]
+pub struct EveryConstant;
+
+impl reader::Listed for EveryConstant {
+    ghost own = { codes "0x540061" };
+
+    ghost variants = { variant (codes "0x00000001") unit no_variants };
+
+    ghost value = { λ _. unit_variant_value (codes "0x540061") (codes "0x00000001") };
+}
+
+impl<A: Allocator + Copy> reader::ReadItem<A> for EveryConstant {
+    ghost form = { enum (codes "0x540061") (variant (codes "0x00000001") unit no_variants) };
+
+    ghost value = { λ _. unit_variant_value (codes "0x540061") (codes "0x00000001") };
+
+    ghost plain = { (refl, refl) };
+
+    fn read_item<'b>(
+        scope: &reader::Scope<'b, A>,
+        cursor: &mut reader::Cursor<'b, A>,
+    ) -> reader::Step<Self, A> {
+        cursor.listed(scope, &[("0x00000001", EveryConstant)])
     }
 }

@@ -1,13 +1,20 @@
-//! Numbers with a sign that may be absent, and Enumerations of any number.
+//! Numbers with a sign that may be absent, or are in a type that owns memory, and Enumerations of any number: types by hand, which
+//! no table can have. The first two are parts of the message in `message`.
 
-ghost use Rattle.std.specs.Prelude.{◌≡◌};
+ghost use Rattle.std.specs.Prelude.{◌≡◌, false};
+ghost use Rattle.kmip_ttlv.specs.MessageParts.{read_date, written_date};
+ghost use Rattle.kmip_ttlv.specs.Spots.{fields_in, struct_fields};
 ghost use Rattle.ttlv_vectors.specs.Numbers.{optional_numbers_form, read_optional_numbers, written_optional_numbers};
-ghost use Rattle.ttlv_vectors.specs.Numbers.{named_form, read_named, read_reasons, reasons_form, written_named, written_reasons};
-ghost use Rattle.ttlv_vectors.specs.Numbers.{many_form, read_many, written_many};
+ghost use Rattle.ttlv_vectors.specs.Numbers.{read_reasons, reasons_form, written_reasons};
+ghost use Rattle.ttlv_vectors.specs.Numbers.{named_form, named_value, many_form, many_value};
 
-use kmip_ttlv::messages::reading::Readable;
-use kmip_ttlv::messages::{reading, shapes, writing};
-use kmip_ttlv::shape::{Data, Deserialize, Serialize, Shape};
+use kmip_ttlv::error::Error;
+use kmip_ttlv::messages::writing;
+use kmip_ttlv::reader::{
+    Cursor, Four, Interval, Leaf, OptionalLeaf, ReadNested, ReadStructure, Scope, Step, read_form,
+    read_message,
+};
+use kmip_ttlv::shape::{Decode, Serialize};
 use kmip_ttlv::visit::Visitor;
 use std::alloc::{AllocError, Allocator, Global};
 
@@ -36,35 +43,57 @@ impl Serialize for OptionalNumbers {
     }
 }
 
-impl Readable for OptionalNumbers {
-    ghost read_by = { optional_numbers_form };
+impl<A: Allocator + Copy> ReadStructure<A> for OptionalNumbers {
+    ghost TAG = { 0x540010 };
 
-    ghost read_as = { read_optional_numbers };
+    ghost DENIES_UNKNOWN = { false };
+
+    ghost values = { λ x. fields_in (read_optional_numbers x) };
+
+    type Fields = (
+        OptionalLeaf<i32, 0x540002>,
+        (
+            OptionalLeaf<i64, 0x540003>,
+            (OptionalLeaf<i64, 0x540004>, ()),
+        ),
+    );
+
+    const TAG: u32 = 0x540010;
+
+    const DENIES_UNKNOWN: bool = false;
+
+    #[tactic(auto, unfolding(kmip_ttlv_types::specs::Digits::six_digits, crate::specs::Numbers::read_optional_numbers))]
+    fn from_fields(fields: (Option<i32>, (Option<i64>, (Option<i64>, ())))) -> Self {
+        let (count, (long, (date, ()))) = fields;
+        OptionalNumbers { count, long, date }
+    }
 }
 
-impl<A: Allocator + Copy> Deserialize<A> for OptionalNumbers {
+impl<A: Allocator + Copy> Decode<A> for OptionalNumbers {
     ghost form = { optional_numbers_form };
 
     ghost is_value = { λ v x. v ≡ read_optional_numbers x };
 
-    fn shape(alloc: A) -> Result<Shape<A>, AllocError> {
-        let mut fields = Vec::new(alloc);
-        let count = shapes::integer(alloc, "0x540002", "Transparent:0x540002")?;
-        fields.push(shapes::optional(alloc, count)?)?;
-        let long = shapes::long_integer(alloc, "0x540003", "Transparent:0x540003")?;
-        fields.push(shapes::optional(alloc, long)?)?;
-        let date = shapes::date_time(alloc, "0x540004", "Transparent:0x540004")?;
-        fields.push(shapes::optional(alloc, date)?)?;
-        Ok(shapes::structure("0x540010", fields))
+    #[tactic(auto, unfolding(kmip_ttlv_types::specs::Digits::six_digits, crate::specs::Numbers::read_optional_numbers))]
+    fn decode(alloc: A, bytes: &[u8]) -> Result<Self, Error<A>> {
+        read_message(alloc, bytes)
     }
+}
 
-    #[tactic(auto, unfolding(crate::specs::Numbers::read_optional_numbers))]
-    fn from_data(_alloc: A, value: &mut Data<A>) -> Result<OptionalNumbers, AllocError> {
-        let mut parts = reading::parts::<Self, A>(value);
-        let count = reading::optional_integer::<Self, A>(&mut parts, 0, "Transparent:0x540002");
-        let long = reading::optional_long_integer::<Self, A>(&mut parts, 1, "Transparent:0x540003");
-        let date = reading::optional_date_time::<Self, A>(&mut parts, 2, "Transparent:0x540004");
-        Ok(OptionalNumbers { count, long, date })
+impl<A: Allocator + Copy> ReadNested<A> for OptionalNumbers {
+    ghost TAG = { 0x540010 };
+
+    ghost fields = { struct_fields optional_numbers_form };
+
+    ghost denies_unknown = { false };
+
+    ghost values = { λ x. fields_in (read_optional_numbers x) };
+
+    const TAG: u32 = 0x540010;
+
+    #[tactic(auto, unfolding(kmip_ttlv_types::specs::Digits::six_digits, crate::specs::Numbers::read_optional_numbers))]
+    fn read_nested<'b>(scope: &Scope<'b, A>, cursor: &mut Cursor<'b, A>) -> Step<Self, A> {
+        read_form(scope, cursor)
     }
 }
 
@@ -90,35 +119,51 @@ impl Serialize for Reasons {
     }
 }
 
-impl Readable for Reasons {
-    ghost read_by = { reasons_form };
+impl<A: Allocator + Copy> ReadStructure<A> for Reasons {
+    ghost TAG = { 0x540015 };
 
-    ghost read_as = { read_reasons };
+    ghost DENIES_UNKNOWN = { false };
+
+    ghost values = { λ x. fields_in (read_reasons x) };
+
+    type Fields = (Leaf<u32, 0x540007>, (OptionalLeaf<u32, 0x540008>, ()));
+
+    const TAG: u32 = 0x540015;
+
+    const DENIES_UNKNOWN: bool = false;
+
+    #[tactic(auto, unfolding(kmip_ttlv_types::specs::Digits::six_digits, crate::specs::Numbers::read_reasons))]
+    fn from_fields(fields: (u32, (Option<u32>, ()))) -> Self {
+        let (first, (second, ())) = fields;
+        Reasons { first, second }
+    }
 }
 
-impl<A: Allocator + Copy> Deserialize<A> for Reasons {
+impl<A: Allocator + Copy> Decode<A> for Reasons {
     ghost form = { reasons_form };
 
     ghost is_value = { λ v x. v ≡ read_reasons x };
 
-    fn shape(alloc: A) -> Result<Shape<A>, AllocError> {
-        let mut fields = Vec::new(alloc);
-        fields.push(shapes::any_enumeration(alloc, "0x540007", "Transparent:0x540007")?)?;
-        let second = shapes::any_enumeration(alloc, "0x540008", "Transparent:0x540008")?;
-        fields.push(shapes::optional(alloc, second)?)?;
-        Ok(shapes::structure("0x540015", fields))
+    #[tactic(auto, unfolding(kmip_ttlv_types::specs::Digits::six_digits, crate::specs::Numbers::read_reasons))]
+    fn decode(alloc: A, bytes: &[u8]) -> Result<Self, Error<A>> {
+        read_message(alloc, bytes)
     }
+}
 
-    #[tactic(auto, unfolding(crate::specs::Numbers::read_reasons))]
-    fn from_data(_alloc: A, value: &mut Data<A>) -> Result<Reasons, AllocError> {
-        let mut parts = reading::parts::<Self, A>(value);
-        let first = reading::enumeration::<Self, A>(&mut parts, 0, "Transparent:0x540007");
-        let second = reading::optional_enumeration::<Self, A>(
-            &mut parts,
-            1,
-            "Transparent:0x540008",
-        );
-        Ok(Reasons { first, second })
+impl<A: Allocator + Copy> ReadNested<A> for Reasons {
+    ghost TAG = { 0x540015 };
+
+    ghost fields = { struct_fields reasons_form };
+
+    ghost denies_unknown = { false };
+
+    ghost values = { λ x. fields_in (read_reasons x) };
+
+    const TAG: u32 = 0x540015;
+
+    #[tactic(auto, unfolding(kmip_ttlv_types::specs::Digits::six_digits, crate::specs::Numbers::read_reasons))]
+    fn read_nested<'b>(scope: &Scope<'b, A>, cursor: &mut Cursor<'b, A>) -> Step<Self, A> {
+        read_form(scope, cursor)
     }
 }
 
@@ -135,9 +180,9 @@ pub struct Named<A: Allocator = Global> {
 }
 
 impl<B: Allocator> Serialize for Named<B> {
-    ghost stated = { written_named };
+    ghost stated = { named_value written_date };
 
-    #[tactic(auto, unfolding(crate::specs::Numbers::written_named))]
+    #[tactic(auto, unfolding(crate::specs::Numbers::named_value))]
     fn visit<V: Visitor>(&self, visitor: &mut V) -> Result<(), AllocError> {
         writing::begin_struct(visitor, "0x540070")?;
         writing::text_string(visitor, "Transparent:0x540042", self.name.as_str())?;
@@ -148,32 +193,37 @@ impl<B: Allocator> Serialize for Named<B> {
     }
 }
 
-impl<A: Allocator> Readable for Named<A> {
-    ghost read_by = { named_form };
+impl<A: Allocator + Copy> ReadStructure<A> for Named<A> {
+    ghost TAG = { 0x540070 };
 
-    ghost read_as = { read_named };
+    ghost DENIES_UNKNOWN = { false };
+
+    ghost values = { λ x. fields_in (named_value read_date x) };
+
+    type Fields = (
+        Leaf<String<A>, 0x540042>,
+        (Leaf<i32, 0x540002>, (Leaf<i64, 0x540004>, ())),
+    );
+
+    const TAG: u32 = 0x540070;
+
+    const DENIES_UNKNOWN: bool = false;
+
+    #[tactic(auto, unfolding(kmip_ttlv_types::specs::Digits::six_digits, crate::specs::Numbers::named_value))]
+    fn from_fields(fields: (String<A>, (i32, (i64, ())))) -> Self {
+        let (name, (count, (date, ()))) = fields;
+        Named { name, count, date }
+    }
 }
 
-impl<A: Allocator + Copy> Deserialize<A> for Named<A> {
+impl<A: Allocator + Copy> Decode<A> for Named<A> {
     ghost form = { named_form };
 
-    ghost is_value = { λ v x. v ≡ read_named x };
+    ghost is_value = { λ v x. v ≡ named_value read_date x };
 
-    fn shape(alloc: A) -> Result<Shape<A>, AllocError> {
-        let mut fields = Vec::new(alloc);
-        fields.push(shapes::text_string(alloc, "0x540042", "Transparent:0x540042")?)?;
-        fields.push(shapes::integer(alloc, "0x540002", "Transparent:0x540002")?)?;
-        fields.push(shapes::date_time(alloc, "0x540004", "Transparent:0x540004")?)?;
-        Ok(shapes::structure("0x540070", fields))
-    }
-
-    #[tactic(auto, unfolding(crate::specs::Numbers::read_named))]
-    fn from_data(_alloc: A, value: &mut Data<A>) -> Result<Named<A>, AllocError> {
-        let mut parts = reading::parts::<Self, A>(value);
-        let name = reading::text_string::<Self, A>(&mut parts, 0, "Transparent:0x540042");
-        let count = reading::integer::<Self, A>(&mut parts, 1, "Transparent:0x540002");
-        let date = reading::date_time::<Self, A>(&mut parts, 2, "Transparent:0x540004");
-        Ok(Named { name, count, date })
+    #[tactic(auto, unfolding(kmip_ttlv_types::specs::Digits::six_digits, crate::specs::Numbers::named_value))]
+    fn decode(alloc: A, bytes: &[u8]) -> Result<Self, Error<A>> {
+        read_message(alloc, bytes)
     }
 }
 
@@ -196,7 +246,7 @@ pub struct Many {
 }
 
 impl Serialize for Many {
-    ghost stated = { written_many };
+    ghost stated = { many_value written_date };
 
     fn visit<V: Visitor>(&self, visitor: &mut V) -> Result<(), AllocError> {
         writing::begin_struct(visitor, "0x540080")?;
@@ -211,44 +261,46 @@ impl Serialize for Many {
     }
 }
 
-impl Readable for Many {
-    ghost read_by = { many_form };
+impl<A: Allocator + Copy> ReadStructure<A> for Many {
+    ghost TAG = { 0x540080 };
 
-    ghost read_as = { read_many };
-}
+    ghost DENIES_UNKNOWN = { false };
 
-impl<A: Allocator + Copy> Deserialize<A> for Many {
-    ghost form = { many_form };
+    ghost values = { λ x. fields_in (many_value read_date x) };
 
-    ghost is_value = { λ v x. v ≡ read_many x };
+    type Fields = Four<
+        Leaf<i32, 0x540002>,
+        Leaf<i32, 0x540081>,
+        Leaf<i64, 0x540003>,
+        Leaf<i64, 0x540004>,
+        (Leaf<bool, 0x540005>, (Leaf<Interval, 0x540006>, ())),
+    >;
 
-    fn shape(alloc: A) -> Result<Shape<A>, AllocError> {
-        let mut fields = Vec::new(alloc);
-        fields.push(shapes::integer(alloc, "0x540002", "Transparent:0x540002")?)?;
-        fields.push(shapes::integer(alloc, "0x540081", "Transparent:0x540081")?)?;
-        fields.push(shapes::long_integer(alloc, "0x540003", "Transparent:0x540003")?)?;
-        fields.push(shapes::date_time(alloc, "0x540004", "Transparent:0x540004")?)?;
-        fields.push(shapes::boolean(alloc, "0x540005", "Transparent:0x540005")?)?;
-        fields.push(shapes::interval(alloc, "0x540006", "Transparent:0x540006")?)?;
-        Ok(shapes::structure("0x540080", fields))
-    }
+    const TAG: u32 = 0x540080;
 
-    #[tactic(auto, unfolding(crate::specs::Numbers::read_many))]
-    fn from_data(_alloc: A, value: &mut Data<A>) -> Result<Many, AllocError> {
-        let mut parts = reading::parts::<Self, A>(value);
-        let count = reading::integer::<Self, A>(&mut parts, 0, "Transparent:0x540002");
-        let other = reading::integer::<Self, A>(&mut parts, 1, "Transparent:0x540081");
-        let long = reading::long_integer::<Self, A>(&mut parts, 2, "Transparent:0x540003");
-        let date = reading::date_time::<Self, A>(&mut parts, 3, "Transparent:0x540004");
-        let truth = reading::boolean::<Self, A>(&mut parts, 4, "Transparent:0x540005");
-        let seconds = reading::interval::<Self, A>(&mut parts, 5, "Transparent:0x540006");
-        Ok(Many {
+    const DENIES_UNKNOWN: bool = false;
+
+    #[tactic(auto, unfolding(kmip_ttlv_types::specs::Digits::six_digits, crate::specs::Numbers::many_value))]
+    fn from_fields(fields: (i32, (i32, (i64, (i64, (bool, (Interval, ()))))))) -> Self {
+        let (count, (other, (long, (date, (truth, (seconds, ())))))) = fields;
+        Many {
             count,
             other,
             long,
             date,
             truth,
-            seconds,
-        })
+            seconds: seconds.0,
+        }
+    }
+}
+
+impl<A: Allocator + Copy> Decode<A> for Many {
+    ghost form = { many_form };
+
+    ghost is_value = { λ v x. v ≡ many_value read_date x };
+
+    #[tactic(auto, unfolding(kmip_ttlv_types::specs::Digits::six_digits, crate::specs::Numbers::many_value))]
+    fn decode(alloc: A, bytes: &[u8]) -> Result<Self, Error<A>> {
+        read_message(alloc, bytes)
     }
 }

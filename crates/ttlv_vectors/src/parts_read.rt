@@ -1,37 +1,35 @@
-//! Parts of every kind, read: there and absent, refused, and with each growth refused in turn.
+//! Parts of every kind, decoded: present and absent, invalid, and with each allocation failing in turn; and what a
+//! shape chooses.
 
 use crate::bytes::{
     CONSTANT, CONTENTS, MANY, MOMENTS, NAMED, NUMBERS, OPTIONAL_CONTENTS, OPTIONAL_NUMBERS, PAIR,
     REASONS, SECOND, SMALL, TEXT, THREE, WHOLE, joined,
 };
-use crate::choice::{Choice, Selection};
+use crate::choice::Choice;
 use crate::leaves::{Contents, Kind, Moments, Numbers, OptionalContents};
 use crate::message::Every;
 use crate::numbers::{Many, Named, OptionalNumbers, Reasons};
 use kmip_ttlv::error::ErrorKind;
-use kmip_ttlv::from_slice;
+use kmip_ttlv::shape::Data;
+use kmip_ttlv::{from_slice, to_vec};
 use kmip_ttlv_memory::BoundedAllocator;
 use std::alloc::{Allocator, Global};
 use std::test::Fail;
 
-const ALL: [&str; 12] = [
+const ALL: [&str; 10] = [
     WHOLE,
     CONSTANT,
     SECOND,
     NUMBERS,
     MOMENTS,
     OPTIONAL_NUMBERS,
-    CONTENTS,
     OPTIONAL_CONTENTS,
     REASONS,
-    TEXT,
-    PAIR,
-    THREE,
+    CONTENTS,
+    CONTENTS,
 ];
 
-const FEW: [&str; 10] = [
-    SMALL, CONSTANT, SECOND, NUMBERS, MOMENTS, CONTENTS, REASONS, TEXT, PAIR, THREE,
-];
+const FEW: [&str; 7] = [SMALL, CONSTANT, SECOND, NUMBERS, MOMENTS, REASONS, CONTENTS];
 
 const BIG: [u8; 8] = [0, 0, 0, 0, 0, 0, 1, 1];
 
@@ -72,46 +70,18 @@ fn are_optional_contents<A: Allocator>(contents: &OptionalContents<A>) -> bool {
     contents.truth == Some(true) && contents.seconds == Some(3600) && is_text && are_bytes
 }
 
-fn is_text<A: Allocator>(choice: &Choice<A>) -> bool {
-    match &choice.selection {
-        Selection::Text(text) => choice.name.as_str() == "Text" && text.as_str() == "ABC",
-        _ => false,
-    }
-}
-
-fn is_pair<A: Allocator>(choice: &Choice<A>) -> bool {
-    match &choice.selection {
-        Selection::Pair(count, bytes) => {
-            choice.name.as_str() == "Pair" && *count == 5 && bytes.as_slice() == [0xFF].as_slice()
-        }
-        _ => false,
-    }
-}
-
-fn is_three<A: Allocator>(choice: &Choice<A>) -> bool {
-    match &choice.selection {
-        Selection::Three => choice.name.as_str() == "Three",
-        _ => false,
-    }
-}
-
 // What is always there.
 fn is_small<A: Allocator>(every: &Every<A>) -> bool {
-    let [first, second, third] = every.choices.as_slice() else {
-        return false;
-    };
     every.kind == Kind::Second
         && are_numbers(&every.numbers)
         && are_moments(&every.moments)
-        && are_contents(&every.contents)
         && every.reasons
             == Reasons {
                 first: 0x8000_0001,
                 second: Some(9),
             }
-        && is_text(first)
-        && is_pair(second)
-        && is_three(third)
+        && !every.contents.is_empty()
+        && every.contents.iter().all(|one| are_contents(one))
 }
 
 // That, and what may be absent.
@@ -125,14 +95,31 @@ fn is_whole<A: Allocator>(every: &Every<A>) -> bool {
         Some(contents) => are_optional_contents(contents),
         None => false,
     };
-    is_small(every) && every.optional_numbers == Some(numbers) && are_there
+    is_small(every)
+        && every.contents.len() == 2
+        && every.optional_numbers == Some(numbers)
+        && are_there
+}
+
+// Whether a message is encoded as these bytes.
+fn is_encoded_as(alloc: Global, every: &Every, bytes: &[u8]) -> bool {
+    match &to_vec(alloc, every) {
+        Ok(encoded) => encoded.as_slice() == bytes,
+        Err(_) => false,
+    }
 }
 
 #[test]
 fn every_part(rt: HostRuntime) -> Result<(), Fail> {
-    let bytes = joined(rt.alloc(), &ALL)?;
-    let read: kmip_ttlv::error::Result<Every> = from_slice(rt.alloc(), bytes.as_slice());
-    assert!(rt; matches!(&read, Ok(every) if is_whole(every)));
+    let alloc = rt.alloc();
+    let bytes = joined(alloc, &ALL)?;
+    let read: kmip_ttlv::error::Result<Every> = from_slice(alloc, bytes.as_slice());
+    let Ok(every) = read else {
+        assert!(rt; false);
+        return Ok(());
+    };
+    assert!(rt; is_whole(&every));
+    assert!(rt; is_encoded_as(alloc, &every, bytes.as_slice()));
     Ok(())
 }
 
@@ -211,42 +198,24 @@ fn many_leaves(rt: HostRuntime) -> Result<(), Fail> {
     Ok(())
 }
 
-// Messages that are refused: a kind of 3, a name that chooses nothing before a text, no choice at all, another constant.
-const REFUSED: [[&str; 10]; 4] = [
+// Messages that are errors: a kind of 3, no contents at all, another constant.
+const REFUSED: [[&str; 7]; 3] = [
     [
         SMALL,
         CONSTANT,
         "54004005000000040000000300000000",
         NUMBERS,
         MOMENTS,
-        CONTENTS,
         REASONS,
-        TEXT,
-        PAIR,
-        THREE,
+        CONTENTS,
     ],
     [
-        SMALL,
+        "54006001000000A8",
         CONSTANT,
         SECOND,
         NUMBERS,
         MOMENTS,
-        CONTENTS,
         REASONS,
-        "54005001000000205400420700000004466F75720000000054004107000000034142430000000000",
-        PAIR,
-        THREE,
-    ],
-    [
-        "54006001000000E0",
-        CONSTANT,
-        SECOND,
-        NUMBERS,
-        MOMENTS,
-        CONTENTS,
-        REASONS,
-        "",
-        "",
         "",
     ],
     [
@@ -255,11 +224,8 @@ const REFUSED: [[&str; 10]; 4] = [
         SECOND,
         NUMBERS,
         MOMENTS,
-        CONTENTS,
         REASONS,
-        TEXT,
-        PAIR,
-        THREE,
+        CONTENTS,
     ],
 ];
 
@@ -269,6 +235,47 @@ fn messages_that_are_refused(rt: HostRuntime) -> Result<(), Fail> {
         let bytes = joined(rt.alloc(), parts)?;
         let read: kmip_ttlv::error::Result<Every> = from_slice(rt.alloc(), bytes.as_slice());
         assert!(rt; read.is_err());
+    }
+    Ok(())
+}
+
+// What was chosen, as text; "refused" if nothing was.
+fn chosen(alloc: Global, text: &str) -> Result<String, Fail> {
+    let bytes = joined(alloc, &[text])?;
+    let read: kmip_ttlv::error::Result<Choice> = from_slice(alloc, bytes.as_slice());
+    let Ok(choice) = read else {
+        return Ok(String::from_str(alloc, "refused")?);
+    };
+    let Data::Struct { fields, .. } = &choice.data else {
+        return Err(Fail::new("it is no struct"));
+    };
+    let [_, selection] = fields.as_slice() else {
+        return Err(Fail::new("it has other fields"));
+    };
+    match selection {
+        Data::NewtypeVariant { inner, .. } => Ok(format!(in alloc; "one form: {:?}", &**inner)?),
+        Data::TupleVariant { fields, .. } => Ok(format!(in alloc; "several: {:?}", fields)?),
+        Data::UnitVariant { variant, .. } => Ok(format!(in alloc; "none: {variant}")?),
+        _ => Err(Fail::new("it is no variant")),
+    }
+}
+
+// What a name chooses; the last chooses nothing before a text.
+const CHOSEN: [(&str, &str); 4] = [
+    (TEXT, "one form: Text(\"ABC\")"),
+    (PAIR, "several: [I32(5), Bytes([255])]"),
+    (THREE, "none: 0x00000003"),
+    (
+        "54005001000000205400420700000004466F75720000000054004107000000034142430000000000",
+        "refused",
+    ),
+];
+
+#[test]
+fn a_name_chooses(rt: HostRuntime) -> Result<(), Fail> {
+    for (text, wanted) in CHOSEN {
+        let found = chosen(rt.alloc(), text)?;
+        assert!(rt; found.as_str() == wanted, "{found}");
     }
     Ok(())
 }

@@ -6,7 +6,7 @@ ghost use Rattle.ttlv_vectors.specs.Samples.{single_form, read_single, written_s
 use crate::data::number_of;
 use kmip_ttlv::laws::agreeing_values_come_back;
 use kmip_ttlv::parts::{begin_struct, end_struct, integer};
-use kmip_ttlv::shape::{Data, Deserialize, FieldShape, Serialize, Shape};
+use kmip_ttlv::shape::{ByShape, Data, Deserialize, FieldShape, Serialize, Shape};
 use kmip_ttlv::visit::Visitor;
 use kmip_ttlv::{from_slice, to_vec};
 use std::alloc::{AllocError, Allocator};
@@ -27,6 +27,8 @@ impl Serialize for Single {
         Ok(())
     }
 }
+
+impl ByShape for Single {}
 
 impl<A: Allocator + Copy> Deserialize<A> for Single {
     ghost form = { single_form };

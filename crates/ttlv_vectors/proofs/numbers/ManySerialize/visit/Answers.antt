@@ -1,8 +1,8 @@
-use Rattle.ttlv_vectors.specs.Numbers.{written_many}
+use Rattle.ttlv_vectors.specs.Numbers.{many_value}
 use Rattle.ttlv_vectors.proofs.numbers.ManySerialize.visit.Goals as goal
 
 pub returns-clause-told : goal.returns-clause-told
-unfolding written_many
+unfolding many_value
 returns-clause-told g c = λ s known.
     c.in_ok-end_struct.ensures.told _ (
     c.in_ok-interval.ensures.told _ (

@@ -1,0 +1,347 @@
+-- Written by codegen from types.table: change that, and run codegen/codegen.
+-- Values of a type are equal if they stand for the same: each part is, and numbers tell the variants of an Enumeration.
+use Rattle.kmip_ttlv.specs.MessageParts.{optional, read_date}
+use Rattle.kmip_ttlv.specs.Values.{bytes_value, newtype_value}
+use Rattle.kmip_ttlv_laws.proofs.Equal.{both, bytes_equal, found_same, options_equal, row_of, signed_equal, texts_equal}
+use Rattle.std.proofs.Common.{refl}
+use Rattle.std.specs.Prelude.{List, Some, [], codes, string_bytes, ℕ, ◌∷◌, ◌≡◌}
+use denote.Enum.Bare.{true_same}
+use Rattle.get_messages.specs.Headers.{protocol_version_value}
+use Rattle.get_messages.specs.Headers.{request_header_value}
+use Rattle.get_messages.specs.Headers.{response_header_value}
+use Rattle.get_messages.specs.Wrappings.{wrapping_method_value, wrapping_method_number}
+use Rattle.get_messages.specs.Wrappings.{block_cipher_mode_value, block_cipher_mode_number}
+use Rattle.get_messages.specs.Wrappings.{padding_method_value, padding_method_number}
+use Rattle.get_messages.specs.Wrappings.{hashing_algorithm_value, hashing_algorithm_number}
+use Rattle.get_messages.specs.Wrappings.{role_type_value, role_type_number}
+use Rattle.get_messages.specs.Wrappings.{read_cryptographic_parameters}
+use Rattle.get_messages.specs.Wrappings.{read_encryption_key_information}
+use Rattle.get_messages.specs.Wrappings.{read_mac_signature_key_information}
+use Rattle.get_messages.specs.Wrappings.{read_key_wrapping_data}
+use Rattle.get_messages.specs.Keys.{key_value_value}
+use Rattle.get_messages.specs.Keys.{key_length_value}
+use Rattle.get_messages.specs.Keys.{read_key_block}
+use Rattle.get_messages.specs.Keys.{read_symmetric_key}
+use Rattle.get_messages.specs.Requests.{get_request_payload_value}
+use Rattle.get_messages.specs.Requests.{get_request_item_value}
+use Rattle.get_messages.specs.Requests.{get_request_value}
+use Rattle.get_messages.specs.Responses.{read_get_response_payload}
+use Rattle.get_messages.specs.Responses.{read_get_response_item}
+use Rattle.get_messages.specs.Responses.{read_get_response}
+use Rattle.get_messages.specs.declared.wrapping.WrappingMethod.{WrappingMethod}
+use Rattle.get_messages.specs.declared.wrapping.WrappingMethod.TheVariants as wrapping_method
+use Rattle.get_messages.specs.contracts.wrapping.WrappingMethod as wrapping_method_contract
+use Rattle.get_messages.specs.declared.wrapping.BlockCipherMode.{BlockCipherMode}
+use Rattle.get_messages.specs.declared.wrapping.BlockCipherMode.TheVariants as block_cipher_mode
+use Rattle.get_messages.specs.contracts.wrapping.BlockCipherMode as block_cipher_mode_contract
+use Rattle.get_messages.specs.declared.wrapping.PaddingMethod.{PaddingMethod}
+use Rattle.get_messages.specs.declared.wrapping.PaddingMethod.TheVariants as padding_method
+use Rattle.get_messages.specs.contracts.wrapping.PaddingMethod as padding_method_contract
+use Rattle.get_messages.specs.declared.wrapping.HashingAlgorithm.{HashingAlgorithm}
+use Rattle.get_messages.specs.declared.wrapping.HashingAlgorithm.TheVariants as hashing_algorithm
+use Rattle.get_messages.specs.contracts.wrapping.HashingAlgorithm as hashing_algorithm_contract
+use Rattle.get_messages.specs.declared.wrapping.RoleType.{RoleType}
+use Rattle.get_messages.specs.declared.wrapping.RoleType.TheVariants as role_type
+use Rattle.get_messages.specs.contracts.wrapping.RoleType as role_type_contract
+use Rattle.get_messages.proofs.laws.equal_values.Goals as goal
+
+pub returns-clause-protocol_version : goal.returns-clause-protocol_version
+unfolding protocol_version_value
+returns-clause-protocol_version g c x y e =
+    let major : x.major ≡ y.major = cc in
+    let minor : x.minor ≡ y.minor = cc in
+    both (signed_equal x.major y.major major) (signed_equal x.minor y.minor minor)
+
+pub returns-clause-request_header : goal.returns-clause-request_header
+unfolding request_header_value
+returns-clause-request_header g c x y e =
+    let version : protocol_version_value x.version ≡ protocol_version_value y.version = cc in
+    let batch_count : x.batch_count ≡ y.batch_count = cc in
+    both (returns-clause-protocol_version g c x.version y.version version) (signed_equal x.batch_count y.batch_count batch_count)
+
+pub returns-clause-response_header : goal.returns-clause-response_header
+unfolding response_header_value
+returns-clause-response_header g c x y e =
+    let version : protocol_version_value x.version ≡ protocol_version_value y.version = cc in
+    let time_stamp : x.time_stamp ≡ y.time_stamp = cc in
+    let batch_count : x.batch_count ≡ y.batch_count = cc in
+    both (returns-clause-protocol_version g c x.version y.version version) (both (signed_equal x.time_stamp y.time_stamp time_stamp) (signed_equal x.batch_count y.batch_count batch_count))
+
+abbrev wrapping_method_rows : List (List ℕ × WrappingMethod)
+wrapping_method_rows =
+    (codes "0x00000001", wrapping_method.Encrypt) ∷
+    (codes "0x00000002", wrapping_method.MacOrSign) ∷
+    (codes "0x00000003", wrapping_method.EncryptThenMacOrSign) ∷
+    (codes "0x00000004", wrapping_method.MacOrSignThenEncrypt) ∷
+    (codes "0x00000005", wrapping_method.Tr31) ∷
+    []
+
+wrapping_method_found : (x : WrappingMethod) → row_of (wrapping_method_number x) wrapping_method_rows ≡ Some x
+wrapping_method_found wrapping_method.Encrypt = refl
+wrapping_method_found wrapping_method.MacOrSign = refl
+wrapping_method_found wrapping_method.EncryptThenMacOrSign = refl
+wrapping_method_found wrapping_method.MacOrSignThenEncrypt = refl
+wrapping_method_found wrapping_method.Tr31 = refl
+
+pub returns-clause-wrapping_method : goal.returns-clause-wrapping_method
+unfolding wrapping_method_value
+returns-clause-wrapping_method g c x y e =
+    let same : wrapping_method_number x ≡ wrapping_method_number y = cc in
+    true_same wrapping_method_contract.the_type x y (found_same wrapping_method_number wrapping_method_rows wrapping_method_found x y same)
+
+abbrev block_cipher_mode_rows : List (List ℕ × BlockCipherMode)
+block_cipher_mode_rows =
+    (codes "0x00000001", block_cipher_mode.Cbc) ∷
+    (codes "0x00000002", block_cipher_mode.Ecb) ∷
+    (codes "0x00000003", block_cipher_mode.Pcbc) ∷
+    (codes "0x00000004", block_cipher_mode.Cfb) ∷
+    (codes "0x00000005", block_cipher_mode.Ofb) ∷
+    (codes "0x00000006", block_cipher_mode.Ctr) ∷
+    (codes "0x00000007", block_cipher_mode.Cmac) ∷
+    (codes "0x00000008", block_cipher_mode.Ccm) ∷
+    (codes "0x00000009", block_cipher_mode.Gcm) ∷
+    (codes "0x0000000A", block_cipher_mode.CbcMac) ∷
+    (codes "0x0000000B", block_cipher_mode.Xts) ∷
+    (codes "0x0000000C", block_cipher_mode.AesKeyWrapPadding) ∷
+    (codes "0x0000000D", block_cipher_mode.NistKeyWrap) ∷
+    (codes "0x0000000E", block_cipher_mode.X9102Aeskw) ∷
+    (codes "0x0000000F", block_cipher_mode.X9102Tdkw) ∷
+    (codes "0x00000010", block_cipher_mode.X9102Akw1) ∷
+    (codes "0x00000011", block_cipher_mode.X9102Akw2) ∷
+    []
+
+block_cipher_mode_found : (x : BlockCipherMode) → row_of (block_cipher_mode_number x) block_cipher_mode_rows ≡ Some x
+block_cipher_mode_found block_cipher_mode.Cbc = refl
+block_cipher_mode_found block_cipher_mode.Ecb = refl
+block_cipher_mode_found block_cipher_mode.Pcbc = refl
+block_cipher_mode_found block_cipher_mode.Cfb = refl
+block_cipher_mode_found block_cipher_mode.Ofb = refl
+block_cipher_mode_found block_cipher_mode.Ctr = refl
+block_cipher_mode_found block_cipher_mode.Cmac = refl
+block_cipher_mode_found block_cipher_mode.Ccm = refl
+block_cipher_mode_found block_cipher_mode.Gcm = refl
+block_cipher_mode_found block_cipher_mode.CbcMac = refl
+block_cipher_mode_found block_cipher_mode.Xts = refl
+block_cipher_mode_found block_cipher_mode.AesKeyWrapPadding = refl
+block_cipher_mode_found block_cipher_mode.NistKeyWrap = refl
+block_cipher_mode_found block_cipher_mode.X9102Aeskw = refl
+block_cipher_mode_found block_cipher_mode.X9102Tdkw = refl
+block_cipher_mode_found block_cipher_mode.X9102Akw1 = refl
+block_cipher_mode_found block_cipher_mode.X9102Akw2 = refl
+
+pub returns-clause-block_cipher_mode : goal.returns-clause-block_cipher_mode
+unfolding block_cipher_mode_value
+returns-clause-block_cipher_mode g c x y e =
+    let same : block_cipher_mode_number x ≡ block_cipher_mode_number y = cc in
+    true_same block_cipher_mode_contract.the_type x y (found_same block_cipher_mode_number block_cipher_mode_rows block_cipher_mode_found x y same)
+
+abbrev padding_method_rows : List (List ℕ × PaddingMethod)
+padding_method_rows =
+    (codes "0x00000001", padding_method.NoPadding) ∷
+    (codes "0x00000002", padding_method.Oaep) ∷
+    (codes "0x00000003", padding_method.Pkcs5) ∷
+    (codes "0x00000004", padding_method.Ssl3) ∷
+    (codes "0x00000005", padding_method.Zeros) ∷
+    (codes "0x00000006", padding_method.AnsiX923) ∷
+    (codes "0x00000007", padding_method.Iso10126) ∷
+    (codes "0x00000008", padding_method.Pkcs1V15) ∷
+    (codes "0x00000009", padding_method.X931) ∷
+    (codes "0x0000000A", padding_method.Pss) ∷
+    []
+
+padding_method_found : (x : PaddingMethod) → row_of (padding_method_number x) padding_method_rows ≡ Some x
+padding_method_found padding_method.NoPadding = refl
+padding_method_found padding_method.Oaep = refl
+padding_method_found padding_method.Pkcs5 = refl
+padding_method_found padding_method.Ssl3 = refl
+padding_method_found padding_method.Zeros = refl
+padding_method_found padding_method.AnsiX923 = refl
+padding_method_found padding_method.Iso10126 = refl
+padding_method_found padding_method.Pkcs1V15 = refl
+padding_method_found padding_method.X931 = refl
+padding_method_found padding_method.Pss = refl
+
+pub returns-clause-padding_method : goal.returns-clause-padding_method
+unfolding padding_method_value
+returns-clause-padding_method g c x y e =
+    let same : padding_method_number x ≡ padding_method_number y = cc in
+    true_same padding_method_contract.the_type x y (found_same padding_method_number padding_method_rows padding_method_found x y same)
+
+abbrev hashing_algorithm_rows : List (List ℕ × HashingAlgorithm)
+hashing_algorithm_rows =
+    (codes "0x00000001", hashing_algorithm.Md2) ∷
+    (codes "0x00000002", hashing_algorithm.Md4) ∷
+    (codes "0x00000003", hashing_algorithm.Md5) ∷
+    (codes "0x00000004", hashing_algorithm.Sha1) ∷
+    (codes "0x00000005", hashing_algorithm.Sha224) ∷
+    (codes "0x00000006", hashing_algorithm.Sha256) ∷
+    (codes "0x00000007", hashing_algorithm.Sha384) ∷
+    (codes "0x00000008", hashing_algorithm.Sha512) ∷
+    []
+
+hashing_algorithm_found : (x : HashingAlgorithm) → row_of (hashing_algorithm_number x) hashing_algorithm_rows ≡ Some x
+hashing_algorithm_found hashing_algorithm.Md2 = refl
+hashing_algorithm_found hashing_algorithm.Md4 = refl
+hashing_algorithm_found hashing_algorithm.Md5 = refl
+hashing_algorithm_found hashing_algorithm.Sha1 = refl
+hashing_algorithm_found hashing_algorithm.Sha224 = refl
+hashing_algorithm_found hashing_algorithm.Sha256 = refl
+hashing_algorithm_found hashing_algorithm.Sha384 = refl
+hashing_algorithm_found hashing_algorithm.Sha512 = refl
+
+pub returns-clause-hashing_algorithm : goal.returns-clause-hashing_algorithm
+unfolding hashing_algorithm_value
+returns-clause-hashing_algorithm g c x y e =
+    let same : hashing_algorithm_number x ≡ hashing_algorithm_number y = cc in
+    true_same hashing_algorithm_contract.the_type x y (found_same hashing_algorithm_number hashing_algorithm_rows hashing_algorithm_found x y same)
+
+abbrev role_type_rows : List (List ℕ × RoleType)
+role_type_rows =
+    (codes "0x00000001", role_type.Bdk) ∷
+    (codes "0x00000002", role_type.Cvk) ∷
+    (codes "0x00000003", role_type.Dek) ∷
+    (codes "0x00000004", role_type.Mkac) ∷
+    (codes "0x00000005", role_type.Mksmc) ∷
+    (codes "0x00000006", role_type.Mksmi) ∷
+    (codes "0x00000007", role_type.Mkdac) ∷
+    (codes "0x00000008", role_type.Mkdn) ∷
+    (codes "0x00000009", role_type.Mkcp) ∷
+    (codes "0x0000000A", role_type.Mkoth) ∷
+    (codes "0x0000000B", role_type.Kek) ∷
+    (codes "0x0000000C", role_type.Mac16609) ∷
+    (codes "0x0000000D", role_type.Mac97971) ∷
+    (codes "0x0000000E", role_type.Mac97972) ∷
+    (codes "0x0000000F", role_type.Mac97973) ∷
+    (codes "0x00000010", role_type.Mac97974) ∷
+    (codes "0x00000011", role_type.Mac97975) ∷
+    (codes "0x00000012", role_type.Zpk) ∷
+    (codes "0x00000013", role_type.Pvkibm) ∷
+    (codes "0x00000014", role_type.Pvkpvv) ∷
+    (codes "0x00000015", role_type.Pvkoth) ∷
+    []
+
+role_type_found : (x : RoleType) → row_of (role_type_number x) role_type_rows ≡ Some x
+role_type_found role_type.Bdk = refl
+role_type_found role_type.Cvk = refl
+role_type_found role_type.Dek = refl
+role_type_found role_type.Mkac = refl
+role_type_found role_type.Mksmc = refl
+role_type_found role_type.Mksmi = refl
+role_type_found role_type.Mkdac = refl
+role_type_found role_type.Mkdn = refl
+role_type_found role_type.Mkcp = refl
+role_type_found role_type.Mkoth = refl
+role_type_found role_type.Kek = refl
+role_type_found role_type.Mac16609 = refl
+role_type_found role_type.Mac97971 = refl
+role_type_found role_type.Mac97972 = refl
+role_type_found role_type.Mac97973 = refl
+role_type_found role_type.Mac97974 = refl
+role_type_found role_type.Mac97975 = refl
+role_type_found role_type.Zpk = refl
+role_type_found role_type.Pvkibm = refl
+role_type_found role_type.Pvkpvv = refl
+role_type_found role_type.Pvkoth = refl
+
+pub returns-clause-role_type : goal.returns-clause-role_type
+unfolding role_type_value
+returns-clause-role_type g c x y e =
+    let same : role_type_number x ≡ role_type_number y = cc in
+    true_same role_type_contract.the_type x y (found_same role_type_number role_type_rows role_type_found x y same)
+
+pub returns-clause-cryptographic_parameters : goal.returns-clause-cryptographic_parameters
+unfolding read_cryptographic_parameters
+returns-clause-cryptographic_parameters g c x y e =
+    let block_cipher_mode : optional block_cipher_mode_value x.block_cipher_mode ≡ optional block_cipher_mode_value y.block_cipher_mode = cc in
+    let padding_method : optional padding_method_value x.padding_method ≡ optional padding_method_value y.padding_method = cc in
+    let hashing_algorithm : optional hashing_algorithm_value x.hashing_algorithm ≡ optional hashing_algorithm_value y.hashing_algorithm = cc in
+    let role_type : optional role_type_value x.role_type ≡ optional role_type_value y.role_type = cc in
+    both (options_equal block_cipher_mode_value _ (returns-clause-block_cipher_mode g c) x.block_cipher_mode y.block_cipher_mode block_cipher_mode) (both (options_equal padding_method_value _ (returns-clause-padding_method g c) x.padding_method y.padding_method padding_method) (both (options_equal hashing_algorithm_value _ (returns-clause-hashing_algorithm g c) x.hashing_algorithm y.hashing_algorithm hashing_algorithm) (options_equal role_type_value _ (returns-clause-role_type g c) x.role_type y.role_type role_type)))
+
+pub returns-clause-encryption_key_information : goal.returns-clause-encryption_key_information
+unfolding read_encryption_key_information
+returns-clause-encryption_key_information g c x y e =
+    let unique_identifier : (string_bytes x.unique_identifier) ≡ (string_bytes y.unique_identifier) = cc in
+    let cryptographic_parameters : optional read_cryptographic_parameters x.cryptographic_parameters ≡ optional read_cryptographic_parameters y.cryptographic_parameters = cc in
+    both (texts_equal x.unique_identifier y.unique_identifier unique_identifier) (options_equal read_cryptographic_parameters _ (returns-clause-cryptographic_parameters g c) x.cryptographic_parameters y.cryptographic_parameters cryptographic_parameters)
+
+pub returns-clause-mac_signature_key_information : goal.returns-clause-mac_signature_key_information
+unfolding read_mac_signature_key_information
+returns-clause-mac_signature_key_information g c x y e =
+    let unique_identifier : (string_bytes x.unique_identifier) ≡ (string_bytes y.unique_identifier) = cc in
+    let cryptographic_parameters : optional read_cryptographic_parameters x.cryptographic_parameters ≡ optional read_cryptographic_parameters y.cryptographic_parameters = cc in
+    both (texts_equal x.unique_identifier y.unique_identifier unique_identifier) (options_equal read_cryptographic_parameters _ (returns-clause-cryptographic_parameters g c) x.cryptographic_parameters y.cryptographic_parameters cryptographic_parameters)
+
+pub returns-clause-key_wrapping_data : goal.returns-clause-key_wrapping_data
+unfolding read_key_wrapping_data
+returns-clause-key_wrapping_data g c x y e =
+    let wrapping_method : wrapping_method_value x.wrapping_method ≡ wrapping_method_value y.wrapping_method = cc in
+    let encryption_key_information : optional read_encryption_key_information x.encryption_key_information ≡ optional read_encryption_key_information y.encryption_key_information = cc in
+    let mac_signature_key_information : optional read_mac_signature_key_information x.mac_signature_key_information ≡ optional read_mac_signature_key_information y.mac_signature_key_information = cc in
+    let mac_signature : optional (λ y. newtype_value (codes "Transparent:0x42004D") (bytes_value y.items)) x.mac_signature ≡ optional (λ y. newtype_value (codes "Transparent:0x42004D") (bytes_value y.items)) y.mac_signature = cc in
+    let iv_counter_nonce : optional (λ y. newtype_value (codes "Transparent:0x42003D") (bytes_value y.items)) x.iv_counter_nonce ≡ optional (λ y. newtype_value (codes "Transparent:0x42003D") (bytes_value y.items)) y.iv_counter_nonce = cc in
+    both (returns-clause-wrapping_method g c x.wrapping_method y.wrapping_method wrapping_method) (both (options_equal read_encryption_key_information _ (returns-clause-encryption_key_information g c) x.encryption_key_information y.encryption_key_information encryption_key_information) (both (options_equal read_mac_signature_key_information _ (returns-clause-mac_signature_key_information g c) x.mac_signature_key_information y.mac_signature_key_information mac_signature_key_information) (both (options_equal (λ y. newtype_value (codes "Transparent:0x42004D") (bytes_value y.items)) _ (λ a b e. let same : a.items ≡ b.items = cc in bytes_equal a.items b.items same) x.mac_signature y.mac_signature mac_signature) (options_equal (λ y. newtype_value (codes "Transparent:0x42003D") (bytes_value y.items)) _ (λ a b e. let same : a.items ≡ b.items = cc in bytes_equal a.items b.items same) x.iv_counter_nonce y.iv_counter_nonce iv_counter_nonce))))
+
+pub returns-clause-key_value : goal.returns-clause-key_value
+unfolding key_value_value
+returns-clause-key_value g c x y e =
+    let key_material : x.key_material.items ≡ y.key_material.items = cc in
+    bytes_equal x.key_material.items y.key_material.items key_material
+
+pub returns-clause-key_length : goal.returns-clause-key_length
+returns-clause-key_length g c x y e =
+    let bits : x.bits ≡ y.bits = cc in
+    signed_equal x.bits y.bits bits
+
+pub returns-clause-key_block : goal.returns-clause-key_block
+unfolding read_key_block
+returns-clause-key_block g c x y e =
+    let key_value : key_value_value x.key_value ≡ key_value_value y.key_value = cc in
+    let cryptographic_length : key_length_value x.cryptographic_length ≡ key_length_value y.cryptographic_length = cc in
+    let key_wrapping_data : optional read_key_wrapping_data x.key_wrapping_data ≡ optional read_key_wrapping_data y.key_wrapping_data = cc in
+    both (returns-clause-key_value g c x.key_value y.key_value key_value) (both (returns-clause-key_length g c x.cryptographic_length y.cryptographic_length cryptographic_length) (options_equal read_key_wrapping_data _ (returns-clause-key_wrapping_data g c) x.key_wrapping_data y.key_wrapping_data key_wrapping_data))
+
+pub returns-clause-symmetric_key : goal.returns-clause-symmetric_key
+unfolding read_symmetric_key
+returns-clause-symmetric_key g c x y e =
+    let key_block : read_key_block x.key_block ≡ read_key_block y.key_block = cc in
+    returns-clause-key_block g c x.key_block y.key_block key_block
+
+pub returns-clause-get_request_payload : goal.returns-clause-get_request_payload
+unfolding get_request_payload_value
+returns-clause-get_request_payload g c x y e =
+    let unique_identifier : (string_bytes x.unique_identifier) ≡ (string_bytes y.unique_identifier) = cc in
+    texts_equal x.unique_identifier y.unique_identifier unique_identifier
+
+pub returns-clause-get_request_item : goal.returns-clause-get_request_item
+unfolding get_request_item_value
+returns-clause-get_request_item g c x y e =
+    let payload : get_request_payload_value x.payload ≡ get_request_payload_value y.payload = cc in
+    returns-clause-get_request_payload g c x.payload y.payload payload
+
+pub returns-clause-get_request : goal.returns-clause-get_request
+unfolding get_request_value
+returns-clause-get_request g c x y e =
+    let header : request_header_value x.header ≡ request_header_value y.header = cc in
+    let item : get_request_item_value x.item ≡ get_request_item_value y.item = cc in
+    both (returns-clause-request_header g c x.header y.header header) (returns-clause-get_request_item g c x.item y.item item)
+
+pub returns-clause-get_response_payload : goal.returns-clause-get_response_payload
+unfolding read_get_response_payload
+returns-clause-get_response_payload g c x y e =
+    let unique_identifier : (string_bytes x.unique_identifier) ≡ (string_bytes y.unique_identifier) = cc in
+    let symmetric_key : read_symmetric_key x.symmetric_key ≡ read_symmetric_key y.symmetric_key = cc in
+    both (texts_equal x.unique_identifier y.unique_identifier unique_identifier) (returns-clause-symmetric_key g c x.symmetric_key y.symmetric_key symmetric_key)
+
+pub returns-clause-get_response_item : goal.returns-clause-get_response_item
+unfolding read_get_response_item
+returns-clause-get_response_item g c x y e =
+    let payload : read_get_response_payload x.payload ≡ read_get_response_payload y.payload = cc in
+    returns-clause-get_response_payload g c x.payload y.payload payload
+
+pub returns-clause-get_response : goal.returns-clause-get_response
+unfolding read_get_response
+returns-clause-get_response g c x y e =
+    let header : response_header_value read_date x.header ≡ response_header_value read_date y.header = cc in
+    let item : read_get_response_item x.item ≡ read_get_response_item y.item = cc in
+    both (returns-clause-response_header g c x.header y.header header) (returns-clause-get_response_item g c x.item y.item item)

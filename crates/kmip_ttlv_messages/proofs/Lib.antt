@@ -1,3 +1,0 @@
-pub mod PartLemmas
-pub mod ChoiceLemmas
-pub mod VariantLemmas

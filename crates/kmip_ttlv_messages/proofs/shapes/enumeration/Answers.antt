@@ -1,5 +1,0 @@
-use Rattle.kmip_ttlv_base.proofs.Shapes.{form_of-Enum}
-use Rattle.kmip_ttlv_messages.proofs.shapes.enumeration.Goals as goal
-
-pub returns : goal.returns
-returns g c = form_of-Enum c.args.name c.args.variants

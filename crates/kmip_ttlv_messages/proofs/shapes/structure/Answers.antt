@@ -1,6 +1,0 @@
-use Rattle.std.proofs.Common.{false}
-use Rattle.kmip_ttlv_base.proofs.Shapes.{form_of-Struct}
-use Rattle.kmip_ttlv_messages.proofs.shapes.structure.Goals as goal
-
-pub returns : goal.returns
-returns g c = form_of-Struct c.args.name c.args.fields false

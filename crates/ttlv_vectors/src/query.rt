@@ -1,0 +1,723 @@
+// Written by codegen from types.table: change that, and run codegen/codegen.
+//! A search for objects, what a server can do, and what failed (KMIP 1.0, sections 4.8, 4.24 and 7).
+
+ghost use Rattle.std.specs.Prelude.{◌≡◌, refl, OnErr, OnOk, codes, false};
+ghost use Rattle.kmip_ttlv.specs.MessageParts.{sequence};
+ghost use Rattle.kmip_ttlv.specs.Spots.{fields_in, struct_fields};
+ghost use Rattle.kmip_ttlv.specs.Visits.{Tells};
+ghost use Rattle.ttlv_vectors.specs.Queries.{maximum_items_form, maximum_items_value, text_attribute_form, text_attribute_value, locate_request_payload_form, written_locate_request_payload, read_locate_request_payload, operation_form, written_operation, read_operation, operation_number, operation_read_number, object_type_form, object_type_value, object_type_number, object_type_variants, application_namespace_form, application_namespace_value, query_response_payload_form, written_query_response_payload, read_query_response_payload, result_reason_form, written_result_reason, read_result_reason, result_reason_number, result_reason_read_number, result_status_form, result_status_value, result_status_number, result_status_variants, failed_item_form, written_failed_item, read_failed_item};
+
+use kmip_ttlv::messages::writing;
+use kmip_ttlv::shape::{Decode, Serialize};
+use kmip_ttlv::visit::Visitor;
+use kmip_ttlv::{error, reader};
+use std::alloc::{AllocError, Allocator, Global};
+
+/// How many objects are named at most.
+#[derive(Clone, Copy, Debug, PartialEq, Eq)]
+pub struct MaximumItems {
+    /// What it holds.
+    pub count: i32,
+}
+
+impl Serialize for MaximumItems {
+    ghost stated = { maximum_items_value };
+
+    fn visit<V: Visitor>(&self, visitor: &mut V) -> Result<(), AllocError> {
+        writing::integer(visitor, "Transparent:0x42004F", self.count)?;
+        Ok(())
+    }
+}
+
+impl<A: Allocator + Copy> reader::ReadItem<A> for MaximumItems {
+    ghost form = { maximum_items_form };
+
+    ghost value = { maximum_items_value };
+
+    ghost plain = { (refl, refl) };
+
+    #[tactic(auto, unfolding(kmip_ttlv_types::specs::Digits::six_digits))]
+    fn read_item<'b>(
+        scope: &reader::Scope<'b, A>,
+        cursor: &mut reader::Cursor<'b, A>,
+    ) -> reader::Step<Self, A> {
+        let count = cursor.wrapped_leaf(scope, 0x42004F)?;
+        Ok(MaximumItems { count })
+    }
+}
+
+/// An attribute whose value is a text.
+#[derive(Drop)]
+#[derive_where(Debug, PartialEq)]
+pub struct TextAttribute<A: Allocator = Global> {
+    /// Its name.
+    pub name: String<A>,
+    /// What it says.
+    pub value: String<A>,
+}
+
+impl<B: Allocator> Serialize for TextAttribute<B> {
+    ghost stated = { text_attribute_value };
+
+    #[tactic(auto, unfolding(crate::specs::Queries::text_attribute_value))]
+    fn visit<V: Visitor>(&self, visitor: &mut V) -> Result<(), AllocError> {
+        writing::begin_struct(visitor, "0x420008")?;
+        writing::text_string(visitor, "Transparent:0x42000A", self.name.as_str())?;
+        writing::text_string(visitor, "Transparent:0x42000B", self.value.as_str())?;
+        writing::end_struct(visitor, "0x420008")?;
+        Ok(())
+    }
+}
+
+impl<A: Allocator + Copy> reader::ReadStructure<A> for TextAttribute<A> {
+    ghost TAG = { 0x420008 };
+
+    ghost DENIES_UNKNOWN = { false };
+
+    ghost values = { λ x. fields_in (text_attribute_value x) };
+
+    type Fields = (
+        reader::Leaf<String<A>, 0x42000A>,
+        (reader::Leaf<String<A>, 0x42000B>, ()),
+    );
+
+    const TAG: u32 = 0x420008;
+
+    const DENIES_UNKNOWN: bool = false;
+
+    #[tactic(auto, unfolding(kmip_ttlv_types::specs::Digits::six_digits, crate::specs::Queries::text_attribute_value))]
+    fn from_fields(fields: (String<A>, (String<A>, ()))) -> Self {
+        let (name, (value, ())) = fields;
+        TextAttribute { name, value }
+    }
+}
+
+impl<A: Allocator + Copy> Decode<A> for TextAttribute<A> {
+    ghost form = { text_attribute_form };
+
+    ghost is_value = { λ v x. v ≡ text_attribute_value x };
+
+    #[tactic(auto, unfolding(kmip_ttlv_types::specs::Digits::six_digits, crate::specs::Queries::text_attribute_value))]
+    fn decode(alloc: A, bytes: &[u8]) -> Result<Self, error::Error<A>> {
+        reader::read_message(alloc, bytes)
+    }
+}
+
+impl<A: Allocator + Copy> reader::ReadNested<A> for TextAttribute<A> {
+    ghost TAG = { 0x420008 };
+
+    ghost fields = { struct_fields text_attribute_form };
+
+    ghost denies_unknown = { false };
+
+    ghost values = { λ x. fields_in (text_attribute_value x) };
+
+    const TAG: u32 = 0x420008;
+
+    #[tactic(auto, unfolding(kmip_ttlv_types::specs::Digits::six_digits, crate::specs::Queries::text_attribute_value))]
+    fn read_nested<'b>(
+        scope: &reader::Scope<'b, A>,
+        cursor: &mut reader::Cursor<'b, A>,
+    ) -> reader::Step<Self, A> {
+        reader::read_form(scope, cursor)
+    }
+}
+
+/// Which objects are sought.
+#[derive(Drop)]
+#[derive_where(Debug, PartialEq)]
+pub struct LocateRequestPayload<A: Allocator = Global> {
+    /// How many at most.
+    pub maximum_items: Option<MaximumItems>,
+    /// What each of them has; without any, all objects are sought.
+    pub attributes: Vec<TextAttribute<A>, A>,
+}
+
+impl<B: Allocator> Serialize for LocateRequestPayload<B> {
+    ghost stated = { written_locate_request_payload };
+
+    #[tactic(auto, using(kmip_ttlv_base::proofs::Visiting::visited_joined), unfolding(crate::specs::Queries::written_locate_request_payload))]
+    fn visit<V: Visitor>(&self, visitor: &mut V) -> Result<(), AllocError> {
+        writing::begin_struct(visitor, "0x420079")?;
+        writing::option(visitor, &self.maximum_items)?;
+        writing::seq(visitor, self.attributes.as_slice())?;
+        writing::end_struct(visitor, "0x420079")?;
+        Ok(())
+    }
+}
+
+impl<A: Allocator + Copy> reader::ReadStructure<A> for LocateRequestPayload<A> {
+    ghost TAG = { 0x420079 };
+
+    ghost DENIES_UNKNOWN = { false };
+
+    ghost values = { λ x. fields_in (read_locate_request_payload x) };
+
+    type Fields = (
+        reader::OptionalItem<MaximumItems, 0x42004F>,
+        (reader::OptionalSeveral<TextAttribute<A>>, ()),
+    );
+
+    const TAG: u32 = 0x420079;
+
+    const DENIES_UNKNOWN: bool = false;
+
+    #[tactic(auto, unfolding(kmip_ttlv_types::specs::Digits::six_digits, crate::specs::Queries::read_locate_request_payload, crate::specs::Queries::text_attribute_value))]
+    fn from_fields(fields: (Option<MaximumItems>, (Vec<TextAttribute<A>, A>, ()))) -> Self {
+        let (maximum_items, (attributes, ())) = fields;
+        LocateRequestPayload {
+            maximum_items,
+            attributes,
+        }
+    }
+}
+
+impl<A: Allocator + Copy> Decode<A> for LocateRequestPayload<A> {
+    ghost form = { locate_request_payload_form };
+
+    ghost is_value = { λ v x. v ≡ read_locate_request_payload x };
+
+    #[tactic(auto, unfolding(kmip_ttlv_types::specs::Digits::six_digits, crate::specs::Queries::read_locate_request_payload))]
+    fn decode(alloc: A, bytes: &[u8]) -> Result<Self, error::Error<A>> {
+        reader::read_message(alloc, bytes)
+    }
+}
+
+impl<A: Allocator + Copy> reader::ReadNested<A> for LocateRequestPayload<A> {
+    ghost TAG = { 0x420079 };
+
+    ghost fields = { struct_fields locate_request_payload_form };
+
+    ghost denies_unknown = { false };
+
+    ghost values = { λ x. fields_in (read_locate_request_payload x) };
+
+    const TAG: u32 = 0x420079;
+
+    #[tactic(auto, unfolding(kmip_ttlv_types::specs::Digits::six_digits, crate::specs::Queries::read_locate_request_payload))]
+    fn read_nested<'b>(
+        scope: &reader::Scope<'b, A>,
+        cursor: &mut reader::Cursor<'b, A>,
+    ) -> reader::Step<Self, A> {
+        reader::read_form(scope, cursor)
+    }
+}
+
+/// What a request asks for (KMIP 1.0, section 9.1.3.2.26).
+#[derive(Clone, Copy, Debug, PartialEq, Eq)]
+pub enum Operation {
+    /// Objects are sought.
+    Locate,
+    /// An object is to be got.
+    Get,
+    /// The server is to say what it can do.
+    Query,
+    /// Any other number. One that has a name is encoded as it is, and decoded by its name.
+    Other(u32),
+}
+
+impl Operation {
+    /// Its number.
+    pub fn number(self) -> u32
+        ensures { result ≡ operation_number self }
+    {
+        match self {
+            Operation::Locate => 0x00000008,
+            Operation::Get => 0x0000000A,
+            Operation::Query => 0x00000018,
+            Operation::Other(number) => number,
+        }
+    }
+
+    /// The one of a number: by its name, if it has one.
+    pub fn from_number(number: u32) -> Operation
+        ensures { operation_read_number result ≡ number }
+    {
+        match number {
+            0x00000008 => Operation::Locate,
+            0x0000000A => Operation::Get,
+            0x00000018 => Operation::Query,
+            _ => Operation::Other(number),
+        }
+    }
+}
+
+impl Serialize for Operation {
+    ghost stated = { written_operation };
+
+    #[tactic(auto, unfolding(crate::specs::Queries::written_operation))]
+    fn visit<V: Visitor>(&self, visitor: &mut V) -> Result<(), AllocError> {
+        writing::enumeration(visitor, "Transparent:0x42005C", self.number())?;
+        Ok(())
+    }
+}
+
+impl<A: Allocator + Copy> reader::ReadItem<A> for Operation {
+    ghost form = { operation_form };
+
+    ghost value = { read_operation };
+
+    ghost plain = { (refl, refl) };
+
+    #[tactic(auto, unfolding(kmip_ttlv_types::specs::Digits::six_digits, crate::specs::Queries::read_operation))]
+    fn read_item<'b>(
+        scope: &reader::Scope<'b, A>,
+        cursor: &mut reader::Cursor<'b, A>,
+    ) -> reader::Step<Self, A> {
+        let number: u32 = cursor.wrapped_leaf(scope, 0x42005C)?;
+        Ok(Operation::from_number(number))
+    }
+}
+
+/// What an object is (KMIP 1.0, section 9.1.3.2).
+#[derive(Clone, Copy, Debug, PartialEq, Eq)]
+pub enum ObjectType {
+    /// A certificate.
+    Certificate,
+    /// A symmetric key.
+    SymmetricKey,
+}
+
+// Each number, and what it stands for.
+const OBJECT_TYPE: [(&str, ObjectType); 2] = [
+    ("0x00000001", ObjectType::Certificate),
+    ("0x00000002", ObjectType::SymmetricKey),
+];
+
+impl ObjectType {
+    // Its number.
+    fn number(self) -> &'static str
+        ensures { result.now ≡ object_type_number self }
+    {
+        match self {
+            ObjectType::Certificate => "0x00000001",
+            ObjectType::SymmetricKey => "0x00000002",
+        }
+    }
+}
+
+impl Serialize for ObjectType {
+    ghost stated = { object_type_value };
+
+    #[tactic(auto, unfolding(crate::specs::Queries::object_type_value))]
+    fn visit<V: Visitor>(&self, visitor: &mut V) -> Result<(), AllocError> {
+        writing::unit_variant(visitor, "0x420057", self.number())?;
+        Ok(())
+    }
+}
+
+impl reader::Listed for ObjectType {
+    ghost own = { codes "0x420057" };
+
+    ghost variants = { object_type_variants };
+
+    ghost value = { object_type_value };
+}
+
+impl<A: Allocator + Copy> reader::ReadItem<A> for ObjectType {
+    ghost form = { object_type_form };
+
+    ghost value = { object_type_value };
+
+    ghost plain = { (refl, refl) };
+
+    #[tactic(auto, unfolding(kmip_ttlv_types::specs::Digits::six_digits, crate::specs::Queries::object_type_value))]
+    fn read_item<'b>(
+        scope: &reader::Scope<'b, A>,
+        cursor: &mut reader::Cursor<'b, A>,
+    ) -> reader::Step<Self, A> {
+        cursor.listed(scope, &OBJECT_TYPE)
+    }
+}
+
+/// A namespace that applications name objects in.
+#[derive(Drop)]
+#[derive_where(Debug, PartialEq)]
+pub struct ApplicationNamespace<A: Allocator = Global> {
+    /// What it holds.
+    pub name: String<A>,
+}
+
+impl<B: Allocator> Serialize for ApplicationNamespace<B> {
+    ghost stated = { application_namespace_value };
+
+    fn visit<V: Visitor>(&self, visitor: &mut V) -> Result<(), AllocError> {
+        writing::text_string(visitor, "Transparent:0x420003", self.name.as_str())?;
+        Ok(())
+    }
+}
+
+impl<A: Allocator + Copy> reader::ReadItem<A> for ApplicationNamespace<A> {
+    ghost form = { application_namespace_form };
+
+    ghost value = { application_namespace_value };
+
+    ghost plain = { (refl, refl) };
+
+    #[tactic(auto, unfolding(kmip_ttlv_types::specs::Digits::six_digits))]
+    fn read_item<'b>(
+        scope: &reader::Scope<'b, A>,
+        cursor: &mut reader::Cursor<'b, A>,
+    ) -> reader::Step<Self, A> {
+        let name = cursor.wrapped_leaf(scope, 0x420003)?;
+        Ok(ApplicationNamespace { name })
+    }
+}
+
+/// What a server can do: of each only what the request asked for.
+#[derive(Drop)]
+#[derive_where(Debug, PartialEq)]
+pub struct QueryResponsePayload<A: Allocator = Global> {
+    /// The operations that it has.
+    pub operations: Vec<Operation, A>,
+    /// The kinds of objects that it keeps.
+    pub object_types: Vec<ObjectType, A>,
+    /// Who made it.
+    pub vendor: Option<String<A>>,
+    /// The namespaces that it knows.
+    pub namespaces: Vec<ApplicationNamespace<A>, A>,
+}
+
+impl<A: Allocator> QueryResponsePayload<A> {
+    // Tells `operations`.
+    fn tell_operations<V: Visitor>(&self, visitor: &mut V) -> Result<(), AllocError>
+        ensures told { OnOk result (Tells V.knows V.step (sequence written_operation self.now.operations.items) visitor.old visitor.new) }
+        ensures stopped { OnErr result (V.stopped visitor.new) }
+    {
+        writing::seq(visitor, self.operations.as_slice())?;
+        Ok(())
+    }
+
+    // Tells `object_types`.
+    fn tell_object_types<V: Visitor>(&self, visitor: &mut V) -> Result<(), AllocError>
+        ensures told { OnOk result (Tells V.knows V.step (sequence object_type_value self.now.object_types.items) visitor.old visitor.new) }
+        ensures stopped { OnErr result (V.stopped visitor.new) }
+    {
+        writing::seq(visitor, self.object_types.as_slice())?;
+        Ok(())
+    }
+
+    // Tells `namespaces`.
+    fn tell_namespaces<V: Visitor>(&self, visitor: &mut V) -> Result<(), AllocError>
+        ensures told { OnOk result (Tells V.knows V.step (sequence application_namespace_value self.now.namespaces.items) visitor.old visitor.new) }
+        ensures stopped { OnErr result (V.stopped visitor.new) }
+    {
+        writing::seq(visitor, self.namespaces.as_slice())?;
+        Ok(())
+    }
+}
+
+impl<B: Allocator> Serialize for QueryResponsePayload<B> {
+    ghost stated = { written_query_response_payload };
+
+    #[tactic(auto, using(kmip_ttlv_base::proofs::Visiting::visited_joined), unfolding(crate::specs::Queries::written_query_response_payload))]
+    fn visit<V: Visitor>(&self, visitor: &mut V) -> Result<(), AllocError> {
+        writing::begin_struct(visitor, "0x42007C")?;
+        self.tell_operations(visitor)?;
+        self.tell_object_types(visitor)?;
+        writing::optional_text_string(visitor, "Transparent:0x42009D", &self.vendor)?;
+        self.tell_namespaces(visitor)?;
+        writing::end_struct(visitor, "0x42007C")?;
+        Ok(())
+    }
+}
+
+impl<A: Allocator + Copy> reader::ReadStructure<A> for QueryResponsePayload<A> {
+    ghost TAG = { 0x42007C };
+
+    ghost DENIES_UNKNOWN = { false };
+
+    ghost values = { λ x. fields_in (read_query_response_payload x) };
+
+    type Fields = reader::Four<
+        reader::OptionalSeveralItems<Operation, 0x42005C>,
+        reader::OptionalSeveralItems<ObjectType, 0x420057>,
+        reader::OptionalLeaf<String<A>, 0x42009D>,
+        reader::OptionalSeveralItems<ApplicationNamespace<A>, 0x420003>,
+        (),
+    >;
+
+    const TAG: u32 = 0x42007C;
+
+    const DENIES_UNKNOWN: bool = false;
+
+    #[tactic(auto, unfolding(kmip_ttlv_types::specs::Digits::six_digits, crate::specs::Queries::read_query_response_payload))]
+    fn from_fields(
+        fields: (
+            Vec<Operation, A>,
+            (
+                Vec<ObjectType, A>,
+                (Option<String<A>>, (Vec<ApplicationNamespace<A>, A>, ())),
+            ),
+        ),
+    ) -> Self {
+        let (operations, (object_types, (vendor, (namespaces, ())))) = fields;
+        QueryResponsePayload {
+            operations,
+            object_types,
+            vendor,
+            namespaces,
+        }
+    }
+}
+
+impl<A: Allocator + Copy> Decode<A> for QueryResponsePayload<A> {
+    ghost form = { query_response_payload_form };
+
+    ghost is_value = { λ v x. v ≡ read_query_response_payload x };
+
+    #[tactic(auto, unfolding(kmip_ttlv_types::specs::Digits::six_digits, crate::specs::Queries::read_query_response_payload))]
+    fn decode(alloc: A, bytes: &[u8]) -> Result<Self, error::Error<A>> {
+        reader::read_message(alloc, bytes)
+    }
+}
+
+impl<A: Allocator + Copy> reader::ReadNested<A> for QueryResponsePayload<A> {
+    ghost TAG = { 0x42007C };
+
+    ghost fields = { struct_fields query_response_payload_form };
+
+    ghost denies_unknown = { false };
+
+    ghost values = { λ x. fields_in (read_query_response_payload x) };
+
+    const TAG: u32 = 0x42007C;
+
+    #[tactic(auto, unfolding(kmip_ttlv_types::specs::Digits::six_digits, crate::specs::Queries::read_query_response_payload))]
+    fn read_nested<'b>(
+        scope: &reader::Scope<'b, A>,
+        cursor: &mut reader::Cursor<'b, A>,
+    ) -> reader::Step<Self, A> {
+        reader::read_form(scope, cursor)
+    }
+}
+
+/// Why an operation failed (KMIP 1.0, section 9.1.3.2).
+#[derive(Clone, Copy, Debug, PartialEq, Eq)]
+pub enum ResultReason {
+    /// There is no such object.
+    ItemNotFound,
+    /// The server doesn't have the operation.
+    OperationNotSupported,
+    /// Anything that has no other reason.
+    GeneralFailure,
+    /// Any other number. One that has a name is encoded as it is, and decoded by its name.
+    Other(u32),
+}
+
+impl ResultReason {
+    /// Its number.
+    pub fn number(self) -> u32
+        ensures { result ≡ result_reason_number self }
+    {
+        match self {
+            ResultReason::ItemNotFound => 0x00000001,
+            ResultReason::OperationNotSupported => 0x00000005,
+            ResultReason::GeneralFailure => 0x00000100,
+            ResultReason::Other(number) => number,
+        }
+    }
+
+    /// The one of a number: by its name, if it has one.
+    pub fn from_number(number: u32) -> ResultReason
+        ensures { result_reason_read_number result ≡ number }
+    {
+        match number {
+            0x00000001 => ResultReason::ItemNotFound,
+            0x00000005 => ResultReason::OperationNotSupported,
+            0x00000100 => ResultReason::GeneralFailure,
+            _ => ResultReason::Other(number),
+        }
+    }
+}
+
+impl Serialize for ResultReason {
+    ghost stated = { written_result_reason };
+
+    #[tactic(auto, unfolding(crate::specs::Queries::written_result_reason))]
+    fn visit<V: Visitor>(&self, visitor: &mut V) -> Result<(), AllocError> {
+        writing::enumeration(visitor, "Transparent:0x42007E", self.number())?;
+        Ok(())
+    }
+}
+
+impl<A: Allocator + Copy> reader::ReadItem<A> for ResultReason {
+    ghost form = { result_reason_form };
+
+    ghost value = { read_result_reason };
+
+    ghost plain = { (refl, refl) };
+
+    #[tactic(auto, unfolding(kmip_ttlv_types::specs::Digits::six_digits, crate::specs::Queries::read_result_reason))]
+    fn read_item<'b>(
+        scope: &reader::Scope<'b, A>,
+        cursor: &mut reader::Cursor<'b, A>,
+    ) -> reader::Step<Self, A> {
+        let number: u32 = cursor.wrapped_leaf(scope, 0x42007E)?;
+        Ok(ResultReason::from_number(number))
+    }
+}
+
+/// What became of an operation that didn't succeed (KMIP 1.0, section 9.1.3.2).
+#[derive(Clone, Copy, Debug, PartialEq, Eq)]
+pub enum ResultStatus {
+    /// It failed.
+    Failed,
+    /// It goes on.
+    Pending,
+    /// It was undone.
+    Undone,
+}
+
+// Each number, and what it stands for.
+const RESULT_STATUS: [(&str, ResultStatus); 3] = [
+    ("0x00000001", ResultStatus::Failed),
+    ("0x00000002", ResultStatus::Pending),
+    ("0x00000003", ResultStatus::Undone),
+];
+
+impl ResultStatus {
+    // Its number.
+    fn number(self) -> &'static str
+        ensures { result.now ≡ result_status_number self }
+    {
+        match self {
+            ResultStatus::Failed => "0x00000001",
+            ResultStatus::Pending => "0x00000002",
+            ResultStatus::Undone => "0x00000003",
+        }
+    }
+}
+
+impl Serialize for ResultStatus {
+    ghost stated = { result_status_value };
+
+    #[tactic(auto, unfolding(crate::specs::Queries::result_status_value))]
+    fn visit<V: Visitor>(&self, visitor: &mut V) -> Result<(), AllocError> {
+        writing::unit_variant(visitor, "0x42007F", self.number())?;
+        Ok(())
+    }
+}
+
+impl reader::Listed for ResultStatus {
+    ghost own = { codes "0x42007F" };
+
+    ghost variants = { result_status_variants };
+
+    ghost value = { result_status_value };
+}
+
+impl<A: Allocator + Copy> reader::ReadItem<A> for ResultStatus {
+    ghost form = { result_status_form };
+
+    ghost value = { result_status_value };
+
+    ghost plain = { (refl, refl) };
+
+    #[tactic(auto, unfolding(kmip_ttlv_types::specs::Digits::six_digits, crate::specs::Queries::result_status_value))]
+    fn read_item<'b>(
+        scope: &reader::Scope<'b, A>,
+        cursor: &mut reader::Cursor<'b, A>,
+    ) -> reader::Step<Self, A> {
+        cursor.listed(scope, &RESULT_STATUS)
+    }
+}
+
+/// An item of a response, whose operation didn't succeed (KMIP 1.0, section 7).
+#[derive(Drop)]
+#[derive_where(Debug, PartialEq)]
+pub struct FailedItem<A: Allocator = Global> {
+    /// What was asked for.
+    pub operation: Operation,
+    /// What became of it.
+    pub status: ResultStatus,
+    /// Why.
+    pub reason: Option<ResultReason>,
+    /// What a person is told.
+    pub message: Option<String<A>>,
+}
+
+impl<B: Allocator> Serialize for FailedItem<B> {
+    ghost stated = { written_failed_item };
+
+    #[tactic(auto, using(kmip_ttlv_base::proofs::Visiting::visited_joined), unfolding(crate::specs::Queries::written_failed_item))]
+    fn visit<V: Visitor>(&self, visitor: &mut V) -> Result<(), AllocError> {
+        writing::begin_struct(visitor, "0x42000F")?;
+        self.operation.visit(visitor)?;
+        self.status.visit(visitor)?;
+        writing::option(visitor, &self.reason)?;
+        writing::optional_text_string(visitor, "Transparent:0x42007D", &self.message)?;
+        writing::end_struct(visitor, "0x42000F")?;
+        Ok(())
+    }
+}
+
+impl<A: Allocator + Copy> reader::ReadStructure<A> for FailedItem<A> {
+    ghost TAG = { 0x42000F };
+
+    ghost DENIES_UNKNOWN = { false };
+
+    ghost values = { λ x. fields_in (read_failed_item x) };
+
+    type Fields = reader::Four<
+        reader::Item<Operation, 0x42005C>,
+        reader::Item<ResultStatus, 0x42007F>,
+        reader::OptionalItem<ResultReason, 0x42007E>,
+        reader::OptionalLeaf<String<A>, 0x42007D>,
+        (),
+    >;
+
+    const TAG: u32 = 0x42000F;
+
+    const DENIES_UNKNOWN: bool = false;
+
+    #[tactic(auto, unfolding(kmip_ttlv_types::specs::Digits::six_digits, crate::specs::Queries::read_failed_item))]
+    fn from_fields(
+        fields: (
+            Operation,
+            (
+                ResultStatus,
+                (Option<ResultReason>, (Option<String<A>>, ())),
+            ),
+        ),
+    ) -> Self {
+        let (operation, (status, (reason, (message, ())))) = fields;
+        FailedItem {
+            operation,
+            status,
+            reason,
+            message,
+        }
+    }
+}
+
+impl<A: Allocator + Copy> Decode<A> for FailedItem<A> {
+    ghost form = { failed_item_form };
+
+    ghost is_value = { λ v x. v ≡ read_failed_item x };
+
+    #[tactic(auto, unfolding(kmip_ttlv_types::specs::Digits::six_digits, crate::specs::Queries::read_failed_item))]
+    fn decode(alloc: A, bytes: &[u8]) -> Result<Self, error::Error<A>> {
+        reader::read_message(alloc, bytes)
+    }
+}
+
+impl<A: Allocator + Copy> reader::ReadNested<A> for FailedItem<A> {
+    ghost TAG = { 0x42000F };
+
+    ghost fields = { struct_fields failed_item_form };
+
+    ghost denies_unknown = { false };
+
+    ghost values = { λ x. fields_in (read_failed_item x) };
+
+    const TAG: u32 = 0x42000F;
+
+    #[tactic(auto, unfolding(kmip_ttlv_types::specs::Digits::six_digits, crate::specs::Queries::read_failed_item))]
+    fn read_nested<'b>(
+        scope: &reader::Scope<'b, A>,
+        cursor: &mut reader::Cursor<'b, A>,
+    ) -> reader::Step<Self, A> {
+        reader::read_form(scope, cursor)
+    }
+}

@@ -1,0 +1,89 @@
+//! Messages that come back: encoded and decoded again they are equal, or memory runs out; and which are sound.
+
+use crate::key_gets::{REQUEST, RESPONSE, WITH_PARAMETERS, WRAPPED};
+use crate::key_messages::{CREATE_REQUEST, CREATE_RESPONSE, DESTROY_REQUEST, DESTROY_RESPONSE};
+use create_destroy::request::Request;
+use create_destroy::response::Response;
+use get_messages::request::GetRequest;
+use get_messages::response::GetResponse;
+use kmip_ttlv::error::Error;
+use kmip_ttlv::from_slice;
+use kmip_ttlv::laws::{Message, reread};
+use kmip_ttlv::memory::BoundedAllocator;
+use std::alloc::{Allocator, Global};
+use std::test::Fail;
+
+// Whether a message is decoded, is sound, and comes back equal.
+fn comes_back<T: Message<Global>>(alloc: Global, digits: &str) -> bool {
+    let Ok(bytes) = hex::decode(alloc, digits) else {
+        return false;
+    };
+    let read: Result<T, Error> = from_slice(alloc, bytes.as_slice());
+    let Ok(message) = read else {
+        return false;
+    };
+    match reread(alloc, &message) {
+        Ok(other) => message.is_sound() && message == other,
+        Err(_) => false,
+    }
+}
+
+#[test]
+fn worked_messages_come_back(rt: HostRuntime) -> Result<(), Fail> {
+    let alloc = rt.alloc();
+    assert!(rt; comes_back::<GetRequest>(alloc, REQUEST));
+    assert!(rt; comes_back::<GetResponse>(alloc, RESPONSE));
+    assert!(rt; comes_back::<GetResponse>(alloc, WRAPPED));
+    assert!(rt; comes_back::<GetResponse>(alloc, WITH_PARAMETERS));
+    assert!(rt; comes_back::<Request>(alloc, CREATE_REQUEST));
+    assert!(rt; comes_back::<Request>(alloc, DESTROY_REQUEST));
+    assert!(rt; comes_back::<Response>(alloc, CREATE_RESPONSE));
+    assert!(rt; comes_back::<Response>(alloc, DESTROY_RESPONSE));
+    Ok(())
+}
+
+#[test]
+fn a_message_without_items_is_not_sound(rt: HostRuntime) {
+    let empty: Request = Request {
+        major: 1,
+        minor: 0,
+        batch_count: 0,
+        items: Vec::new(rt.alloc()),
+    };
+    let is_sound = empty.is_sound();
+    assert!(rt; !is_sound);
+}
+
+// Whether a response is decoded and comes back equal, with memory of this allocator.
+fn comes_back_in<A: Allocator + Copy>(alloc: A, bytes: &[u8]) -> bool {
+    let read: Result<GetResponse<A>, Error<A>> = from_slice(alloc, bytes);
+    let Ok(message) = read else {
+        return false;
+    };
+    match reread(alloc, &message) {
+        Ok(other) => message == other,
+        Err(_) => false,
+    }
+}
+
+// How many growths decoding and rereading take; none if one failed and the message came back all the same.
+fn growths(alloc: Global, bytes: &[u8]) -> Option<u64> {
+    for before in 0..100u64 {
+        let memory = BoundedAllocator::failing_after(alloc, before);
+        let is_back = comes_back_in(&memory, bytes);
+        if memory.has_failed() == is_back {
+            return None;
+        }
+        if is_back {
+            return Some(before);
+        }
+    }
+    None
+}
+
+#[test]
+fn rereading_fails_at_each_growth(rt: HostRuntime) -> Result<(), Fail> {
+    let bytes = hex::decode(rt.alloc(), WRAPPED)?;
+    assert!(rt; growths(rt.alloc(), bytes.as_slice()) > Some(3));
+    Ok(())
+}
