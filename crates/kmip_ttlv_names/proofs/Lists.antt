@@ -11,7 +11,7 @@ pub no_entry : (value : ℕ) (s : List ℕ) → position_or_len is_equals s ≡ 
 unfolding entry_name
 no_entry value s is = rw (le-ltb (position_or_len is_equals s) (length s) (omega arith)) refl
 
--- with one it names the number in front, if there is one
+-- with one it names the number before it, if there is one
 pub some_entry : (value : ℕ) (s digits name : List ℕ) → position_or_len is_equals s < length s → digits ≡ before_first is_equals s → name ≡ after_first is_equals s → entry_name value s ≡ name_if value (number digits) name
 unfolding entry_name
 some_entry value s digits name lt d n = rw (lt-ltb (position_or_len is_equals s) (length s) lt, d, n) refl
@@ -33,7 +33,7 @@ last_entry (c ∷ s) is = one_entry c (is_semicolon c) s (slice_split is_semicol
 first_entry : (rest entry more : List ℕ) → position_or_len is_semicolon rest < length rest → entry ≡ before_first is_semicolon rest → more ≡ after_first is_semicolon rest → slice_split is_semicolon rest ≡ entry ∷ slice_split is_semicolon more
 first_entry rest entry more lt e m = slice_split_first is_semicolon rest 0 lt ∙ ap (λ (x : List ℕ). x ∷ slice_split is_semicolon (after_first is_semicolon rest)) (sym e) ∙ ap (λ (x : List ℕ). entry ∷ slice_split is_semicolon x) (sym m)
 
--- what a list names is what its first entry does, or else the others
+-- the name in a list is that in its first entry, or else in the others
 pub first_names : (value : ℕ) (rest entry more : List ℕ) → position_or_len is_semicolon rest < length rest → entry ≡ before_first is_semicolon rest → more ≡ after_first is_semicolon rest → name_of_value value rest ≡ or_else (entry_name value entry) (name_of_value value more)
 unfolding name_of_value
 first_names value rest entry more lt e m = ap (name_among value) (first_entry rest entry more lt e m)
@@ -46,7 +46,7 @@ pub last_names : (value : ℕ) (rest : List ℕ) → position_or_len is_semicolo
 unfolding name_of_value
 last_names value rest is = ap (name_among value) (last_entry rest is) ∙ or_none (entry_name value rest)
 
--- an entry whose number is the value names it, and any other doesn't
+-- an entry gives a name to its number and to no other
 pub named_is : (value : ℕ) (s digits name : List ℕ) → position_or_len is_equals s < length s → digits ≡ before_first is_equals s → name ≡ after_first is_equals s → number digits ≡ Some value → entry_name value s ≡ Some name
 named_is value s digits name lt d n is = some_entry value s digits name lt d n ∙ ap (λ (o : Option ℕ). name_if value o name) is ∙ rw (eq-eqb value value refl) refl
 

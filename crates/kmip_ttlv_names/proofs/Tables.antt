@@ -31,7 +31,7 @@ entry_is s (c ∷ t) is some first = let k : c ≢ 35 = first in rw (← is, ne_
 pub entry_none : (t : List ℕ) → position_or_len is_space t ≡ length t → entry_of t ≡ says_no_tag
 entry_none t is = rw (le-ltb (position_or_len is_space t) (length t) (omega arith)) refl
 
--- with one, what stands before it is a tag or not
+-- with one, what precedes it is a tag or not
 pub entry_some : (t digits name : List ℕ) → position_or_len is_space t < length t → digits ≡ before_first is_space t → name ≡ after_first is_space t → entry_of t ≡ named (tag_of digits) name
 entry_some t digits name lt d n = rw (lt-ltb (position_or_len is_space t) (length t) lt, d, n) refl
 
@@ -74,7 +74,7 @@ reading_on table rest line more names next number r lt l m less add =
     omega-suc : (n : ℕ) → suc n ≡ n + 1
     omega-suc n = omega arith
 
--- a bad one ends it
+-- a bad one ends the parsing
 pub reading_bad : (table rest line more : List ℕ) (names next : ℕ → Option (List ℕ)) (number : ℕ) → Reading table rest names number → position_or_len is_line_feed rest < length rest → line ≡ before_first is_line_feed rest → more ≡ after_first is_line_feed rest
     → AddsLine names line false next → bad_from 1 (lines_of table) ≡ Some number
 reading_bad table rest line more names next number r lt l m add =

@@ -1,2 +1,3 @@
 pub mod NameTables
 pub mod ValueNames
+pub mod OwnNames

@@ -1,4 +1,4 @@
--- What a table of names says: a line for each tag.
+-- What a table of names means: a line for each tag.
 use Rattle.std.specs.Prelude.{◌≡◌, ℕ, suc, ◌+◌, Bool, true, false, List, [], ◌∷◌, length, take, drop, Option, Some}
 use Rattle.std.specs.Prelude.{None, if◌then◌else◌, ◌==◌, nat_lt, bytes_eq}
 use Rattle.std.specs.List.{slice_split, position_or_len, before_first, after_first}
@@ -10,13 +10,13 @@ use Rattle.kmip_ttlv_names.specs.declared.table.Line.TheVariants as held
 use Rattle.kmip_ttlv_names.specs.declared.table.TableError.{TableError}
 use Rattle.kmip_ttlv_names.specs.declared.table.TableError.TheVariants.{BadLine, OutOfMemory}
 
--- what a line says: nothing, a tag's name, or nothing that can be read
+-- what a line means: nothing, a tag's name, or it can't be parsed
 pub data Said : Type 0 where
   says_nothing : Said
   says_name : (tag : ℕ) → (name : List ℕ) → Said
   says_no_tag : Said
 
--- what a name is that of, by the tag in front of it
+-- a name with the tag before it, if that is one
 abbrev pub named : Option ℕ → List ℕ → Said
 named None name = says_no_tag
 named (Some tag) name = says_name tag name
@@ -35,7 +35,7 @@ entry_of s =
     then named (tag_of (before_first is_space s)) (after_first is_space s)
     else says_no_tag
 
--- what a line says, but for white space at its end: nothing where it is empty or begins with `#`
+-- what a line means, without white space at its end: nothing if it is empty or begins with `#`
 abbrev pub trimmed_line : List ℕ → Said
 trimmed_line [] = says_nothing
 trimmed_line (c ∷ s) = if c == 35 then says_nothing else entry_of (c ∷ s)
@@ -47,17 +47,17 @@ line_of s = trimmed_line (trim_end s)
 abbrev pub lines_of : List ℕ → List (List ℕ)
 lines_of s = slice_split is_line_feed s
 
--- the first of two tags, where there is one
+-- the first of two tags, if there is one; otherwise the second
 abbrev pub first_of : Option ℕ → Option ℕ → Option ℕ
 first_of None other = other
 first_of (Some tag) other = Some tag
 
--- names, and one more in front of them
+-- names, and one more that comes before them
 abbrev pub with_name : (ℕ → Option (List ℕ)) → Said → ℕ → Option (List ℕ)
 with_name names (says_name t name) tag = if t == tag then Some name else names tag
 with_name names _ tag = names tag
 
--- names, and those of some lines: a later line's in front of an earlier one's
+-- names, and those of some lines; a later line's comes before an earlier one's
 abbrev pub names_after : (ℕ → Option (List ℕ)) → List (List ℕ) → ℕ → Option (List ℕ)
 names_after names [] = names
 names_after names (l ∷ ls) = names_after (with_name names (line_of l)) ls
@@ -66,31 +66,31 @@ names_after names (l ∷ ls) = names_after (with_name names (line_of l)) ls
 unfoldable pub names_of : List ℕ → ℕ → Option (List ℕ)
 names_of table = names_after no_names (lines_of table)
 
--- whether a line can be read
+-- whether a line can be parsed
 abbrev pub is_good : Said → Bool
 is_good says_no_tag = false
 is_good _ = true
 
--- the number of the first line that can't be read, from one on
+-- the number of the first line that can't be parsed, counted from n
 abbrev pub bad_from : ℕ → List (List ℕ) → Option ℕ
 bad_from n [] = None
 bad_from n (l ∷ ls) = if is_good (line_of l) then bad_from (suc n) ls else Some n
 
--- the first line of a table that can't be read
+-- the number of the first line of a table that can't be parsed
 unfoldable pub bad_line : List ℕ → Option ℕ
 bad_line table = bad_from 1 (lines_of table)
 
--- why a table was not read
+-- why a table was not parsed
 abbrev pub IsUnread : Option ℕ → TableError → Type 0
 IsUnread bad (BadLine n) = bad ≡ Some n
 IsUnread bad OutOfMemory = Unit {0}
 
--- the tag that a line names, where this is its name
+-- the tag in a line, if the line gives it this name
 abbrev pub tag_if : List ℕ → Said → Option ℕ
 tag_if name (says_name tag own) = if bytes_eq own name then Some tag else None
 tag_if name _ = None
 
--- the tag of the first of some lines that gives this name
+-- the tag of the first line that gives this name
 abbrev pub tag_among : List ℕ → List (List ℕ) → Option ℕ
 tag_among name [] = None
 tag_among name (l ∷ ls) = first_of (tag_if name (line_of l)) (tag_among name ls)
@@ -99,13 +99,13 @@ tag_among name (l ∷ ls) = first_of (tag_if name (line_of l)) (tag_among name l
 unfoldable pub tag_named : List ℕ → List ℕ → Option ℕ
 tag_named name table = tag_among name (lines_of table)
 
--- what the code sees of a line
+-- what the code makes of a line
 abbrev pub Means : Said → Line → Type 0
 Means said held.Blank = said ≡ says_nothing
 Means said (held.Name tag name) = said ≡ says_name tag name.now
 Means said held.Bad = said ≡ says_no_tag
 
--- a line was added, if it can be read
+-- a line was added, if it can be parsed
 pub record AddsLine (old : ℕ → Option (List ℕ)) (line : List ℕ) (good : Bool) (new : ℕ → Option (List ℕ)) : Type 0 where
   pub tells : good ≡ is_good (line_of line)
   pub adds : new ≡ with_name old (line_of line)

@@ -10,28 +10,28 @@ use kmip_ttlv_util::LentTagMap;
 use std::alloc::{AllocError, Allocator};
 use std::collections::HashMap;
 
-/// Why a table can't be read.
+/// Why a table can't be parsed.
 #[derive(Clone, Copy, Debug, PartialEq, Eq)]
 pub enum TableError {
-    /// The line of this number, counted from 1, is neither empty nor a comment, and names no tag.
+    /// The line with this number, from 1, is neither empty nor a comment nor a tag with a name.
     BadLine(usize),
-    /// Memory was refused.
+    /// Out of memory.
     OutOfMemory,
 }
 
-/// What a line of a table says.
+/// What a line of a table means.
 #[derive(Clone, Copy)]
 enum Line<'t> {
     /// Nothing: it is empty, or a comment.
     Blank,
     /// The name of a tag.
     Name(TtlvTag, &'t str),
-    /// It can't be read.
+    /// It can't be parsed.
     Bad,
 }
 
-/// What a line says: nothing where it is empty or begins with `#`, or else what its first word, as a
-/// tag, is named. White space at its end is left out.
+/// Parses a line: it is blank if it is empty or begins with `#`; otherwise its first word is a tag, and the
+/// rest the tag's name. White space at its end is dropped.
 fn read_line(line: &str) -> Line<'_>
     ensures { Means (line_of line.now) result }
 {
@@ -51,8 +51,8 @@ fn read_line(line: &str) -> Line<'_>
     }
 }
 
-/// Adds what a line says. It answers whether it can be read.
-fn add_line<'t, A: Allocator + Copy>(
+/// Adds what a line means, and returns whether it could be parsed.
+pub(crate) fn add_line<'t, A: Allocator + Copy>(
     names: &mut LentTagMap<'t, A>,
     line: &'t str,
 ) -> Result<bool, AllocError>
@@ -68,11 +68,17 @@ fn add_line<'t, A: Allocator + Copy>(
     }
 }
 
-/// The names that a table gives to tags: a line for each, with its hexadecimal digits, a space and
-/// its name. Empty lines and those that begin with `#` say nothing; of two lines for one tag the
-/// later one counts.
+/// Parses a table of tag names: a line for each tag, with its hexadecimal digits, a space and its
+/// name. Empty lines and lines that begin with `#` are ignored. If a tag has several lines, the last one
+/// counts.
 ///
-/// BadLine at the first line that is none of these; OutOfMemory where memory is refused.
+/// Errors: `BadLine` for the first line of another form; `OutOfMemory`.
+///
+/// ```
+/// let names = tag_names(alloc, "0x42006A Major\n42006B Minor\n")?;
+/// let tag = TtlvTag::from([0x42, 0x00, 0x6A]);
+/// assert!(rt; names.get(&tag).copied() == Some("Major"));
+/// ```
 pub fn tag_names<'t, A: Allocator + Copy>(
     alloc: A,
     table: &'t str,
@@ -100,7 +106,7 @@ pub fn tag_names<'t, A: Allocator + Copy>(
     }
 }
 
-// The tag that a line names, where this is its name.
+// The tag in a line, if the line gives it this name.
 fn tag_if(line: &str, name: &str) -> Option<TtlvTag>
     ensures { result ≡ tag_if name.now (line_of line.now) }
 {
@@ -110,7 +116,12 @@ fn tag_if(line: &str, name: &str) -> Option<TtlvTag>
     }
 }
 
-/// The tag of a name: that of the first line of a table that gives it. Takes no memory.
+/// Returns the tag of a name: that of the first line of a table with this name. Never allocates.
+///
+/// ```
+/// let tag = tag_named("42006A Major\n42006B Minor\n", "Major");
+/// assert!(rt; tag == Some(TtlvTag::from([0x42, 0x00, 0x6A])));
+/// ```
 pub fn tag_named(table: &str, name: &str) -> Option<TtlvTag>
     ensures { result ≡ tag_named name.now table.now }
 {
@@ -124,9 +135,15 @@ pub fn tag_named(table: &str, name: &str) -> Option<TtlvTag>
     tag_if(rest, name)
 }
 
-/// The names of the tags in KMIP's specifications.
+/// Returns the names of the tags in the KMIP specifications (9.1.3.1).
 ///
-/// OutOfMemory where memory is refused.
+/// The only error is `OutOfMemory`.
+///
+/// ```
+/// let names = standard_names(alloc)?;
+/// let tag = TtlvTag::from([0x42, 0x00, 0x94]);
+/// assert!(rt; names.get(&tag).copied() == Some("Unique Identifier"));
+/// ```
 pub fn standard_names<A: Allocator + Copy>(alloc: A) -> Result<LentTagMap<'static, A>, TableError>
     ensures names { IfOk result (λ names. name_in names ≡ names_of STANDARD_TAGS.now) }
 {

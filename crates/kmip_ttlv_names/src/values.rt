@@ -1,6 +1,5 @@
-//! Names of enumerations' values. A table of them has the form of a table of tags: what stands behind
-//! a tag is the list of its values, each with its number as a text, `=` and its name, and `;` between
-//! them.
+//! Names of enumerations' values. Their table has the form of a table of tags: in place of a tag's name
+//! is the list of its values, separated by `;`, each a hexadecimal number, `=` and a name.
 
 ghost use Rattle.std.specs.Prelude.{◌≡◌, option_map, IfOk};
 ghost use Rattle.kmip_ttlv_util.specs.TagNames.{name_in};
@@ -15,7 +14,7 @@ use kmip_ttlv_types::number;
 use kmip_ttlv_util::LentTagMap;
 use std::alloc::Allocator;
 
-/// The name that an entry of a list gives to a value, where it is that value's.
+/// The name in an entry of a list, if the entry is for this value.
 fn entry_name(entry: &str, value: u32) -> Option<&str>
     ensures { option_map (λ s. s.now) result ≡ entry_name value entry.now }
 {
@@ -26,8 +25,12 @@ fn entry_name(entry: &str, value: u32) -> Option<&str>
     if named { Some(name) } else { None }
 }
 
-/// The name of a value in a list of values, as `1=Create;2=Create Key Pair`: that of the first entry
-/// with its number. Takes no memory.
+/// Returns the name of a value in a list of values such as `1=Create;2=Create Key Pair`: that of the first
+/// entry with its number. Never allocates.
+///
+/// ```
+/// assert!(rt; value_name("1=Create;2=Create Key Pair", 2) == Some("Create Key Pair"));
+/// ```
 pub fn value_name(list: &str, value: u32) -> Option<&str>
     ensures { option_map (λ s. s.now) result ≡ name_of_value value list.now }
 {
@@ -41,27 +44,44 @@ pub fn value_name(list: &str, value: u32) -> Option<&str>
     entry_name(rest, value)
 }
 
-/// The lists of values of the enumerations in KMIP's specifications, by tag.
+/// Returns the lists of values of the enumerations in the KMIP specifications (9.1.3.2), by tag.
 ///
-/// OutOfMemory where memory is refused.
+/// The only error is `OutOfMemory`.
+///
+/// ```
+/// let values = standard_values(alloc)?;
+/// let list = values.get(&TtlvTag::from([0x42, 0x00, 0x8D])).copied().unwrap_or("");
+/// assert!(rt; value_name(list, 1) == Some("Pre-Active"));
+/// ```
 pub fn standard_values<A: Allocator + Copy>(alloc: A) -> Result<LentTagMap<'static, A>, TableError>
     ensures names { IfOk result (λ lists. name_in lists ≡ names_of STANDARD_VALUES.now) }
 {
     tag_names(alloc, STANDARD_VALUES)
 }
 
-/// The lists of bits of the masks in KMIP's specifications, by tag, each in the form of a list of values.
+/// Returns the lists of bits of the masks in the KMIP specifications (9.1.3.3), by tag, for [`value_name`].
 ///
-/// OutOfMemory where memory is refused.
+/// The only error is `OutOfMemory`.
+///
+/// ```
+/// let masks = standard_masks(alloc)?;
+/// let usage = masks.get(&TtlvTag::from([0x42, 0x00, 0x2C])).copied().unwrap_or("");
+/// assert!(rt; value_name(usage, 4) == Some("Encrypt"));
+/// ```
 pub fn standard_masks<A: Allocator + Copy>(alloc: A) -> Result<LentTagMap<'static, A>, TableError>
     ensures names { IfOk result (λ lists. name_in lists ≡ names_of STANDARD_MASKS.now) }
 {
     tag_names(alloc, STANDARD_MASKS)
 }
 
-/// The tags of the items in KMIP's specifications that hold secrets, each with its name.
+/// Returns the tags in the KMIP specifications whose items hold secrets, each with its name.
 ///
-/// OutOfMemory where memory is refused.
+/// The only error is `OutOfMemory`.
+///
+/// ```
+/// let secrets = standard_secrets(alloc)?;
+/// assert!(rt; secrets.get(&TtlvTag::from([0x42, 0x00, 0xA1])).copied() == Some("Password"));
+/// ```
 pub fn standard_secrets<A: Allocator + Copy>(alloc: A) -> Result<LentTagMap<'static, A>, TableError>
     ensures names { IfOk result (λ tags. name_in tags ≡ names_of STANDARD_SECRETS.now) }
 {

@@ -1,0 +1,39 @@
+-- Two ways to write bytes in hexadecimal are one.
+use Rattle.std.proofs.Common.{◌≡◌, ℕ, zero, suc, ◌/◌, ◌%◌, ◌<◌, true, List, [], ◌∷◌, get_or, refl, ap, sym, ◌∙◌, arith}
+use Rattle.std.specs.Prelude.{slice_index}
+use Rattle.std.specs.Fmt.{digit_glyph}
+use Rattle.std.specs.List.{flat_map}
+use Rattle.hex.specs.Hex.{upper_digits, encode_with, encode_upper}
+use Rattle.kmip_ttlv_util.specs.Pretty.{two_digits, hex_bytes}
+
+-- a digit
+glyph : (d : ℕ) → d < 16 → slice_index upper_digits d ≡ digit_glyph true d
+glyph zero lt = refl
+glyph (suc zero) lt = refl
+glyph (suc (suc zero)) lt = refl
+glyph (suc (suc (suc zero))) lt = refl
+glyph (suc (suc (suc (suc zero)))) lt = refl
+glyph (suc (suc (suc (suc (suc zero))))) lt = refl
+glyph (suc (suc (suc (suc (suc (suc zero)))))) lt = refl
+glyph (suc (suc (suc (suc (suc (suc (suc zero))))))) lt = refl
+glyph (suc (suc (suc (suc (suc (suc (suc (suc zero)))))))) lt = refl
+glyph (suc (suc (suc (suc (suc (suc (suc (suc (suc zero))))))))) lt = refl
+glyph (suc (suc (suc (suc (suc (suc (suc (suc (suc (suc zero)))))))))) lt = refl
+glyph (suc (suc (suc (suc (suc (suc (suc (suc (suc (suc (suc zero))))))))))) lt = refl
+glyph (suc (suc (suc (suc (suc (suc (suc (suc (suc (suc (suc (suc zero)))))))))))) lt = refl
+glyph (suc (suc (suc (suc (suc (suc (suc (suc (suc (suc (suc (suc (suc zero))))))))))))) lt = refl
+glyph (suc (suc (suc (suc (suc (suc (suc (suc (suc (suc (suc (suc (suc (suc zero)))))))))))))) lt = refl
+glyph (suc (suc (suc (suc (suc (suc (suc (suc (suc (suc (suc (suc (suc (suc (suc zero))))))))))))))) lt = refl
+glyph (suc (suc (suc (suc (suc (suc (suc (suc (suc (suc (suc (suc (suc (suc (suc (suc d)))))))))))))))) lt = absurd (omega arith)
+
+pub hex_upper : (bytes : List ℕ) → ((k : ℕ) → get_or bytes k 0 < 256) → hex_bytes bytes ≡ encode_upper bytes
+unfolding hex_bytes encode_with
+hex_upper [] plain = refl
+hex_upper (b ∷ bytes) plain =
+    let small : b < 256 = plain 0 in
+    let high : digit_glyph true (b / 16) ≡ slice_index upper_digits (b / 16) = sym (glyph (b / 16) (omega arith)) in
+    let low : digit_glyph true (b % 16) ≡ slice_index upper_digits (b % 16) = sym (glyph (b % 16) (omega arith)) in
+    let more : flat_map two_digits bytes ≡ encode_with upper_digits bytes = hex_upper bytes (λ k. plain (suc k)) in
+    ap (λ (c : ℕ). c ∷ digit_glyph true (b % 16) ∷ flat_map two_digits bytes) high
+    ∙ ap (λ (c : ℕ). slice_index upper_digits (b / 16) ∷ c ∷ flat_map two_digits bytes) low
+    ∙ ap (λ (s : List ℕ). slice_index upper_digits (b / 16) ∷ slice_index upper_digits (b % 16) ∷ s) more

@@ -1,0 +1,9 @@
+pub mod Hexadecimal
+pub mod Escapes
+pub mod TreeTexts
+pub mod Found
+pub mod ReadBack
+pub mod Tells
+pub mod ReadingBack
+pub mod Returning
+pub mod Sounding

@@ -1,0 +1,275 @@
+-- The text that is printed item by item is that of the tree.
+use Rattle.std.proofs.Common.{◌≡◌, ◌≢◌, ◌∙◌, ℕ, zero, suc, ◌+◌, ◌-◌, ◌<◌, ◌≤◌, ◌==◌, Bool, true, false, not, ◌||◌, ◌&&◌, List, [], ◌∷◌, ◌++◌, get_or, if◌then◌else◌, Option, Some, None, refl, sym, ap, ap₂, arith, append_assoc, append-nil}
+use Rattle.std.specs.Prelude.{codes}
+use Rattle.std.specs.Int.{bytes_high_first}
+use Rattle.std.proofs.lemmas.Bool.{lt-ltb, le-ltb, ltb-true, ltb-false, ne_eqb, eq-eqb}
+use Rattle.hex.specs.Hex.{encode_upper}
+use Rattle.json.specs.Print.{escape_byte, escape, quoted}
+use Rattle.serde_json.specs.Data.{Data}
+use Rattle.serde_json.specs.Written.{compact_text, items_text, comma_if}
+use Rattle.kmip_ttlv_types.specs.declared.typ.TtlvType.{TtlvType}
+use Rattle.kmip_ttlv_types.specs.declared.typ.TtlvType.TheVariants.{Structure, Integer, LongInteger, BigInteger, Enumeration, Boolean, TextString, ByteString, DateTime, Interval}
+use Rattle.kmip_ttlv_types.specs.ItemTypes.{code}
+use Rattle.kmip_ttlv_types.specs.Trees.{Tree, Trees, leaf, node, no_trees, tree, IsTreeText, AreTreeTexts}
+use Rattle.kmip_ttlv_items.proofs.Spans.{leaf_not}
+use Rattle.kmip_ttlv_write.specs.GivenItems.{Line, lines, lines_below}
+use Rattle.kmip_ttlv_json.specs.declared.print.Spot.{Spot}
+use Rattle.kmip_ttlv_json.specs.Jsons.{type_word, value_json, item_json, hex_text, is_true, tree_json, trees_json}
+use Rattle.kmip_ttlv_json.specs.Parts.{closes, is_inside, spot_after, gap, type_part, opening, value_part, item_part, kind, parts, spot_behind, first_spot}
+use Rattle.kmip_ttlv_json.proofs.Escapes.{escape_digits}
+
+abbrev pub ArePlain : List ℕ → Type 0
+ArePlain xs = (k : ℕ) → get_or xs k 0 < 256
+
+pub kind_code : (typ : TtlvType) → kind (code typ) ≡ typ
+kind_code Structure = refl
+kind_code Integer = refl
+kind_code LongInteger = refl
+kind_code BigInteger = refl
+kind_code Enumeration = refl
+kind_code Boolean = refl
+kind_code TextString = refl
+kind_code ByteString = refl
+kind_code DateTime = refl
+kind_code Interval = refl
+
+-- ---- one item
+
+-- what stands between the digits of the tag and the value
+type_is : (typ : TtlvType) (s : List ℕ) → 44 ∷ (quoted (codes "type") ++ 58 ∷ (quoted (type_word typ) ++ 44 ∷ (quoted (codes "value") ++ 58 ∷ s))) ≡ 44 ∷ 34 ∷ 116 ∷ 121 ∷ 112 ∷ 101 ∷ 34 ∷ 58 ∷ 34 ∷ (type_word typ ++ (codes "\",\"value\":" ++ s))
+unfolding escape_byte
+type_is Structure s = refl
+type_is Integer s = refl
+type_is LongInteger s = refl
+type_is BigInteger s = refl
+type_is Enumeration s = refl
+type_is Boolean s = refl
+type_is TextString s = refl
+type_is ByteString s = refl
+type_is DateTime s = refl
+type_is Interval s = refl
+
+pub tag_plain : (tag : ℕ) → ArePlain (bytes_high_first 3 tag)
+tag_plain tag zero = omega arith
+tag_plain tag (suc zero) = omega arith
+tag_plain tag (suc (suc zero)) = omega arith
+tag_plain tag (suc (suc (suc k))) = omega arith
+
+quoted_hex : (content s : List ℕ) → ArePlain content → quoted (hex_text content) ++ s ≡ 34 ∷ 48 ∷ 120 ∷ (encode_upper content ++ 34 ∷ s)
+unfolding escape_byte
+quoted_hex content s plain = ap (λ (t : List ℕ). 34 ∷ 48 ∷ 120 ∷ ((t ++ 34 ∷ []) ++ s)) (escape_digits content plain) ∙ ap (λ (t : List ℕ). 34 ∷ 48 ∷ 120 ∷ t) (append_assoc (encode_upper content) (34 ∷ []) s)
+
+-- an item with any value
+item_is : (tag : ℕ) (typ : TtlvType) (value : Data) → opening tag typ ++ (compact_text value ++ 125 ∷ []) ≡ compact_text (item_json tag typ value)
+unfolding opening escape_byte
+item_is tag typ value =
+    let s = compact_text value ++ 125 ∷ [] in
+    let digits = encode_upper (bytes_high_first 3 tag) in
+    let rest = 44 ∷ (quoted (codes "type") ++ 58 ∷ (quoted (type_word typ) ++ 44 ∷ (quoted (codes "value") ++ 58 ∷ s))) in
+    append_assoc (codes "{\"tag\":\"0x" ++ digits) (type_part typ) s
+    ∙ append_assoc (codes "{\"tag\":\"0x") digits (type_part typ ++ s)
+    ∙ ap (λ (t : List ℕ). codes "{\"tag\":\"0x" ++ (digits ++ (codes "\",\"type\":\"" ++ t))) (append_assoc (type_word typ) (codes "\",\"value\":") s)
+    ∙ sym (ap (λ (t : List ℕ). codes "{\"tag\":\"0x" ++ (digits ++ 34 ∷ t)) (type_is typ s))
+    ∙ sym (ap (λ (t : List ℕ). codes "{\"tag\":" ++ t) (quoted_hex (bytes_high_first 3 tag) rest (tag_plain tag)))
+
+quoted_digits : (content : List ℕ) → ArePlain content → encode_upper content ++ 34 ∷ [] ≡ escape (encode_upper content) ++ 34 ∷ []
+quoted_digits content plain = sym (ap (λ (t : List ℕ). t ++ 34 ∷ []) (escape_digits content plain))
+
+-- the value of a leaf
+pub value_is : (hidden : Bool) (typ : TtlvType) (content : List ℕ) → typ ≢ Structure → ArePlain content → value_part hidden typ content ≡ compact_text (value_json hidden typ content) ++ 125 ∷ []
+unfolding escape_byte
+value_is hidden Structure content ne plain = absurd (ne refl)
+value_is true Integer content ne plain = refl
+value_is true LongInteger content ne plain = refl
+value_is true BigInteger content ne plain = refl
+value_is true Boolean content ne plain = refl
+value_is true TextString content ne plain = refl
+value_is true ByteString content ne plain = refl
+value_is true DateTime content ne plain = refl
+value_is true Interval content ne plain = refl
+value_is hidden Enumeration content ne plain = ap (λ (t : List ℕ). 34 ∷ 48 ∷ 120 ∷ (t ++ 125 ∷ [])) (quoted_digits content plain)
+value_is false Integer content ne plain = ap (λ (t : List ℕ). 34 ∷ 48 ∷ 120 ∷ (t ++ 125 ∷ [])) (quoted_digits content plain)
+value_is false LongInteger content ne plain = ap (λ (t : List ℕ). 34 ∷ 48 ∷ 120 ∷ (t ++ 125 ∷ [])) (quoted_digits content plain)
+value_is false BigInteger content ne plain = ap (λ (t : List ℕ). 34 ∷ 48 ∷ 120 ∷ (t ++ 125 ∷ [])) (quoted_digits content plain)
+value_is false Boolean content ne plain = by (is_true content)
+  where
+    by : (b : Bool) → (if b then codes "true" else codes "false") ++ codes "}" ≡ compact_text (Data.boolean b) ++ 125 ∷ []
+    by true = refl
+    by false = refl
+value_is false TextString content ne plain = refl
+value_is false ByteString content ne plain = ap (λ (t : List ℕ). 34 ∷ (t ++ 125 ∷ [])) (quoted_digits content plain)
+value_is false DateTime content ne plain = ap (λ (t : List ℕ). 34 ∷ 48 ∷ 120 ∷ (t ++ 125 ∷ [])) (quoted_digits content plain)
+value_is false Interval content ne plain = ap (λ (t : List ℕ). 34 ∷ 48 ∷ 120 ∷ (t ++ 125 ∷ [])) (quoted_digits content plain)
+
+-- ---- items behind one another
+
+abbrev spot : ℕ → Bool → Option ℕ → Spot
+spot d b s = record { depth = d; first = b; secret = s }
+
+-- the first of them is in at most so many structures
+abbrev IsLow : ℕ → List Line → Type 0
+IsLow d [] = Unit {0}
+IsLow d (l ∷ ls) = l.depth ≤ d
+
+low_below : (d : ℕ) (ts : Trees) (r : List Line) → IsLow d r → IsLow (suc d) (lines_below (suc d) ts ++ r)
+low_below d no_trees [] h = tt
+low_below d no_trees (l ∷ ls) h = omega (arith, h)
+low_below d (tree (leaf tag typ content) ts) r h = omega arith
+low_below d (tree (node tag below) ts) r h = omega arith
+
+-- their contents are bytes
+abbrev pub AllPlain : List Line → Type 0
+AllPlain [] = Unit {0}
+AllPlain (l ∷ ls) = ArePlain l.content × AllPlain ls
+
+pub plain_both : (xs ys : List Line) → AllPlain (xs ++ ys) → AllPlain xs × AllPlain ys
+plain_both [] ys h = (tt, h)
+plain_both (x ∷ xs) ys h = let k = plain_both xs ys h.1 in ((h.0, k.0), k.1)
+
+inside_less : (s : Option ℕ) (d k : ℕ) → is_inside s d ≡ false → k ≤ d → is_inside s k ≡ false
+inside_less None d k h le = refl
+inside_less (Some a) d k h le = le-ltb a k (omega (arith, ltb-false a d h, le))
+
+module _ (secrets : ℕ → Bool) (hidden : Bool) where
+  -- items with the ends of all structures that are open
+  abbrev flat : Spot → List Line → List ℕ
+  flat s [] = closes s.depth
+  flat s (l ∷ ls) = item_part secrets hidden s l.depth l.tag (kind l.code) l.content ++ flat (spot_after secrets s l.depth l.tag (kind l.code)) ls
+
+  pub flat_is : (s : Spot) (ls : List Line) → parts secrets hidden s ls ++ closes (spot_behind secrets s ls).depth ≡ flat s ls
+  flat_is s [] = refl
+  flat_is s (l ∷ ls) =
+      let t = spot_after secrets s l.depth l.tag (kind l.code) in
+      let part = item_part secrets hidden s l.depth l.tag (kind l.code) l.content in
+      append_assoc part (parts secrets hidden t ls) (closes (spot_behind secrets t ls).depth) ∙ ap (λ (x : List ℕ). part ++ x) (flat_is t ls)
+
+  -- a structure ends in front of an item that is not in it
+  close_one : (d : ℕ) (b : Bool) (s : Option ℕ) (r : List Line) → IsLow d r → flat (spot (suc d) b s) r ≡ 93 ∷ 125 ∷ flat (spot d false s) r
+  close_one d b s [] low = refl
+  close_one d b s (l ∷ ls) low =
+      let more : suc d - l.depth ≡ suc (d - l.depth) = omega (arith, low) in
+      let other : (suc d == l.depth) ≡ false = ne_eqb (suc d) l.depth (λ e. omega (arith, e, low)) in
+      let rest = opening l.tag (kind l.code) ++ value_part ((hidden || is_inside s l.depth) || secrets l.tag) (kind l.code) l.content in
+      let behind = flat (spot_after secrets (spot d false s) l.depth l.tag (kind l.code)) ls in
+      ap (λ (n : ℕ). ((closes n ++ comma_if (not (b && (suc d == l.depth)))) ++ rest) ++ behind) more
+      ∙ ap (λ (c : Bool). ((closes (suc (d - l.depth)) ++ comma_if (not c)) ++ rest) ++ behind) (ap (λ (c : Bool). b && c) other ∙ no b)
+    where
+      no : (b : Bool) → (b && false) ≡ false
+      no true = refl
+      no false = refl
+
+  -- where an item is in no secret one, it doesn't matter which was the last
+  swap : (d : ℕ) (b : Bool) (s t : Option ℕ) (r : List Line) → IsLow d r → is_inside s d ≡ false → is_inside t d ≡ false → flat (spot d b s) r ≡ flat (spot d b t) r
+  swap d b s t [] low u v = refl
+  swap d b s t (l ∷ ls) low u v =
+      let one = inside_less s d l.depth u low in
+      let two = inside_less t d l.depth v low in
+      from s one ∙ sym (from t two)
+    where
+      from : (o : Option ℕ) → is_inside o l.depth ≡ false → flat (spot d b o) (l ∷ ls) ≡ flat (spot d b None) (l ∷ ls)
+      from o not-in = rw not-in refl
+
+  -- which secret item is open behind an item
+  abbrev secret_behind : Option ℕ → ℕ → ℕ → Option ℕ
+  secret_behind s d tag = if is_inside s d then s else if secrets tag then Some d else None
+
+  secret_same : (s : Option ℕ) (d tag : ℕ) (b : Bool) (r : List Line) → IsLow d r → flat (spot d b (secret_behind s d tag)) r ≡ flat (spot d b s) r
+  secret_same s d tag b r low = by (is_inside s d) (secrets tag) refl
+    where
+      by : (i k : Bool) → is_inside s d ≡ i → flat (spot d b (if i then s else if k then Some d else None)) r ≡ flat (spot d b s) r
+      by true k e = refl
+      by false true e = swap d b (Some d) s r low (le-ltb d d (omega arith)) e
+      by false false e = swap d b None s r low refl e
+
+  -- what is in a structure is hidden
+  hidden_below : (s : Option ℕ) (d tag : ℕ) → (hidden || is_inside (secret_behind s d tag) (suc d)) ≡ ((hidden || is_inside s d) || secrets tag)
+  hidden_below s d tag = by hidden s (is_inside s d) (secrets tag) refl
+    where
+      by : (h : Bool) (o : Option ℕ) (i k : Bool) → is_inside o d ≡ i → (h || is_inside (if i then o else if k then Some d else None) (suc d)) ≡ ((h || i) || k)
+      by true o i k e = refl
+      by false None true k e = absurd (cc)
+      by false (Some a) true k e = lt-ltb a (suc d) (omega (arith, ltb-true a d e))
+      by false o false true e = lt-ltb d (suc d) (omega arith)
+      by false o false false e = refl
+
+  gap_is : (d : ℕ) (b : Bool) (s : Option ℕ) → gap (spot d b s) d ≡ comma_if (not b)
+  gap_is d b s =
+      let none : d - d ≡ 0 = omega arith in
+      ap (λ (n : ℕ). closes n ++ comma_if (not (b && (d == d)))) none ∙ ap (λ (c : Bool). comma_if (not (b && c))) (eq-eqb d d refl) ∙ by b
+    where
+      by : (b : Bool) → comma_if (not (b && true)) ≡ comma_if (not b)
+      by true = refl
+      by false = refl
+
+  mutual
+    tree_flat : (d : ℕ) (b : Bool) (s : Option ℕ) (t : Tree) (text : List ℕ) (r : List Line) → IsTreeText t text → AllPlain (lines d t) → IsLow d r
+        → flat (spot d b s) (lines d t ++ r) ≡ comma_if (not b) ++ (compact_text (tree_json secrets (hidden || is_inside s d) t) ++ flat (spot d false s) r)
+    tree_flat d b s (leaf tag typ content) text r h plain low =
+        let ne = leaf_not typ content h.0 in
+        let hid = (hidden || is_inside s d) || secrets tag in
+        let v = value_json hid typ content in
+        let own : opening tag typ ++ value_part hid typ content ≡ compact_text (item_json tag typ v) = ap (λ (x : List ℕ). opening tag typ ++ x) (value_is hid typ content ne plain.0) ∙ item_is tag typ v in
+        let after : flat (spot_after secrets (spot d b s) d tag typ) r ≡ flat (spot d false s) r = leaf_after typ ne ∙ secret_same s d tag false r low in
+        ap (λ (k : TtlvType). item_part secrets hidden (spot d b s) d tag k content ++ flat (spot_after secrets (spot d b s) d tag k) r) (kind_code typ)
+        ∙ ap₂ (λ (x y : List ℕ). (x ++ (opening tag typ ++ value_part hid typ content)) ++ y) (gap_is d b s) after
+        ∙ ap (λ (x : List ℕ). (comma_if (not b) ++ x) ++ flat (spot d false s) r) own
+        ∙ append_assoc (comma_if (not b)) (compact_text (item_json tag typ v)) (flat (spot d false s) r)
+      where
+        leaf_after : (k : TtlvType) → k ≢ Structure → flat (spot_after secrets (spot d b s) d tag k) r ≡ flat (spot d false (secret_behind s d tag)) r
+        leaf_after Structure ne = absurd (ne refl)
+        leaf_after Integer ne = refl
+        leaf_after LongInteger ne = refl
+        leaf_after BigInteger ne = refl
+        leaf_after Enumeration ne = refl
+        leaf_after Boolean ne = refl
+        leaf_after TextString ne = refl
+        leaf_after ByteString ne = refl
+        leaf_after DateTime ne = refl
+        leaf_after Interval ne = refl
+    tree_flat d b s (node tag below) text r h plain low =
+        let u = secret_behind s d tag in
+        let hid = (hidden || is_inside s d) || secrets tag in
+        let inner = trees_json secrets hid below in
+        let rest = flat (spot d false s) r in
+        let one_more : d + 1 ≡ suc d = omega arith in
+        let deep : flat (spot (d + 1) true u) (lines_below (suc d) below ++ r) ≡ flat (spot (suc d) true u) (lines_below (suc d) below ++ r) = ap (λ (n : ℕ). flat (spot n true u) (lines_below (suc d) below ++ r)) one_more in
+        let all : flat (spot (d + 1) true u) (lines_below (suc d) below ++ r) ≡ items_text false inner ++ 125 ∷ rest =
+        deep ∙ trees_flat d true u below h.0 r h.2 plain.1 low
+        ∙ ap (λ (k : Bool). items_text false (trees_json secrets k below) ++ 125 ∷ flat (spot d false u) r) (hidden_below s d tag)
+        ∙ ap (λ (x : List ℕ). items_text false inner ++ 125 ∷ x) (secret_same s d tag false r low) in
+        let own : opening tag Structure ++ (91 ∷ (items_text false inner ++ 125 ∷ [])) ≡ compact_text (item_json tag Structure (Data.array inner)) = item_is tag Structure (Data.array inner) in
+        ap₂ (λ (x y : List ℕ). (x ++ (opening tag Structure ++ 91 ∷ [])) ++ y) (gap_is d b s) all
+        ∙ regroup (comma_if (not b)) (opening tag Structure) (items_text false inner) rest
+        ∙ ap (λ (x : List ℕ). comma_if (not b) ++ (x ++ rest)) own
+      where
+        regroup : (c o i rest : List ℕ) → (c ++ (o ++ 91 ∷ [])) ++ (i ++ 125 ∷ rest) ≡ c ++ ((o ++ 91 ∷ (i ++ 125 ∷ [])) ++ rest)
+        regroup c o i rest = simp append_assoc
+
+    trees_flat : (d : ℕ) (b : Bool) (s : Option ℕ) (ts : Trees) (text : List ℕ) (r : List Line) → AreTreeTexts ts text → AllPlain (lines_below (suc d) ts) → IsLow d r
+        → flat (spot (suc d) b s) (lines_below (suc d) ts ++ r) ≡ items_text (not b) (trees_json secrets (hidden || is_inside s (suc d)) ts) ++ 125 ∷ flat (spot d false s) r
+    trees_flat d b s no_trees text r h plain low = close_one d b s r low
+    trees_flat d b s (tree t ts) text r h plain low =
+        let k = plain_both (lines (suc d) t) (lines_below (suc d) ts) plain in
+        let hid = hidden || is_inside s (suc d) in
+        let more = lines_below (suc d) ts ++ r in
+        let one = compact_text (tree_json secrets hid t) in
+        let others = items_text true (trees_json secrets hid ts) in
+        let rest = 125 ∷ flat (spot d false s) r in
+        ap (flat (spot (suc d) b s)) (append_assoc (lines (suc d) t) (lines_below (suc d) ts) r)
+        ∙ tree_flat (suc d) b s t h.0 more h.3 k.0 (low_below d ts r low)
+        ∙ ap (λ (x : List ℕ). comma_if (not b) ++ (one ++ x)) (trees_flat d false s ts h.1 r h.4 k.1 low)
+        ∙ regroup (comma_if (not b)) one others rest
+      where
+        regroup : (c o i rest : List ℕ) → c ++ (o ++ (i ++ rest)) ≡ (c ++ (o ++ i)) ++ rest
+        regroup c o i rest = simp append_assoc
+
+  -- a whole message
+  pub message_flat : (t : Tree) (text : List ℕ) → IsTreeText t text → AllPlain (lines 0 t) → parts secrets hidden first_spot (lines 0 t) ++ closes (spot_behind secrets first_spot (lines 0 t)).depth ≡ compact_text (tree_json secrets hidden t)
+  message_flat t text h plain =
+      let none : (hidden || false) ≡ hidden = by hidden in
+      flat_is first_spot (lines 0 t) ∙ ap (flat first_spot) (sym (append-nil (lines 0 t))) ∙ tree_flat 0 true None t text [] h plain tt
+      ∙ append-nil (compact_text (tree_json secrets (hidden || false) t)) ∙ ap (λ (b : Bool). compact_text (tree_json secrets b t)) none
+    where
+      by : (b : Bool) → (b || false) ≡ b
+      by true = refl
+      by false = refl

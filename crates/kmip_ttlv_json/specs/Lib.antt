@@ -1,0 +1,6 @@
+pub mod Jsons
+pub mod Parts
+pub mod Printings
+pub mod JsonTrees
+pub mod Readings
+pub mod Laws

@@ -1,0 +1,93 @@
+-- The text of a message's JSON, item by item.
+use Rattle.std.specs.Prelude.{ℕ, zero, suc, ◌-◌, ◌==◌, Bool, true, false, not, ◌||◌, ◌&&◌, List, [], ◌∷◌, ◌++◌, nat_lt, codes, encode_utf8}
+use Rattle.std.specs.Prelude.{Option, Some, None, if◌then◌else◌}
+use Rattle.std.specs.Int.{bytes_high_first}
+use Rattle.hex.specs.Hex.{encode_upper}
+use Rattle.json.specs.Print.{escape_byte, quoted}
+use Rattle.serde_json.specs.Written.{comma_if}
+use Rattle.kmip_ttlv_types.specs.declared.typ.TtlvType.{TtlvType}
+use Rattle.kmip_ttlv_types.specs.declared.typ.TtlvType.TheVariants.{Structure, Enumeration, Boolean, TextString, ByteString}
+use Rattle.kmip_ttlv_types.specs.ItemTypes.{is_structure, type_of}
+use Rattle.kmip_ttlv_write.specs.FlatWrites.{opened}
+use Rattle.kmip_ttlv_write.specs.GivenItems.{Line}
+use Rattle.kmip_ttlv_json.specs.declared.print.Spot.{Spot}
+use Rattle.kmip_ttlv_json.specs.Jsons.{type_word, is_true}
+
+-- the ends of so many structures
+abbrev pub closes : ℕ → List ℕ
+closes zero = []
+closes (suc n) = 93 ∷ 125 ∷ closes n
+
+-- an item in so many structures is in a secret one
+abbrev pub is_inside : Option ℕ → ℕ → Bool
+is_inside None depth = false
+is_inside (Some secret) depth = nat_lt secret depth
+
+-- an item's value is hidden
+abbrev pub is_hidden : (ℕ → Bool) → Bool → Spot → ℕ → ℕ → Bool
+is_hidden secrets hidden s depth tag = (hidden || is_inside s.secret depth) || secrets tag
+
+-- where printing stands before the first item, and behind one
+abbrev pub first_spot : Spot
+first_spot = record { depth = 0; first = true; secret = None }
+
+abbrev pub spot_after : (ℕ → Bool) → Spot → ℕ → ℕ → TtlvType → Spot
+spot_after secrets s depth tag typ = record {
+  depth = opened typ depth;
+  first = is_structure typ;
+  secret = if is_inside s.secret depth then s.secret else if secrets tag then Some depth else None;
+}
+
+-- what stands in front of an item: the ends of structures that it is not in, and a comma where another item was met in
+-- the one around
+abbrev pub gap : Spot → ℕ → List ℕ
+gap s depth = closes (s.depth - depth) ++ comma_if (not (s.first && s.depth == depth))
+
+-- an item up to its value
+abbrev pub type_part : TtlvType → List ℕ
+type_part typ = codes "\",\"type\":\"" ++ (type_word typ ++ codes "\",\"value\":")
+
+unfoldable pub opening : ℕ → TtlvType → List ℕ
+opening tag typ = (codes "{\"tag\":\"0x" ++ encode_upper (bytes_high_first 3 tag)) ++ type_part typ
+
+-- digits as a JSON string, with what stands in front of them in it
+abbrev pub digits_text : List ℕ → List ℕ → List ℕ
+digits_text front content = front ++ (encode_upper content ++ codes "\"")
+
+-- the text of a leaf's value
+abbrev pub value_text : Bool → TtlvType → List ℕ → List ℕ
+value_text hidden Enumeration content = digits_text (codes "\"0x") content
+value_text true typ content = codes "null"
+value_text false Boolean content = if is_true content then codes "true" else codes "false"
+value_text false TextString content = quoted content
+value_text false ByteString content = digits_text (codes "\"") content
+value_text false typ content = digits_text (codes "\"0x") content
+
+-- the rest of an item: of a structure no more than where the items in it begin
+abbrev pub value_part : Bool → TtlvType → List ℕ → List ℕ
+value_part hidden Structure content = codes "["
+value_part hidden typ content = value_text hidden typ content ++ codes "}"
+
+-- a character of a JSON string
+unfoldable pub char_text : ℕ → List ℕ
+char_text c = if nat_lt c 128 then escape_byte c else encode_utf8 c
+
+-- an item with what stands in front of it
+abbrev pub item_part : (ℕ → Bool) → Bool → Spot → ℕ → ℕ → TtlvType → List ℕ → List ℕ
+item_part secrets hidden s depth tag typ content =
+    gap s depth ++ (opening tag typ ++ value_part (is_hidden secrets hidden s depth tag) typ content)
+
+-- the type of a code
+abbrev pub kind : ℕ → TtlvType
+kind n = elim (type_of n) [ None ↦ Structure | Some typ ↦ typ ]
+
+-- several items, one after the other; and where printing stands behind them
+abbrev pub parts : (ℕ → Bool) → Bool → Spot → List Line → List ℕ
+parts secrets hidden s [] = []
+parts secrets hidden s (l ∷ ls) =
+    item_part secrets hidden s l.depth l.tag (kind l.code) l.content
+    ++ parts secrets hidden (spot_after secrets s l.depth l.tag (kind l.code)) ls
+
+abbrev pub spot_behind : (ℕ → Bool) → Spot → List Line → Spot
+spot_behind secrets s [] = s
+spot_behind secrets s (l ∷ ls) = spot_behind secrets (spot_after secrets s l.depth l.tag (kind l.code)) ls

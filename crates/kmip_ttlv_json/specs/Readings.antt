@@ -1,0 +1,71 @@
+-- What reading a message back from JSON comes to.
+use Rattle.std.specs.Prelude.{◌≡◌, ℕ, Bool, true, false, List, ◌++◌, codes, Some, None, Result, Ok, Err}
+use Rattle.serde_json.specs.Data.{Data}
+use Rattle.serde_json.specs.Read.{read}
+use Rattle.kmip_ttlv_types.specs.Trees.{Tree, Trees, leaf, node, bytes, bytes_below, IsStructure, Fits}
+use Rattle.kmip_ttlv_json.specs.declared.failure.BadMember.{BadMember}
+use Rattle.kmip_ttlv_json.specs.declared.failure.BadMember.TheVariants.{Members, Tag, Typ, Value}
+use Rattle.kmip_ttlv_json.specs.declared.failure.JsonError.{JsonError}
+use Rattle.kmip_ttlv_json.specs.declared.failure.JsonError.TheVariants.{NotJson, NotItem, NotStructure, TooLong, OutOfMemory}
+use Rattle.kmip_ttlv_json.specs.JsonTrees.{tree_of}
+
+-- the text is JSON, which reads as this tree, or not
+pub record ReadsAs (text : List ℕ) (result : Result Tree BadMember) : Type 0 where
+  pub json : Data
+  pub parsed : read text ≡ Some json
+  pub is : tree_of json ≡ result
+
+-- the text is the JSON of a message with this tree
+pub record Stands (text : List ℕ) (t : Tree) : Type 0 where
+  pub reads : ReadsAs text (Ok t)
+  pub root : IsStructure t
+  pub fits : Fits t
+
+-- the text is the JSON of a message, and these are its canonical bytes
+pub record IsReadAs (text out : List ℕ) : Type 0 where
+  pub message : Tree
+  pub stands : Stands text message
+  pub canonical : out ≡ bytes message
+
+-- why a text is not read as a message
+abbrev pub FailsToRead : List ℕ → JsonError → Type 0
+FailsToRead text (NotJson line column) = read text ≡ None
+FailsToRead text (NotItem bad) = ReadsAs text (Err bad)
+FailsToRead text NotStructure = (t : Tree) × ReadsAs text (Ok t) × ¬ (IsStructure t)
+FailsToRead text TooLong = (t : Tree) × ReadsAs text (Ok t) × IsStructure t × ¬ (Fits t)
+FailsToRead text OutOfMemory = Unit {0}
+
+-- the words for it
+abbrev pub error_words : JsonError → List ℕ
+error_words (NotJson line column) = codes "not JSON"
+error_words (NotItem Members) = codes "an item without exactly tag, type and value"
+error_words (NotItem Tag) = codes "a tag is not 0x and six hexadecimal digits"
+error_words (NotItem Typ) = codes "the name of a type is unknown"
+error_words (NotItem Value) = codes "a value is none of its type"
+error_words NotStructure = codes "the root is no Structure"
+error_words TooLong = codes "a length has more than four bytes"
+error_words OutOfMemory = codes "out of memory"
+
+-- why the JSON of an item gives no tree, or out of memory
+abbrev pub Refuses : {A : Type 0} → Result A BadMember → JsonError → Type 0
+Refuses result (NotItem bad) = result ≡ Err bad
+Refuses result OutOfMemory = Unit {0}
+Refuses result _ = ⊥
+
+-- a tree is a structure
+abbrev pub is_node : Tree → Bool
+is_node (leaf tag typ content) = false
+is_node (node tag below) = true
+
+-- canonical bytes of the tree that JSON is were added to others; whether it is a structure
+pub record AddsTree (result : Result Tree BadMember) (old new : List ℕ) (structure : Bool) : Type 0 where
+  pub added : Tree
+  pub is : result ≡ Ok added
+  pub kind : structure ≡ is_node added
+  pub all : new ≡ old ++ bytes added
+
+-- and of several trees
+pub record AddsTrees (result : Result Trees BadMember) (old new : List ℕ) : Type 0 where
+  pub added : Trees
+  pub is : result ≡ Ok added
+  pub all : new ≡ old ++ bytes_below added

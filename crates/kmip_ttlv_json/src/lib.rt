@@ -1,0 +1,19 @@
+//! TTLV messages as JSON, by the JSON encoding of OASIS "KMIP Additional Message Encodings".
+//!
+//! `print` prints a message as a line of JSON, item by item, over the walk of kmip_ttlv_items, and `quoted` a text in
+//! it. The JSON of a message is defined over trees in specs/Jsons, in the words of the toolchain's `serde_json`.
+//!
+//! `read` reads a message back from JSON that `serde_json` parses, into canonical bytes; `members` has what the members of an
+//! item stand for, and `failure` why a text is no message. The tree that JSON is, is defined in specs/JsonTrees.
+#![tactic(auto)]
+
+mod failure;
+pub mod laws;
+mod members;
+mod print;
+mod quoted;
+mod read;
+
+pub use failure::{BadMember, JsonError};
+pub use print::{Hiding, push_json};
+pub use read::from_json;
