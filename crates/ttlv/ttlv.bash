@@ -10,12 +10,14 @@ _ttlv() {
     esac
     [ "$COMP_CWORD" -gt 1 ] && command=${COMP_WORDS[1]}
     case $command in
-    '') options='show diag undiag check hex --help --version' ;;
-    show) options='--redact --raw --offsets --width --tag --color --names --input --help' ;;
+    '') options='show diag undiag check hex json from-json --help --version' ;;
+    show) options='--redact --secrets --raw --offsets --width --tag --color --names --input --help' ;;
     diag) options='--prefix --closed --input --help' ;;
     undiag) options='--prefix --names --help' ;;
     check) options='--kmip --input --help' ;;
     hex) options='--input --help' ;;
+    json) options='--redact --secrets --input --help' ;;
+    from-json) options='--raw --help' ;;
     esac
     if [ -z "$command" ] || [[ $word == -* ]]; then
         COMPREPLY=($(compgen -W "$options" -- "$word"))

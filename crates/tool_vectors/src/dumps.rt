@@ -1,4 +1,4 @@
-//! Messages in dumps and other texts, as the programs that are named print them of one message.
+//! Messages in dumps and other texts, as the programs named here print them of one message.
 
 use crate::runs::{CREATE_RESPONSE, repeated, run_with};
 use std::alloc::{AllocError, Global};
@@ -117,7 +117,7 @@ const PACKETS: [(Encoding, &str); 2] = [
     ),
 ];
 
-// Whether messages in a text are the response, so many times.
+// Whether the messages in a text are the response, this many times.
 fn is_response(alloc: Global, encoding: Encoding, text: &str, times: u64) -> bool {
     let Ok(mut lines) = repeated(alloc, CREATE_RESPONSE, 1) else {
         return false;

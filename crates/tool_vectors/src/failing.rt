@@ -1,5 +1,6 @@
-//! Runs where memory is refused, and where the input, the output or the errors fail.
+//! Runs in which an allocation, the input, the output or the errors fail.
 
+use crate::jsons::VERSION_JSON;
 use crate::runs::{
     HIDDEN_LINES, Outcome, VERSION, VERSION_LINES, back_with, names_in, of, run_with,
 };
@@ -8,12 +9,12 @@ use std::alloc::{AllocError, Global};
 use std::io;
 use std::io::{ErrorKind, Read, Write};
 use ttlv_run::run::run;
-use ttlv_run::{Encoding, Job, Look, Task, Values};
+use ttlv_run::{Encoding, Hiding, Job, Look, Task, Values};
 
 const SHOW: Task<'static> = Task::Show { look: Look::PLAIN };
 
 // A task and what it prints of the version's message.
-const GROWN: [(Task<'static>, &str); 5] = [
+const GROWN: [(Task<'static>, &str); 6] = [
     (SHOW, VERSION_LINES),
     (
         Task::Show {
@@ -35,17 +36,23 @@ const GROWN: [(Task<'static>, &str); 5] = [
         Task::Hexadecimal,
         "420069010000002042006A0200000004000000010000000042006B02000000040000000000000000\n",
     ),
+    (
+        Task::Json {
+            hiding: Hiding::Nothing,
+        },
+        VERSION_JSON,
+    ),
     (Task::Check { kmip: false }, ""),
 ];
 
-// What a run, or all runs of a row, came to.
+// The outcome of a run, or of all runs of a row.
 #[derive(Clone, Copy, Debug, PartialEq, Eq)]
 enum Answer {
-    // The text, and no growth was refused.
+    // The text, and no allocation failed.
     Whole,
-    // The text, or a beginning of it and out of memory; and a growth was refused.
+    // The text, or a beginning of it and out of memory; and an allocation failed.
     Refused,
-    // Another one, where this growth was refused.
+    // A wrong result when this allocation failed.
     Wrong(u64),
 }
 
@@ -62,7 +69,7 @@ fn answer_of(outcome: &Outcome, text: &str, refused: bool, before: u64) -> Answe
     }
 }
 
-// What a run comes to where one growth is refused. The names may be refused before it begins.
+// The outcome of a run in which one allocation fails, possibly while the names are built.
 fn one_answer(alloc: Global, task: Task<'_>, text: &str, before: u64) -> Answer {
     let heap = BoundedAllocator::failing_after(alloc, before);
     match run_with(&heap, alloc, task, Encoding::Detected, VERSION.as_bytes()) {
@@ -114,7 +121,7 @@ fn each_growth_may_be_refused(rt: HostRuntime) {
     assert_eq!(rt; all_backs(rt.alloc()), Answer::Whole);
 }
 
-// Gives one byte a read, and fails once, with this kind.
+// Returns one byte per read, and fails once with this kind.
 #[derive(Drop)]
 struct Faltering<'a> {
     bytes: &'a [u8],
@@ -134,7 +141,7 @@ impl Read for Faltering<'_> {
     }
 }
 
-// Takes one byte a write, and fails after so many bytes.
+// Takes one byte per write, and fails when full.
 #[derive(Drop)]
 struct Narrow<'a> {
     taken: &'a mut Vec<u8>,
@@ -157,7 +164,7 @@ impl Write for Narrow<'_> {
     }
 }
 
-// A run whose input fails after so many reads, and whose output after so many bytes.
+// A run whose input fails after this many reads, and whose output after this many bytes.
 fn run_between(
     alloc: Global,
     reads: (u64, ErrorKind),
@@ -243,7 +250,7 @@ fn outputs_that_fail(rt: HostRuntime) {
             output_fails(rt.alloc(), room, ErrorKind::Other, line),
             "{room}"
         );
-        // A closed pipe ends it quietly.
+        // A closed pipe ends the run without an error line.
         assert!(rt;
             output_fails(rt.alloc(), room, ErrorKind::BrokenPipe, ""),
             "{room}"

@@ -1,11 +1,11 @@
-//! Malformed messages and input that can't be decoded: the status, what is printed by then, and the line
-//! on standard error.
+//! Malformed messages and input that can't be decoded: the status, what is printed before the error, and
+//! the error line.
 
 use crate::runs::{CREATE_RESPONSE, VERSION, VERSION_LINES, back_with, run_with};
 use std::alloc::{AllocError, Global};
 use ttlv_run::{Encoding, Look, Task, Values};
 
-// An encoding, an input, what is shown of it, and the line.
+// An encoding, an input, what is printed of it, and the error line.
 type Row = (Encoding, &'static str, &'static str, &'static str);
 
 const SHOW: Task<'static> = Task::Show { look: Look::PLAIN };
@@ -34,7 +34,7 @@ const MALFORMED: [Row; 12] = [
         VERSION_LINES,
         "capture: byte 40: Protocol Version (0x420069): the input ends within the message\n",
     ),
-    // A message is cut within a value, within padding, within a header, and between two items.
+    // A message that is cut within a value, within padding, within a header, and between two items.
     (
         Encoding::Detected,
         "420069010000002042006A0200000004000000010000000042006B02000000040000",
@@ -71,7 +71,7 @@ const MALFORMED: [Row; 12] = [
         "",
         "capture: byte 0: Protocol Version (0x420069): unknown type\n",
     ),
-    // The second item states more than its structure has.
+    // The second item states more bytes than its structure has.
     (
         Encoding::Detected,
         "420069010000002042006A0200000004000000010000000042006B07000000090000000000000000",
@@ -92,7 +92,7 @@ const MALFORMED: [Row; 12] = [
     ),
 ];
 
-// Input that stands for no bytes.
+// Input that can't be decoded.
 const UNDECODED: [Row; 22] = [
     (
         Encoding::Detected,
@@ -203,7 +203,7 @@ const UNDECODED: [Row; 22] = [
         "",
         "capture: taken as a hexadecimal dump: byte 79, '*', is no digit (--input)\n",
     ),
-    // Numbers of two bytes, whose order is the machine's.
+    // Two-byte numbers, whose byte order depends on the machine.
     (
         Encoding::Detected,
         "0000000 0042 0169 0000 2000\n",
@@ -252,7 +252,7 @@ fn undecoded_input(rt: HostRuntime) {
     }
 }
 
-// A cut message under each other task: what is printed of it.
+// A cut message with each other task: what is printed of it.
 const CUT: [(Task<'static>, &str); 4] = [
     (Task::Check { kmip: false }, ""),
     (Task::Hexadecimal, "42006901\n"),
@@ -289,7 +289,7 @@ fn each_task(rt: HostRuntime) {
     }
 }
 
-// An input whose messages are to be those of KMIP, the status, and the line.
+// An input that is checked to be KMIP messages, the status, and the error line.
 const KMIP: [(&str, u8, &str); 5] = [
     (CREATE_RESPONSE, 0, ""),
     ("4200780100000000", 0, ""),
@@ -340,7 +340,7 @@ fn diagnostics_that_are_no_text(rt: HostRuntime) {
     assert!(rt; is_no_text(rt.alloc()));
 }
 
-// A prefix, diagnostics of which one is not whole, what they are read back as, and the line.
+// A prefix, diagnostics of which one is not whole, what they are read back as, and the error line.
 const NOT_WHOLE: [(&str, &str, &str, &str); 8] = [
     // A structure stays open.
     (
@@ -362,7 +362,7 @@ const NOT_WHOLE: [(&str, &str, &str, &str); 8] = [
         "Tag: Protocol Version (0x420069), Type: Structure (0x01), Data: \n  Tag: Protocol Version Major (0x42006A), Type: Integer (0x02), Data: <redacted>\n  Tag: Protocol Version Minor (0x42006B)\n",
         "capture: byte 6: no whole part of a diagnostic\n",
     ),
-    // What the diagnostic of an empty structure has in its place: a digit, and no type behind it.
+    // The diagnostic of an empty structure that stays open: `E` is a digit, and `R` is no type.
     (
         "4200",
         "69[ERR",
@@ -383,15 +383,15 @@ const NOT_WHOLE: [(&str, &str, &str, &str); 8] = [
         "Tag: Batch Item (0x42000F), Type: Structure (0x01), Data: \n  Tag: Operation (0x42005C), Type: Enumeration (0x05)\n",
         "capture: byte 3: no whole part of a diagnostic\n",
     ),
-    // The second of three lines, and then the third, is none; both are read back. In front of `é` stand no
-    // digits, so the prefix is the tag: four digits are the fewest of one that is printed.
+    // The second and the third of three lines are not whole; both are read back. No digits precede `é`, so the
+    // prefix alone is the tag, which is printed with at least four digits.
     (
         "4200",
         "69[]\né\n6A[]]\n",
         "Tag: Protocol Version (0x420069), Type: Structure (0x01), Data:\nTag: 0x4200\nTag: Protocol Version Major (0x42006A), Type: Structure (0x01), Data:\n",
         "capture: byte 5: no whole part of a diagnostic\n",
     ),
-    // Behind a prefix of six digits two more are no tag: it has three bytes.
+    // After a prefix of six digits two more give no tag: a tag has three bytes.
     (
         "420000",
         "69[]",

@@ -1,8 +1,8 @@
-//! Runs over several inputs: their order, the greatest status, and a line for each that is at fault.
+//! Runs over several inputs: their order, the greatest status, and one error line for each bad file.
 
 use crate::runs::{Outcome, VERSION, of};
 use kmip_ttlv_names::{
-    STANDARD_TAGS, TableError, standard_masks, standard_secrets, standard_values, tag_names,
+    STANDARD_TAGS, TableError, own_names, standard_masks, standard_secrets, standard_values,
 };
 use std::alloc::{AllocError, Global};
 use std::io;
@@ -28,7 +28,7 @@ impl Read for Held {
     }
 }
 
-// Inputs by name; one that isn't here can't be opened.
+// Inputs by name; any other name can't be opened.
 #[derive(Drop)]
 struct Folder;
 
@@ -51,7 +51,7 @@ impl Opener for Folder {
     }
 }
 
-// Files, a status, what is printed of them, and the lines on standard error.
+// Files, a status, what is printed of them, and the error lines.
 type Row = (&'static [&'static str], u8, &'static str, &'static str);
 
 // The hexadecimal lines of the version, of the two messages, and of the one before the cut.
@@ -75,14 +75,14 @@ const ROWS: [Row; 10] = [
         "4200690100000000\n42006A0100000000\n4200690100000000\n42006A0100000000\n",
         "",
     ),
-    // A malformed one between two that are whole.
+    // A malformed file between two good ones.
     (
         &["two", "cut", "two"],
         1,
         "4200690100000000\n42006A0100000000\n4200690100000000\n42006901\n4200690100000000\n42006A0100000000\n",
         "cut: byte 8: Protocol Version (0x420069): the input ends within the message\n",
     ),
-    // One that isn't there, in front and behind.
+    // A missing file, before and after others.
     (
         &["none", "two"],
         2,
@@ -95,14 +95,14 @@ const ROWS: [Row; 10] = [
         "4200690100000000\n42006A0100000000\n",
         "none: it can't be opened\n",
     ),
-    // One that fails while it is read, and one that stands for no bytes.
+    // A file that fails while it is read, and one that can't be decoded.
     (
         &["failing", "text", "two"],
         2,
         "4200690100000000\n42006A0100000000\n",
         "failing: it can't be read\ntext: taken as base64: byte 5: digits are missing at the end, or too many are there (--input)\n",
     ),
-    // The greatest counts, wherever it stands.
+    // The greatest status counts, wherever it is.
     (
         &["none", "cut"],
         2,
@@ -128,14 +128,15 @@ fn outcome_of(
     table: &str,
     files: &[&str],
 ) -> Result<Outcome, TableError> {
-    let tags = tag_names(alloc, table)?;
+    let own = own_names(alloc, table)?;
     let values = standard_values(alloc)?;
     let masks = standard_masks(alloc)?;
     let secrets = standard_secrets(alloc)?;
     let names = Names {
-        tags,
+        tags: own.tags,
         values,
         masks,
+        own: own.values,
         secrets,
     };
     let mut output = Vec::new(alloc);
@@ -171,7 +172,7 @@ fn several_files(rt: HostRuntime) {
     }
 }
 
-// An output that takes nothing.
+// An output that takes no byte.
 #[derive(Drop)]
 struct Full;
 
@@ -185,16 +186,17 @@ impl io::Write for Full {
     }
 }
 
-// Behind a file with status 3 no other is read.
+// After a file with status 3 no other is read.
 fn stops_at_three(alloc: Global) -> Result<bool, TableError> {
-    let tags = tag_names(alloc, STANDARD_TAGS)?;
+    let own = own_names(alloc, STANDARD_TAGS)?;
     let values = standard_values(alloc)?;
     let masks = standard_masks(alloc)?;
     let secrets = standard_secrets(alloc)?;
     let names = Names {
-        tags,
+        tags: own.tags,
         values,
         masks,
+        own: own.values,
         secrets,
     };
     let files = ["none", "two", "cut"];
@@ -217,14 +219,36 @@ fn an_output_that_fails_ends_it(rt: HostRuntime) {
     assert!(rt; matches!(stops_at_three(rt.alloc()), Ok(true)));
 }
 
-// A table, what reading it answers, and the line.
-const TABLES: [(&[u8], Result<&str, u8>, &str); 4] = [
+// A table, the result of reading it, and the error line.
+const TABLES: [(&[u8], Result<&str, u8>, &str); 9] = [
     (
         b"540001 Own Tag\n",
         Ok("420069 Standard\n540001 Own Tag\n"),
         "",
     ),
     (b"", Ok("420069 Standard\n"), ""),
+    (
+        b"540001:00000002 Own Value\n",
+        Ok("420069 Standard\n540001:00000002 Own Value\n"),
+        "",
+    ),
+    // No value, one of more than four bytes, no tag, a tag of more than three, and no name.
+    (
+        b"540001 Own Tag\n540001:2x Own Value\n",
+        Err(2),
+        "names: line 2 names no tag\n",
+    ),
+    (
+        b"540001:100000000 Own Value\n",
+        Err(2),
+        "names: line 1 names no tag\n",
+    ),
+    (
+        b"\n1540001:2 Own Value\n",
+        Err(2),
+        "names: line 2 names no tag\n",
+    ),
+    (b"540001:2\n", Err(2), "names: line 1 names no tag\n"),
     (
         b"540001 Own Tag\n# a comment\nnothing\n",
         Err(2),
@@ -261,32 +285,7 @@ fn tables_of_names(rt: HostRuntime) {
     assert_eq!(rt; errors.as_slice(), b"names: it can't be read\n".as_slice());
 }
 
-// A table's names go before the standard's.
-fn named(alloc: Global) -> Result<Outcome, TableError> {
-    let mut input = b"420069 Which Version\n".as_slice();
-    let mut errors = Vec::new(alloc);
-    let Ok(all) = own_table(alloc, STANDARD_TAGS, "names", &mut input, &mut errors) else {
-        return Err(TableError::OutOfMemory);
-    };
-    let asked = Asked::Print {
-        task: Task::Show { look: Look::PLAIN },
-        encoding: Encoding::Hexadecimal,
-    };
-    outcome_of(alloc, asked, all.as_str(), &["whole"])
-}
-
-#[test]
-fn a_users_names(rt: HostRuntime) {
-    let Ok(outcome) = named(rt.alloc()) else {
-        assert!(rt; false);
-        return;
-    };
-    let text =
-        "Tag: Which Version (0x420069), Type: Structure (0x01), Data:\n  Tag: Protocol Version Major (0x42006A), Type: Integer (0x02), Data: 0x000001 (1)\n  Tag: Protocol Version Minor (0x42006B), Type: Integer (0x02), Data: 0x000000 (0)\n";
-    assert!(rt; outcome.is(0, text, ""));
-}
-
-// Gives so many bytes, at most 65,536 a read.
+// Returns this many bytes, at most 65,536 per read.
 #[derive(Drop)]
 struct Zeros {
     left: usize,
@@ -325,16 +324,16 @@ fn tells(alloc: Global, row: (usize, Option<u64>, bool, &str)) -> bool {
     }
 }
 
-// How long an input is, whether that is known, whether a terminal is there, and what is told.
+// The length of an input, whether that is known, whether there is a terminal, and the progress that is shown.
 const TOLD: [(usize, Option<u64>, bool, &str); 6] = [
     (1_048_575, None, true, ""),
-    (1_048_576, None, true, "\r1 MiB read\r\x1b[K"),
-    (2_200_000, None, true, "\r1 MiB read\r2 MiB read\r\x1b[K"),
+    (1_048_576, None, true, "1 MiB read\r\x1b[K"),
+    (2_200_000, None, true, "1 MiB read\r2 MiB read\r\x1b[K"),
     (
         2_200_000,
         Some(2_200_000),
         true,
-        "\r1 of 2 MiB read\r2 of 2 MiB read\r\x1b[K",
+        "1 of 2 MiB read\r2 of 2 MiB read\r\x1b[K",
     ),
     (2_200_000, None, false, ""),
     (0, Some(0), true, ""),

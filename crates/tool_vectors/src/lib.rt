@@ -1,8 +1,11 @@
-//! Tests of the tool `ttlv`: what a run prints of worked messages in each encoding, which status and
-//! which line malformed or undecodable input has, what refused growths, failing writers and closed
-//! pipes come to, what is printed of long inputs, and what the words of the command line ask for.
+//! Tests of the tool `ttlv`: what a run prints of worked messages in each encoding, the status and the
+//! error line of malformed or undecodable input, the results of failing allocations, failing writers and
+//! closed pipes, what is printed of long inputs and of raw messages and diagnostics that come in pieces, and what the
+//! command line asks for.
 #![tactic(auto)]
 
+#[cfg(test)]
+mod backs;
 #[cfg(test)]
 mod dumps;
 #[cfg(test)]
@@ -12,13 +15,21 @@ mod faults;
 #[cfg(test)]
 mod files;
 #[cfg(test)]
+mod jsons;
+#[cfg(test)]
 mod long;
 #[cfg(test)]
 mod looks;
 #[cfg(test)]
 mod names;
 #[cfg(test)]
+mod own;
+#[cfg(test)]
+mod pieces;
+#[cfg(test)]
 mod printed;
+#[cfg(test)]
+mod read_jsons;
 #[cfg(test)]
 mod runs;
 #[cfg(test)]

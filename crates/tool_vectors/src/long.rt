@@ -1,6 +1,9 @@
-//! Long inputs, which are printed as they go: where memory is refused, or the output fails, a beginning is there.
+//! Long inputs, which are printed as they are read: if an allocation or the output fails, a beginning is printed.
 
-use crate::runs::{Outcome, VERSION, VERSION_LINES, back_with, names_in, of, repeated, run_with};
+use crate::printed::RESPONSE_LINES;
+use crate::runs::{
+    CREATE_RESPONSE, Outcome, VERSION, VERSION_LINES, back_with, names_in, of, repeated, run_with,
+};
 use kmip_ttlv_memory::BoundedAllocator;
 use std::alloc::{AllocError, Global};
 use std::io;
@@ -26,7 +29,7 @@ const PRINTED: [(Task<'static>, &str); 3] = [
     ),
 ];
 
-// Whether a task prints of so many messages its text so many times.
+// Whether a task prints its text `times` times for as many messages.
 fn prints(alloc: Global, task: Task<'_>, text: &str, times: u64) -> Result<bool, AllocError> {
     let input = repeated(alloc, VERSION, times)?;
     let whole = repeated(alloc, text, times)?;
@@ -34,7 +37,7 @@ fn prints(alloc: Global, task: Task<'_>, text: &str, times: u64) -> Result<bool,
     Ok(outcome.is(0, whole.as_str(), ""))
 }
 
-// Whether so many lines of diagnostics are read back.
+// Whether `times` lines of diagnostics are read back.
 fn reads_back(alloc: Global, times: u64) -> Result<bool, AllocError> {
     let line = "Tag: Protocol Version (0x420069), Type: Structure (0x01), Data:\n";
     let input = repeated(alloc, "69[]\n", times)?;
@@ -51,7 +54,7 @@ fn long_inputs(rt: HostRuntime) {
     assert_eq!(rt; reads_back(rt.alloc(), 2000), Ok(true));
 }
 
-// Whether a long text is printed where no block of its size is to be had.
+// Whether a long text is printed without a block of its size.
 fn prints_within(alloc: Global, times: u64, most: usize) -> Result<bool, AllocError> {
     let input = repeated(alloc, VERSION, times)?;
     let whole = repeated(alloc, VERSION_LINES, times)?;
@@ -65,7 +68,7 @@ fn a_text_is_not_held(rt: HostRuntime) {
     assert_eq!(rt; prints_within(rt.alloc(), 2000, 300_000), Ok(true));
 }
 
-// Whether structures in one another, in one line, are read back where no block of the text's size is to be had.
+// Whether nested structures, in one line, are read back without a block of the text's size.
 fn reads_nested_within(alloc: Global, times: u64, most: usize) -> Result<bool, AllocError> {
     let mut input = repeated(alloc, "420069[", times)?;
     let closes = repeated(alloc, "]", times)?;
@@ -83,7 +86,7 @@ fn a_line_that_is_read_back_is_not_held(rt: HostRuntime) {
 // A structure with one Integer, in base64.
 const ONE_NUMBER: &str = "QgBpAQAAABBCAGoCAAAABAAAAAEAAAAA";
 
-// How often a run asks for memory for an input.
+// How many allocations a run makes for its input.
 fn growths(alloc: Global, encoding: Encoding, input: &str) -> Result<u64, AllocError> {
     let names = names_in(alloc)?;
     let job = Job {
@@ -108,7 +111,7 @@ fn growths(alloc: Global, encoding: Encoding, input: &str) -> Result<u64, AllocE
     Ok(100)
 }
 
-// Text is decoded in its own memory: it takes as many growths as bytes that stay as they are.
+// Text is decoded in place: it takes as many allocations as raw bytes do.
 fn decodes_in_place(alloc: Global, encoding: Encoding, text: &str) -> Result<bool, AllocError> {
     let input = repeated(alloc, text, 500)?;
     let raw = growths(alloc, Encoding::Raw, input.as_str())?;
@@ -129,7 +132,7 @@ fn text_is_decoded_in_its_own_memory(rt: HostRuntime) {
     );
 }
 
-// Structures, each in the one before, as their headers alone.
+// The headers of nested structures, each in the one before.
 fn nested(alloc: Global, depth: u32) -> Result<String, AllocError> {
     let mut text = String::new(alloc);
     for level in 0..depth {
@@ -139,7 +142,7 @@ fn nested(alloc: Global, depth: u32) -> Result<String, AllocError> {
     Ok(text)
 }
 
-// The status of checking structures so deep, where no block above so many bytes is to be had but for the input.
+// The status of checking structures of this depth, without larger blocks than `most` bytes except for the input.
 fn nested_status(alloc: Global, depth: u32, most: usize) -> Result<u8, AllocError> {
     let text = nested(alloc, depth)?;
     let small = BoundedAllocator::in_blocks(alloc, most);
@@ -166,7 +169,7 @@ fn nesting_is_bounded_by_memory(rt: HostRuntime) {
     assert_eq!(rt; nested_status(rt.alloc(), 9000, most), Ok(3));
 }
 
-// How much of the text is there where this growth is refused; none where another text is, or another line.
+// How much of the text is printed if this allocation fails; none if the text or the error line differs.
 fn begun(alloc: Global, input: &str, text: &str, before: u64) -> Option<usize> {
     let heap = BoundedAllocator::failing_after(alloc, before);
     match run_with(&heap, alloc, SHOW, Encoding::Detected, input.as_bytes()) {
@@ -177,10 +180,11 @@ fn begun(alloc: Global, input: &str, text: &str, before: u64) -> Option<usize> {
     }
 }
 
-// Whether some growth, where it is refused, leaves a beginning that is neither empty nor the whole.
+// Whether some failing allocation leaves a beginning that is neither empty nor the whole text. Only messages with
+// structures in their roots need memory while they are printed.
 fn stops_within(alloc: Global, times: u64) -> Result<bool, AllocError> {
-    let input = repeated(alloc, VERSION, times)?;
-    let text = repeated(alloc, VERSION_LINES, times)?;
+    let input = repeated(alloc, CREATE_RESPONSE, times)?;
+    let text = repeated(alloc, RESPONSE_LINES, times)?;
     for before in 0..300u64 {
         let length = begun(alloc, input.as_str(), text.as_str(), before).unwrap_or(0);
         if 0 < length && length < text.len() {
@@ -192,10 +196,10 @@ fn stops_within(alloc: Global, times: u64) -> Result<bool, AllocError> {
 
 #[test]
 fn memory_is_refused_while_printing(rt: HostRuntime) {
-    assert_eq!(rt; stops_within(rt.alloc(), 200), Ok(true));
+    assert_eq!(rt; stops_within(rt.alloc(), 50), Ok(true));
 }
 
-// Takes so many bytes, and fails then.
+// Takes this many bytes, then fails.
 #[derive(Drop)]
 struct Full<'a> {
     taken: &'a mut Vec<u8>,
@@ -217,7 +221,7 @@ impl Write for Full<'_> {
     }
 }
 
-// A run whose output is full after so many bytes.
+// A run whose output is full after this many bytes.
 fn run_into(alloc: Global, input: &str, room: usize) -> Result<Outcome, AllocError> {
     let names = names_in(alloc)?;
     let job = Job {
@@ -240,7 +244,7 @@ fn run_into(alloc: Global, input: &str, room: usize) -> Result<Outcome, AllocErr
     })
 }
 
-// Whether the output has exactly as many bytes of the text as it had room for.
+// Whether the output has exactly as many bytes of the text as there was room for.
 fn is_filled(alloc: Global, times: u64, room: usize) -> Result<bool, AllocError> {
     let input = repeated(alloc, VERSION, times)?;
     let text = repeated(alloc, VERSION_LINES, times)?;

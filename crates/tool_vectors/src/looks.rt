@@ -4,8 +4,8 @@ use crate::runs::{VERSION, run_with};
 use std::alloc::{AllocError, Global};
 use ttlv_run::{Encoding, Look, Task, Values};
 
-// A key block with a key in parts, and a credential.
-const KEY_BLOCK: &str =
+/// A key block with a key in parts, and a credential.
+pub const KEY_BLOCK: &str =
     "4200400100000088420042050000000400000001000000004200450100000038420043010000002042003F0800000008090909090909090942007505000000040000000400000000420009020000000400000007000000004200250100000020420099070000000446726564000000004200A10700000002707700000000000042009407000000026964000000000000";
 
 // How lines are printed, a message, and its lines.
@@ -31,7 +31,7 @@ const SECRETS: Look = Look {
     ..Look::PLAIN
 };
 
-// The items of the tag Key Material, with what is in them.
+// The items with the tag Key Material, with everything in them.
 const KEY_MATERIAL: Look = Look {
     only: Some(0x420043),
     ..Look::PLAIN
@@ -43,7 +43,7 @@ const ROWS: [Row; 7] = [
         VERSION,
         "0\tTag: Protocol Version (0x420069), Type: Structure (0x01), Data:\n8\t  Tag: Protocol Version Major (0x42006A), Type: Integer (0x02), Data: 0x000001 (1)\n24\t  Tag: Protocol Version Minor (0x42006B), Type: Integer (0x02), Data: 0x000000 (0)\n",
     ),
-    // Those of the second message count from the first one's beginning.
+    // Offsets in the second message count from the start of the first.
     (
         OFFSETS,
         "420069010000000042006A0100000000",
@@ -54,26 +54,26 @@ const ROWS: [Row; 7] = [
         "420069010000001042006A02000000040000000100000000",
         "\u{1b}[36mTag: Protocol Version (0x420069)\u{1b}[0m, Type: Structure (0x01), Data:\n\u{1b}[36m  Tag: Protocol Version Major (0x42006A)\u{1b}[0m, Type: Integer (0x02), Data: \u{1b}[32m0x000001 (1)\u{1b}[0m\n",
     ),
-    // Masks: two bits; a bit without a name behind two with one; one alone; none; a storage status. A number is none.
+    // Masks: two bits; a bit without a name and two with names; one without a name; no bit; a storage status. A number is no mask.
     (
         Look::PLAIN,
         "420091010000006042002C02000000040000000C0000000042002C0200000004010000410000000042002C0200000004010000000000000042002C0200000004000000000000000042008E0200000004000000030000000042000D02000000040000000300000000",
         "Tag: Template-Attribute (0x420091), Type: Structure (0x01), Data:\n  Tag: Cryptographic Usage Mask (0x42002C), Type: Integer (0x02), Data: 0x00000C (12) Encrypt | Decrypt\n  Tag: Cryptographic Usage Mask (0x42002C), Type: Integer (0x02), Data: 0x1000041 (16777281) Sign | Export\n  Tag: Cryptographic Usage Mask (0x42002C), Type: Integer (0x02), Data: 0x1000000 (16777216)\n  Tag: Cryptographic Usage Mask (0x42002C), Type: Integer (0x02), Data: 0x000000 (0)\n  Tag: Storage Status Mask (0x42008E), Type: Integer (0x02), Data: 0x000003 (3) Online Storage | Archival Storage\n  Tag: Batch Count (0x42000D), Type: Integer (0x02), Data: 0x000003 (3)\n",
     ),
-    // Dates: the first second, the ends of two days, the day behind the 28 February of 2100, and the last second; later and earlier
+    // Dates: the first second, the ends of two days, the day after the 28 February of 2100, and the last second; later and earlier
     // ones are numbers.
     (
         Look::PLAIN,
         "42009101000000704200010900000008000000000000000042000109000000080000000038BB0BFF42000109000000080000000038BC5D7F420001090000000800000000F4D41F8042000109000000080000003AFFF4417F42000109000000080000003AFFF441804200010900000008FFFFFFFFFFFFFFFF",
         "Tag: Template-Attribute (0x420091), Type: Structure (0x01), Data:\n  Tag: Activation Date (0x420001), Type: DateTime (0x09), Data: 0x000000 1970-01-01T00:00:00Z\n  Tag: Activation Date (0x420001), Type: DateTime (0x09), Data: 0x38BB0BFF 2000-02-28T23:59:59Z\n  Tag: Activation Date (0x420001), Type: DateTime (0x09), Data: 0x38BC5D7F 2000-02-29T23:59:59Z\n  Tag: Activation Date (0x420001), Type: DateTime (0x09), Data: 0xF4D41F80 2100-03-01T00:00:00Z\n  Tag: Activation Date (0x420001), Type: DateTime (0x09), Data: 0x3AFFF4417F 9999-12-31T23:59:59Z\n  Tag: Activation Date (0x420001), Type: DateTime (0x09), Data: 0x3AFFF44180\n  Tag: Activation Date (0x420001), Type: DateTime (0x09), Data: 0xFFFFFFFFFFFFFFFF\n",
     ),
-    // A byte string as long as the width, a longer and an empty one.
+    // A byte string that is as long as the width, a longer one and an empty one.
     (
         WIDTH,
         "42009101000000284200430800000004010203AB000000004200430800000005010203AB050000004200430800000000",
         "Tag: Template-Attribute (0x420091), Type: Structure (0x01), Data:\n  Tag: Key Material (0x420043), Type: ByteString (0x08), Data: 010203AB\n  Tag: Key Material (0x420043), Type: ByteString (0x08), Data: 010203AB.. (5 bytes)\n  Tag: Key Material (0x420043), Type: ByteString (0x08), Data: \n",
     ),
-    // What is in a key and in a credential is hidden, but for enumerations.
+    // All values in a key and in a credential are hidden, except enumerations.
     (
         SECRETS,
         KEY_BLOCK,

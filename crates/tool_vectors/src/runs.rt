@@ -1,7 +1,8 @@
-//! Runs over memory, and the messages that they are tried on.
+//! Runs in memory, and the messages that they are tried on.
 
 use kmip_ttlv_names::{standard_masks, standard_names, standard_secrets, standard_values};
 use std::alloc::{AllocError, Allocator, Global};
+use std::collections::HashMap;
 use ttlv_run::run::{read_back, run};
 use ttlv_run::{BackJob, Encoding, Job, Memory, Names, Task};
 
@@ -21,7 +22,7 @@ pub const HIDDEN_LINES: &str =
 pub const CREATE_RESPONSE: &str =
     "42007B01000000C042007A0100000048420069010000002042006A0200000004000000010000000042006B020000000400000000000000004200920900000008000000004AFBE7C242000D0200000004000000010000000042000F010000006842005C0500000004000000010000000042007F0500000004000000000000000042007C010000004042005705000000040000000200000000420094070000002466633838333364652D373064322D346563652D623036332D66656465336133633539666500000000";
 
-/// What a run left behind.
+/// What a run wrote, and its status.
 #[derive(Drop)]
 pub struct Outcome {
     pub status: u8,
@@ -30,14 +31,14 @@ pub struct Outcome {
 }
 
 impl Outcome {
-    /// Whether it is these.
+    /// Whether the outcome is this.
     pub fn is(&self, status: u8, output: &str, errors: &str) -> bool {
         self.status == status
             && self.output.as_slice() == output.as_bytes()
             && self.errors.as_slice() == errors.as_bytes()
     }
 
-    /// Whether it is these, with a beginning of this text as its output.
+    /// Whether the outcome is this, with a beginning of this text as the output.
     pub fn begins(&self, status: u8, text: &str, errors: &str) -> bool {
         self.status == status
             && text.as_bytes().starts_with(self.output.as_slice())
@@ -45,7 +46,7 @@ impl Outcome {
     }
 }
 
-/// A text so many times, one behind the other.
+/// A text `times` times, without separators.
 pub fn repeated(alloc: Global, text: &str, times: u64) -> Result<String, AllocError> {
     let mut all = String::new(alloc);
     for _ in 0..times {
@@ -54,7 +55,7 @@ pub fn repeated(alloc: Global, text: &str, times: u64) -> Result<String, AllocEr
     Ok(all)
 }
 
-/// All of a run's memory, from one allocator.
+/// One allocator for all of a run's memory.
 pub fn of<A: Allocator + Copy>(heap: A) -> Memory<A, A> {
     Memory {
         input: heap,
@@ -74,6 +75,7 @@ pub fn names_in<A: Allocator + Copy>(heap: A) -> Result<Names<'static, A>, Alloc
         tags,
         values,
         masks,
+        own: HashMap::new(heap),
         secrets,
     })
 }

@@ -1,13 +1,53 @@
-//! What the words of the command line ask for.
+//! What the command line asks for.
 
 use std::alloc::{AllocError, Global};
-use ttlv_run::{Asked, Encoding, Look, Task, Values};
+use ttlv_run::{Asked, Encoding, Hiding, Look, Task, Values};
 use ttlv_words::request_of;
 
-// Words, what is asked, the file of names, and how many files are read.
+// Arguments, what they ask for, the file of names, and how many files are read.
 type Row = (&'static str, Asked<'static>, Option<&'static str>, usize);
 
-const ASKED: [Row; 16] = [
+const ASKED: [Row; 21] = [
+    ("ttlv from-json", Asked::FromJson { raw: false }, None, 0),
+    (
+        "ttlv from-json --raw a b",
+        Asked::FromJson { raw: true },
+        None,
+        2,
+    ),
+    (
+        "ttlv json --input raw a",
+        Asked::Print {
+            task: Task::Json {
+                hiding: Hiding::Nothing,
+            },
+            encoding: Encoding::Raw,
+        },
+        None,
+        1,
+    ),
+    (
+        "ttlv json --redact",
+        Asked::Print {
+            task: Task::Json {
+                hiding: Hiding::Values,
+            },
+            encoding: Encoding::Detected,
+        },
+        None,
+        0,
+    ),
+    (
+        "ttlv json --redact=keys",
+        Asked::Print {
+            task: Task::Json {
+                hiding: Hiding::Secrets,
+            },
+            encoding: Encoding::Detected,
+        },
+        None,
+        0,
+    ),
     (
         "ttlv show",
         Asked::Print {
@@ -45,7 +85,7 @@ const ASKED: [Row; 16] = [
         None,
         1,
     ),
-    // A value that is hidden is hidden.
+    // `--redact` hides values even with `--raw`.
     (
         "ttlv show --raw --redact",
         Asked::Print {
@@ -165,8 +205,9 @@ const ASKED: [Row; 16] = [
     ),
 ];
 
-// Words that ask for nothing, and the exit status: help, the version, and mistakes.
-const OTHERS: [(&str, i32); 10] = [
+// Arguments that ask for no run, and the exit status: help, the version, and mistakes.
+const OTHERS: [(&str, i32); 11] = [
+    ("ttlv from-json --input raw", 2),
     ("ttlv --help", 0),
     ("ttlv show --help", 0),
     ("ttlv --version", 0),
@@ -197,6 +238,31 @@ fn asks(alloc: Global, row: Row) -> bool {
             && request.names == names
             && request.files.len() == files,
         Err(_) => false,
+    }
+}
+
+// The file of further tags of secrets that a line names.
+fn has_secrets(alloc: Global, line: &str, secrets: Option<&str>) -> bool {
+    let Ok(words) = words_of(alloc, line) else {
+        return false;
+    };
+    match request_of(alloc, words.as_slice()) {
+        Ok(request) => request.secrets == secrets,
+        Err(_) => false,
+    }
+}
+
+#[test]
+fn tables_of_secrets(rt: HostRuntime) {
+    for (line, secrets) in [
+        (
+            "ttlv show --redact=keys --secrets own.txt a",
+            Some("own.txt"),
+        ),
+        ("ttlv json --secrets own.txt --redact=keys", Some("own.txt")),
+        ("ttlv json --redact=keys a", None),
+    ] {
+        assert!(rt; has_secrets(rt.alloc(), line, secrets), "{line}");
     }
 }
 

@@ -1,4 +1,4 @@
-//! Prints and checks messages in TTLV: `ttlv show|diag|undiag|check|hex [FILE..]`.
+//! Prints and checks messages in TTLV: `ttlv show|diag|undiag|check|hex|json|from-json [FILE..]`.
 //!
 //! Here the words of the command line, the files and the streams of the process are handed to
 //! `ttlv_words` and `ttlv_run`, which do the rest over any reader and any writers.
@@ -7,7 +7,7 @@
 use either::Either;
 use kmip_ttlv_memory::BoundedAllocator;
 use kmip_ttlv_names::{
-    STANDARD_TAGS, standard_masks, standard_secrets, standard_values, tag_named, tag_names,
+    STANDARD_SECRETS, STANDARD_TAGS, own_names, standard_masks, standard_values, tag_named,
 };
 use kmip_ttlv_types::TtlvTag;
 use std::alloc::{AllocError, Allocator, Global};
@@ -39,10 +39,24 @@ fn words(rt: &(impl Env + Alloc<A = Global>)) -> io::Result<Vec<String>> {
     Ok(words)
 }
 
-// The files of the machine, and standard input by the name `-`. On a terminal it is shown how far each was read.
+// Whether it is shown how far an input was read: on a terminal, if nothing is printed there meanwhile.
+fn is_shown(rt: &HostRuntime, asked: Asked<'_>) -> bool {
+    let is_printing = match asked {
+        Asked::Print {
+            task: Task::Check { .. },
+            ..
+        } => false,
+        Asked::Print { .. } => true,
+        Asked::ReadBack { .. } | Asked::FromJson { .. } => false,
+    };
+    rt.stderr().is_terminal() && !(is_printing && rt.stdout().is_terminal())
+}
+
+// The files of the machine, and standard input by the name `-`; and whether it is shown how far each was read.
 #[derive(Drop)]
 struct Disk<'r> {
     rt: &'r HostRuntime,
+    shown: bool,
 }
 
 impl Disk<'_> {
@@ -52,9 +66,7 @@ impl Disk<'_> {
         input: Either<File, Stdin>,
         total: Option<u64>,
     ) -> Progress<Either<File, Stdin>, Stderr> {
-        let errors = self.rt.stderr();
-        let shown = errors.is_terminal();
-        Progress::new(input, errors, total, shown)
+        Progress::new(input, self.rt.stderr(), total, self.shown)
     }
 }
 
@@ -87,9 +99,7 @@ fn run_stdin<B: Allocator + Copy>(
     memory: Memory<Global, B>,
     names: &Names<'_, B>,
 ) -> u8 {
-    let mut errors = rt.stderr();
-    let shown = errors.is_terminal();
-    let mut input = Progress::new(rt.stdin(), rt.stderr(), None, shown);
+    let mut input = Progress::new(rt.stdin(), rt.stderr(), None, is_shown(rt, asked));
     run_asked(
         memory,
         asked,
@@ -97,7 +107,7 @@ fn run_stdin<B: Allocator + Copy>(
         names,
         &mut input,
         &mut rt.stdout(),
-        &mut errors,
+        &mut rt.stderr(),
     )
 }
 
@@ -117,24 +127,27 @@ fn do_all<B: Allocator + Copy>(
         asked,
         names,
         files,
-        &mut Disk { rt },
+        &mut Disk {
+            rt,
+            shown: is_shown(rt, asked),
+        },
         &mut rt.stdout(),
         &mut rt.stderr(),
     )
 }
 
-// The table of the names of tags; or the status where that of the file can't be read.
-fn table(rt: &HostRuntime, path: Option<&str>) -> Result<String, u8> {
+// A table of tags, and after it that of a file, if one is named; or the status if that can't be read.
+fn table(rt: &HostRuntime, standard: &str, path: Option<&str>) -> Result<String, u8> {
     let alloc = rt.alloc();
     let Some(path) = path else {
-        let standard: Result<String, AllocError> = String::from_str(alloc, STANDARD_TAGS);
-        return standard.map_err(|_| NO_MEMORY);
+        let alone: Result<String, AllocError> = String::from_str(alloc, standard);
+        return alone.map_err(|_| NO_MEMORY);
     };
     let Ok(mut file) = fs::open(rt, path) else {
         let _ = eprintln!(rt; "{path}: it can't be opened");
         return Err(USAGE);
     };
-    own_table(alloc, STANDARD_TAGS, path, &mut file, &mut rt.stderr())
+    own_table(alloc, standard, path, &mut file, &mut rt.stderr())
 }
 
 // Whether lines are coloured.
@@ -185,12 +198,33 @@ fn asked_of<'w>(rt: &HostRuntime, request: &Request<'w>, table: &str) -> Result<
     Ok(Asked::Print { task, encoding })
 }
 
+// The names of tags and values, and the tags of secrets; none when out of memory.
+fn names_in<'t, B: Allocator + Copy>(
+    alloc: B,
+    tags: &'t str,
+    secrets: &'t str,
+) -> Option<Names<'t, B>> {
+    let own = own_names(alloc, tags).ok()?;
+    let secret = own_names(alloc, secrets).ok()?;
+    Some(Names {
+        tags: own.tags,
+        values: standard_values(alloc).ok()?,
+        masks: standard_masks(alloc).ok()?,
+        own: own.values,
+        secrets: secret.tags,
+    })
+}
+
 fn run_all(rt: &HostRuntime, request: &Request<'_>) -> u8 {
-    let table = match table(rt, request.names) {
-        Ok(table) => table,
+    let tags = match table(rt, STANDARD_TAGS, request.names) {
+        Ok(tags) => tags,
         Err(status) => return status,
     };
-    let asked = match asked_of(rt, request, table.as_str()) {
+    let secrets = match table(rt, STANDARD_SECRETS, request.secrets) {
+        Ok(secrets) => secrets,
+        Err(status) => return status,
+    };
+    let asked = match asked_of(rt, request, tags.as_str()) {
         Ok(asked) => asked,
         Err(status) => return status,
     };
@@ -199,20 +233,8 @@ fn run_all(rt: &HostRuntime, request: &Request<'_>) -> u8 {
         input: rt.alloc(),
         rest: &small,
     };
-    let Ok(tags) = tag_names(&small, table.as_str()) else {
+    let Some(names) = names_in(&small, tags.as_str(), secrets.as_str()) else {
         return NO_MEMORY;
-    };
-    let Ok(values) = standard_values(&small) else {
-        return NO_MEMORY;
-    };
-    let (Ok(masks), Ok(secrets)) = (standard_masks(&small), standard_secrets(&small)) else {
-        return NO_MEMORY;
-    };
-    let names = Names {
-        tags,
-        values,
-        masks,
-        secrets,
     };
     do_all(rt, asked, request.files.as_slice(), memory, &names)
 }

@@ -1,7 +1,9 @@
 -- The bits of a number of 32 bits, one after the other.
-use Rattle.std.proofs.Common.{◌≡◌, ℕ, zero, suc, ◌+◌, ◌*◌, ◌/◌, ◌%◌, ◌<◌, ◌≤◌, ◌^◌, ◌==◌, Bool, List, [], ◌++◌, Option, ap, sym, refl, ◌∙◌, arith}
+use Rattle.std.proofs.Common.{◌≡◌, ℕ, zero, suc, ◌+◌, ◌*◌, ◌/◌, ◌%◌, ◌<◌, ◌≤◌, ◌^◌, ◌==◌, Bool, true, false, List, [], ◌∷◌, ◌++◌, length, Option, None, Bor, ap, sym, refl, ◌∙◌, arith}
+use Rattle.std.specs.HashMap.{hash_map_len}
 use Rattle.std.proofs.Math.Nat.{two-pow-succ}
 use Rattle.std.proofs.Math.Pow.{pow_mono}
+use Rattle.kmip_ttlv_util.specs.TagNames.{NameMap, name_in}
 use Rattle.ttlv_run.specs.Masks.{behind_mark, set_name, still_first, bit_names}
 
 -- a bit, so many places from the lowest, and what is left of a number from there on
@@ -42,3 +44,22 @@ next_place names bit rest first p some = by p.left p.all p.few
 pub none_left : (names : ℕ → Option (List ℕ)) (n bit : ℕ) (first : Bool) → bit_names names n bit 0 first ≡ []
 none_left names zero bit first = refl
 none_left names (suc n) bit first = none_left names n (bit * 2) (still_first first (set_name names bit (0 % 2 == 1)))
+
+-- where no bit has a name none is printed
+pub none_named : (names : ℕ → Option (List ℕ)) → ((bit : ℕ) → names bit ≡ None) → (n bit rest : ℕ) (first : Bool) → bit_names names n bit rest first ≡ []
+none_named names none zero bit rest first = refl
+none_named names none (suc n) bit rest first =
+    ap (λ (s : List ℕ). behind_mark first (set_name names bit (rest % 2 == 1)) ++ s) (none_named names none n (bit * 2) (rest / 2) (still_first first (set_name names bit (rest % 2 == 1))))
+    ∙ ap (λ (o : Option (List ℕ)). behind_mark first o ++ []) (unset (rest % 2 == 1))
+  where
+    unset : (is_set : Bool) → set_name names bit is_set ≡ None
+    unset true = none bit
+    unset false = refl
+
+-- an empty map has no name
+pub no_name : (m : NameMap) → hash_map_len m ≡ 0 → (key : ℕ) → name_in m key ≡ None
+no_name m is key = rw (empty m.entries is) refl
+  where
+    empty : (es : List (ℕ × Bor (List ℕ))) → length es ≡ 0 → es ≡ []
+    empty [] none = refl
+    empty (e ∷ es) none = absurd (omega arith)

@@ -89,8 +89,8 @@ module _ (names : Names) (task : Task) (bytes : List ℕ) where
   here p front whole lt told fault tells further = by fault tells (is_taken task (message_at bytes p)) refl
     where
       -- it ends here
-      breaks : (f : Option Fault) → IsMessageText names task p (message_at bytes p) told f → (place : Place) → place.tag ≡ tag_there bytes place.offset → IsWrong task (message_at bytes p) p place f → GoesOn names task bytes (front ++ told)
-      breaks f tells place tag wrong =
+      breaks : (f : Option Fault) → IsMessageText names task p (message_at bytes p) told f → (place : Place) → IsWrong task (message_at bytes p) p place f → GoesOn names task bytes (front ++ told)
+      breaks f tells place wrong =
           let text = front ++ told in
           let breaks : Breaks names task bytes text place = record {
             at = p;
@@ -102,14 +102,13 @@ module _ (names : Names) (task : Task) (bytes : List ℕ) where
             tells = tells;
             wrong = wrong;
             is = refl;
-            tag = tag;
           } in
           record { more = []; place = Some place; prints = subst (λ (s : List ℕ). Breaks names task bytes s place) (sym (append-nil text)) breaks }
 
       by : (f : Option Fault) → IsMessageText names task p (message_at bytes p) told f → (b : Bool) → is_taken task (message_at bytes p) ≡ b → GoesOn names task bytes (front ++ told)
       by None tells true taken = further (whole_more p (p + length (message_at bytes p)) front (front ++ told) told whole lt tells taken refl refl)
-      by None tells false other = breaks None tells (record { offset = p; tag = tag_there bytes p; wrong = NotKmip }) refl (not_taken other refl refl)
-      by (Some f) tells b taken = breaks (Some f) tells (record { offset = p + f.offset; tag = tag_there bytes (p + f.offset); wrong = Malformed f.kind }) refl (malformed f refl refl)
+      by None tells false other = breaks None tells (record { offset = p; tag = tag_there (message_at bytes p) 0; wrong = NotKmip }) (not_taken other refl refl refl)
+      by (Some f) tells b taken = breaks (Some f) tells (record { offset = p + f.offset; tag = tag_there (message_at bytes p) f.offset; wrong = Malformed f.kind }) (malformed f refl refl refl)
 
   module _ (plain : (k : ℕ) → get_or bytes k 0 < 256) where
     -- all messages are whole
@@ -121,7 +120,7 @@ module _ (names : Names) (task : Task) (bytes : List ℕ) where
     one_whole p front lt whole further =
         let message = message_at bytes p in
         let end : Ends message [] = ends message (message_plain bytes p lt plain) 0 [] [] (at_first refl refl refl) in
-        let told = message_text names task p message end.more in
+        let told = message_text names task p message end.more end.fault end.ended in
         back front told (here p front whole lt told end.fault (record { found = end.more; ended = end.ended; is = refl }) (further (front ++ told)))
 
     -- by how many bytes are left

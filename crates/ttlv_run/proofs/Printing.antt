@@ -1,21 +1,21 @@
 -- What is printed of messages goes on behind each beginning, and what was added where printing failed is a beginning of it.
-use Rattle.std.proofs.Common.{◌≡◌, ℕ, ◌<◌, List, [], ◌++◌, length, get_or, Option, Result, Ok, Err, OnErr, ap, sym, refl, subst}
+use Rattle.std.proofs.Common.{◌≡◌, ◌<◌, ℕ, List, [], ◌++◌, get_or, Option, Result, Ok, Err, OnErr, ap, sym, refl, subst, ◌∙◌}
 use Rattle.std.specs.Borrow.{GName}
 use Rattle.std.specs.Io.KnownBytes.{Appends}
 use Rattle.kmip_ttlv_items.specs.declared.found.FoundItem.{FoundItem}
 use Rattle.kmip_ttlv_items.specs.declared.found.Fault.{Fault}
-use Rattle.kmip_ttlv_items.specs.ItemWalks.{Meets, at_first, Ends}
+use Rattle.kmip_ttlv_items.specs.ItemWalks.{Meets, at_first, Ended, Ends}
 use Rattle.kmip_ttlv_items.proofs.Completes.{ends}
 use Rattle.kmip_ttlv_types.specs.Streams.{AppendsFront}
 use Rattle.kmip_ttlv_util.specs.Pieces.{SomeText, Moves}
 use Rattle.kmip_ttlv_util.proofs.Saying.{piece_ends}
 use Rattle.ttlv_run.specs.declared.job.Task.{Task}
-use Rattle.ttlv_run.specs.declared.job.Task.TheVariants.{Show}
+use Rattle.kmip_ttlv_json.specs.declared.print.Hiding.{Hiding}
+use Rattle.kmip_ttlv_json.specs.Printings.{secrets_of, hides_all, IsJson}
+use Rattle.ttlv_run.specs.declared.job.Task.TheVariants.{Show, Json}
 use Rattle.ttlv_run.specs.declared.job.Look.{Look}
-use Rattle.ttlv_run.specs.declared.messages.Place.{Place}
-use Rattle.ttlv_run.specs.Messages.{message_at, Whole, Prints, GoesOn}
 use Rattle.ttlv_run.specs.Texts.{Names, no_reach, lines_from, message_text, IsMessageText}
-use Rattle.ttlv_run.proofs.Completion.{reach_all, lines-append, goes_behind}
+use Rattle.ttlv_run.proofs.Completion.{reach_all, lines-append}
 
 -- it failed
 pub err_holds : {T E : Type 0} (r : Result T E) (P : Type 0) → P → OnErr r P
@@ -25,6 +25,18 @@ err_holds (Err e) P h = h
 -- what a task prints of a message, up to some fault or to its end
 abbrev pub Told : Names → Task → ℕ → List ℕ → List ℕ → Type 0
 Told names task at bytes t = (fault : Option Fault) × IsMessageText names task at bytes t fault
+
+-- a task prints the same of a message, whatever it holds
+abbrev pub IsAlways : Names → Task → ℕ → List ℕ → List ℕ → Type 0
+IsAlways names task at bytes t = (found : List FoundItem) (fault : Option Fault) (ended : Ended bytes found fault) → message_text names task at bytes found fault ended ≡ t
+
+-- what is printed of it as JSON
+pub json_told : (names : Names) (at : ℕ) (bytes : List ℕ) (hiding : Hiding) (task : Task) → task ≡ Json hiding → (t : List ℕ) (fault : Option Fault) → IsJson (secrets_of hiding names.secrets) (hides_all hiding) bytes t fault → IsMessageText names task at bytes t fault
+json_told names at bytes hiding task is t fault h = record {
+  found = h.found;
+  ended = h.ended;
+  is = h.is ∙ sym (ap (λ (task : Task). message_text names task at bytes h.found fault h.ended) is);
+}
 
 -- a message in which items were met has an end
 module _ (names : Names) (at : ℕ) (bytes : List ℕ) (plain : (k : ℕ) → get_or bytes k 0 < 256) where
@@ -41,10 +53,10 @@ module _ (names : Names) (at : ℕ) (bytes : List ℕ) (plain : (k : ℕ) → ge
       }
 
   -- whatever a task prints of it
-  pub told_any : (task : Task) (t : List ℕ) → ((found : List FoundItem) → message_text names task at bytes found ≡ t) → Told names task at bytes t
+  pub told_any : (task : Task) (t : List ℕ) → IsAlways names task at bytes t → Told names task at bytes t
   told_any task t is =
       let end : Ends bytes [] = ends bytes plain 0 [] [] (at_first refl refl refl) in
-      (end.fault, record { found = end.more; ended = end.ended; is = sym (is end.more) })
+      (end.fault, record { found = end.more; ended = end.ended; is = sym (is end.more end.fault end.ended) })
 
 -- sinks, by what was added to them
 module _ {X : Type 0} (adds breaks : X → List ℕ → X → Type 0) (first : (a b : X) (s t : List ℕ) → breaks a s b → breaks a (s ++ t) b) where
@@ -55,19 +67,6 @@ module _ {X : Type 0} (adds breaks : X → List ℕ → X → Type 0) (first : (
     is = rest.told;
     holds = first a b (lines_from names look at bytes no_reach xs) rest.more h;
   }
-
-  -- in the text of a message behind whole ones
-  pub broken_message : (second : (a b c : X) (s t : List ℕ) → adds a s b → breaks b t c → breaks a (s ++ t) c) (names : Names) (task : Task) (bytes : List ℕ) (plain : (k : ℕ) → get_or bytes k 0 < 256) (p : ℕ) (m : List ℕ) (a b c : X) → m ≡ message_at bytes p → p < length bytes → SomeText (Whole names task bytes p) (λ t. adds a t b) → SomeText (Told names task p m) (λ t. breaks b t c)
-      → SomeText (λ t. (place : Option Place) × Prints names task bytes t place) (λ t. breaks a t c)
-  broken_message second names task bytes plain p m a b c is lt w h =
-      let text = w.text ++ h.text in
-      let told = subst (λ (s : List ℕ). Told names task p s h.text) is h.is in
-      let goes : GoesOn names task bytes text = goes_behind names task bytes plain p w.text lt w.is h.text told.0 told.1 in
-      record {
-        text = text ++ goes.more;
-        is = (goes.place, goes.prints);
-        holds = first a c text goes.more (second a b c w.text h.text w.holds h.holds);
-      }
 
 -- ---- pieces over a writer
 

@@ -1,5 +1,5 @@
 -- What is told of an input, and why a run fails.
-use Rattle.std.proofs.Common.{◌≡◌, ◌≢◌, inl, inr, ℕ, suc, List, [], ◌∷◌, ◌++◌, Option, Result, Ok, Err, OnOk, OnErr, Bool, true, is_ok, length, take, sym, ap, subst, ◌∙◌, ◌+◌, arith, codes, length-append}
+use Rattle.std.proofs.Common.{◌≡◌, inl, inr, ℕ, suc, List, [], ◌∷◌, ◌++◌, Option, Result, Ok, Err, OnOk, OnErr, Bool, true, is_ok, length, take, sym, ap, subst, ◌∙◌, ◌+◌, arith, codes, length-append}
 use Rattle.std.proofs.KnownBytes.{Appends-trans}
 use Rattle.std.specs.Io.KnownBytes.{Appends, Keeps}
 use Rattle.kmip_ttlv_types.specs.Streams.{AppendsFront}
@@ -12,7 +12,7 @@ use Rattle.std.specs.Fmt.{decimal}
 use Rattle.ttlv_run.specs.declared.misread.Misread.{Misread}
 use Rattle.ttlv_run.specs.Misreadings.{encoding_words, with_kind, line_end, misread_line}
 use Rattle.ttlv_run.specs.Reasons.{IsOfPrinting, Tells}
-use Rattle.ttlv_run.specs.Runs.{Streams, Unwritten, Fails, Responds, UnwrittenBack, FailsBack}
+use Rattle.ttlv_run.specs.Runs.{Streams, Unwritten, Fails, UnwrittenBack, FailsBack}
 use Rattle.ttlv_run.specs.Texts.{Names}
 
 take_more : (front text : List ℕ) (n : ℕ) → take (length front + n) (front ++ text) ≡ front ++ take n text
@@ -22,7 +22,7 @@ take_more (x ∷ front) text n =
     ap (λ m. take m (x ∷ (front ++ text))) k ∙ ap (λ s. x ∷ s) (take_more front text n)
 
 -- a beginning of a text behind another one is a beginning of both
-front_more : (a b c : Option (List ℕ)) (front text : List ℕ) → Appends a b front → AppendsFront b c text → AppendsFront a c (front ++ text)
+pub front_more : (a b c : Option (List ℕ)) (front text : List ℕ) → Appends a b front → AppendsFront b c text → AppendsFront a c (front ++ text)
 front_more a b c front text all more = record {
   count = length front + more.count;
   within = omega (arith, more.within, length-append front text);
@@ -38,20 +38,14 @@ tells_more (Err e) goes said known mid new front text is says all some h =
     subst (λ b. Tells b known new (front ++ text)) (sym says) (front_more known mid new front text before some)
 
 -- an input that was taken stands for no bytes, and the output stays as it was
-undecoded : (names : Names) (job : Job) (s : Streams) (why : Refusal) (input : List ℕ) → TakesAll s.input s.input_left input → IsUndecoded job.encoding input why → Keeps s.output s.output_now → Fails names job s why
+pub undecoded : (names : Names) (job : Job) (s : Streams) (why : Refusal) (input : List ℕ) → TakesAll s.input s.input_left input → IsUndecoded job.encoding input why → Keeps s.output s.output_now → Fails names job s why
 undecoded names job s UnopenedInput input taken none kept = (record { input = input; taken = taken; undecoded = none }, kept)
-undecoded names job s UnreadableInput input taken none kept = kept
+undecoded names job s UnreadableInput input taken none kept = absurd none
 undecoded names job s (MisreadInput m) input taken none kept = (record { input = input; taken = taken; undecoded = none }, kept)
 undecoded names job s NotUtf8 input taken none kept = (record { input = input; taken = taken; undecoded = none }, kept)
 undecoded names job s UnwritableOutput input taken none kept = absurd none
 undecoded names job s ClosedPipe input taken none kept = absurd none
 undecoded names job s RefusedMemory input taken none kept = inl kept
-
--- the same, where this is answered
-pub responds_undecoded : {T : Type 0} (text : T → List ℕ) (names : Names) (job : Job) (s : Streams) (e y : Refusal) (input : List ℕ) (r : Result (Option T) Refusal) → r ≡ Err y → y ≡ e → TakesAll s.input s.input_left input → IsUndecoded job.encoding input e → Keeps s.output s.output_now → Responds text names job s r
-responds_undecoded {T} text names job s e y input r is same taken none kept =
-    let fails = undecoded names job s e input taken none kept in
-    subst (λ (q : Result (Option T) Refusal). Responds text names job s q) (sym is) (subst (λ (x : Refusal). Fails names job s x) (sym same) fails)
 
 -- printing failed behind a beginning of the text
 pub unwritten : (names : Names) (job : Job) (s : Streams) (why : Refusal) → IsOfPrinting why → Unwritten names job s → Fails names job s why
@@ -62,11 +56,7 @@ unwritten names job s why (inr (inr is)) h = subst (Fails names job s) (sym is) 
 pub unwritten_back : (names : Names) (job : BackJob) (s : Streams) (why : Refusal) → IsOfPrinting why → UnwrittenBack names job s → FailsBack names job s why
 unwritten_back names job s why (inl is) h = subst (FailsBack names job s) (sym is) h
 unwritten_back names job s why (inr (inl is)) h = subst (FailsBack names job s) (sym is) h
-unwritten_back names job s why (inr (inr is)) h = subst (FailsBack names job s) (sym is) (inr h)
-
--- the same, where this is returned
-pub responds_unwritten : {T : Type 0} (text : T → List ℕ) (names : Names) (job : Job) (s : Streams) (why : Refusal) (r : Result (Option T) Refusal) → r ≡ Err why → IsOfPrinting why → Unwritten names job s → Responds text names job s r
-responds_unwritten {T} text names job s why r is of h = subst (λ (q : Result (Option T) Refusal). Responds text names job s q) (sym is) (unwritten names job s why of h)
+unwritten_back names job s why (inr (inr is)) h = subst (FailsBack names job s) (sym is) h
 
 -- the parts of a line that says why an input stands for no bytes
 pub misread_is :

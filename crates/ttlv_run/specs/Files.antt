@@ -5,10 +5,12 @@ use Rattle.std.specs.Prelude.{Option, Some, None}
 use Rattle.std.specs.Io.KnownBytes.{Keeps}
 use Rattle.kmip_ttlv_types.specs.Streams.{AppendsFront}
 use Rattle.ttlv_run.specs.declared.job.Asked.{Asked}
-use Rattle.ttlv_run.specs.declared.job.Asked.TheVariants.{Print, ReadBack}
+use Rattle.ttlv_run.specs.declared.job.Asked.TheVariants.{Print, ReadBack, FromJson}
 use Rattle.ttlv_run.specs.declared.job.BackJob.{BackJob}
 use Rattle.ttlv_run.specs.declared.job.Job.{Job}
+use Rattle.ttlv_run.specs.declared.job.JsonJob.{JsonJob}
 use Rattle.ttlv_run.specs.declared.refusal.Refusal.TheVariants.{UnopenedInput}
+use Rattle.ttlv_run.specs.JsonLines.{PrintedJson, MalformedJson, RefusedJson}
 use Rattle.ttlv_run.specs.Reasons.{refusal_line}
 use Rattle.ttlv_run.specs.Runs.{Streams, Printed, Malformed, Refused, PrintedBack, MalformedBack, RefusedBack}
 use Rattle.ttlv_run.specs.Texts.{Names}
@@ -30,6 +32,13 @@ pub record BackDone
   pub malformed : status ≡ 1 → MalformedBack names job s errors errors_now
   pub refused : (status ≡ 2) ⊎ (status ≡ 3) → RefusedBack names job s status errors errors_now
 
+-- the same of JSON that is read back
+pub record JsonDone (job : JsonJob) (s : Streams) (errors errors_now : Option (List ℕ)) (status : ℕ) : Type 0 where
+  pub known : status ≤ 3
+  pub printed : status ≡ 0 → PrintedJson job s None × Keeps errors errors_now
+  pub malformed : status ≡ 1 → MalformedJson job s errors errors_now
+  pub refused : (status ≡ 2) ⊎ (status ≡ 3) → RefusedJson job s status errors errors_now
+
 -- what was asked is done with an input of this name
 abbrev pub IsDone :
     Names → Asked → Bor (List ℕ) → Streams → Option (List ℕ) → Option (List ℕ) → ℕ → Type 0
@@ -37,6 +46,8 @@ IsDone names (Print task encoding) name s errors errors_now status =
     PrintDone names (record { name = name; task = task; encoding = encoding }) s errors errors_now status
 IsDone names (ReadBack prefix) name s errors errors_now status =
     BackDone names (record { name = name; prefix = prefix }) s errors errors_now status
+IsDone names (FromJson raw) name s errors errors_now status =
+    JsonDone (record { name = name; raw = raw }) s errors errors_now status
 
 -- what opens inputs, and what the output and the errors hold, as far as that is known
 pub record At (O : Type 0) : Type 0 where

@@ -1,8 +1,8 @@
 -- What an input looks like: raw messages, or one of the texts that stand for some.
-use Rattle.std.specs.Prelude.{ℕ, ◌+◌, Bool, false, ◌==◌, ◌||◌, ◌&&◌, List, [], ◌∷◌, take, slice_index, nat_lt}
+use Rattle.std.specs.Prelude.{ℕ, ◌+◌, Bool, true, false, ◌==◌, ◌||◌, ◌&&◌, List, [], ◌∷◌, take, slice_index, nat_lt}
 use Rattle.std.specs.Prelude.{Option, Some, None, if◌then◌else◌}
 use Rattle.ttlv_run.specs.declared.job.Encoding.{Encoding}
-use Rattle.ttlv_run.specs.declared.job.Encoding.TheVariants.{Raw, Hexadecimal, Base64, Base64Url, Armoured, Dump, Packets}
+use Rattle.ttlv_run.specs.declared.job.Encoding.TheVariants.{Detected, Raw, Hexadecimal, Base64, Base64Url, Armoured, Dump, Packets}
 use Rattle.ttlv_run.specs.Columns.{is_between, is_hex_digit, body}
 
 -- a byte that stands in no text
@@ -71,3 +71,9 @@ text_found s = if has_packet s then Packets else if starts_dump s then Dump else
 -- what an input looks like
 abbrev pub encoding_found : List ℕ → Encoding
 encoding_found s = if looks_raw s then Raw else text_found (body s)
+
+-- an input is taken as raw messages
+abbrev pub is_raw : Encoding → List ℕ → Bool
+is_raw Raw s = true
+is_raw Detected s = looks_raw s
+is_raw _ s = false

@@ -1,6 +1,6 @@
 -- What was taken from a reader, and the bytes of messages that an input stands for.
 use Rattle.std.specs.Prelude.{◌≡◌, ℕ, ◌+◌, ◌-◌, ◌<◌, Bool, true, false, not, ◌==◌, ◌||◌, ◌&&◌, List, [], ◌∷◌, ◌++◌, length}
-use Rattle.std.specs.Prelude.{slice_index, nat_lt, Option, Some, None, Result, Ok, Err, if◌then◌else◌}
+use Rattle.std.specs.Prelude.{slice_index, nat_lt, Option, Some, None, IfSome, Result, Ok, Err, if◌then◌else◌}
 use Rattle.std.specs.Io.KnownBytes.{Consumes, IsAtEnd}
 use Rattle.hex.specs.Hex as hex
 use Rattle.base64.specs.Engines.{standard, url_safe, url_safe_no_pad}
@@ -25,6 +25,14 @@ use Rattle.ttlv_run.specs.Guesses.{encoding_found}
 pub record TakesAll (old new : Option (List ℕ)) (bytes : List ℕ) : Type 0 where
   pub taken : Consumes old new bytes
   pub ended : IsAtEnd new
+
+-- these are all bytes that a reader had, of which a front was taken
+pub record TakesSome (old new : Option (List ℕ)) (bytes : List ℕ) : Type 0 where
+  pub front : List ℕ
+  pub left : List ℕ
+  pub are : bytes ≡ front ++ left
+  pub taken : Consumes old new front
+  pub rest : IfSome new (λ known. known ≡ left)
 
 -- why an input was not taken
 abbrev pub IsUnread : Refusal → Type 0

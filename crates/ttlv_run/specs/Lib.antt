@@ -6,10 +6,12 @@ pub mod Files
 pub mod Guesses
 pub mod Inputs
 pub mod Items
+pub mod JsonLines
 pub mod Masks
 pub mod Messages
 pub mod Misreadings
 pub mod Reasons
 pub mod Runs
+pub mod Streaming
 pub mod Tables
 pub mod Texts

@@ -1,7 +1,17 @@
--- The names of a mask's bits.
+-- The names of values, and of a mask's bits.
 use Rattle.std.specs.Prelude.{ℕ, zero, suc, ◌*◌, ◌/◌, ◌%◌, Bool, true, false, ◌==◌, List, [], ◌∷◌, ◌++◌}
 use Rattle.std.specs.Prelude.{Option, Some, None, if◌then◌else◌, codes}
-use Rattle.kmip_ttlv_names.specs.ValueNames.{name_of_value}
+use Rattle.kmip_ttlv_names.specs.ValueNames.{name_of_value, or_else}
+use Rattle.kmip_ttlv_names.specs.OwnNames.{value_key}
+
+-- the name of a value in a list, where there is one
+abbrev pub value_in : Option (List ℕ) → ℕ → Option (List ℕ)
+value_in None value = None
+value_in (Some list) value = name_of_value value list
+
+-- the name of a tag's value: the user's, or else that in a list
+abbrev pub value_named : (ℕ → Option (List ℕ)) → Option (List ℕ) → ℕ → ℕ → Option (List ℕ)
+value_named own list tag value = or_else (own (value_key tag value)) (value_in list value)
 
 -- what stands in front of a name: a space, or a bar where it isn't the first
 abbrev pub mark : Bool → List ℕ
@@ -28,6 +38,6 @@ bit_names names (suc n) bit rest is_first =
     behind_mark is_first (set_name names bit (rest % 2 == 1))
     ++ bit_names names n (bit * 2) (rest / 2) (still_first is_first (set_name names bit (rest % 2 == 1)))
 
--- the names that a list gives to the 32 bits of a mask that are set, from the lowest on
-unfoldable pub list_mask : List ℕ → ℕ → List ℕ
-list_mask list mask = bit_names (λ bit. name_of_value bit list) 32 1 mask true
+-- the names of the 32 bits of a mask that are set, from the lowest on
+unfoldable pub mask_names : (ℕ → Option (List ℕ)) → ℕ → List ℕ
+mask_names names mask = bit_names names 32 1 mask true

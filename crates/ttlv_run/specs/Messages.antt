@@ -15,12 +15,17 @@ use Rattle.ttlv_run.specs.declared.messages.Wrong.{Wrong}
 use Rattle.ttlv_run.specs.declared.messages.Wrong.TheVariants.{Malformed, NotKmip}
 use Rattle.ttlv_run.specs.Texts.{Names, IsMessageText}
 
+-- how many bytes the first message takes by its header, where that is there
+abbrev pub size_stated : List ℕ → Option ℕ
+size_stated bytes = if nat_le 8 (length bytes) then Some (8 + length_at bytes 0) else None
+
+-- all bytes of the first message are there
+abbrev pub is_there : List ℕ → Bool
+is_there bytes = nat_le 8 (length bytes) && nat_le (8 + length_at bytes 0) (length bytes)
+
 -- how many bytes the first message takes: as many as its header states, or else all that are there
 abbrev pub first_size : List ℕ → ℕ
-first_size bytes =
-    if nat_le 8 (length bytes) && nat_le (8 + length_at bytes 0) (length bytes)
-    then 8 + length_at bytes 0
-    else length bytes
+first_size bytes = if is_there bytes then 8 + length_at bytes 0 else length bytes
 
 -- the message that begins at a place
 abbrev pub message_at : List ℕ → ℕ → List ℕ
@@ -53,16 +58,19 @@ pub data Whole (names : Names) (task : Task) (bytes : List ℕ) : ℕ → List �
       → q ≡ p + length (message_at bytes p)
       → Whole names task bytes q new
 
--- what is wrong with the message at a place, and where: it has a fault, or the task takes none with its root
+-- what is wrong with the message at a place, and where: it has a fault, or the task takes none with its root; and the
+-- tag there, where its three bytes are in the message
 pub data IsWrong (task : Task) (message : List ℕ) (at : ℕ) (place : Place) : Option Fault → Type 0 where
   malformed :
       (f : Fault)
       → place.offset ≡ at + f.offset
+      → place.tag ≡ tag_there message f.offset
       → place.wrong ≡ Malformed f.kind
       → IsWrong task message at place (Some f)
   not_taken :
       is_taken task message ≡ false
       → place.offset ≡ at
+      → place.tag ≡ tag_there message 0
       → place.wrong ≡ NotKmip
       → IsWrong task message at place None
 
@@ -77,7 +85,6 @@ pub record Breaks (names : Names) (task : Task) (bytes text : List ℕ) (place :
   pub tells : IsMessageText names task at (message_at bytes at) told fault
   pub wrong : IsWrong task (message_at bytes at) at place fault
   pub is : text ≡ front ++ told
-  pub tag : place.tag ≡ tag_there bytes place.offset
 
 -- what is printed of all messages, or of those up to the first fault
 abbrev pub Prints : Names → Task → List ℕ → List ℕ → Option Place → Type 0

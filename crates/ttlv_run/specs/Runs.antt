@@ -1,20 +1,24 @@
 -- What a run takes, prints and says.
-use Rattle.std.specs.Prelude.{◌≡◌, ◌⊎◌, ℕ, List, Option, Some, None, Result, Ok, Err}
-use Rattle.std.specs.Io.KnownBytes.{Appends, Keeps}
+use Rattle.std.specs.Prelude.{◌≡◌, ◌⊎◌, ℕ, Bool, true, false, List, [], ◌∷◌, ◌++◌, drop, Option, Some, None, IfSome, Result, Ok, Err}
+use Rattle.std.specs.Io.KnownBytes.{Appends, Consumes, Keeps}
+use Rattle.kmip_ttlv_items.specs.ItemWalks.{AreBytes}
 use Rattle.kmip_ttlv_types.specs.Streams.{AppendsFront}
 use Rattle.std.specs.Str.{IsUtf8}
 use Rattle.ttlv_run.specs.declared.job.Job.{Job}
 use Rattle.ttlv_run.specs.declared.job.BackJob.{BackJob}
+use Rattle.ttlv_run.specs.declared.job.Task.{Task}
 use Rattle.ttlv_run.specs.declared.messages.Place.{Place}
 use Rattle.ttlv_run.specs.declared.refusal.Refusal.{Refusal}
 use Rattle.ttlv_run.specs.declared.refusal.Refusal.TheVariants.{UnreadableInput, NotUtf8}
 use Rattle.ttlv_run.specs.declared.refusal.Refusal.TheVariants.{UnwritableOutput, ClosedPipe, RefusedMemory}
 use Rattle.kmip_ttlv_names.specs.NameTables.{lines_of}
+use Rattle.kmip_ttlv_util.specs.Pieces.{SomeText}
 use Rattle.ttlv_run.specs.declared.back.BackFault.{BackFault}
-use Rattle.ttlv_run.specs.Backs.{FirstBreak, back_line}
-use Rattle.ttlv_run.specs.Inputs.{TakesAll, Stands, IsUndecoded}
-use Rattle.ttlv_run.specs.Messages.{Prints, fault_line}
-use Rattle.ttlv_run.specs.Reasons.{status_of, refusal_line}
+use Rattle.ttlv_run.specs.Backs.{FirstBreak, IsOneLine, AreLines, ReadsLines, back_line}
+use Rattle.ttlv_run.specs.Guesses.{is_raw}
+use Rattle.ttlv_run.specs.Inputs.{TakesAll, TakesSome, Stands, IsUndecoded}
+use Rattle.ttlv_run.specs.Messages.{is_there, Whole, Prints, fault_line}
+use Rattle.ttlv_run.specs.Reasons.{IsOfPrinting, status_of, refusal_line}
 use Rattle.ttlv_run.specs.Texts.{Names, text_back}
 
 -- what the input has and what the output holds, before and after a run, as far as that is known
@@ -24,28 +28,32 @@ pub record Streams : Type 0 where
   pub output : Option (List ℕ)
   pub output_now : Option (List ℕ)
 
--- the whole input was taken, and this text is what is printed of its messages, up to the first fault
-pub record HasText (names : Names) (job : Job) (s : Streams) (text : List ℕ) (place : Option Place) : Type 0 where
-  pub input : List ℕ
+-- this text is what is printed of the messages of an input, up to the first fault
+pub record HasText (names : Names) (job : Job) (input text : List ℕ) (place : Option Place) : Type 0 where
   pub bytes : List ℕ
-  pub taken : TakesAll s.input s.input_left input
   pub stands : Stands job.encoding input bytes
   pub prints : Prints names job.task bytes text place
 
--- exactly that was appended to the output
-pub record Shows (names : Names) (job : Job) (s : Streams) (place : Option Place) : Type 0 where
+-- the whole input was taken, all its messages are whole, and exactly what is printed of them was appended to the output
+pub record Printed (names : Names) (job : Job) (s : Streams) : Type 0 where
+  pub input : List ℕ
   pub text : List ℕ
-  pub has : HasText names job s text place
+  pub taken : TakesAll s.input s.input_left input
+  pub has : HasText names job input text None
   pub appended : Appends s.output s.output_now text
 
--- and all messages are whole
-abbrev pub Printed : Names → Job → Streams → Type 0
-Printed names job s = Shows names job s None
+-- a message of the input is wrong, and exactly what is printed up to its fault was appended to the output
+pub record Faults (names : Names) (job : Job) (s : Streams) (place : Place) : Type 0 where
+  pub input : List ℕ
+  pub text : List ℕ
+  pub taken : TakesSome s.input s.input_left input
+  pub has : HasText names job input text (Some place)
+  pub appended : Appends s.output s.output_now text
 
--- or one is malformed, which this line says
+-- and this line says so
 pub record Breaks (names : Names) (job : Job) (s : Streams) (line : List ℕ) : Type 0 where
   pub place : Place
-  pub shows : Shows names job s (Some place)
+  pub faults : Faults names job s place
   pub says : line ≡ fault_line names job.name.now place
 
 -- the whole input was taken, and this is why it stands for no bytes
@@ -54,21 +62,61 @@ pub record Undecoded (job : Job) (s : Streams) (why : Refusal) : Type 0 where
   pub taken : TakesAll s.input s.input_left input
   pub undecoded : IsUndecoded job.encoding input why
 
--- a beginning of what is printed was appended to the output
-pub record Unwritten (names : Names) (job : Job) (s : Streams) : Type 0 where
+-- a beginning of what is printed of the input was appended to the output
+pub record Begun (names : Names) (job : Job) (s : Streams) : Type 0 where
+  pub input : List ℕ
   pub text : List ℕ
   pub place : Option Place
-  pub has : HasText names job s text place
+  pub taken : TakesSome s.input s.input_left input
+  pub has : HasText names job input text place
   pub appended : AppendsFront s.output s.output_now text
 
--- why a run ends with status 2 or 3, and what it did by then: the output stays as it was, but where it can't be
--- written, and where memory ran out behind a beginning of what is printed
+-- the same, as long as what the input has left are bytes
+abbrev pub Unwritten : Names → Job → Streams → Type 0
+Unwritten names job s = IfSome s.input_left AreBytes → Begun names job s
+
+-- exactly what is printed of the messages that are whole among raw bytes was appended to the output
+pub record Fronts (names : Names) (task : Task) (bytes : List ℕ) (output output_now : Option (List ℕ)) : Type 0 where
+  pub place : ℕ
+  pub text : List ℕ
+  pub whole : Whole names task bytes place text
+  pub no_more : is_there (drop place bytes) ≡ false
+  pub appended : Appends output output_now text
+
+-- these bytes came before reading failed: raw, or a text, of which nothing is printed then
+abbrev pub FrontsIf : Bool → Names → Task → List ℕ → Option (List ℕ) → Option (List ℕ) → Type 0
+FrontsIf true names task bytes output output_now = Fronts names task bytes output output_now
+FrontsIf false names task bytes output output_now = Keeps output output_now
+
+pub record Unread (names : Names) (job : Job) (s : Streams) : Type 0 where
+  pub bytes : List ℕ
+  pub taken : Consumes s.input s.input_left bytes
+  pub fronts : FrontsIf (is_raw job.encoding bytes) names job.task bytes s.output s.output_now
+
+-- why a run ends with status 2 or 3, and what it did by then: the output stays as it was, but where raw messages came before
+-- reading failed, where the output can't be written, and where memory ran out behind a beginning of what is printed
 abbrev pub Fails : Names → Job → Streams → Refusal → Type 0
-Fails names job s UnreadableInput = Keeps s.output s.output_now
+Fails names job s UnreadableInput = Unread names job s
 Fails names job s UnwritableOutput = Unwritten names job s
 Fails names job s ClosedPipe = Unwritten names job s
 Fails names job s RefusedMemory = Keeps s.output s.output_now ⊎ Unwritten names job s
 Fails names job s why = Undecoded job s why × Keeps s.output s.output_now
+
+-- what is printed for a job, up to the first fault
+abbrev pub Places : Names → Job → Streams → Result (Option Place) Refusal → Type 0
+Places names job s (Ok None) = Printed names job s
+Places names job s (Ok (Some place)) = Faults names job s place
+Places names job s (Err why) = Fails names job s why
+
+-- the same of an input that was taken as a whole
+abbrev pub PrintsInput :
+    Names → Job → List ℕ → Option (List ℕ) → Option (List ℕ) → Result (Option Place) Refusal → Type 0
+PrintsInput names job input output output_now (Ok place) =
+    SomeText (λ text. HasText names job input text place) (Appends output output_now)
+PrintsInput names job input output output_now (Err why) =
+    (IsUndecoded job.encoding input why × Keeps output output_now)
+    ⊎ (IsOfPrinting why
+    × SomeText (λ text. (place : Option Place) × HasText names job input text place) (AppendsFront output output_now))
 
 -- what is done for a job
 abbrev pub Responds : {T : Type 0} → (T → List ℕ) → Names → Job → Streams → Result (Option T) Refusal → Type 0
@@ -113,26 +161,52 @@ pub record MalformedBack
   pub printed : PrintedBack names job s (Some fault)
   pub told : AppendsFront errors errors_now (back_line job.name.now fault)
 
--- the whole input was taken, and it is no text
-pub record NoText (s : Streams) : Type 0 where
-  pub input : List ℕ
-  pub taken : TakesAll s.input s.input_left input
-  pub no_text : IsUtf8 input → ⊥
-
--- a beginning of what the input is read back as was appended to the output
-pub record UnwrittenBack (names : Names) (job : BackJob) (s : Streams) : Type 0 where
+-- exactly what the whole lines among the bytes that came before reading failed are read back as was appended
+pub record UnreadBack (names : Names) (job : BackJob) (s : Streams) : Type 0 where
+  pub bytes : List ℕ
+  pub taken : Consumes s.input s.input_left bytes
+  pub place : ℕ
   pub text : List ℕ
-  pub fault : Option BackFault
-  pub has : HasBack names job s text fault
-  pub appended : AppendsFront s.output s.output_now text
+  pub reads : ReadsLines names.tags job.prefix.now bytes place text
+  pub one_line : IsOneLine (drop place bytes)
+  pub appended : Appends s.output s.output_now text
 
--- why diagnostics were not printed, and what was done by then
+-- a line of the input is no text, and so is the input; exactly what the lines before it are read back as was appended
+pub record NoTextBack (names : Names) (job : BackJob) (s : Streams) : Type 0 where
+  pub input : List ℕ
+  pub taken : TakesSome s.input s.input_left input
+  pub no_text : IsUtf8 input → ⊥
+  pub place : ℕ
+  pub text : List ℕ
+  pub reads : ReadsLines names.tags job.prefix.now input place text
+  pub line : List ℕ
+  pub others : List (List ℕ)
+  pub first : lines_of (drop place input) ≡ line ∷ others
+  pub line_no_text : IsUtf8 line → ⊥
+  pub appended : Appends s.output s.output_now text
+
+-- a beginning of what lines in front of the input, or all of it, are read back as was appended; those lines are text
+pub record UnwrittenBack (names : Names) (job : BackJob) (s : Streams) : Type 0 where
+  pub input : List ℕ
+  pub fault : Option BackFault
+  pub taken : TakesSome s.input s.input_left input
+  pub first : FirstBreak job.prefix.now 0 (lines_of input) fault
+  pub front : List ℕ
+  pub more : List ℕ
+  pub are : input ≡ front ++ more
+  pub ends : AreLines front ⊎ (more ≡ [])
+  pub is_text : IsUtf8 front
+  pub rest : List ℕ
+  pub is : text_back names.tags job.prefix.now input ≡ text_back names.tags job.prefix.now front ++ rest
+  pub appended : AppendsFront s.output s.output_now (text_back names.tags job.prefix.now front)
+
+-- why reading back ended early, and what was printed by then
 abbrev pub FailsBack : Names → BackJob → Streams → Refusal → Type 0
-FailsBack names job s UnreadableInput = Keeps s.output s.output_now
-FailsBack names job s NotUtf8 = NoText s × Keeps s.output s.output_now
+FailsBack names job s UnreadableInput = UnreadBack names job s
+FailsBack names job s NotUtf8 = NoTextBack names job s
 FailsBack names job s UnwritableOutput = UnwrittenBack names job s
 FailsBack names job s ClosedPipe = UnwrittenBack names job s
-FailsBack names job s RefusedMemory = Keeps s.output s.output_now ⊎ UnwrittenBack names job s
+FailsBack names job s RefusedMemory = UnwrittenBack names job s
 FailsBack names job s _ = ⊥
 
 abbrev pub RespondsBack : Names → BackJob → Streams → Result (Option BackFault) Refusal → Type 0

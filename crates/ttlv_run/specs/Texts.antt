@@ -17,34 +17,19 @@ use Rattle.kmip_ttlv_util.specs.TagNames.{name_in}
 use Rattle.kmip_ttlv_util.specs.Traces.{trace}
 use Rattle.kmip_ttlv_util.specs.Undiag.{undiag_lines}
 use Rattle.kmip_ttlv_names.specs.NameTables.{lines_of}
-use Rattle.kmip_ttlv_names.specs.ValueNames.{name_of_value}
 use Rattle.kmip_ttlv_items.specs.declared.found.FoundItem.{FoundItem}
 use Rattle.kmip_ttlv_items.specs.declared.found.Fault.{Fault}
 use Rattle.kmip_ttlv_items.specs.ItemWalks.{Ended, content_at}
+use Rattle.kmip_ttlv_json.specs.Printings.{secrets_of, hides_all, has_line, json_text}
 use Rattle.ttlv_run.specs.declared.job.Task.{Task}
-use Rattle.ttlv_run.specs.declared.job.Task.TheVariants.{Show, Diagnose, Hexadecimal, Check}
+use Rattle.ttlv_run.specs.declared.job.Task.TheVariants.{Show, Diagnose, Hexadecimal, Json, Check}
 use Rattle.ttlv_run.specs.declared.job.Values.{Values}
 use Rattle.ttlv_run.specs.declared.job.Values.TheVariants.{Hidden, Escaped}
 use Rattle.ttlv_run.specs.declared.job.Look.{Look}
 use Rattle.ttlv_run.specs.declared.lines.Reach.{Reach}
 use Rattle.ttlv_run.specs.Dates.{date_shown}
-use Rattle.ttlv_run.specs.Masks.{list_mask}
+use Rattle.ttlv_run.specs.Masks.{value_named, mask_names}
 use Rattle.ttlv_run.specs.declared.job.Names.{Names as NamesHeld}
-
--- the name of a value in a list, where there is one
-abbrev pub value_in : Option (List ℕ) → ℕ → Option (List ℕ)
-value_in None value = None
-value_in (Some list) value = name_of_value value list
-
--- the names of the bits of a mask that are set, where there is a list of them
-abbrev pub mask_in : Option (List ℕ) → ℕ → List ℕ
-mask_in None mask = []
-mask_in (Some list) mask = list_mask list mask
-
--- something is there
-abbrev pub is_there : Option (List ℕ) → Bool
-is_there None = false
-is_there (Some name) = true
 
 -- the names that are printed: of tags, of a tag's values, and of the bits that are set in a mask; and which tags are
 -- secret
@@ -54,13 +39,13 @@ pub record Names : Type 0 where
   pub masks : ℕ → ℕ → List ℕ
   pub secrets : ℕ → Bool
 
--- those that a program holds
+-- those that a program holds; a user's own names of values come before the others
 abbrev pub names_of : {A : Type 0} → NamesHeld A → Names
 names_of held = record {
   tags = name_in held.tags;
-  values = λ tag value. value_in (name_in held.values tag) value;
-  masks = λ tag mask. mask_in (name_in held.masks tag) mask;
-  secrets = λ tag. is_there (name_in held.secrets tag);
+  values = λ tag value. value_named (name_in held.own) (name_in held.values tag) tag value;
+  masks = λ tag mask. mask_names (value_named (name_in held.own) (name_in held.masks tag) tag) mask;
+  secrets = has_line held.secrets;
 }
 
 -- a name behind a space
@@ -200,16 +185,21 @@ line_back tags prefix line = trimmed_back tags prefix (trim_end line)
 unfoldable pub text_back : (ℕ → Option (List ℕ)) → List ℕ → List ℕ → List ℕ
 text_back tags prefix text = flat_map (line_back tags prefix) (lines_of text)
 
--- what a task prints of a message that begins at an offset, in which these items were met
-abbrev pub message_text : Names → Task → ℕ → List ℕ → List FoundItem → List ℕ
-message_text names (Show look) at bytes found = lines_from names look at bytes no_reach found
-message_text names (Diagnose closed prefix) at bytes found =
+-- what a task prints of a message that begins at an offset, in which these items were met by its end, or by the first
+-- fault
+abbrev pub message_text :
+    Names → Task → ℕ → (bytes : List ℕ) → (found : List FoundItem) → (fault : Option Fault) → Ended bytes found fault
+    → List ℕ
+message_text names (Show look) at bytes found fault ended = lines_from names look at bytes no_reach found
+message_text names (Diagnose closed prefix) at bytes found fault ended =
     hostile prefix.now closed (length bytes) (trace closed bytes) ++ 10 ∷ []
-message_text names Hexadecimal at bytes found = encode_upper bytes ++ 10 ∷ []
-message_text names (Check kmip) at bytes found = []
+message_text names Hexadecimal at bytes found fault ended = encode_upper bytes ++ 10 ∷ []
+message_text names (Json hiding) at bytes found fault ended =
+    json_text (secrets_of hiding names.secrets) (hides_all hiding) bytes found fault ended
+message_text names (Check kmip) at bytes found fault ended = []
 
 -- this is the text of a message that begins at an offset: of the items that were met by its end, or by the first fault
 pub record IsMessageText (names : Names) (task : Task) (at : ℕ) (bytes text : List ℕ) (fault : Option Fault) : Type 0 where
   pub found : List FoundItem
   pub ended : Ended bytes found fault
-  pub is : text ≡ message_text names task at bytes found
+  pub is : text ≡ message_text names task at bytes found fault ended

@@ -1,13 +1,14 @@
 //! Diagnostics read back as readable lines: a line of the input for each.
 
-ghost use Rattle.std.specs.Prelude.{◌≡◌, ◌<◌, ◌+◌, ◌++◌, ◌^◌, length, IfOk, OnOk, OnErr};
+ghost use Rattle.std.specs.Prelude.{◌≡◌, ◌≢◌, ◌<◌, ◌≤◌, ◌+◌, ◌++◌, ◌^◌, ℕ, false, length, drop, slice_index, IfOk, OnOk, OnErr, MatchOption};
+ghost use Rattle.kmip_ttlv_util.specs.Pieces.{SomeText};
 ghost use Rattle.kmip_ttlv_util.specs.TagNames.{name_in};
-ghost use Rattle.kmip_ttlv_names.specs.NameTables.{lines_of};
-ghost use Rattle.ttlv_run.specs.Backs.{Stopped, Tries, FirstBreak, back_words};
-ghost use Rattle.ttlv_run.specs.Texts.{line_back, text_back};
+ghost use Rattle.ttlv_run.specs.Backs.{Stopped, Tries, IsOneLine, IsLineAt, ReadsBack, ReadsFront, back_words};
+ghost use Rattle.ttlv_run.specs.Texts.{line_back};
 
 use kmip_ttlv_util::{Indentation, LentTagMap, TextSink, push_read_back};
 use std::alloc::Allocator;
+use std::str;
 
 /// What is wrong with a line of diagnostics.
 #[derive(Clone, Copy, Debug, PartialEq, Eq)]
@@ -77,31 +78,116 @@ fn push_back<S: TextSink, A: Allocator + Copy>(
     Ok(stopped_at(at + end.used, end.depth, line.len() - end.used))
 }
 
-/// Adds what diagnostics under a prefix are read back as, each in a line of its own, and gives where the first
-/// of them that is not whole stops being one.
+/// How far lines of diagnostics were read back.
+#[derive(Clone, Copy, Debug, PartialEq, Eq)]
+pub enum BackReached {
+    /// Behind so many bytes, and where the first line that is not whole stops being a diagnostic, if there is one.
+    Behind {
+        count: usize,
+        found: Option<BackFault>,
+    },
+    /// In front of a line that is not UTF-8.
+    NoText,
+}
+
+/// Where the first line feed stands; behind all bytes if there is none.
+pub fn line_end(bytes: &[u8]) -> usize
+    ensures within { result ≤ length bytes.now }
+    ensures before { (k : ℕ) → k < result → slice_index bytes.now k ≢ 10 }
+    ensures found { result < length bytes.now → slice_index bytes.now result ≡ 10 }
+{
+    for (at, b) in bytes.iter().enumerate() {
+        if *b == b'\n' {
+            return at;
+        }
+    }
+    bytes.len()
+}
+
+// The bytes from a place on.
+fn behind(bytes: &[u8], at: usize) -> &[u8]
+    requires { at ≤ length bytes.now }
+    ensures { result.now ≡ drop at bytes.now }
+{
+    &bytes[at..]
+}
+
+// The line that begins at a place, without its line feed; nothing if that isn't there.
+fn line_at(bytes: &[u8], at: usize) -> Option<&[u8]>
+    requires { at ≤ length bytes.now }
+    ensures { MatchOption result (IsOneLine (drop at bytes.now)) (λ line. IsLineAt bytes.now at line.now) }
+{
+    let rest = behind(bytes, at);
+    let end = line_end(rest);
+    if end < rest.len() {
+        Some(&rest[..end])
+    } else {
+        None
+    }
+}
+
+// Adds what the lines that end with a line feed are read back as, up to the first that is not UTF-8.
+fn push_lines<S: TextSink, A: Allocator + Copy>(
+    alloc: A,
+    out: &mut S,
+    names: &LentTagMap<'_, A>,
+    prefix: &str,
+    base: usize,
+    bytes: &[u8],
+) -> Result<BackReached, S::Error>
+    requires { base + length bytes.now < 2 ^ 64 }
+    ensures ok { IfOk result (λ reached. SomeText (ReadsBack (name_in names.now) prefix.now base bytes.now false reached)
+        (λ t. S.adds out.old t out.new)) }
+    ensures err { OnErr result (SomeText (ReadsFront (name_in names.now) prefix.now bytes.now false)
+        (λ t. S.breaks out.old t out.new)) }
+{
+    let mut at = 0;
+    let mut found = None;
+    'lines: while let Some(line) = line_at(bytes, at) {
+        let Ok(text) = str::from_utf8(line) else {
+            return Ok(BackReached::NoText);
+        };
+        let fault = push_back(alloc, out, names, prefix, base + at, text)?;
+        found = found.or(fault);
+        at += line.len() + 1;
+    }
+    Ok(BackReached::Behind { count: at, found })
+}
+
+/// Adds what lines of diagnostics under a prefix are read back as, and gives where the first of them that is not whole
+/// stops being one. Their bytes begin at an offset; if they aren't the last, what is behind the last line feed is left.
 ///
-/// What they are read back as is never held as a whole. It fails where the sink fails and when out of memory; a
-/// beginning of the text was added then.
+/// It stops in front of a line that is not UTF-8. What a line is read back as is never held as a whole. It fails
+/// where the sink fails and when out of memory; a beginning of the text was added then.
 pub fn print_back<S: TextSink, A: Allocator + Copy>(
     alloc: A,
     out: &mut S,
     names: &LentTagMap<'_, A>,
     prefix: &str,
-    text: &str,
-) -> Result<Option<BackFault>, S::Error>
-    ensures text { OnOk result (S.adds out.old (text_back (name_in names.now) prefix.now text.now) out.new) }
-    ensures broken { OnErr result (S.breaks out.old (text_back (name_in names.now) prefix.now text.now) out.new) }
-    ensures fault { IfOk result (λ fault. FirstBreak prefix.now 0 (lines_of text.now) fault) }
+    base: usize,
+    bytes: &[u8],
+    last: bool,
+) -> Result<BackReached, S::Error>
+    requires { base + length bytes.now < 2 ^ 64 }
+    ensures ok { IfOk result (λ reached. SomeText (ReadsBack (name_in names.now) prefix.now base bytes.now last reached)
+        (λ t. S.adds out.old t out.new)) }
+    ensures err { OnErr result (SomeText (ReadsFront (name_in names.now) prefix.now bytes.now last)
+        (λ t. S.breaks out.old t out.new)) }
 {
-    let mut rest = text;
-    let mut first = None;
-    'lines: while let Some((line, more)) = rest.split_once('\n') {
-        let at = text.len() - rest.len();
-        let found = push_back(alloc, out, names, prefix, at, line)?;
-        first = first.or(found);
-        rest = more;
+    let reached = push_lines(alloc, out, names, prefix, base, bytes)?;
+    let BackReached::Behind { count, found } = reached else {
+        return Ok(BackReached::NoText);
+    };
+    if !last {
+        return Ok(reached);
     }
-    let at = text.len() - rest.len();
-    let found = push_back(alloc, out, names, prefix, at, rest)?;
-    Ok(first.or(found))
+    let rest = behind(bytes, count);
+    let Ok(text) = str::from_utf8(rest) else {
+        return Ok(BackReached::NoText);
+    };
+    let fault = push_back(alloc, out, names, prefix, base + count, text)?;
+    Ok(BackReached::Behind {
+        count: bytes.len(),
+        found: found.or(fault),
+    })
 }

@@ -4,11 +4,12 @@ ghost use Rattle.std.specs.Prelude.{◌≡◌, ℕ, List, Option};
 ghost use Rattle.ttlv_run.specs.Files.{IsDone, FileDone, greater, FilesDone};
 ghost use Rattle.ttlv_run.specs.Texts.{names_of};
 
-use crate::job::{Asked, BackJob, Job, Names};
+use crate::from_json::read_json;
+use crate::job::{Asked, BackJob, Job, JsonJob, Names};
 use crate::memory::Memory;
 use crate::refusal::Refusal;
 use crate::run::{read_back, run, tell_refusal};
-use std::alloc::Allocator;
+use std::alloc::{Allocator, Global};
 use std::io::{Read, Write};
 
 /// What opens inputs by their names.
@@ -24,9 +25,9 @@ pub trait Opener {
         ensures { opens self.old name.now result self.new };
 }
 
-/// Does with an input what is asked, and answers the exit status, of [`run`] or of [`read_back`].
-pub fn run_asked<A: Allocator + Copy, B: Allocator + Copy, R: Read, W: Write, E: Write>(
-    memory: Memory<A, B>,
+/// Does with an input what is asked, and returns the exit status, of [`run`], [`read_back`] or [`read_json`].
+pub fn run_asked<B: Allocator + Copy, R: Read, W: Write, E: Write>(
+    memory: Memory<Global, B>,
     asked: Asked<'_>,
     name: &str,
     names: &Names<'_, B>,
@@ -56,12 +57,16 @@ pub fn run_asked<A: Allocator + Copy, B: Allocator + Copy, R: Read, W: Write, E:
             let job = BackJob { name, prefix };
             read_back(memory, &job, names, input, output, errors)
         }
+        Asked::FromJson { raw } => {
+            let job = JsonJob { name, raw };
+            read_json(memory.input, &job, input, output, errors)
+        }
     }
 }
 
 // Does it with a file.
-fn run_file<A: Allocator + Copy, B: Allocator + Copy, O: Opener, W: Write, E: Write>(
-    memory: Memory<A, B>,
+fn run_file<B: Allocator + Copy, O: Opener, W: Write, E: Write>(
+    memory: Memory<Global, B>,
     asked: Asked<'_>,
     name: &str,
     names: &Names<'_, B>,
@@ -91,10 +96,10 @@ fn greater(a: u8, b: u8) -> u8
 }
 
 /// Does with each file what is asked, one after the other, and answers the greatest of their exit statuses:
-/// those of [`run`] and [`read_back`], and 2 for a file that can't be opened. Behind a file with status 3,
+/// those of [`run`], [`read_back`] and [`read_json`], and 2 for a file that can't be opened. Behind a file with status 3,
 /// want of memory or an output that fails, no other is read.
-pub fn run_files<A: Allocator + Copy, B: Allocator + Copy, O: Opener, W: Write, E: Write>(
-    memory: Memory<A, B>,
+pub fn run_files<B: Allocator + Copy, O: Opener, W: Write, E: Write>(
+    memory: Memory<Global, B>,
     asked: Asked<'_>,
     names: &Names<'_, B>,
     files: &[&str],

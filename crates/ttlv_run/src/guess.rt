@@ -3,7 +3,7 @@
 ghost use Rattle.std.specs.Prelude.{◌≡◌, ◌<◌, ◌≤◌, length, slice_index};
 ghost use Rattle.ttlv_run.specs.Columns.{mark_length};
 ghost use Rattle.ttlv_run.specs.Guesses.{is_control, has_control, looks_raw, first_byte, zeros, ends_offset, starts_dump};
-ghost use Rattle.ttlv_run.specs.Guesses.{starts_packet, has_packet, has_url_digit, by_first_byte, text_found, encoding_found};
+ghost use Rattle.ttlv_run.specs.Guesses.{starts_packet, has_packet, has_url_digit, by_first_byte, text_found, encoding_found, is_raw};
 
 use crate::form::{is_between, is_hex_digit};
 use crate::job::Encoding;
@@ -172,4 +172,20 @@ pub fn encoding_found(input: &[u8]) -> Encoding
         return Encoding::Raw;
     }
     text_found(&input[mark_length(input)..])
+}
+
+/// Whether an input is raw messages, of which the first four bytes are there or all.
+pub fn is_raw(encoding: Encoding, front: &[u8]) -> bool
+    ensures { result ≡ is_raw encoding front.now }
+{
+    match encoding {
+        Encoding::Raw => true,
+        Encoding::Detected => looks_raw(front),
+        Encoding::Hexadecimal
+        | Encoding::Base64
+        | Encoding::Base64Url
+        | Encoding::Armoured
+        | Encoding::Dump
+        | Encoding::Packets => false,
+    }
 }

@@ -3,6 +3,8 @@
 ghost use Rattle.std.specs.Prelude.{◌≡◌};
 ghost use Rattle.ttlv_run.specs.Misreadings.{encoding_words};
 
+use kmip_ttlv_json::Hiding;
+use kmip_ttlv_names::ValueMap;
 use kmip_ttlv_util::LentTagMap;
 use std::alloc::{Allocator, Global};
 
@@ -57,6 +59,8 @@ pub enum Task<'w> {
     Diagnose { closed: bool, prefix: &'w str },
     /// Its bytes in hexadecimal and a line feed.
     Hexadecimal,
+    /// A line of JSON; nothing of a message with a fault.
+    Json { hiding: Hiding },
     /// Nothing; with `kmip` a message is at fault too whose root is neither a Request Message nor a Response Message.
     Check { kmip: bool },
 }
@@ -110,6 +114,8 @@ pub enum Asked<'w> {
     Print { task: Task<'w>, encoding: Encoding },
     /// To read back its diagnostics, which leave these digits out of tags.
     ReadBack { prefix: &'w str },
+    /// To print the messages that its lines are the JSON of: as raw bytes, or in hexadecimal, each in a line of its own.
+    FromJson { raw: bool },
 }
 
 /// What a run is to do with its input.
@@ -132,6 +138,15 @@ pub struct BackJob<'w> {
     pub prefix: &'w str,
 }
 
+/// What a run that reads JSON back is to do with its input.
+#[derive(Clone, Copy, Debug, PartialEq, Eq)]
+pub struct JsonJob<'w> {
+    /// What the input is called, in the line on standard error.
+    pub name: &'w str,
+    /// Whether messages are printed as raw bytes, and not in hexadecimal.
+    pub raw: bool,
+}
+
 /// The names that are printed beside tags and values, and the tags whose values are secret.
 #[derive(Drop)]
 pub struct Names<'n, A: Allocator = Global> {
@@ -141,6 +156,8 @@ pub struct Names<'n, A: Allocator = Global> {
     pub values: LentTagMap<'n, A>,
     /// The lists of masks' bits, by tag, in the same form.
     pub masks: LentTagMap<'n, A>,
+    /// A user's own names of values and of bits, which come before those of the lists.
+    pub own: ValueMap<'n, A>,
     /// The tags of items whose values are secret, each with a name of any kind.
     pub secrets: LentTagMap<'n, A>,
 }

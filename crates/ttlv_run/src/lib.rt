@@ -1,14 +1,14 @@
 //! What the program `ttlv` does, over any reader and any writers: it takes an input of TTLV messages,
 //! one after the other, as raw bytes, hexadecimal, base64 or a dump, and prints them as readable lines, as
-//! diagnostics or in hexadecimal, or checks them; or it reads diagnostics back.
+//! diagnostics, as JSON or in hexadecimal, or checks them; or it reads diagnostics or JSON back.
 //!
-//! `files` is the entry, for several inputs, and `run` for one. `job` says what is to be done, `coding` takes
-//! the bytes out of the input, `guess` finds its encoding, `form` says which bytes of a text are digits, `misread`
-//! why an input stands for no bytes, `messages` goes from message to message, `texts`, `lines`, `values`, `dates`,
-//! `masks`, `colors` and `escape` print one to any sink of texts, `back` reads diagnostics back, and `refusal` has
-//! the reasons for statuses 2 and 3. `table`
-//! reads a file of names, `progress` tells how far the reading is, and `memory` says where a run takes its memory from. Items, faults and diagnostics are those of
-//! kmip_ttlv_items and kmip_ttlv_util.
+//! `files` is the entry, for several inputs, and `run` for one. `job` says what is to be done, `window` holds what was
+//! read and not printed yet, `coding` takes the bytes out of a text, `guess` finds its encoding, `form` says which bytes
+//! of it are digits, `misread` why it stands for no bytes, `messages` goes from message to message, `texts`, `lines`,
+//! `values`, `dates`, `masks`, `colors` and `escape` print one to any sink of texts, `back` reads diagnostics back, `from_json` JSON, and
+//! `refusal` has the reasons for statuses 2 and 3. `table` reads a file of names, `progress` tells how far the reading
+//! is, and `memory` says where a run takes its memory from. Items, faults, diagnostics and JSON are those of
+//! kmip_ttlv_items, kmip_ttlv_util and kmip_ttlv_json.
 #![tactic(auto)]
 
 mod back;
@@ -18,6 +18,7 @@ mod dates;
 mod escape;
 pub mod files;
 mod form;
+pub mod from_json;
 mod guess;
 mod job;
 pub mod laws;
@@ -32,6 +33,8 @@ pub mod run;
 pub mod table;
 mod texts;
 mod values;
+mod window;
 
-pub use job::{Asked, BackJob, Encoding, Job, Look, Names, Task, Values};
+pub use job::{Asked, BackJob, Encoding, Job, JsonJob, Look, Names, Task, Values};
+pub use kmip_ttlv_json::Hiding;
 pub use memory::Memory;

@@ -1,17 +1,68 @@
-//! The names of a mask's bits.
+//! The names of values, and of a mask's bits.
 
-ghost use Rattle.std.specs.Prelude.{◌≡◌, OnOk, OnErr, option_map};
-ghost use Rattle.kmip_ttlv_names.specs.ValueNames.{name_of_value};
-ghost use Rattle.ttlv_run.specs.Masks.{mark, behind_mark, still_first, set_name, list_mask};
+ghost use Rattle.std.specs.Prelude.{◌≡◌, ℕ, true, None, OnOk, OnErr, option_map};
+ghost use Rattle.kmip_ttlv_names.specs.OwnNames.{value_key};
+ghost use Rattle.kmip_ttlv_util.specs.TagNames.{name_in};
+ghost use Rattle.ttlv_run.specs.Masks.{value_in, value_named, mark, behind_mark, still_first, set_name, mask_names};
 
-use kmip_ttlv_names::value_name;
+use crate::job::Names;
+use kmip_ttlv_names::{value_key, value_name};
+use kmip_ttlv_types::TtlvTag;
 use kmip_ttlv_util::TextSink;
+use std::alloc::Allocator;
 
-// The name of a bit in a list, if it is set and has one.
-fn set_name(list: &str, bit: u32, is_set: bool) -> Option<&str>
-    ensures { option_map (λ s. s.now) result ≡ set_name (λ b. name_of_value b list.now) bit is_set }
+// The user's own name of a tag's value.
+fn own_name<'n, A: Allocator>(names: &Names<'n, A>, tag: TtlvTag, value: u32) -> Option<&'n str>
+    ensures { option_map (λ s. s.now) result ≡ name_in names.now.own (value_key tag value) }
 {
-    if is_set { value_name(list, bit) } else { None }
+    if names.own.is_empty() {
+        return None;
+    }
+    names.own.get(&value_key(tag, value)).copied()
+}
+
+// The name of a value in a list, where there is one.
+fn listed_name(list: Option<&str>, value: u32) -> Option<&str>
+    ensures { option_map (λ s. s.now) result ≡ value_in (option_map (λ s. s.now) list.entry) value }
+{
+    match list {
+        Some(list) => value_name(list, value),
+        None => None,
+    }
+}
+
+/// The name of a tag's value: the user's, or else that in a list.
+pub fn value_named<'n, A: Allocator>(
+    names: &Names<'n, A>,
+    list: Option<&'n str>,
+    tag: TtlvTag,
+    value: u32,
+) -> Option<&'n str>
+    ensures { option_map (λ s. s.now) result ≡ value_named (name_in names.now.own)
+        (option_map (λ s. s.now) list.entry) tag value }
+{
+    match own_name(names, tag, value) {
+        Some(name) => Some(name),
+        None => listed_name(list, value),
+    }
+}
+
+// The name of a bit of a mask, if it is set and has one.
+fn set_name<'n, A: Allocator>(
+    names: &Names<'n, A>,
+    list: Option<&'n str>,
+    tag: TtlvTag,
+    bit: u32,
+    is_set: bool,
+) -> Option<&'n str>
+    ensures { option_map (λ s. s.now) result ≡ set_name (value_named (name_in names.now.own)
+        (option_map (λ s. s.now) list.entry) tag) bit is_set }
+{
+    if is_set {
+        value_named(names, list, tag, bit)
+    } else {
+        None
+    }
 }
 
 // What stands in front of a name: a space, or a bar where it isn't the first.
@@ -45,18 +96,40 @@ fn still_first(is_first: bool, name: Option<&str>) -> bool
     }
 }
 
-/// Adds the names that a list gives to the bits of a mask that are set, from the lowest on.
+// Whether no value has a name: there is no list, and the user names none.
+fn is_unnamed<A: Allocator>(names: &Names<'_, A>, list: Option<&str>) -> bool
+    ensures { result ≡ true → (tag value : ℕ) → value_named (name_in names.now.own)
+        (option_map (λ s. s.now) list.entry) tag value ≡ None }
+{
+    match list {
+        Some(_) => false,
+        None => names.own.is_empty(),
+    }
+}
+
+/// Adds the names of the bits of a mask that are set, from the lowest on: the user's, or else those in a list.
 ///
 /// It fails where the sink fails.
-pub fn push_mask<S: TextSink>(out: &mut S, list: &str, mask: u32) -> Result<(), S::Error>
-    ensures ok { OnOk result (S.adds out.old (list_mask list.now mask) out.new) }
-    ensures err { OnErr result (S.breaks out.old (list_mask list.now mask) out.new) }
+pub fn push_mask<'n, S: TextSink, A: Allocator>(
+    out: &mut S,
+    names: &Names<'n, A>,
+    list: Option<&'n str>,
+    tag: TtlvTag,
+    mask: u32,
+) -> Result<(), S::Error>
+    ensures ok { OnOk result (S.adds out.old (mask_names (value_named (name_in names.now.own)
+        (option_map (λ s. s.now) list.entry) tag) mask) out.new) }
+    ensures err { OnErr result (S.breaks out.old (mask_names (value_named (name_in names.now.own)
+        (option_map (λ s. s.now) list.entry) tag) mask) out.new) }
 {
+    if is_unnamed(names, list) {
+        return Ok(());
+    }
     let mut rest = mask as u64;
     let mut bit: u64 = 1;
     let mut is_first = true;
     'bits: while rest > 0 {
-        let name = set_name(list, bit as u32, rest % 2 == 1);
+        let name = set_name(names, list, tag, bit as u32, rest % 2 == 1);
         push_bit(out, is_first, name)?;
         is_first = still_first(is_first, name);
         rest /= 2;

@@ -2,11 +2,12 @@
 
 use std::alloc::Allocator;
 
-/// Where a run takes its memory from. Where blocks of `rest` are bounded, no input takes more memory than its own bytes
-/// and a constant: one that is nested too deep for it fails as when out of memory.
+/// Where a run takes its memory from. Where blocks of `rest` are bounded, no input takes more memory than its own bytes,
+/// or those of the largest raw message or line of diagnostics, and a constant: one that is nested too deep for it fails
+/// as when out of memory.
 #[derive(Clone, Copy)]
 pub struct Memory<A: Allocator + Copy, B: Allocator + Copy> {
-    /// The bytes of the input come from here.
+    /// The bytes of the input that are held come from here, and what JSON is read as.
     pub input: A,
     /// All else comes from here: the names, the ends of the structures that are open at once, and the line on
     /// standard error.

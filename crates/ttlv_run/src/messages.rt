@@ -1,10 +1,10 @@
 //! The messages of an input, one after the other: what is printed of them, and the first fault.
 
-ghost use Rattle.std.specs.Prelude.{◌≡◌, ◌<◌, ◌≤◌, ◌+◌, length, ◌++◌, Option, IfOk, OnOk, OnErr, string_bytes};
+ghost use Rattle.std.specs.Prelude.{◌≡◌, ◌<◌, ◌≤◌, ◌+◌, ◌^◌, length, ◌++◌, Option, IfOk, OnOk, OnErr, string_bytes};
 ghost use Rattle.kmip_ttlv_types.specs.Places.{length_at};
 ghost use Rattle.kmip_ttlv_util.specs.Pieces.{SomeText};
-ghost use Rattle.ttlv_run.specs.declared.messages.Place.{Place as APlace};
-ghost use Rattle.ttlv_run.specs.Messages.{first_size, message_at, tag_there, is_kmip, is_taken, Prints, fault_words, wrong_words, fault_line, tag_told};
+ghost use Rattle.ttlv_run.specs.Messages.{size_stated, is_there, first_size, message_at, tag_there, is_kmip, is_taken, fault_words, wrong_words, fault_line, tag_told};
+ghost use Rattle.ttlv_run.specs.Streaming.{is_due, EndsAt, PrintsOn, GoesOnBehind};
 ghost use Rattle.ttlv_run.specs.Texts.{names_of};
 
 use crate::job::{Names, Task};
@@ -41,6 +41,15 @@ pub enum Wrong {
     NotKmip,
 }
 
+/// Where printing messages one after the other ended.
+#[derive(Clone, Copy, Debug, PartialEq, Eq)]
+pub enum Reached {
+    /// Behind so many bytes of whole messages.
+    Behind(usize),
+    /// At a fault.
+    Fault(Place),
+}
+
 // The length that a header in front states.
 fn length_stated(bytes: &[u8]) -> u32
     requires { 8 ≤ length bytes.now }
@@ -49,20 +58,36 @@ fn length_stated(bytes: &[u8]) -> u32
     u32::from_be_bytes([bytes[4], bytes[5], bytes[6], bytes[7]])
 }
 
+/// How many bytes the first message takes by its header, where that is there.
+pub fn size_stated(bytes: &[u8]) -> Option<usize>
+    ensures { result ≡ size_stated bytes.now }
+{
+    if bytes.len() < 8 {
+        return None;
+    }
+    Some(8 + length_stated(bytes) as usize)
+}
+
+// Whether all bytes of the first message are there.
+fn is_there(bytes: &[u8]) -> bool
+    ensures { result ≡ is_there bytes.now }
+{
+    match size_stated(bytes) {
+        Some(stated) => stated <= bytes.len(),
+        None => false,
+    }
+}
+
 // How many bytes the first message takes.
 fn first_size(bytes: &[u8]) -> usize
     ensures size { result ≡ first_size bytes.now }
     ensures within { result ≤ length bytes.now }
     ensures some { 0 < length bytes.now → 0 < result }
 {
-    if bytes.len() < 8 {
-        return bytes.len();
+    match size_stated(bytes) {
+        Some(stated) if stated <= bytes.len() => stated,
+        _ => bytes.len(),
     }
-    let stated = 8 + length_stated(bytes) as usize;
-    if bytes.len() < stated {
-        return bytes.len();
-    }
-    stated
 }
 
 // The message that begins at a place.
@@ -106,8 +131,16 @@ fn is_taken(task: Task<'_>, message: &[u8]) -> bool
     }
 }
 
-/// Adds what a task prints of the messages that bytes are, one after the other, up to the first fault, and
-/// gives that fault.
+// Whether a message begins at a place that all of is there, or all of the input.
+fn is_due(bytes: &[u8], at: usize, last: bool) -> bool
+    requires { at ≤ length bytes.now }
+    ensures { result ≡ is_due bytes.now at last }
+{
+    at < bytes.len() && (last || is_there(&bytes[at..]))
+}
+
+/// Adds what a task prints of messages, one after the other, up to the first fault. Their bytes stand at an offset among
+/// those of all messages; where they aren't the last, what is printed ends in front of a message that isn't there as a whole.
 ///
 /// It fails where the sink fails and when out of memory; a beginning of the text was added then.
 pub fn print_all<S: TextSink, A: Allocator + Copy>(
@@ -115,35 +148,38 @@ pub fn print_all<S: TextSink, A: Allocator + Copy>(
     out: &mut S,
     names: &Names<'_, A>,
     task: Task<'_>,
+    base: usize,
     bytes: &[u8],
-) -> Result<Option<Place>, S::Error>
-    ensures ok { IfOk result (λ place. SomeText (λ t. Prints (names_of names.now) task.entry bytes.now t place)
+    last: bool,
+) -> Result<Reached, S::Error>
+    requires { base + length bytes.now < 2 ^ 64 }
+    ensures end { IfOk result (EndsAt bytes.now last) }
+    ensures ok { IfOk result (λ reached. SomeText (PrintsOn (names_of names.now) task.entry base bytes.now last reached)
         (λ t. S.adds out.old t out.new)) }
-    ensures err { OnErr result (SomeText
-        (λ t. (place : Option APlace) × Prints (names_of names.now) task.entry bytes.now t place)
+    ensures err { OnErr result (SomeText (GoesOnBehind (names_of names.now) task.entry base bytes.now last)
         (λ t. S.breaks out.old t out.new)) }
 {
     let mut at = 0;
-    'messages: while at < bytes.len() {
+    'messages: while is_due(bytes, at, last) {
         let message = message_at(bytes, at);
-        if let Some(fault) = push_message(alloc, out, names, task, at, message)? {
-            let offset = at + fault.offset;
-            let tag = tag_there(bytes, offset);
-            let wrong = Wrong::Malformed(fault.kind);
-            return Ok(Some(Place { offset, tag, wrong }));
+        let place = base + at;
+        if let Some(fault) = push_message(alloc, out, names, task, place, message)? {
+            return Ok(Reached::Fault(Place {
+                offset: place + fault.offset,
+                tag: tag_there(message, fault.offset),
+                wrong: Wrong::Malformed(fault.kind),
+            }));
         }
         if !is_taken(task, message) {
-            let tag = tag_there(bytes, at);
-            let wrong = Wrong::NotKmip;
-            return Ok(Some(Place {
-                offset: at,
-                tag,
-                wrong,
+            return Ok(Reached::Fault(Place {
+                offset: place,
+                tag: tag_there(message, 0),
+                wrong: Wrong::NotKmip,
             }));
         }
         at += message.len();
     }
-    Ok(None)
+    Ok(Reached::Behind(at))
 }
 
 // What is wrong, in words.

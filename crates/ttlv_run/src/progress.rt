@@ -11,7 +11,7 @@ use std::io::{Read, Write};
 const MEBIBYTE: u64 = 1_048_576;
 
 /// A reader that tells, each time when a mebibyte more was read, how many were: in one line, which is
-/// written over and over, and cleared where the input ends or can't be read.
+/// written over and over, by whatever comes next too, and cleared where the input ends or can't be read.
 ///
 /// The bytes are those of the reader that it stands in front of. Where the line can't be written, that
 /// changes nothing else.
@@ -45,7 +45,6 @@ impl<R: Read, E: Write> Progress<R, E> {
     fn tell(&mut self)
         ensures { self.new.input ≡ self.old.input }
     {
-        let _ = self.errors.send(b"\r");
         let _ = self.errors.send(Buffer::new().format(self.told).as_bytes());
         if let Some(total) = self.total {
             let _ = self.errors.send(b" of ");
@@ -53,7 +52,7 @@ impl<R: Read, E: Write> Progress<R, E> {
                 .errors
                 .send(Buffer::new().format(total / MEBIBYTE).as_bytes());
         }
-        let _ = self.errors.send(b" MiB read");
+        let _ = self.errors.send(b" MiB read\r");
     }
 
     // Counts bytes that were read.
@@ -73,7 +72,7 @@ impl<R: Read, E: Write> Progress<R, E> {
         ensures { self.new.input ≡ self.old.input }
     {
         if self.told > 0 {
-            let _ = self.errors.send(b"\r\x1b[K");
+            let _ = self.errors.send(b"\x1b[K");
             self.told = 0;
         }
     }

@@ -1,33 +1,34 @@
 //! The whole run over one input, for any reader and any writers.
 
-ghost use Rattle.std.specs.Prelude.{◌≡◌, ◌≤◌, ◌⊎◌, ◌++◌, ℕ, List, Option, Some, None, IfOk, OnOk, OnErr, string_bytes, codes};
-ghost use Rattle.std.specs.Io.KnownBytes.{Appends, Keeps};
-ghost use Rattle.kmip_ttlv_names.specs.NameTables.{lines_of};
+ghost use Rattle.std.specs.Prelude.{◌≡◌, true, false, ◌<◌, ◌≤◌, ◌+◌, ◌^◌, ◌⊎◌, ◌++◌, ℕ, length, List, Option, Some, None, IfOk, IfErr, OnErr, string_bytes, codes};
+ghost use Rattle.std.specs.Io.KnownBytes.{Appends, Consumes, IsAtEnd, Keeps};
 ghost use Rattle.kmip_ttlv_types.specs.Streams.{AppendsFront};
 ghost use Rattle.kmip_ttlv_util.specs.Pieces.{SomeText};
-ghost use Rattle.ttlv_run.specs.declared.messages.Place.{Place as APlace};
-ghost use Rattle.ttlv_run.specs.Backs.{FirstBreak, back_line};
-ghost use Rattle.ttlv_run.specs.Messages.{Prints};
+ghost use Rattle.ttlv_run.specs.Backs.{ReadsBack, ReadsFront, back_line};
 ghost use Rattle.ttlv_run.specs.Reasons.{IsOfPrinting, Tells, place_told, refusal_line};
-ghost use Rattle.ttlv_run.specs.Runs.{Responds, Printed, Malformed, Refused, RespondsBack, PrintedBack, MalformedBack, RefusedBack};
-ghost use Rattle.ttlv_run.specs.Texts.{names_of, text_back};
+ghost use Rattle.ttlv_run.specs.Guesses.{is_raw};
+ghost use Rattle.ttlv_run.specs.Inputs.{Stands};
+ghost use Rattle.ttlv_run.specs.Streaming.{held, EndsAt, PrintsOn, GoesOnBehind};
+ghost use Rattle.ttlv_run.specs.Runs.{Places, PrintsInput, Responds, Printed, Malformed, Refused, RespondsBack, PrintedBack, MalformedBack, RefusedBack};
+ghost use Rattle.ttlv_run.specs.Texts.{names_of};
 
-use crate::back::{BackFault, print_back};
-use crate::coding::{bytes_of, read_all};
+use crate::back::{BackFault, BackReached, print_back};
+use crate::coding::bytes_of;
+use crate::guess::is_raw;
 use crate::job::{BackJob, Job, Names, Task};
 use crate::memory::Memory;
-use crate::messages::{Place, fault_line, print_all};
+use crate::messages::{Place, Reached, fault_line, print_all};
 use crate::misread::tell_misread;
 use crate::refusal::Refusal;
+use crate::window::Window;
 use itoa::Buffer;
 use kmip_ttlv_types::stream::Sink;
 use kmip_ttlv_util::Pieces;
 use std::alloc::Allocator;
 use std::io::{Error, ErrorKind, Read, Write};
-use std::{io, str};
 
-// Why printing failed: the output, or out of memory.
-fn refusal_of(error: &Error) -> Refusal
+/// Why printing failed: the output, or out of memory.
+pub(crate) fn refusal_of(error: &Error) -> Refusal
     ensures { IsOfPrinting result }
 {
     match error.kind() {
@@ -37,27 +38,121 @@ fn refusal_of(error: &Error) -> Refusal
     }
 }
 
-// Prints what a task prints of messages to the output, in pieces, and gives the first fault.
+// Prints what a task prints of messages to the output, in pieces. Their bytes stand at an offset among those of all
+// messages; where they aren't the last, it ends in front of a message that isn't there as a whole.
 fn print_messages<A: Allocator + Copy, W: Write>(
     alloc: A,
     names: &Names<'_, A>,
     task: Task<'_>,
+    base: usize,
     bytes: &[u8],
+    last: bool,
     output: &mut W,
-) -> io::Result<Option<Place>>
-    ensures ok { IfOk result (λ place. SomeText (λ t. Prints (names_of names.now) task.entry bytes.now t place)
+) -> Result<Reached, Refusal>
+    requires { base + length bytes.now < 2 ^ 64 }
+    ensures end { IfOk result (EndsAt bytes.now last) }
+    ensures ok { IfOk result (λ reached. SomeText (PrintsOn (names_of names.now) task.entry base bytes.now last reached)
         (Appends (W.contents output.old) (W.contents output.new))) }
-    ensures err { OnErr result (SomeText
-        (λ t. (place : Option APlace) × Prints (names_of names.now) task.entry bytes.now t place)
+    ensures why { IfErr result IsOfPrinting }
+    ensures err { OnErr result (SomeText (GoesOnBehind (names_of names.now) task.entry base bytes.now last)
         (AppendsFront (W.contents output.old) (W.contents output.new))) }
 {
     let mut pieces = Pieces::new(output);
-    let place = print_all(alloc, &mut pieces, names, task, bytes)?;
-    pieces.finish()?;
-    Ok(place)
+    match print_all(alloc, &mut pieces, names, task, base, bytes, last) {
+        Ok(reached) => match pieces.finish() {
+            Ok(()) => Ok(reached),
+            Err(e) => Err(refusal_of(&e)),
+        },
+        Err(e) => Err(refusal_of(&e)),
+    }
 }
 
-// Prints what a job asks for, message by message, and gives the line that says what is malformed, if anything is.
+// Prints what a job asks for of the messages that a whole input stands for, and gives the first fault.
+fn print_whole<B: Allocator + Copy, W: Write>(
+    alloc: B,
+    job: &Job<'_>,
+    names: &Names<'_, B>,
+    bytes: &[u8],
+    output: &mut W,
+) -> Result<Option<Place>, Refusal>
+    ensures { (input : List ℕ) → Stands job.now.encoding input bytes.now
+        → PrintsInput (names_of names.now) job.now input (W.contents output.old) (W.contents output.new) result }
+{
+    match print_messages(alloc, names, job.task, 0, bytes, true, output)? {
+        Reached::Behind(_) => Ok(None),
+        Reached::Fault(place) => Ok(Some(place)),
+    }
+}
+
+// Prints what a job asks for of raw messages as they come, each when it is there as a whole, and gives the first fault.
+fn print_raw<A: Allocator, B: Allocator + Copy, R: Read, W: Write>(
+    alloc: B,
+    job: &Job<'_>,
+    names: &Names<'_, B>,
+    mut window: Window<A>,
+    mut ended: bool,
+    input: &mut R,
+    output: &mut W,
+) -> Result<Option<Place>, Refusal>
+    requires raw { is_raw job.now.encoding (held window) ≡ true }
+    requires four { ended ≡ false → 4 ≤ length (held window) }
+    requires at_end { ended ≡ true → IsAtEnd (R.remaining input.old) }
+    ensures { (known : Option (List ℕ)) → Consumes known (R.remaining input.old) (held window)
+        → Places (names_of names.now) job.now
+        (record {
+          input = known;
+          input_left = R.remaining input.new;
+          output = W.contents output.old;
+          output_now = W.contents output.new;
+        }) result }
+{
+    let mut base = 0;
+    'pieces: loop {
+        let held = window.held();
+        if usize::MAX - base < held.len() {
+            return Err(Refusal::RefusedMemory);
+        }
+        match print_messages(alloc, names, job.task, base, held, ended, output)? {
+            Reached::Behind(count) => {
+                base += count;
+                window.let_go(count);
+            }
+            Reached::Fault(place) => return Ok(Some(place)),
+        }
+        if ended {
+            return Ok(None);
+        }
+        ended = window.read_more(input)? == 0;
+    }
+}
+
+// Prints what a job asks for, message by message, and gives the first fault.
+fn print_input<A: Allocator + Copy, B: Allocator + Copy, R: Read, W: Write>(
+    memory: Memory<A, B>,
+    job: &Job<'_>,
+    names: &Names<'_, B>,
+    input: &mut R,
+    output: &mut W,
+) -> Result<Option<Place>, Refusal>
+    ensures { Places (names_of names.now) job.now
+        (record {
+          input = R.remaining input.old;
+          input_left = R.remaining input.new;
+          output = W.contents output.old;
+          output_now = W.contents output.new;
+        }) result }
+{
+    let mut window = Window::new(memory.input);
+    let ended = window.begin(input)?;
+    if is_raw(job.encoding, window.held()) {
+        return print_raw(memory.rest, job, names, window, ended, input, output);
+    }
+    let taken = window.read_rest(ended, input)?;
+    let bytes = bytes_of(job.encoding, taken)?;
+    print_whole(memory.rest, job, names, bytes.as_slice(), output)
+}
+
+// Prints what a job asks for, and gives the line that says what is malformed, if anything is.
 fn respond<A: Allocator + Copy, B: Allocator + Copy, R: Read, W: Write>(
     memory: Memory<A, B>,
     job: &Job<'_>,
@@ -73,38 +168,42 @@ fn respond<A: Allocator + Copy, B: Allocator + Copy, R: Read, W: Write>(
           output_now = W.contents output.new;
         }) result }
 {
-    let taken = read_all(memory.input, input)?;
-    let bytes = bytes_of(job.encoding, taken)?;
-    match print_messages(memory.rest, names, job.task, bytes.as_slice(), output) {
-        Ok(None) => Ok(None),
-        Ok(Some(place)) => Ok(Some(fault_line(memory.rest, names, job.name, place)?)),
+    match print_input(memory, job, names, input, output)? {
+        None => Ok(None),
+        Some(place) => Ok(Some(fault_line(memory.rest, names, job.name, place)?)),
+    }
+}
+
+// Prints what lines of diagnostics are read back as to the output, in pieces. Their bytes begin at an offset; if they
+// aren't the last, what is behind the last line feed is left.
+fn print_lines<A: Allocator + Copy, W: Write>(
+    alloc: A,
+    names: &Names<'_, A>,
+    prefix: &str,
+    base: usize,
+    bytes: &[u8],
+    last: bool,
+    output: &mut W,
+) -> Result<BackReached, Refusal>
+    requires { base + length bytes.now < 2 ^ 64 }
+    ensures ok { IfOk result (λ reached. SomeText (ReadsBack (names_of names.now).tags prefix.now base bytes.now last reached)
+        (Appends (W.contents output.old) (W.contents output.new))) }
+    ensures why { IfErr result IsOfPrinting }
+    ensures err { OnErr result (SomeText (ReadsFront (names_of names.now).tags prefix.now bytes.now last)
+        (AppendsFront (W.contents output.old) (W.contents output.new))) }
+{
+    let mut pieces = Pieces::new(output);
+    match print_back(alloc, &mut pieces, &names.tags, prefix, base, bytes, last) {
+        Ok(reached) => match pieces.finish() {
+            Ok(()) => Ok(reached),
+            Err(e) => Err(refusal_of(&e)),
+        },
         Err(e) => Err(refusal_of(&e)),
     }
 }
 
-// Prints what diagnostics are read back as to the output, in pieces, and gives where the first line that is not
-// whole stops being one.
-fn print_diagnostics<A: Allocator + Copy, W: Write>(
-    alloc: A,
-    names: &Names<'_, A>,
-    prefix: &str,
-    diagnostics: &str,
-    output: &mut W,
-) -> io::Result<Option<BackFault>>
-    ensures ok { OnOk result (Appends (W.contents output.old) (W.contents output.new)
-        (text_back (names_of names.now).tags prefix.now diagnostics.now)) }
-    ensures err { OnErr result (AppendsFront (W.contents output.old) (W.contents output.new)
-        (text_back (names_of names.now).tags prefix.now diagnostics.now)) }
-    ensures fault { IfOk result (λ fault. FirstBreak prefix.now 0 (lines_of diagnostics.now) fault) }
-{
-    let mut pieces = Pieces::new(output);
-    let fault = print_back(alloc, &mut pieces, &names.tags, prefix, diagnostics)?;
-    pieces.finish()?;
-    Ok(fault)
-}
-
-// Prints what diagnostics are read back as, line by line, and gives where the first line that is not whole stops
-// being one, if there is such a line.
+// Prints what diagnostics are read back as, each line when it is there as a whole, and gives where the first line that
+// is not whole stops being one, if there is such a line.
 fn respond_back<A: Allocator + Copy, B: Allocator + Copy, R: Read, W: Write>(
     memory: Memory<A, B>,
     job: &BackJob<'_>,
@@ -120,13 +219,28 @@ fn respond_back<A: Allocator + Copy, B: Allocator + Copy, R: Read, W: Write>(
           output_now = W.contents output.new;
         }) result }
 {
-    let taken = read_all(memory.input, input)?;
-    let Ok(diagnostics) = str::from_utf8(taken.as_slice()) else {
-        return Err(Refusal::NotUtf8);
-    };
-    match print_diagnostics(memory.rest, names, job.prefix, diagnostics, output) {
-        Ok(fault) => Ok(fault),
-        Err(e) => Err(refusal_of(&e)),
+    let mut window = Window::new(memory.input);
+    let mut base = 0;
+    let mut first = None;
+    let mut ended = false;
+    'pieces: loop {
+        let held = window.held();
+        if usize::MAX - base < held.len() {
+            return Err(Refusal::RefusedMemory);
+        }
+        let reached = print_lines(memory.rest, names, job.prefix, base, held, ended, output)?;
+        match reached {
+            BackReached::Behind { count, found } => {
+                base += count;
+                first = first.or(found);
+                window.let_go(count);
+            }
+            BackReached::NoText => return Err(Refusal::NotUtf8),
+        }
+        if ended {
+            return Ok(first);
+        }
+        ended = window.read_lines(input)?;
     }
 }
 
@@ -186,15 +300,16 @@ fn tell_back_fault<E: Write>(errors: &mut E, name: &str, fault: BackFault)
     tell(errors, goes, "\n");
 }
 
-/// Reads `input` to its end, prints what the job asks for to `output`, and answers the exit status:
-/// 0 where all messages are whole, 1 where one is malformed, 2 where the input can't be read or
-/// decoded, 3 where memory is refused or the output can't be written.
+/// Reads `input`, prints what the job asks for to `output`, and returns the exit status: 0 if all messages are
+/// whole, 1 if one is malformed, 2 if the input can't be read or decoded, 3 when out of memory or if the output
+/// can't be written.
 ///
-/// Each message is printed as it is met, in pieces of 8,192 bytes, so what is printed is never held as a whole.
-/// With status 1 the output has what is printed up to the fault; with status 3 it has a beginning of what is
-/// printed, or nothing was printed yet. With statuses 1 to 3 one line on `errors` says why, but for a closed pipe.
-/// Interrupted reads and writes are tried again, as often as a 64-bit count allows. Where `errors` can't be
-/// written, the status is the same.
+/// Raw messages are printed as they come, each before the next read if all of it is there; a text is read to its
+/// end first. Output is sent in pieces of 8,192 bytes, and never held as a whole. With status 1 the output has
+/// what is printed up to the fault, and nothing more is read. If reading fails, it has what is printed of the raw
+/// messages that were whole. With status 3 it has a beginning of what is printed, or nothing. With statuses 1 to 3
+/// one line on `errors` says why, except for a closed pipe. Interrupted reads and writes are tried again, as often
+/// as a 64-bit count allows. If `errors` can't be written, the status is the same.
 pub fn run<A: Allocator + Copy, B: Allocator + Copy, R: Read, W: Write, E: Write>(
     memory: Memory<A, B>,
     job: &Job<'_>,
@@ -213,7 +328,8 @@ pub fn run<A: Allocator + Copy, B: Allocator + Copy, R: Read, W: Write, E: Write
           output_now = W.contents output.new;
         })
         × Keeps (E.contents errors.old) (E.contents errors.new) }
-    // With status 1 a message is malformed: what is printed up to its fault was appended, and the fault is told.
+    // With status 1 a message of the input is malformed: what is printed up to its fault was appended, and the errors
+    // have its line. A front of the input was read.
     ensures malformed { result ≡ 1 → Malformed (names_of names.now) job.now
         (record {
           input = R.remaining input.old;
@@ -245,14 +361,15 @@ pub fn run<A: Allocator + Copy, B: Allocator + Copy, R: Read, W: Write, E: Write
     }
 }
 
-/// Reads `input` to its end and prints to `output` what its diagnostics, each in a line of its own, are
-/// read back as. It answers the exit status: 0 where each of them is whole, 1 where a line stops being a
-/// diagnostic or leaves a structure open, 2 where the input can't be read or is not UTF-8, or 3 where memory
-/// is refused or the output can't be written.
+/// Reads `input` and prints to `output` what its diagnostics, each in a line of its own, are read back as, and returns
+/// the exit status: 0 if each of them is whole, 1 if a line stops being a diagnostic or leaves a structure open, 2 if
+/// the input can't be read or is not UTF-8, or 3 when out of memory or if the output can't be written.
 ///
-/// With status 1 too all lines are read back, each as far as it goes, and the first that is not whole is
-/// told on `errors`. Statuses 2 and 3 are told there as [`run`] tells them, and with status 3 the output is as
-/// there. What a line is read back as is never held as a whole.
+/// A line is printed before the next read if all of it is there; what it is read back as is never held as a whole. With
+/// status 1 too all lines are read back, each as far as it goes, and the first that is not whole is told on `errors`.
+/// With status 2 the output has what the lines before are read back as: those that came before reading failed, or that
+/// are in front of the one that is not UTF-8. Statuses 2 and 3 are told as [`run`] tells them, and with status 3 the
+/// output is as there.
 pub fn read_back<A: Allocator + Copy, B: Allocator + Copy, R: Read, W: Write, E: Write>(
     memory: Memory<A, B>,
     job: &BackJob<'_>,

@@ -1,4 +1,4 @@
-//! The table of the names of tags: the standard's, and behind it that of a user's file.
+//! The table of names: the standard's of tags, and behind it that of a user's file, which may name values too.
 
 ghost use Rattle.std.specs.Prelude.{◌≡◌, ◌⊎◌, ◌++◌, IfOk, IfErr, string_bytes};
 ghost use Rattle.ttlv_run.specs.Tables.{IsJoined};
@@ -7,7 +7,7 @@ use crate::coding::read_all;
 use crate::refusal::Refusal;
 use crate::run::tell_refusal;
 use itoa::Buffer;
-use kmip_ttlv_names::{TableError, tag_names};
+use kmip_ttlv_names::{TableError, own_names};
 use kmip_ttlv_types::stream::Sink;
 use std::alloc::{AllocError, Allocator};
 use std::io::{Read, Write};
@@ -61,7 +61,7 @@ pub fn own_table<A: Allocator + Copy, R: Read, E: Write>(
     let Ok(table) = str::from_utf8(bytes.as_slice()) else {
         return Err(refuse(errors, name, Refusal::NotUtf8));
     };
-    match tag_names(alloc, table) {
+    match own_names(alloc, table) {
         Ok(_) => {}
         Err(TableError::BadLine(line)) => {
             tell_line(errors, name, line);

@@ -11,6 +11,7 @@ ghost use Rattle.ttlv_run.specs.Texts.{names_of, IsMessageText};
 use crate::job::{Names, Task};
 use crate::lines::push_lines;
 use kmip_ttlv_items::{Fault, find_fault};
+use kmip_ttlv_json::push_json;
 use kmip_ttlv_types::TtlvType;
 use kmip_ttlv_util::{TextSink, push_diag, push_value};
 use std::alloc::Allocator;
@@ -42,7 +43,7 @@ fn push_hexadecimal<S: TextSink>(out: &mut S, message: &[u8]) -> Result<(), S::E
 }
 
 /// Adds what a task prints of a message, which begins at an offset among the bytes of all, and gives its first fault; its
-/// lines come up to there.
+/// lines come up to there, and its JSON doesn't come.
 ///
 /// It fails where the sink fails and when out of memory; a beginning of the text was added then.
 pub fn push_message<S: TextSink, A: Allocator + Copy>(
@@ -63,6 +64,7 @@ pub fn push_message<S: TextSink, A: Allocator + Copy>(
 {
     match task {
         Task::Show { look } => return push_lines(alloc, out, names, look, at, message),
+        Task::Json { hiding } => return push_json(alloc, out, hiding, &names.secrets, message),
         Task::Diagnose { closed, prefix } => push_diagnostic(alloc, out, closed, prefix, message)?,
         Task::Hexadecimal => push_hexadecimal(out, message)?,
         Task::Check { .. } => {}

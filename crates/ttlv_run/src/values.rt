@@ -9,17 +9,15 @@ ghost use Rattle.kmip_ttlv_types.specs.declared.typ.TtlvType.TheVariants.{Intege
 ghost use Rattle.kmip_ttlv_types.specs.declared.typ.TtlvType.TheVariants.{DateTime as ADateTime};
 ghost use Rattle.kmip_ttlv_types.specs.Leaves.{is_valid};
 ghost use Rattle.kmip_ttlv_util.specs.Pretty.{value_shown};
-ghost use Rattle.kmip_ttlv_util.specs.TagNames.{name_in};
 ghost use Rattle.ttlv_run.specs.Dates.{date_shown};
-ghost use Rattle.ttlv_run.specs.Texts.{names_of, value_in, mask_in, behind_space, count_shown, bytes_shown, shown};
+ghost use Rattle.ttlv_run.specs.Texts.{names_of, behind_space, count_shown, bytes_shown, shown};
 
 use crate::dates::push_date;
 use crate::escape::push_escaped;
 use crate::job::{Names, Values};
-use crate::masks::push_mask;
+use crate::masks::{push_mask, value_named};
 use itoa::Buffer;
 use kmip_ttlv_items::FoundItem;
-use kmip_ttlv_names::value_name;
 use kmip_ttlv_types::{TtlvTag, TtlvType};
 use kmip_ttlv_util::{TextSink, push_value};
 use std::alloc::Allocator;
@@ -30,12 +28,9 @@ fn value_name_of<'n, A: Allocator>(
     tag: TtlvTag,
     value: u32,
 ) -> Option<&'n str>
-    ensures { option_map (λ s. s.now) result ≡ value_in (name_in names.now.values tag) value }
+    ensures { option_map (λ s. s.now) result ≡ (names_of names.now).values tag value }
 {
-    match names.values.get(&tag).copied() {
-        Some(list) => value_name(list, value),
-        None => None,
-    }
+    value_named(names, names.values.get(&tag).copied(), tag, value)
 }
 
 // Adds a name behind a space, where there is one.
@@ -70,20 +65,17 @@ fn push_enumeration<S: TextSink, A: Allocator>(
     push_name(out, value_name_of(names, tag, value))
 }
 
-// Adds the names of a mask's bits, where the tag is that of a mask.
+// Adds the names of an integer's bits, where the tag is that of a mask or the user names them.
 fn push_bits<S: TextSink, A: Allocator>(
     out: &mut S,
     names: &Names<'_, A>,
     tag: TtlvTag,
     mask: u32,
 ) -> Result<(), S::Error>
-    ensures ok { OnOk result (S.adds out.old (mask_in (name_in names.now.masks tag) mask) out.new) }
-    ensures err { OnErr result (S.breaks out.old (mask_in (name_in names.now.masks tag) mask) out.new) }
+    ensures ok { OnOk result (S.adds out.old ((names_of names.now).masks tag mask) out.new) }
+    ensures err { OnErr result (S.breaks out.old ((names_of names.now).masks tag mask) out.new) }
 {
-    match names.masks.get(&tag).copied() {
-        Some(list) => push_mask(out, list, mask),
-        None => Ok(()),
-    }
+    push_mask(out, names, names.masks.get(&tag).copied(), tag, mask)
 }
 
 // Adds the value of an integer, with the names of its bits where it is a mask.

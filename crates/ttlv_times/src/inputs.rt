@@ -1,4 +1,4 @@
-//! The inputs that are measured: what a sender may choose freely.
+//! The inputs that are measured: such as a sender is free to choose.
 
 use std::alloc::{AllocError, Global};
 
@@ -31,7 +31,7 @@ fn structure(alloc: Global, content: &[u8]) -> Result<Vec<u8>, AllocError> {
     Ok(message)
 }
 
-/// A structure with this item so many times.
+/// A structure with this item a number of times.
 pub fn repeated(alloc: Global, count: u32, item: &[u8]) -> Result<Vec<u8>, AllocError> {
     let mut items = Vec::new(alloc);
     for _ in 0..count {
@@ -40,7 +40,7 @@ pub fn repeated(alloc: Global, count: u32, item: &[u8]) -> Result<Vec<u8>, Alloc
     structure(alloc, items.as_slice())
 }
 
-/// A structure with one byte string of so many bytes, a multiple of eight.
+/// A structure with one byte string of this length, a multiple of eight.
 pub fn long(alloc: Global, length: u32) -> Result<Vec<u8>, AllocError> {
     let mut item = Vec::from_slice(alloc, &header(0xBB, 8, length))?;
     for _ in 0..length {
@@ -49,7 +49,7 @@ pub fn long(alloc: Global, length: u32) -> Result<Vec<u8>, AllocError> {
     structure(alloc, item.as_slice())
 }
 
-/// So many structures, each in the one before it.
+/// This many structures, each within the one before.
 pub fn nested(alloc: Global, count: u32) -> Result<Vec<u8>, AllocError> {
     let mut message = Vec::new(alloc);
     for i in 0..count {
@@ -59,7 +59,7 @@ pub fn nested(alloc: Global, count: u32) -> Result<Vec<u8>, AllocError> {
     Ok(message)
 }
 
-/// A structure of so many structures BBBBBB, each of a text under a tag of its own and an integer
+/// A structure of this many structures BBBBBB, each of a text under a tag of its own and an integer
 /// CCCCCC.
 pub fn tuples(alloc: Global, count: u32) -> Result<Vec<u8>, AllocError> {
     let mut items = Vec::new(alloc);
@@ -72,7 +72,7 @@ pub fn tuples(alloc: Global, count: u32) -> Result<Vec<u8>, AllocError> {
     structure(alloc, items.as_slice())
 }
 
-/// A structure of a text BBBBBB of so many bytes, zeros and 1, and so many integers CCCCCC.
+/// A structure of a text BBBBBB of this length, zeros and a 1, and this many integers CCCCCC.
 pub fn asked(alloc: Global, length: u32, count: u32) -> Result<Vec<u8>, AllocError> {
     let mut items = Vec::from_slice(alloc, &header(0xBB, 7, length))?;
     for _ in 1..length {

@@ -1,4 +1,4 @@
-//! The shapes by which the inputs are read. Stands on the types of `reading_vectors` that stand for
+//! The shapes that the inputs are decoded by, built from the types of `reading_vectors` that stand for
 //! shapes.
 
 use reading_vectors::names::{
@@ -21,23 +21,23 @@ pub type Long = Of<Octets>;
 /// Many structures with no content.
 pub type Empties = Of<Sequence<Structure<TagB, NoFields>>>;
 
-/// A rule that asks for a text which never comes, and one that holds.
+/// A rule that asks for a text which never comes, and one that is true.
 type TextByRule = TwoVariants<IfOtherAtLeastWord, Content<Text>, IfText, Content<Text>>;
 
-/// Many texts under one tag, each by a rule that asks for another tag.
+/// Many texts under one tag, each chosen by a rule that asks for another tag.
 pub type Texts = Of<Sequence<Choice<TagB, TextByRule>>>;
 
 type NumberByRule = TwoVariants<IfOtherAtLeastWord, Content<Number>, IfInteger, Content<Number>>;
 
 type Pair = Tuple<Parts<Text, Parts<Choice<TagC, NumberByRule>, NoParts>>>;
 
-/// Many tuples, each of a text and of a number by a rule that asks for another tag.
+/// Many tuples, each of a text and of a number that is chosen by a rule which asks for another tag.
 pub type Tuples = Of<Sequence<Choice<TagB, OneVariant<IfStructure, Pair>>>>;
 
 type ByText = Choice<TagC, OneVariant<IfAtLeastOne, Content<Number>>>;
 
-/// A text, and many integers, each by a rule that asks for the number that the text is.
+/// A text, and many integers, each chosen by a rule that asks for the number that the text is.
 pub type Asked = Structure<TagA, TwoFields<TagB, Text, TagC, Sequence<ByText>>>;
 
-/// Many fields that may be left out.
+/// Many optional fields.
 pub type Fields = Structure<TagA, Repeated<TagB, Maybe<Number>, 100, NoFields>>;

@@ -1,16 +1,18 @@
-//! Reading by a shape that stands for a type, of which nothing is kept. Stands on the shapes of
+//! Decoding by a shape that stands for a type, of which nothing is kept. It uses the shapes of
 //! `reading_vectors`.
 
-use kmip_ttlv::shape::{Data, Deserialize, Shape};
+use kmip_ttlv::shape::{ByShape, Data, Deserialize, Shape};
 use reading_vectors::parts::Part;
 use std::alloc::{AllocError, Allocator};
 use std::marker::PhantomData;
 
-/// That something was read by the shape `P`, with memory of any allocator.
+/// Something was decoded by the shape `P`, with memory of any allocator.
 #[derive(Drop)]
 pub struct Skimmed<P> {
     shape: PhantomData<P>,
 }
+
+impl<P> ByShape for Skimmed<P> {}
 
 impl<P: Part, A: Allocator + Copy> Deserialize<A> for Skimmed<P> {
     ghost form = { P.part };

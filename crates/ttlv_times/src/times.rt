@@ -1,4 +1,4 @@
-//! What a call takes, the least of several times, and beside it what a walk over the headers and a copy of the same bytes take.
+//! How long a call takes, the least of several times, and how long a walk over the headers and a copy of the same bytes take.
 
 use crate::skimmed::Skimmed;
 use kmip_ttlv::items::find_fault;
@@ -10,7 +10,7 @@ use std::alloc::Global;
 use std::io::{self, Eprint};
 use std::time::{Clock, Instant};
 
-// How often each is done: the least time counts.
+// How often each is measured; the least time counts.
 const ROUNDS: u8 = 5;
 
 /// Times in microseconds, for one input.
@@ -20,7 +20,7 @@ pub struct Bare {
     copy: u128,
 }
 
-// How many headers there are, the next one behind a structure's header or behind a leaf.
+// How many headers there are. The next one follows a structure's header, or a whole leaf.
 fn count_headers(bytes: &[u8]) -> usize {
     let mut rest = bytes;
     let mut count = 0usize;
@@ -47,7 +47,7 @@ fn count_brackets(text: &[u8]) -> usize {
         .count()
 }
 
-/// What a walk over a message's headers and a copy take, or over a text's brackets.
+/// How long a walk over a message's headers, or over a text's brackets, and a copy take.
 pub fn bare_times<R: Clock + Eprint + AllocGlobal>(
     rt: &R,
     bytes: &[u8],
@@ -73,13 +73,13 @@ pub fn bare_times<R: Clock + Eprint + AllocGlobal>(
     Ok(Bare { walk, copy })
 }
 
-// So many tenths of another time, of at least one microsecond.
+// How many tenths of another time, which counts as a microsecond at least.
 fn tenths(taken: u128, other: u128) -> u128 {
     taken.saturating_mul(10) / other.max(1)
 }
 
-/// Prints a line: the input, the call, the size, the time, and how many times as much that is as the
-/// walk and the copy.
+/// Prints a line: the input, the call, the size, the time, and how many times the walk and the copy that
+/// is.
 pub fn show<R: Eprint>(
     rt: &R,
     input: &str,
@@ -98,7 +98,7 @@ pub fn show<R: Eprint>(
     )
 }
 
-/// What `from_slice` takes.
+/// How long `from_slice` takes.
 pub fn reading<P: Part, R: Clock + Eprint + AllocGlobal>(rt: &R, bytes: &[u8]) -> io::Result<u128> {
     let mut least = u128::MAX;
     for _ in 0..ROUNDS {
@@ -112,7 +112,7 @@ pub fn reading<P: Part, R: Clock + Eprint + AllocGlobal>(rt: &R, bytes: &[u8]) -
     Ok(least)
 }
 
-/// What `from_reader` takes.
+/// How long `from_reader` takes.
 pub fn taking<P: Part, R: Clock + Eprint + AllocGlobal>(rt: &R, bytes: &[u8]) -> io::Result<u128> {
     let mut least = u128::MAX;
     for _ in 0..ROUNDS {
@@ -128,7 +128,7 @@ pub fn taking<P: Part, R: Clock + Eprint + AllocGlobal>(rt: &R, bytes: &[u8]) ->
     Ok(least)
 }
 
-/// What `from_reader` takes with memory that is copied wherever it grows.
+/// How long `from_reader` takes with memory that is copied whenever it grows.
 pub fn taking_by_copies<P: Part, R: Clock + Eprint + AllocGlobal>(
     rt: &R,
     bytes: &[u8],
@@ -148,7 +148,7 @@ pub fn taking_by_copies<P: Part, R: Clock + Eprint + AllocGlobal>(
     Ok(least)
 }
 
-/// What `find_fault` takes.
+/// How long `find_fault` takes.
 pub fn checking<R: Clock + Eprint + AllocGlobal>(rt: &R, bytes: &[u8]) -> io::Result<u128> {
     let mut least = u128::MAX;
     for _ in 0..ROUNDS {
@@ -162,7 +162,7 @@ pub fn checking<R: Clock + Eprint + AllocGlobal>(rt: &R, bytes: &[u8]) -> io::Re
     Ok(least)
 }
 
-/// What `to_diag_string` takes.
+/// How long `to_diag_string` takes.
 pub fn telling<R: Clock + Eprint + AllocGlobal>(rt: &R, bytes: &[u8]) -> io::Result<u128> {
     let printer = PrettyPrinter::new(rt.alloc());
     let mut least = u128::MAX;
@@ -177,7 +177,7 @@ pub fn telling<R: Clock + Eprint + AllocGlobal>(rt: &R, bytes: &[u8]) -> io::Res
     Ok(least)
 }
 
-/// What `to_string` takes.
+/// How long `to_string` takes.
 pub fn printing<R: Clock + Eprint + AllocGlobal>(rt: &R, bytes: &[u8]) -> io::Result<u128> {
     let printer = PrettyPrinter::new(rt.alloc());
     let mut least = u128::MAX;
@@ -192,7 +192,7 @@ pub fn printing<R: Clock + Eprint + AllocGlobal>(rt: &R, bytes: &[u8]) -> io::Re
     Ok(least)
 }
 
-/// What `from_diag_string` takes.
+/// How long `from_diag_string` takes.
 pub fn reading_back<R: Clock + Eprint + AllocGlobal>(rt: &R, text: &str) -> io::Result<u128> {
     let printer = PrettyPrinter::new(rt.alloc());
     let mut least = u128::MAX;

@@ -14,6 +14,8 @@ const EXAMPLES: &str = "Examples:
   ttlv undiag --prefix 4200      such lines, read back
   ttlv check *.bin               the first fault of each file, if there is one
   ttlv hex capture.b64           one line of hexadecimal digits for each message
+  ttlv json capture.bin          one line of JSON for each message
+  ttlv from-json messages.json   the message of each line of JSON, in hexadecimal
   xxd key.bin | ttlv show        a dump of xxd, hexdump -C, od -A x -t x1 or tcpdump -x
 
 Input is raw TTLV, hexadecimal, base64, or a dump; messages stand one after the other.
@@ -30,6 +32,75 @@ const ENCODINGS: [&str; 9] = [
     "hexdump",
     "od",
     "tcpdump",
+];
+
+/// What may stand behind a command's name.
+#[derive(Clone, Copy)]
+enum Part {
+    Files,
+    Input,
+    Prefix,
+    Names,
+    Offsets,
+    Width,
+    Tag,
+    Color,
+    Redact,
+    Secrets,
+    Raw,
+    Bytes,
+    Closed,
+    Kmip,
+}
+
+/// Each command: its name, what it does, and what may stand behind it.
+const COMMANDS: [(&str, &str, &[Part]); 7] = [
+    (
+        "show",
+        "Prints a readable line for each item; control characters in texts are escaped",
+        &[
+            Part::Redact,
+            Part::Secrets,
+            Part::Raw,
+            Part::Offsets,
+            Part::Width,
+            Part::Tag,
+            Part::Color,
+            Part::Names,
+            Part::Input,
+            Part::Files,
+        ],
+    ),
+    (
+        "diag",
+        "Prints a redacted diagnostic of each message, a line each",
+        &[Part::Prefix, Part::Closed, Part::Input, Part::Files],
+    ),
+    (
+        "undiag",
+        "Prints what diagnostics, a line each, are read back as",
+        &[Part::Prefix, Part::Names, Part::Files],
+    ),
+    (
+        "check",
+        "Prints nothing but the first fault of each input",
+        &[Part::Kmip, Part::Input, Part::Files],
+    ),
+    (
+        "hex",
+        "Prints each message in hexadecimal digits, a line each",
+        &[Part::Input, Part::Files],
+    ),
+    (
+        "json",
+        "Prints each message as JSON, a line each",
+        &[Part::Redact, Part::Secrets, Part::Input, Part::Files],
+    ),
+    (
+        "from-json",
+        "Prints the messages that lines of JSON are, in hexadecimal digits, a line each",
+        &[Part::Bytes, Part::Files],
+    ),
 ];
 
 fn files<'w>(alloc: Global) -> Arg<'w> {
@@ -60,7 +131,9 @@ fn names<'w>(alloc: Global) -> Arg<'w> {
     Arg::new(alloc, "names")
         .long("names")
         .value_name("TABLE")
-        .help("A file with further names of tags, as `420001 Activation Date`, a line for each")
+        .help(
+            "A file with further names, a line each: `540001 Own Tag`, `540001:00000002 Own Value`",
+        )
 }
 
 fn offsets<'w>(alloc: Global) -> Arg<'w> {
@@ -94,8 +167,8 @@ fn color<'w>(alloc: Global) -> Arg<'w> {
         .help("Whether lines are coloured; auto: on a terminal, unless NO_COLOR is set")
 }
 
-fn show<'w>(alloc: Global) -> Result<Command<'w>, AllocError> {
-    let redact = Arg::new(alloc, "redact")
+fn redact<'w>(alloc: Global) -> Arg<'w> {
+    Arg::new(alloc, "redact")
         .long("redact")
         .value_name("WHAT")
         .num_args(0..=1)
@@ -104,75 +177,88 @@ fn show<'w>(alloc: Global) -> Result<Command<'w>, AllocError> {
         .value_parser(["all", "keys"].as_slice())
         .help(
             "Hides all values but those of enumerations, or those of keys, passwords and credentials alone",
-        );
-    let raw = Arg::new(alloc, "raw")
+        )
+}
+
+fn secrets<'w>(alloc: Global) -> Arg<'w> {
+    Arg::new(alloc, "secrets")
+        .long("secrets")
+        .value_name("TABLE")
+        .help(
+            "A file with further tags that --redact=keys hides, as `540001 Own Secret`, a line for each",
+        )
+}
+
+fn raw<'w>(alloc: Global) -> Arg<'w> {
+    Arg::new(alloc, "raw")
         .long("raw")
         .action(ArgAction::SetTrue)
-        .help("Prints texts as they are, with their control characters and backslashes");
-    Command::new(alloc, "show")
-        .about("Prints a readable line for each item; control characters in texts are escaped")
-        .arg(redact)?
-        .arg(raw)?
-        .arg(offsets(alloc))?
-        .arg(width(alloc))?
-        .arg(tag(alloc))?
-        .arg(color(alloc))?
-        .arg(names(alloc))?
-        .arg(input(alloc))?
-        .arg(files(alloc))
+        .help("Prints texts as they are, with their control characters and backslashes")
 }
 
-fn diag<'w>(alloc: Global) -> Result<Command<'w>, AllocError> {
-    let closed = Arg::new(alloc, "closed")
+fn bytes<'w>(alloc: Global) -> Arg<'w> {
+    Arg::new(alloc, "raw")
+        .long("raw")
+        .action(ArgAction::SetTrue)
+        .help("Prints raw messages in place of hexadecimal digits")
+}
+
+fn closed<'w>(alloc: Global) -> Arg<'w> {
+    Arg::new(alloc, "closed")
         .long("closed")
         .action(ArgAction::SetTrue)
-        .help("Closes empty structures");
-    Command::new(alloc, "diag")
-        .about("Prints a redacted diagnostic of each message, a line each")
-        .arg(prefix(alloc))?
-        .arg(closed)?
-        .arg(input(alloc))?
-        .arg(files(alloc))
+        .help("Closes empty structures")
 }
 
-fn undiag<'w>(alloc: Global) -> Result<Command<'w>, AllocError> {
-    Command::new(alloc, "undiag")
-        .about("Prints what diagnostics, a line each, are read back as")
-        .arg(prefix(alloc))?
-        .arg(names(alloc))?
-        .arg(files(alloc))
-}
-
-fn check<'w>(alloc: Global) -> Result<Command<'w>, AllocError> {
-    let kmip = Arg::new(alloc, "kmip")
+fn kmip<'w>(alloc: Global) -> Arg<'w> {
+    Arg::new(alloc, "kmip")
         .long("kmip")
         .action(ArgAction::SetTrue)
-        .help("Wants each message to be a Request Message or a Response Message");
-    Command::new(alloc, "check")
-        .about("Prints nothing but the first fault of each input")
-        .arg(kmip)?
-        .arg(input(alloc))?
-        .arg(files(alloc))
+        .help("Wants each message to be a Request Message or a Response Message")
 }
 
-fn hex<'w>(alloc: Global) -> Result<Command<'w>, AllocError> {
-    Command::new(alloc, "hex")
-        .about("Prints each message in hexadecimal digits, a line each")
-        .arg(input(alloc))?
-        .arg(files(alloc))
+fn arg<'w>(alloc: Global, part: Part) -> Arg<'w> {
+    match part {
+        Part::Files => files(alloc),
+        Part::Input => input(alloc),
+        Part::Prefix => prefix(alloc),
+        Part::Names => names(alloc),
+        Part::Offsets => offsets(alloc),
+        Part::Width => width(alloc),
+        Part::Tag => tag(alloc),
+        Part::Color => color(alloc),
+        Part::Redact => redact(alloc),
+        Part::Secrets => secrets(alloc),
+        Part::Raw => raw(alloc),
+        Part::Bytes => bytes(alloc),
+        Part::Closed => closed(alloc),
+        Part::Kmip => kmip(alloc),
+    }
+}
+
+fn command<'w>(
+    alloc: Global,
+    name: &'w str,
+    about: &'w str,
+    parts: &[Part],
+) -> Result<Command<'w>, AllocError> {
+    let mut made = Command::new(alloc, name).about(about);
+    for part in parts {
+        made = made.arg(arg(alloc, *part))?;
+    }
+    Ok(made)
 }
 
 /// The program with its commands.
 pub fn program<'w>(alloc: Global) -> Result<Command<'w>, AllocError> {
-    Command::new(alloc, "ttlv")
+    let mut made = Command::new(alloc, "ttlv")
         .about("Prints and checks messages in TTLV, the encoding of OASIS KMIP")
         .version(VERSION)
         .after_help(EXAMPLES)
         .subcommand_required(true)
-        .disable_help_subcommand(true)
-        .subcommand(show(alloc)?)?
-        .subcommand(diag(alloc)?)?
-        .subcommand(undiag(alloc)?)?
-        .subcommand(check(alloc)?)?
-        .subcommand(hex(alloc)?)
+        .disable_help_subcommand(true);
+    for (name, about, parts) in COMMANDS {
+        made = made.subcommand(command(alloc, name, about, parts)?)?;
+    }
+    Ok(made)
 }

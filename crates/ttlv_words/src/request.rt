@@ -3,7 +3,7 @@
 use crate::command::program;
 use clap::{ArgMatches, Error};
 use std::alloc::{AllocError, Global};
-use ttlv_run::{Asked, Encoding, Look, Task, Values};
+use ttlv_run::{Asked, Encoding, Hiding, Look, Task, Values};
 
 /// When lines are coloured.
 #[derive(Clone, Copy, Debug, PartialEq, Eq)]
@@ -23,6 +23,8 @@ pub struct Request<'w> {
     pub asked: Asked<'w>,
     /// The file with further names of tags, where there is one.
     pub names: Option<&'w str>,
+    /// The file with further tags of secrets, if any.
+    pub secrets: Option<&'w str>,
     /// The tag whose items alone are shown, by its name or its hexadecimal digits.
     pub tag: Option<&'w str>,
     /// When lines are coloured.
@@ -74,6 +76,14 @@ fn look_of(matches: &ArgMatches<'_>) -> Look {
     }
 }
 
+fn hiding_of(matches: &ArgMatches<'_>) -> Hiding {
+    match matches.get_str("redact") {
+        Some("all") => Hiding::Values,
+        Some("keys") => Hiding::Secrets,
+        _ => Hiding::Nothing,
+    }
+}
+
 fn color_of(matches: &ArgMatches<'_>) -> Color {
     match matches.get_str("color") {
         Some("always") => Color::Always,
@@ -92,6 +102,9 @@ fn task_of<'w>(command: &str, matches: &ArgMatches<'w>) -> Task<'w> {
             prefix: prefix_of(matches),
         },
         "hex" => Task::Hexadecimal,
+        "json" => Task::Json {
+            hiding: hiding_of(matches),
+        },
         _ => Task::Check {
             kmip: command == "check" && matches.get_flag("kmip"),
         },
@@ -110,24 +123,30 @@ fn files_of<'w>(alloc: Global, matches: &ArgMatches<'w>) -> Result<Vec<&'w str>,
     Ok(files)
 }
 
+fn asked_of<'w>(command: &str, matches: &ArgMatches<'w>) -> Asked<'w> {
+    match command {
+        "undiag" => Asked::ReadBack {
+            prefix: prefix_of(matches),
+        },
+        "from-json" => Asked::FromJson {
+            raw: matches.get_flag("raw"),
+        },
+        _ => Asked::Print {
+            task: task_of(command, matches),
+            encoding: encoding_of(matches),
+        },
+    }
+}
+
 fn request_in<'w>(
     alloc: Global,
     command: &str,
     matches: &ArgMatches<'w>,
 ) -> Result<Request<'w>, AllocError> {
-    let asked = if command == "undiag" {
-        Asked::ReadBack {
-            prefix: prefix_of(matches),
-        }
-    } else {
-        Asked::Print {
-            task: task_of(command, matches),
-            encoding: encoding_of(matches),
-        }
-    };
     Ok(Request {
-        asked,
+        asked: asked_of(command, matches),
         names: matches.get_str("names"),
+        secrets: matches.get_str("secrets"),
         tag: matches.get_str("tag"),
         color: color_of(matches),
         files: files_of(alloc, matches)?,

@@ -1,89 +1,93 @@
-use Rattle.std.proofs.Common.{rules, arith, ◌≡◌, ◌-◌, ◌<◌, ◌≤◌, ◌++◌, ◌∷◌, [], length, ℕ, List, Option, Some, None, ap, sym, refl, subst, ◌∙◌, get_or, length-append}
-use Rattle.std.specs.List.{position_or_len, before_first, after_first}
-use Rattle.std.proofs.lemmas.Str.Pattern.{split_once_first}
-use Rattle.std.proofs.lemmas.List.Sums.{split_at_first}
+use Rattle.std.proofs.Common.{rules, ◌≡◌, ◌∙◌, ◌+◌, ◌++◌, ℕ, Bool, true, false, List, Option, length, drop, sym, subst}
+use Rattle.std.specs.Str.{IsUtf8}
+use Rattle.kmip_ttlv_util.specs.Pieces.{SomeText}
 use Rattle.kmip_ttlv_util.specs.TagNames.{name_in}
-use Rattle.kmip_ttlv_util.proofs.Saying.{adds_same, breaks_same, breaks_rest, err_now}
-use Rattle.kmip_ttlv_names.specs.NameTables.{is_line_feed, lines_of}
-use Rattle.kmip_ttlv_names.proofs.Tables.{first_line, last_line}
 use Rattle.ttlv_run.specs.declared.back.BackFault.{BackFault}
-use Rattle.ttlv_run.specs.Backs.{FirstBreak}
-use Rattle.ttlv_run.specs.Texts.{line_back, text_back}
-use Rattle.ttlv_run.proofs.Backs.{first_back, last_back, Leads, leads_on, leads_last, next_line}
+use Rattle.ttlv_run.specs.declared.back.BackReached.{BackReached}
+use Rattle.ttlv_run.specs.declared.back.BackReached.TheVariants.{Behind, NoText}
+use Rattle.ttlv_run.specs.Backs.{Tries, ReadsBack, ReadsFront}
+use Rattle.ttlv_run.specs.Texts.{line_back}
+use Rattle.ttlv_run.proofs.BackLines.{Lined, no_text_any, last_no_text, last_broken, last_more}
+use Rattle.ttlv_run.proofs.Printing.{err_holds}
 use Rattle.ttlv_run.proofs.back.print_back.Goals as goal
 
--- a line, its end and the others
-parts : (rest line more : List ℕ) → position_or_len is_line_feed rest < length rest → line ≡ before_first is_line_feed rest → more ≡ after_first is_line_feed rest → rest ≡ line ++ (get_or rest (position_or_len is_line_feed rest) 0 ∷ more)
-parts rest line more lt l m =
-    let c = get_or rest (position_or_len is_line_feed rest) 0 in
-    split_at_first is_line_feed rest 0 lt ∙ ap (λ (s : List ℕ). s ++ (c ∷ after_first is_line_feed rest)) (sym l) ∙ ap (λ (s : List ℕ). line ++ (c ∷ s)) (sym m)
-
-pub lines-init : goal.lines-init
-lines-init g c =
-    let start : length c.args.text.now - length c.args.text.now ≡ 0 = omega arith in (
-      search rules,
-      record { text = []; is = refl; holds = g.met.S.TextSink.adds_none c.args.out.now },
-      omega arith,
-      λ o h. subst (λ (n : ℕ). FirstBreak c.args.prefix.now n (lines_of c.args.text.now) o) start h,
-    )
-
-pub lines-preserved : goal.lines-preserved
-lines-preserved g c =
+-- a line that ends with a line feed is no text
+pub returns-in_default-clause-ok : goal.returns-in_default-clause-ok
+returns-in_default-clause-ok g c =
     let tags = name_in c.args.names.now in
     let prefix = c.args.prefix.now in
-    let rest = c.lines.rest.now in
-    let line = c.in-Some.line.now in
-    let more = c.in-Some.more.now in
-    let w = c.lines.invariant.1 in
-    let h = split_once_first 10 rest (Some (c.in-Some.line, c.in-Some.more)) c.in-Some.ensures.cases (omega arith) in
-    let is = parts rest line more h.0 h.1 h.2 in
-    let shorter : length more ≤ length c.args.text.now = omega (arith, c.lines.invariant.2, ap length is, length-append line (get_or rest (position_or_len is_line_feed rest) 0 ∷ more)) in
-    let next = next_line rest line more _ (length c.args.text.now) is c.lines.invariant.2 in
-    let leads = leads_on prefix c.args.text.now (length c.args.text.now - length rest) (length c.args.text.now - length more) rest line more c.lines.first c.in_ok-found.found (first_line rest line more h.0 h.1 h.2) c.in_ok-found.ensures.fault next c.lines.invariant.3 in (
-      search rules,
-      record {
-        text = w.text ++ line_back tags prefix line;
-        is = w.is ∙ first_back tags prefix w.text rest line more h.0 h.1 h.2;
-        holds = g.met.S.TextSink.adds_both _ _ _ w.text (line_back tags prefix line) w.holds c.in_ok-found.ensures.text;
-      },
-      shorter,
-      subst (λ (o : Option BackFault). Leads prefix c.args.text.now (length c.args.text.now - length more) more o) (sym c.or-first.ensures) leads,
-    )
+    let bytes = c.args.bytes.now in
+    let told = subst (λ (r : BackReached). SomeText (ReadsBack tags prefix c.args.base bytes false r) (λ t. g.S.TextSink.adds c.args.out.now t c.push_lines.new.out)) c.in_default.is c.in_ok-reached.ensures.ok in
+    record { text = told.text; is = no_text_any tags prefix bytes c.args.base c.args.last told.text told.is; holds = told.holds }
 
-pub returns-in_err-found-clause-broken : goal.returns-in_err-found-clause-broken
-returns-in_err-found-clause-broken g c =
+-- the last line is no text
+pub returns-in_default-from_utf8-clause-ok : goal.returns-in_default-from_utf8-clause-ok
+returns-in_default-from_utf8-clause-ok g c =
     let tags = name_in c.args.names.now in
     let prefix = c.args.prefix.now in
-    let rest = c.lines.rest.now in
-    let line = c.in-Some.line.now in
-    let more = c.in-Some.more.now in
-    let w = c.lines.invariant.1 in
-    let h = split_once_first 10 rest (Some (c.in-Some.line, c.in-Some.more)) c.in-Some.ensures.cases (omega arith) in
-    let here = g.met.S.TextSink.breaks_second _ _ _ w.text (line_back tags prefix line) w.holds c.in_err-found.ensures.broken in
-    err_now g.S.TextSink.adds g.S.TextSink.breaks _ _ _ _ (breaks_rest g.S.TextSink.adds g.S.TextSink.breaks g.met.S.TextSink.breaks_first _ _ (w.text ++ line_back tags prefix line) (text_back tags prefix more) _ here (sym (w.is ∙ first_back tags prefix w.text rest line more h.0 h.1 h.2)))
+    let bytes = c.args.bytes.now in
+    let base = c.args.base in
+    let count = c.in-Behind.count in
+    let found = c.in-Behind.found in
+    let told = subst (λ (r : BackReached). SomeText (ReadsBack tags prefix base bytes false r) (λ t. g.S.TextSink.adds c.args.out.now t c.push_lines.new.out)) c.in-Behind.is c.in_ok-reached.ensures.ok in
+    let last : c.args.last ≡ true = search rules in
+    let lined : Lined tags prefix base bytes count found told.text = (told.is.0, told.is.1) in
+    let none : IsUtf8 c.behind-rest.result.now → ⊥ = search rules in
+    let other : IsUtf8 (drop count bytes) → ⊥ = λ u. none (subst IsUtf8 (sym c.behind-rest.ensures) u) in
+    record {
+      text = told.text;
+      is = subst (λ (b : Bool). ReadsBack tags prefix base bytes b NoText told.text) (sym last) (last_no_text tags prefix base bytes count found told.text lined told.is.2 other);
+      holds = told.holds;
+    }
 
-pub returns-in_err-found-2-clause-broken : goal.returns-in_err-found-2-clause-broken
-returns-in_err-found-2-clause-broken g c =
+-- the sink failed in the last line, or memory ran out there
+pub returns-in_err-fault-clause-err : goal.returns-in_err-fault-clause-err
+returns-in_err-fault-clause-err g c =
     let tags = name_in c.args.names.now in
     let prefix = c.args.prefix.now in
-    let rest = c.lines.rest.now in
-    let w = c.lines.invariant.1 in
-    let none = split_once_first 10 rest None c.in_default.ensures.cases (omega arith) in
-    let here = g.met.S.TextSink.breaks_second _ _ _ w.text (line_back tags prefix rest) w.holds c.in_err-found-2.ensures.broken in
-    err_now g.S.TextSink.adds g.S.TextSink.breaks _ _ _ _ (breaks_same g.S.TextSink.adds g.S.TextSink.breaks _ _ _ _ here (ap (λ (s : List ℕ). w.text ++ s) (sym (last_back tags prefix rest none)) ∙ sym w.is))
+    let bytes = c.args.bytes.now in
+    let base = c.args.base in
+    let count = c.in-Behind.count in
+    let found = c.in-Behind.found in
+    let told = subst (λ (r : BackReached). SomeText (ReadsBack tags prefix base bytes false r) (λ t. g.S.TextSink.adds c.args.out.now t c.push_lines.new.out)) c.in-Behind.is c.in_ok-reached.ensures.ok in
+    let last : c.args.last ≡ true = search rules in
+    let lined : Lined tags prefix base bytes count found told.text = (told.is.0, told.is.1) in
+    let rest = drop count bytes in
+    let is : c.in-Ok.text.now ≡ c.behind-rest.result.now = search rules in
+    let text : IsUtf8 c.behind-rest.result.now = search rules in
+    let same : c.in-Ok.text.now ≡ rest = is ∙ c.behind-rest.ensures in
+    let u = subst IsUtf8 c.behind-rest.ensures text in
+    let here = line_back tags prefix rest in
+    let broken : SomeText (ReadsFront tags prefix bytes c.args.last) (λ t. g.S.TextSink.breaks c.args.out.now t c.push_back.new.out) = record {
+      text = told.text ++ here;
+      is = subst (λ (b : Bool). ReadsFront tags prefix bytes b (told.text ++ here)) (sym last) (last_broken tags prefix base bytes count found told.text lined told.is.2 u);
+      holds = g.met.S.TextSink.breaks_second _ _ _ told.text here told.holds (subst (λ (s : List ℕ). g.S.TextSink.breaks c.push_lines.new.out (line_back tags prefix s) c.push_back.new.out) same c.in_err-fault.ensures.broken);
+    } in
+    err_holds _ _ broken
 
-pub returns-clause-text : goal.returns-clause-text
-returns-clause-text g c =
+-- all lines
+pub returns-clause-ok : goal.returns-clause-ok
+returns-clause-ok g c =
     let tags = name_in c.args.names.now in
     let prefix = c.args.prefix.now in
-    let rest = c.lines.rest.now in
-    let w = c.lines.invariant.1 in
-    let none = split_once_first 10 rest None c.in_default.ensures.cases (omega arith) in
-    adds_same g.S.TextSink.adds g.S.TextSink.breaks _ _ _ _ (g.met.S.TextSink.adds_both _ _ _ w.text (line_back tags prefix rest) w.holds c.in_ok-found-2.ensures.text)
-    (ap (λ (s : List ℕ). w.text ++ s) (sym (last_back tags prefix rest none)) ∙ sym w.is)
-
-pub returns-clause-fault : goal.returns-clause-fault
-returns-clause-fault g c =
-    let none = split_once_first 10 c.lines.rest.now None c.in_default.ensures.cases (omega arith) in
-    subst (λ (o : Option BackFault). FirstBreak c.args.prefix.now 0 (lines_of c.args.text.now) o) (sym c.or.ensures)
-    (leads_last c.args.prefix.now c.args.text.now (length c.args.text.now - length c.lines.rest.now) c.lines.rest.now c.lines.first c.in_ok-found-2.found (last_line c.lines.rest.now none) c.in_ok-found-2.ensures.fault c.lines.invariant.3)
+    let bytes = c.args.bytes.now in
+    let base = c.args.base in
+    let count = c.in-Behind.count in
+    let found = c.in-Behind.found in
+    let told = subst (λ (r : BackReached). SomeText (ReadsBack tags prefix base bytes false r) (λ t. g.S.TextSink.adds c.args.out.now t c.push_lines.new.out)) c.in-Behind.is c.in_ok-reached.ensures.ok in
+    let last : c.args.last ≡ true = search rules in
+    let lined : Lined tags prefix base bytes count found told.text = (told.is.0, told.is.1) in
+    let rest = drop count bytes in
+    let is : c.in-Ok.text.now ≡ c.behind-rest.result.now = search rules in
+    let text : IsUtf8 c.behind-rest.result.now = search rules in
+    let same : c.in-Ok.text.now ≡ rest = is ∙ c.behind-rest.ensures in
+    let u = subst IsUtf8 c.behind-rest.ensures text in
+    let here = line_back tags prefix rest in
+    let fault = c.in_ok-fault.fault in
+    let tries : Tries prefix (base + count) rest fault = subst (λ (s : List ℕ). Tries prefix (base + count) s fault) same c.in_ok-fault.ensures.fault in
+    let all = last_more tags prefix base bytes count found told.text lined told.is.2 u fault tries in
+    record {
+      text = told.text ++ here;
+      is = subst (λ (b : Bool). ReadsBack tags prefix base bytes b (Behind (length bytes) c.or.result) (told.text ++ here)) (sym last) (subst (λ (o : Option BackFault). ReadsBack tags prefix base bytes true (Behind (length bytes) o) (told.text ++ here)) (sym c.or.ensures) all);
+      holds = g.met.S.TextSink.adds_both _ _ _ told.text here told.holds (subst (λ (s : List ℕ). g.S.TextSink.adds c.push_lines.new.out (line_back tags prefix s) c.push_back.new.out) same c.in_ok-fault.ensures.text);
+    }

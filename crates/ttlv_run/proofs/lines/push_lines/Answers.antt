@@ -1,5 +1,6 @@
-use Rattle.std.proofs.Common.{◌≡◌, ◌∙◌, ◌+◌, ◌<◌, ap, sym, refl, subst, List, [], ◌∷◌, ◌++◌, ℕ, get_or, reverse, arith}
+use Rattle.std.proofs.Common.{◌≡◌, ◌∙◌, ◌+◌, ◌<◌, ap, sym, refl, subst, List, [], ◌∷◌, ◌++◌, ℕ, get_or, arith}
 use Rattle.kmip_ttlv_types.specs.Places.{size}
+use Rattle.kmip_ttlv_items.specs.Enclosing.{open_ends}
 use Rattle.kmip_ttlv_items.specs.ItemWalks.{Ended}
 use Rattle.kmip_ttlv_items.specs.Stepping.{Steps, Comes}
 use Rattle.kmip_ttlv_util.proofs.Saying.{adds_same, breaks_same}
@@ -63,7 +64,7 @@ returns-in_err-item-clause-err g c =
     let plain : (k : ℕ) → get_or message k 0 < 256 = λ k. omega (arith, c.type_inv.message k) in
     let walk = c.items.walk in
     let found = c.items.invariant.told.0 in
-    let rest = lines_rest names c.args.at message plain c.args.look walk.bytes.now walk.offset (reverse walk.ends.items) found c.items.invariant.bytes c.items.invariant.told.1 in
+    let rest = lines_rest names c.args.at message plain c.args.look walk.bytes.now walk.offset (open_ends walk.ends) found c.items.invariant.bytes c.items.invariant.told.1 in
     let after = g.met.S.TextSink.breaks_after _ _ _ c.items.invariant.told.3 in
     err_holds _ _ (broken_lines g.S.TextSink.adds g.S.TextSink.breaks g.met.S.TextSink.breaks_first names c.args.at message plain c.args.look found _ _ rest after)
 
@@ -83,7 +84,7 @@ returns-in_err-push_item-in-Item-clause-err g c =
     let more : first ++ item_text names look c.reach_after-reach.result c.args.at message i ≡ lines_from names look c.args.at message no_reach (found ++ (i ∷ [])) =
     ap (λ (r : Reach). first ++ item_text names look r c.args.at message i) reach ∙ sym (lines-more names look c.args.at message no_reach i found) in
     let bytes = c.next.ensures.bytes ∙ c.items.invariant.bytes in
-    let rest = lines_rest names c.args.at message plain c.args.look walk.bytes.now walk.offset (reverse walk.ends.items) (found ++ (i ∷ [])) bytes (comes.met found c.items.invariant.told.1) in
+    let rest = lines_rest names c.args.at message plain c.args.look walk.bytes.now walk.offset (open_ends walk.ends) (found ++ (i ∷ [])) bytes (comes.met found c.items.invariant.told.1) in
     let second = g.met.S.TextSink.breaks_second _ _ _ first _ c.items.invariant.told.3 c.in_err-push_item-in-Item.ensures.err in
     let here = breaks_same g.S.TextSink.adds g.S.TextSink.breaks _ _ _ _ second more in
     err_holds _ _ (broken_lines g.S.TextSink.adds g.S.TextSink.breaks g.met.S.TextSink.breaks_first names c.args.at message plain c.args.look (found ++ (i ∷ [])) _ _ rest here)

@@ -1,20 +1,20 @@
-use Rattle.std.proofs.Common.{rules, arith, ◌≡◌, ◌<◌, ◌^◌, ◌++◌, ◌==◌, ◌%◌, ◌/◌, ◌*◌, Bool, [], ℕ, List, Option, ap, sym, refl, ◌∙◌, append_assoc, append-nil}
+use Rattle.std.proofs.Common.{rules, arith, ◌≡◌, ◌<◌, ◌^◌, ◌++◌, ◌==◌, ◌%◌, ◌/◌, ◌*◌, Bool, true, [], ℕ, List, Option, None, Bor, ap, sym, refl, ◌∙◌, append_assoc, append-nil}
 use Rattle.std.specs.Prelude.{option_map}
-use Rattle.kmip_ttlv_names.specs.ValueNames.{name_of_value}
+use Rattle.kmip_ttlv_util.specs.TagNames.{name_in}
 use Rattle.kmip_ttlv_util.proofs.Saying.{adds_same, breaks_same, err_now}
-use Rattle.ttlv_run.specs.Masks.{behind_mark, set_name, still_first, bit_names, list_mask}
-use Rattle.ttlv_run.proofs.Bits.{first_place, bit_small, next_place, none_left}
+use Rattle.ttlv_run.specs.Masks.{behind_mark, set_name, still_first, bit_names, mask_names, value_named}
+use Rattle.ttlv_run.proofs.Bits.{first_place, bit_small, next_place, none_left, none_named}
 use Rattle.ttlv_run.proofs.masks.push_mask.Goals as goal
 
 pub bits-init : goal.bits-init
-unfolding list_mask
+unfolding mask_names
 bits-init g c =
     let small : c.args.mask < 2 ^ 32 = search rules in
     (first_place c.args.mask small, record { text = []; is = refl; holds = g.met.S.TextSink.adds_none c.args.out.now })
 
 pub bits-preserved : goal.bits-preserved
 bits-preserved g c =
-    let names : ℕ → Option (List ℕ) = λ bit. name_of_value bit c.args.list.now in
+    let names : ℕ → Option (List ℕ) = value_named (name_in c.args.names.now.own) (option_map (λ (s : Bor (List ℕ)). s.now) c.args.list) c.args.tag in
     let n = next_place names c.bits.bit c.bits.rest c.bits.is_first c.bits.invariant.0 c.bits-test.true in
     let w = c.bits.invariant.1 in
     let name = option_map (λ s. s.now) c.set_name-name.result in
@@ -23,7 +23,7 @@ bits-preserved g c =
     let tail = bit_names names n.to.left (c.bits.bit * 2) (c.bits.rest / 2) (still_first c.bits.is_first set) in
     let same : behind ≡ behind_mark c.bits.is_first set = ap (behind_mark c.bits.is_first) c.set_name-name.ensures in
     let first_is : c.still_first-is_first.result ≡ still_first c.bits.is_first set = c.still_first-is_first.ensures ∙ ap (still_first c.bits.is_first) c.set_name-name.ensures in
-    let front : list_mask c.args.list.now c.args.mask ≡ (w.text ++ behind) ++ tail =
+    let front : mask_names (value_named (name_in c.args.names.now.own) (option_map (λ (s : Bor (List ℕ)). s.now) c.args.list) c.args.tag) c.args.mask ≡ (w.text ++ behind) ++ tail =
     w.is ∙ ap (λ (s : List ℕ). w.text ++ s) n.names_are ∙ ap (λ (s : List ℕ). w.text ++ (s ++ tail)) (sym same) ∙ sym (append_assoc w.text behind tail) in (
       n.to,
       record {
@@ -36,7 +36,7 @@ bits-preserved g c =
 -- the sink failed in a name, behind which others follow
 pub returns-in_err-push_bit-clause-err : goal.returns-in_err-push_bit-clause-err
 returns-in_err-push_bit-clause-err g c =
-    let names : ℕ → Option (List ℕ) = λ bit. name_of_value bit c.args.list.now in
+    let names : ℕ → Option (List ℕ) = value_named (name_in c.args.names.now.own) (option_map (λ (s : Bor (List ℕ)). s.now) c.args.list) c.args.tag in
     let n = next_place names c.bits.bit c.bits.rest c.bits.is_first c.bits.invariant.0 c.bits-test.true in
     let w = c.bits.invariant.1 in
     let name = option_map (λ s. s.now) c.set_name-name.result in
@@ -44,7 +44,7 @@ returns-in_err-push_bit-clause-err g c =
     let set = set_name names c.bits.bit (c.bits.rest % 2 == 1) in
     let tail = bit_names names n.to.left (c.bits.bit * 2) (c.bits.rest / 2) (still_first c.bits.is_first set) in
     let same : behind ≡ behind_mark c.bits.is_first set = ap (behind_mark c.bits.is_first) c.set_name-name.ensures in
-    let whole : w.text ++ (behind ++ tail) ≡ list_mask c.args.list.now c.args.mask =
+    let whole : w.text ++ (behind ++ tail) ≡ mask_names (value_named (name_in c.args.names.now.own) (option_map (λ (s : Bor (List ℕ)). s.now) c.args.list) c.args.tag) c.args.mask =
     ap (λ (s : List ℕ). w.text ++ (s ++ tail)) same ∙ ap (λ (s : List ℕ). w.text ++ s) (sym n.names_are) ∙ sym w.is in
     let first = g.met.S.TextSink.breaks_first _ _ behind tail c.in_err-push_bit.ensures.err in
     err_now g.S.TextSink.adds g.S.TextSink.breaks _ _ _ _ (breaks_same g.S.TextSink.adds g.S.TextSink.breaks _ _ _ _ (g.met.S.TextSink.breaks_second _ _ _ w.text (behind ++ tail) w.holds first) whole)
@@ -52,10 +52,18 @@ returns-in_err-push_bit-clause-err g c =
 -- no bit is left
 pub returns-clause-ok : goal.returns-clause-ok
 returns-clause-ok g c =
-    let names : ℕ → Option (List ℕ) = λ bit. name_of_value bit c.args.list.now in
+    let names : ℕ → Option (List ℕ) = value_named (name_in c.args.names.now.own) (option_map (λ (s : Bor (List ℕ)). s.now) c.args.list) c.args.tag in
     let p = c.bits.invariant.0 in
     let w = c.bits.invariant.1 in
     let none : c.bits.rest ≡ 0 = omega (arith, c.bits-test.false) in
-    let all : list_mask c.args.list.now c.args.mask ≡ w.text =
+    let all : mask_names (value_named (name_in c.args.names.now.own) (option_map (λ (s : Bor (List ℕ)). s.now) c.args.list) c.args.tag) c.args.mask ≡ w.text =
     w.is ∙ ap (λ (r : ℕ). w.text ++ bit_names names p.left c.bits.bit r c.bits.is_first) none ∙ ap (λ (s : List ℕ). w.text ++ s) (none_left names p.left c.bits.bit c.bits.is_first) ∙ append-nil w.text in
     adds_same g.S.TextSink.adds g.S.TextSink.breaks _ _ w.text _ w.holds (sym all)
+
+-- nothing has a name
+pub returns-then-is_unnamed-clause-ok : goal.returns-then-is_unnamed-clause-ok
+unfolding mask_names
+returns-then-is_unnamed-clause-ok g c =
+    let names : ℕ → Option (List ℕ) = value_named (name_in c.args.names.now.own) (option_map (λ (s : Bor (List ℕ)). s.now) c.args.list) c.args.tag in
+    let none : (bit : ℕ) → names bit ≡ None = λ bit. c.is_unnamed.ensures c.if-is_unnamed.true c.args.tag bit in
+    adds_same g.S.TextSink.adds g.S.TextSink.breaks _ _ [] _ (g.met.S.TextSink.adds_none c.args.out.now) (sym (none_named names none 32 1 c.args.mask true))

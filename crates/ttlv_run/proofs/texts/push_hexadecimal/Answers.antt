@@ -3,7 +3,7 @@ use Rattle.kmip_ttlv_types.specs.declared.typ.TtlvType.TheVariants.{ByteString}
 use Rattle.kmip_ttlv_util.specs.Pretty.{value_shown}
 use Rattle.kmip_ttlv_util.proofs.Saying.{adds_same, breaks_same, err_now, ok_then, err_then}
 use Rattle.hex.specs.Hex.{encode_upper}
-use Rattle.ttlv_run.proofs.Hexadecimal.{hex_upper}
+use Rattle.kmip_ttlv_json.proofs.Hexadecimal.{hex_upper}
 use Rattle.ttlv_run.proofs.texts.push_hexadecimal.Goals as goal
 
 shown_upper : (m : List ℕ) → ((k : ℕ) → get_or m k 0 < 256) → value_shown ByteString m ≡ encode_upper m

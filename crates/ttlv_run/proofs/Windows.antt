@@ -1,0 +1,418 @@
+-- Messages among bytes that stand among those of all messages, and an input that comes piece by piece.
+use Rattle.std.proofs.Common.{◌≡◌, ◌⊎◌, inl, inr, ℕ, ◌+◌, ◌-◌, ◌<◌, ◌≤◌, Bool, true, false, ◌&&◌, if◌then◌else◌, List, [], ◌∷◌, ◌++◌, length, take, drop, take-add, get_or, Some, None, Option, IfSome, ap, sym, refl, subst, ◌∙◌, arith, append-nil, append_assoc}
+use Rattle.std.specs.Prelude.{◌||◌, nat_le, nat_lt}
+use Rattle.std.specs.Int.{w32, from_be_bytes}
+use Rattle.std.specs.Io.KnownBytes.{Appends, Consumes, IsAtEnd, Keeps}
+use Rattle.std.proofs.KnownBytes.{Appends-nil, Appends-trans, Consumes-trans, Consumes-kept}
+use Rattle.std.proofs.lemmas.Bool.{cases_lt, leb-true, le-leb, ltb-true, lt-ltb, and_parts}
+use Rattle.std.proofs.lemmas.List.{take-append-drop, get_or-take, get_or-drop, get_or_past, get_or_append_left, get_or-append_right, take-append-le, drop-append-le, length-append, length-drop, length-take-le, drop_all, drop-drop}
+use Rattle.kmip_ttlv_types.specs.Places.{length_at}
+use Rattle.kmip_ttlv_types.specs.Streams.{AppendsFront}
+use Rattle.kmip_ttlv_types.proofs.Taken.{AppendsFront-first, AppendsFront-second}
+use Rattle.kmip_ttlv_items.specs.declared.found.Fault.{Fault}
+use Rattle.kmip_ttlv_items.specs.ItemWalks.{AreBytes}
+use Rattle.kmip_ttlv_util.specs.Pieces.{SomeText}
+use Rattle.ttlv_run.specs.declared.form.Form.{Form}
+use Rattle.ttlv_run.specs.declared.job.Encoding.{Encoding}
+use Rattle.ttlv_run.specs.declared.job.Encoding.TheVariants.{Detected, Raw, Hexadecimal, Base64, Base64Url, Armoured, Dump, Packets}
+use Rattle.ttlv_run.specs.declared.job.Job.{Job}
+use Rattle.ttlv_run.specs.declared.job.Task.{Task}
+use Rattle.ttlv_run.specs.declared.messages.Place.{Place}
+use Rattle.ttlv_run.specs.declared.messages.Reached.{Reached}
+use Rattle.ttlv_run.specs.declared.messages.Reached.TheVariants.{Behind, Fault as AtFault}
+use Rattle.ttlv_run.specs.declared.refusal.Refusal.{Refusal}
+use Rattle.ttlv_run.specs.declared.refusal.Refusal.TheVariants.{UnopenedInput, UnreadableInput, MisreadInput, NotUtf8, UnwritableOutput, ClosedPipe, RefusedMemory}
+use Rattle.ttlv_run.specs.Columns.{body}
+use Rattle.ttlv_run.specs.Guesses.{has_control, text_found, is_raw}
+use Rattle.ttlv_run.specs.Inputs.{IsUnread, form_of, StandsIn, Stands}
+use Rattle.ttlv_run.specs.Messages.{is_there, first_size, message_at, is_taken, Whole, whole_none, whole_more, IsWrong, Breaks, GoesOn}
+use Rattle.ttlv_run.specs.Runs.{Streams, Printed, Faults, Unwritten, Fronts, FrontsIf, Unread, Fails}
+use Rattle.ttlv_run.specs.Streaming.{is_due, StandsAt, EndsAt, PrintsOn, GoesOnBehind, Comes, ComesBy}
+use Rattle.ttlv_run.specs.Texts.{Names, IsMessageText}
+use Rattle.ttlv_run.proofs.Appending.{all_front}
+use Rattle.ttlv_run.proofs.Completion.{whole_goes, goes_behind}
+
+true_is_false : true ≡ false → ⊥
+true_is_false e = cc
+
+-- the length in a header is that of its bytes, whatever stands behind them
+length_there : (r more : List ℕ) → 8 ≤ length r → length_at (r ++ more) 0 ≡ length_at r 0
+length_there r more le =
+    let b : (k : ℕ) → k < 8 → get_or (r ++ more) k 0 ≡ get_or r k 0 = λ k lt. get_or_append_left r more 0 k (omega (arith, lt, le)) in
+    ap (λ x. from_be_bytes w32 (x ∷ get_or (r ++ more) 5 0 ∷ get_or (r ++ more) 6 0 ∷ get_or (r ++ more) 7 0 ∷ [])) (b 4 (omega arith))
+    ∙ ap (λ x. from_be_bytes w32 (get_or r 4 0 ∷ x ∷ get_or (r ++ more) 6 0 ∷ get_or (r ++ more) 7 0 ∷ [])) (b 5 (omega arith))
+    ∙ ap (λ x. from_be_bytes w32 (get_or r 4 0 ∷ get_or r 5 0 ∷ x ∷ get_or (r ++ more) 7 0 ∷ [])) (b 6 (omega arith))
+    ∙ ap (λ x. from_be_bytes w32 (get_or r 4 0 ∷ get_or r 5 0 ∷ get_or r 6 0 ∷ x ∷ [])) (b 7 (omega arith))
+
+-- a message that is there
+pub there_parts : (r : List ℕ) → is_there r ≡ true → (8 ≤ length r) × (8 + length_at r 0 ≤ length r)
+there_parts r h =
+    let p = and_parts (nat_le 8 (length r)) (nat_le (8 + length_at r 0) (length r)) h in
+    (leb-true 8 (length r) p.0, leb-true (8 + length_at r 0) (length r) p.1)
+
+pub there_from : (r : List ℕ) → 8 ≤ length r → 8 + length_at r 0 ≤ length r → is_there r ≡ true
+there_from r a b = ap (λ x. x && nat_le (8 + length_at r 0) (length r)) (le-leb 8 (length r) a) ∙ le-leb (8 + length_at r 0) (length r) b
+
+size_of : (r : List ℕ) → is_there r ≡ true → first_size r ≡ 8 + length_at r 0
+size_of r h = ap (λ (b : Bool). if b then 8 + length_at r 0 else length r) h
+
+-- stays the same, whatever comes behind it
+first_there : (r more : List ℕ) → is_there r ≡ true → take (first_size (r ++ more)) (r ++ more) ≡ take (first_size r) r
+first_there r more h =
+    let p = there_parts r h in
+    let same = length_there r more p.0 in
+    let here = there_from (r ++ more) (omega (arith, p.0, length-append r more)) (omega (arith, same, p.1, length-append r more)) in
+    let size : first_size (r ++ more) ≡ first_size r = size_of (r ++ more) here ∙ ap (λ (n : ℕ). 8 + n) same ∙ sym (size_of r h) in
+    ap (λ (n : ℕ). take n (r ++ more)) size ∙ take-append-le (first_size r) r more (omega (arith, size_of r h, p.1))
+
+module _ (all : List ℕ) (base : ℕ) (bytes : List ℕ) (last : Bool) (stands : StandsAt all base bytes last) where
+  stands_long : length all ≡ base + (length bytes + length stands.more)
+  stands_long = omega (arith, stands.within, length-drop base all, ap (λ (s : List ℕ). length s) stands.are, length-append bytes stands.more)
+
+  -- a message among the bytes is that of all
+  pub same_message : (at : ℕ) → at ≤ length bytes → (last ≡ true) ⊎ (is_there (drop at bytes) ≡ true) → message_at all (base + at) ≡ message_at bytes at
+  same_message at le due = ap (λ (r : List ℕ). take (first_size r) r) rest ∙ by due
+    where
+      rest : drop (base + at) all ≡ drop at bytes ++ stands.more
+      rest = sym (drop-drop at base all) ∙ ap (drop at) stands.are ∙ drop-append-le at bytes stands.more le
+
+      by : (last ≡ true) ⊎ (is_there (drop at bytes) ≡ true) → take (first_size (drop at bytes ++ stands.more)) (drop at bytes ++ stands.more) ≡ message_at bytes at
+      by (inl end) = ap (λ (r : List ℕ). take (first_size r) r) (ap (λ (m : List ℕ). drop at bytes ++ m) (stands.ends end) ∙ append-nil (drop at bytes))
+      by (inr there) = first_there (drop at bytes) stands.more there
+
+  pub stands_before : (at : ℕ) → at < length bytes → base + at < length all
+  stands_before at lt = omega (arith, lt, stands_long)
+
+-- a message is due
+pub due_parts : (bytes : List ℕ) (at : ℕ) (last : Bool) → is_due bytes at last ≡ true → (at < length bytes) × ((last ≡ true) ⊎ (is_there (drop at bytes) ≡ true))
+due_parts bytes at last h = (ltb-true at (length bytes) p.0, by last p.1)
+  where
+    p : (nat_lt at (length bytes) ≡ true) × ((last || is_there (drop at bytes)) ≡ true)
+    p = and_parts (nat_lt at (length bytes)) (last || is_there (drop at bytes)) h
+
+    by : (b : Bool) → (b || is_there (drop at bytes)) ≡ true → (b ≡ true) ⊎ (is_there (drop at bytes) ≡ true)
+    by true is = inl refl
+    by false is = inr is
+
+-- printing ends where none is
+pub due_none : (bytes : List ℕ) (at : ℕ) (last : Bool) → at ≤ length bytes → is_due bytes at last ≡ false → EndsAt bytes last (Behind at)
+due_none bytes at last le h = elim (cases_lt at (length bytes)) [ inl lt ↦ before last lt h | inr past ↦ behind last (omega (arith, le, past)) ]
+  where
+    before : (b : Bool) → at < length bytes → is_due bytes at b ≡ false → EndsAt bytes b (Behind at)
+    before true lt is = absurd (true_is_false (sym (ap (λ (c : Bool). c && true) (lt-ltb at (length bytes) lt)) ∙ is))
+    before false lt is = (le, sym (ap (λ (c : Bool). c && is_there (drop at bytes)) (lt-ltb at (length bytes) lt)) ∙ is)
+
+    behind : (b : Bool) → at ≡ length bytes → EndsAt bytes b (Behind at)
+    behind true is = is
+    behind false is = (le, ap is_there (drop_all at bytes (omega (arith, is))))
+
+-- bytes, wherever they are looked for
+plain_bytes : (w : List ℕ) → AreBytes w → (k : ℕ) → get_or w k 0 < 256
+plain_bytes w h k = elim (cases_lt k (length w)) [ inl lt ↦ h k lt | inr le ↦ omega (arith, get_or_past w k 0 le) ]
+
+-- what is printed of the bytes up to a place, whatever stands in front of them and behind
+abbrev pub UpTo : Names → Task → ℕ → List ℕ → Bool → ℕ → List ℕ → Type 0
+UpTo names task base bytes last at t =
+    (all front : List ℕ) → StandsAt all base bytes last → Whole names task all base front → Whole names task all (base + at) (front ++ t)
+
+pub up_to_none : (names : Names) (task : Task) (base : ℕ) (bytes : List ℕ) (last : Bool) → UpTo names task base bytes last 0 []
+up_to_none names task base bytes last all front stands whole =
+    let here : base ≡ base + 0 = omega arith in
+    subst (λ (t : List ℕ). Whole names task all (base + 0) t) (sym (append-nil front)) (subst (λ (p : ℕ). Whole names task all p front) here whole)
+
+-- the message that is due at a place
+module _ (names : Names) (task : Task) (base : ℕ) (bytes : List ℕ) (last : Bool) (at : ℕ) (m t told : List ℕ) (is : m ≡ message_at bytes at) (due : is_due bytes at last ≡ true) (up : UpTo names task base bytes last at t) where
+  inside : at < length bytes
+  inside = (due_parts bytes at last due).0
+
+  same : (all : List ℕ) → StandsAt all base bytes last → m ≡ message_at all (base + at)
+  same all stands = is ∙ sym (same_message all base bytes last stands at (omega (arith, inside)) (due_parts bytes at last due).1)
+
+  left : (all : List ℕ) → StandsAt all base bytes last → base + at < length all
+  left all stands = stands_before all base bytes last stands at inside
+
+  tells_all : (all : List ℕ) → StandsAt all base bytes last → (f : Option Fault) → IsMessageText names task (base + at) m told f → IsMessageText names task (base + at) (message_at all (base + at)) told f
+  tells_all all stands f tells = subst (λ (s : List ℕ). IsMessageText names task (base + at) s told f) (same all stands) tells
+
+  -- is whole
+  pub one_more : IsMessageText names task (base + at) m told None → is_taken task m ≡ true → UpTo names task base bytes last (at + length m) (t ++ told)
+  one_more tells taken all front stands whole =
+      whole_more (base + at) (base + (at + length m)) (front ++ t) (front ++ (t ++ told)) told (up all front stands whole) (left all stands) (tells_all all stands None tells)
+      (ap (is_taken task) (sym (same all stands)) ∙ taken) (sym (append_assoc front t told)) (omega (arith, ap (λ (s : List ℕ). length s) (same all stands)))
+
+  wrong_here : (all front : List ℕ) → StandsAt all base bytes last → Whole names task all base front → (place : Place) (f : Option Fault) → IsMessageText names task (base + at) m told f → IsWrong task m (base + at) place f → Breaks names task all (front ++ (t ++ told)) place
+  wrong_here all front stands whole place f tells wrong = record {
+    at = base + at;
+    front = front ++ t;
+    told = told;
+    fault = f;
+    whole = up all front stands whole;
+    left = left all stands;
+    tells = tells_all all stands f tells;
+    wrong = subst (λ (s : List ℕ). IsWrong task s (base + at) place f) (same all stands) wrong;
+    is = sym (append_assoc front t told);
+  }
+
+  -- has a fault, or a root that the task doesn't take
+  pub one_wrong : (place : Place) (f : Option Fault) → IsMessageText names task (base + at) m told f → IsWrong task m (base + at) place f → PrintsOn names task base bytes last (AtFault place) (t ++ told)
+  one_wrong place f tells wrong all front stands whole = wrong_here all front stands whole place f tells wrong
+
+  -- is printed up to where that fails
+  pub one_broken : (f : Option Fault) → IsMessageText names task (base + at) m told f → GoesOnBehind names task base bytes last (t ++ told)
+  one_broken f tells all front stands plain whole =
+      subst (GoesOn names task all) (append_assoc front t told) (goes_behind names task all (plain_bytes all plain) (base + at) (front ++ t) (left all stands) (up all front stands whole) told f (tells_all all stands f tells))
+
+-- what is printed up to where printing ended goes on
+pub goes_on : (names : Names) (task : Task) (base : ℕ) (bytes : List ℕ) (last : Bool) (reached : Reached) (t : List ℕ) → EndsAt bytes last reached → PrintsOn names task base bytes last reached t → GoesOnBehind names task base bytes last t
+goes_on names task base bytes last (AtFault place) t end prints all front stands plain whole =
+    record { more = []; place = Some place; prints = subst (λ (s : List ℕ). Breaks names task all s place) (sym (append-nil (front ++ t))) (prints all front stands whole) }
+goes_on names task base bytes last (Behind count) t end prints all front stands plain whole =
+    whole_goes names task all (plain_bytes all plain) (base + count) (front ++ t) (omega (arith, stands_long all base bytes last stands, by last end)) (prints all front stands whole)
+  where
+    by : (b : Bool) → EndsAt bytes b (Behind count) → count ≤ length bytes
+    by true is = omega (arith, is)
+    by false h = h.0
+
+-- ---- the bytes of an input that comes piece by piece
+
+bytes_append : (s t : List ℕ) → AreBytes s → AreBytes t → AreBytes (s ++ t)
+bytes_append s t a b k lt =
+    elim (cases_lt k (length s)) [
+      | inl here ↦ omega (arith, get_or_append_left s t 0 k here, a k here)
+      | inr past ↦ omega (arith, get_or-append_right s t (length s) k 0 refl past, b (k - length s) (omega (arith, past, lt, length-append s t)))
+    ]
+
+bytes_take : (n : ℕ) (s : List ℕ) → n ≤ length s → AreBytes s → AreBytes (take n s)
+bytes_take n s le h k lt =
+    let here : k < n = omega (arith, lt, length-take-le n s le) in
+    omega (arith, get_or-take n s k 0 here, h k (omega (arith, here, le)))
+
+pub bytes_drop : (n : ℕ) (s : List ℕ) → AreBytes s → AreBytes (drop n s)
+bytes_drop n s h k lt = omega (arith, get_or-drop n s k 0, h (n + k) (omega (arith, lt, length-drop n s)))
+
+-- whether an input is raw is known by four bytes, or by all
+pub raw_on : (e : Encoding) (s more : List ℕ) → (4 ≤ length s) ⊎ (more ≡ []) → is_raw e (s ++ more) ≡ is_raw e s
+raw_on e s more (inr none) = ap (λ (m : List ℕ). is_raw e (s ++ m)) none ∙ ap (is_raw e) (append-nil s)
+raw_on Raw s more (inl four) = refl
+raw_on Detected s more (inl four) = ap has_control (take-append-le 4 s more four)
+raw_on Hexadecimal s more (inl four) = refl
+raw_on Base64 s more (inl four) = refl
+raw_on Base64Url s more (inl four) = refl
+raw_on Armoured s more (inl four) = refl
+raw_on Dump s more (inl four) = refl
+raw_on Packets s more (inl four) = refl
+
+-- raw bytes stand for themselves
+pub raw_stands : (e : Encoding) (s : List ℕ) → is_raw e s ≡ true → Stands e s s
+raw_stands Raw s h = refl
+raw_stands Hexadecimal s h = absurd (true_is_false (sym h))
+raw_stands Base64 s h = absurd (true_is_false (sym h))
+raw_stands Base64Url s h = absurd (true_is_false (sym h))
+raw_stands Armoured s h = absurd (true_is_false (sym h))
+raw_stands Dump s h = absurd (true_is_false (sym h))
+raw_stands Packets s h = absurd (true_is_false (sym h))
+raw_stands Detected s h = subst (λ (f : Option Form). StandsIn f s s) (sym (ap (λ (b : Bool). form_of (if b then Raw else text_found (body s))) h)) refl
+
+-- the bytes that were taken and those that are left: none where an input ended, and no one knows which where no one says so
+pub record Left (known : Option (List ℕ)) (ended : Bool) : Type 0 where
+  pub left : List ℕ
+  pub are : IfSome known (λ s. s ≡ left)
+  pub none : ended ≡ true → left ≡ []
+  pub bytes : IfSome known AreBytes → AreBytes left
+
+no_bytes : AreBytes []
+no_bytes k lt = absurd (omega (arith, lt))
+
+pub left_of : (known : Option (List ℕ)) (ended : Bool) → (ended ≡ true → IsAtEnd known) → Left known ended
+left_of None ended end = record { left = []; are = tt; none = λ _. refl; bytes = λ _. no_bytes }
+left_of (Some s) ended end = record { left = s; are = refl; none = end; bytes = λ h. h }
+
+-- what was read behind the bytes that were there
+pub came_behind : (a b : Option (List ℕ)) (buf all before : List ℕ) (k n : ℕ) → all ≡ buf → take k buf ≡ before → k + n ≤ length buf → Consumes a b (take n (drop k buf)) → (n ≡ 0 → IsAtEnd b) → ComesBy a b before (take (k + n) all) n
+came_behind a b buf all before k n same front within consumed ended = record {
+  comes = record { came = take n (drop k buf); consumed = consumed; are = ap (take (k + n)) same ∙ take-add k n buf ∙ ap (λ (s : List ℕ). s ++ take n (drop k buf)) front };
+  as_many = ap (λ (s : List ℕ). length (take (k + n) s)) same ∙ length-take-le (k + n) buf within ∙ ap (λ (m : ℕ). m + n) (sym (length-take-le k buf (omega (arith, within))) ∙ ap (λ (s : List ℕ). length s) front);
+  ended = ended;
+}
+
+-- more bytes came behind those that came before
+pub comes_more : (a b c : Option (List ℕ)) (before mid after : List ℕ) → Comes a b before mid → Comes b c mid after → Comes a c before after
+comes_more a b c before mid after p q = record {
+  came = p.came ++ q.came;
+  consumed = Consumes-trans a b c p.came q.came p.consumed q.consumed;
+  are = q.are ∙ ap (λ (s : List ℕ). s ++ q.came) p.are ∙ append_assoc before p.came q.came;
+}
+
+-- a flag, as a number
+abbrev pub as_number : Bool → ℕ
+as_number true = 1
+as_number false = 0
+
+-- what is known of an input whose raw messages are printed as they come
+pub record Printing (names : Names) (job : Job) (known now output output_now : Option (List ℕ)) (base : ℕ) (bytes : List ℕ) (ended : Bool) : Type 0 where
+  pub taken : List ℕ
+  pub text : List ℕ
+  pub consumed : Consumes known now taken
+  pub plain : AreBytes (take base taken)
+  pub raw : is_raw job.encoding taken ≡ true
+  pub four : ended ≡ false → 4 ≤ length taken
+  pub at_end : ended ≡ true → IsAtEnd now
+  pub within : base ≤ length taken
+  pub are : drop base taken ≡ bytes
+  pub whole : (more : List ℕ) → Whole names job.task (taken ++ more) base text
+  pub appended : Appends output output_now text
+
+pub starts : (names : Names) (job : Job) (known now output : Option (List ℕ)) (bytes : List ℕ) (ended : Bool) → Consumes known now bytes → is_raw job.encoding bytes ≡ true → (ended ≡ false → 4 ≤ length bytes) → (ended ≡ true → IsAtEnd now) → Printing names job known now output output 0 bytes ended
+starts names job known now output bytes ended consumed raw four at_end = record {
+  taken = bytes;
+  text = [];
+  consumed = consumed;
+  plain = no_bytes;
+  raw = raw;
+  four = four;
+  at_end = at_end;
+  within = omega arith;
+  are = refl;
+  whole = λ more. whole_none;
+  appended = Appends-nil output;
+}
+
+module _ (names : Names) (job : Job) (known now output mid : Option (List ℕ)) (base : ℕ) (bytes : List ℕ) (ended : Bool) (p : Printing names job known now output mid base bytes ended) where
+  -- the bytes stand among those that were taken and those that are left
+  pub stands : (more : List ℕ) → (ended ≡ true → more ≡ []) → StandsAt (p.taken ++ more) base bytes ended
+  stands more none = record {
+    more = more;
+    within = omega (arith, p.within, length-append p.taken more);
+    are = drop-append-le base p.taken more p.within ∙ ap (λ (s : List ℕ). s ++ more) p.are;
+    ends = none;
+  }
+
+  -- all that were taken are bytes
+  plain_all : AreBytes bytes → AreBytes p.taken
+  plain_all plain = subst AreBytes (take-append-drop base p.taken) (bytes_append (take base p.taken) (drop base p.taken) p.plain (subst AreBytes (sym p.are) plain))
+
+  raw_all : (more : List ℕ) → (ended ≡ true → more ≡ []) → Stands job.encoding (p.taken ++ more) (p.taken ++ more)
+  raw_all more none = raw_stands job.encoding (p.taken ++ more) (raw_on job.encoding p.taken more (by ended refl) ∙ p.raw)
+    where
+      by : (b : Bool) → ended ≡ b → (4 ≤ length p.taken) ⊎ (more ≡ [])
+      by true is = inr (none is)
+      by false is = inl (p.four is)
+
+  module _ (output_now : Option (List ℕ)) where
+    -- the streams, when printing ended here
+    abbrev pub now_at : Streams
+    now_at = record { input = known; input_left = now; output = output; output_now = output_now }
+
+    -- a fault
+    pub faults : (place : Place) → SomeText (PrintsOn names job.task base bytes ended (AtFault place)) (Appends mid output_now) → Faults names job now_at place
+    faults place told =
+        let l = left_of now ended p.at_end in
+        let all = p.taken ++ l.left in
+        record {
+          input = all;
+          text = p.text ++ told.text;
+          taken = record { front = p.taken; left = l.left; are = refl; taken = p.consumed; rest = l.are };
+          has = record { bytes = all; stands = raw_all l.left l.none; prints = told.is all p.text (stands l.left l.none) (p.whole l.left) };
+          appended = Appends-trans output mid output_now p.text told.text p.appended told.holds;
+        }
+
+    -- printing failed
+    pub fails_in : AreBytes bytes → SomeText (GoesOnBehind names job.task base bytes ended) (AppendsFront mid output_now) → Unwritten names job now_at
+    fails_in plain told some =
+        let l = left_of now ended p.at_end in
+        let all = p.taken ++ l.left in
+        let goes = told.is all p.text (stands l.left l.none) (bytes_append p.taken l.left (plain_all plain) (l.bytes some)) (p.whole l.left) in
+        record {
+          input = all;
+          text = (p.text ++ told.text) ++ goes.more;
+          place = goes.place;
+          taken = record { front = p.taken; left = l.left; are = refl; taken = p.consumed; rest = l.are };
+          has = record { bytes = all; stands = raw_all l.left l.none; prints = goes.prints };
+          appended = AppendsFront-first output output_now (p.text ++ told.text) goes.more (AppendsFront-second output mid output_now p.text told.text p.appended told.holds);
+        }
+
+    -- whole messages, and all is printed
+    pub printed : (count : ℕ) → ended ≡ true → count ≡ length bytes → SomeText (PrintsOn names job.task base bytes ended (Behind count)) (Appends mid output_now) → Printed names job now_at
+    printed count end is told =
+        let all = p.taken ++ [] in
+        let here = told.is all p.text (stands [] (λ _. refl)) (p.whole []) in
+        let whole : base + count ≡ length all = omega (arith, is, p.within, ap (λ (s : List ℕ). length s) p.are, length-drop base p.taken, ap (λ (s : List ℕ). length s) (append-nil p.taken)) in
+        record {
+          input = p.taken;
+          text = p.text ++ told.text;
+          taken = record { taken = p.consumed; ended = p.at_end end };
+          has = record { bytes = p.taken; stands = subst (λ (s : List ℕ). Stands job.encoding s s) (append-nil p.taken) (raw_all [] (λ _. refl)); prints = subst (λ (s : List ℕ). Whole names job.task s (length s) (p.text ++ told.text)) (append-nil p.taken) (subst (λ (n : ℕ). Whole names job.task all n (p.text ++ told.text)) whole here) };
+          appended = Appends-trans output mid output_now p.text told.text p.appended told.holds;
+        }
+
+    -- whole messages, which are let go of
+    pub goes_further : AreBytes bytes → (count : ℕ) → ended ≡ false → count ≤ length bytes → SomeText (PrintsOn names job.task base bytes ended (Behind count)) (Appends mid output_now) → Printing names job known now output output_now (base + count) (drop count bytes) false
+    goes_further plain count unended le told = record {
+      taken = p.taken;
+      text = p.text ++ told.text;
+      consumed = p.consumed;
+      plain = subst AreBytes (ap (λ (s : List ℕ). take base p.taken ++ take count s) (sym p.are) ∙ sym (take-add base count p.taken)) (bytes_append (take base p.taken) (take count bytes) p.plain (bytes_take count bytes le plain));
+      raw = p.raw;
+      four = λ _. p.four unended;
+      at_end = λ end. absurd (true_is_false (sym end));
+      within = omega (arith, le, p.within, ap (λ (s : List ℕ). length s) p.are, length-drop base p.taken);
+      are = sym (drop-drop count base p.taken) ∙ ap (drop count) p.are;
+      whole = λ more. told.is (p.taken ++ more) p.text (stands more (λ end. absurd (true_is_false (sym end ∙ unended)))) (p.whole more);
+      appended = Appends-trans output mid output_now p.text told.text p.appended told.holds;
+    }
+
+  -- more bytes came
+  pub more_came : (next : Option (List ℕ)) (after : List ℕ) (then_ : Bool) → Comes now next bytes after → ended ≡ false → (then_ ≡ true → IsAtEnd next) → Printing names job known next output mid base after then_
+  more_came next after then_ comes unended at_end =
+      let all = p.taken ++ comes.came in
+      let rest : drop base all ≡ after = drop-append-le base p.taken comes.came p.within ∙ ap (λ (s : List ℕ). s ++ comes.came) p.are ∙ sym comes.are in
+      record {
+        taken = all;
+        text = p.text;
+        consumed = Consumes-trans known now next p.taken comes.came p.consumed comes.consumed;
+        plain = subst AreBytes (sym (take-append-le base p.taken comes.came p.within)) p.plain;
+        raw = raw_on job.encoding p.taken comes.came (inl (p.four unended)) ∙ p.raw;
+        four = λ _. omega (arith, p.four unended, length-append p.taken comes.came);
+        at_end = at_end;
+        within = omega (arith, p.within, length-append p.taken comes.came);
+        are = rest;
+        whole = λ more. subst (λ (s : List ℕ). Whole names job.task s base p.text) (sym (append_assoc p.taken comes.came more)) (p.whole (comes.came ++ more));
+        appended = p.appended;
+      }
+
+  -- reading failed in front of a message that isn't there as a whole
+  pub unread : (next : Option (List ℕ)) → is_there bytes ≡ false → Keeps now next → ended ≡ false → Unread names job (record { input = known; input_left = next; output = output; output_now = mid })
+  unread next none keeps unended =
+      let fronts : Fronts names job.task p.taken output mid = record {
+        place = base;
+        text = p.text;
+        whole = subst (λ (s : List ℕ). Whole names job.task s base p.text) (append-nil p.taken) (p.whole []);
+        no_more = ap is_there p.are ∙ none;
+        appended = p.appended;
+      } in
+      record { bytes = p.taken; taken = Consumes-kept known now next p.taken p.consumed keeps; fronts = subst (λ (b : Bool). FrontsIf b names job.task p.taken output mid) (sym p.raw) fronts }
+
+  -- memory ran out behind whole messages
+  pub no_memory : AreBytes bytes → (next : Option (List ℕ)) → Keeps now next → (ended ≡ true → IsAtEnd next) → Unwritten names job (record { input = known; input_left = next; output = output; output_now = mid })
+  no_memory plain next keeps at_end some =
+      let l = left_of next ended at_end in
+      let all = p.taken ++ l.left in
+      let goes : GoesOn names job.task all p.text = whole_goes names job.task all (plain_bytes all (bytes_append p.taken l.left (plain_all plain) (l.bytes some))) base p.text (omega (arith, p.within, length-append p.taken l.left)) (p.whole l.left) in
+      record {
+        input = all;
+        text = p.text ++ goes.more;
+        place = goes.place;
+        taken = record { front = p.taken; left = l.left; are = refl; taken = Consumes-kept known now next p.taken p.consumed keeps; rest = l.are };
+        has = record { bytes = all; stands = raw_all l.left l.none; prints = goes.prints };
+        appended = AppendsFront-first output mid p.text goes.more (all_front output mid p.text p.appended);
+      }
+
+  -- reading failed, or memory ran out for it
+  pub read_fails : AreBytes bytes → (next : Option (List ℕ)) (why : Refusal) → IsUnread why → is_there bytes ≡ false → Keeps now next → ended ≡ false → Fails names job (record { input = known; input_left = next; output = output; output_now = mid }) why
+  read_fails plain next UnreadableInput h none keeps unended = unread next none keeps unended
+  read_fails plain next RefusedMemory h none keeps unended = inr (no_memory plain next keeps (λ end. absurd (true_is_false (sym end ∙ unended))))
+  read_fails plain next UnopenedInput h none keeps unended = absurd h
+  read_fails plain next (MisreadInput m) h none keeps unended = absurd h
+  read_fails plain next NotUtf8 h none keeps unended = absurd h
+  read_fails plain next UnwritableOutput h none keeps unended = absurd h
+  read_fails plain next ClosedPipe h none keeps unended = absurd h

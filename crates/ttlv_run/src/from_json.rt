@@ -1,0 +1,215 @@
+//! Lines of JSON, each of which is a message, printed as the messages that they are.
+
+ghost use Rattle.std.specs.Prelude.{◌≡◌, ◌≤◌, ◌++◌, ◌⊎◌, ℕ, List, Option, None, IfOk, IfErr, OnOk, OnErr, codes};
+ghost use Rattle.std.specs.Io.KnownBytes.{Appends, Keeps};
+ghost use Rattle.kmip_ttlv_names.specs.NameTables.{lines_of};
+ghost use Rattle.kmip_ttlv_types.specs.Streams.{AppendsFront};
+ghost use Rattle.kmip_ttlv_util.specs.Pieces.{SomeText};
+ghost use Rattle.ttlv_run.specs.Reasons.{IsOfPrinting, Tells};
+ghost use Rattle.ttlv_run.specs.JsonLines.{shown, Prints, Spoils, PrintsLines, GivesFront, bad_line, column_told, RespondsJson, PrintedJson, MalformedJson, RefusedJson};
+
+use crate::coding::read_all;
+use crate::job::JsonJob;
+use crate::refusal::Refusal;
+use crate::run::{refusal_of, tell, tell_place, tell_refusal};
+use itoa::Buffer;
+use kmip_ttlv_json::{JsonError, from_json};
+use kmip_ttlv_types::stream::Sink;
+use std::alloc::Global;
+use std::io::{Read, Write};
+use std::str;
+
+/// The first line that is not the JSON of a message.
+#[derive(Clone, Copy, Debug, PartialEq, Eq)]
+pub struct LineFault {
+    /// Where the line begins, in bytes from the input's first.
+    pub offset: usize,
+    /// What is wrong with it.
+    pub error: JsonError,
+}
+
+// Writes bytes to the output.
+fn send<W: Write>(output: &mut W, bytes: &[u8]) -> Result<(), Refusal>
+    ensures ok { OnOk result (Appends (W.contents output.old) (W.contents output.new) bytes.now) }
+    ensures why { IfErr result IsOfPrinting }
+    ensures err { OnErr result (AppendsFront (W.contents output.old) (W.contents output.new) bytes.now) }
+{
+    match output.send(bytes) {
+        Ok(()) => Ok(()),
+        Err(e) => Err(refusal_of(&e)),
+    }
+}
+
+// Writes what is printed of a message.
+fn print_message<W: Write>(
+    heap: Global,
+    raw: bool,
+    message: &[u8],
+    output: &mut W,
+) -> Result<(), Refusal>
+    ensures ok { OnOk result (Appends (W.contents output.old) (W.contents output.new) (shown raw message.now)) }
+    ensures why { IfErr result IsOfPrinting }
+    ensures err { OnErr result (AppendsFront (W.contents output.old) (W.contents output.new) (shown raw message.now)) }
+{
+    if raw {
+        return send(output, message);
+    }
+    let mut text = hex::encode_upper(heap, message)?;
+    text.push('\n')?;
+    send(output, text.as_bytes())
+}
+
+// Prints the message that a line is, but for white space at its end, and gives why it is none.
+fn print_line<W: Write>(
+    heap: Global,
+    raw: bool,
+    line: &str,
+    output: &mut W,
+) -> Result<Option<JsonError>, Refusal>
+    ensures ok { IfOk result (Prints raw line.now (W.contents output.old) (W.contents output.new)) }
+    ensures why { IfErr result IsOfPrinting }
+    ensures err { OnErr result (Spoils raw line.now (W.contents output.old) (W.contents output.new)) }
+{
+    let line = line.trim_end();
+    if line.is_empty() {
+        return Ok(None);
+    }
+    match from_json(heap, line) {
+        Ok(message) => {
+            print_message(heap, raw, message.as_slice(), output)?;
+            Ok(None)
+        }
+        Err(JsonError::OutOfMemory) => Err(Refusal::RefusedMemory),
+        Err(error) => Ok(Some(error)),
+    }
+}
+
+// Prints the messages that lines are, up to the first line that is none, and gives that.
+fn print_lines<W: Write>(
+    heap: Global,
+    raw: bool,
+    text: &str,
+    output: &mut W,
+) -> Result<Option<LineFault>, Refusal>
+    ensures ok { IfOk result (λ fault. SomeText (λ t. PrintsLines raw (lines_of text.now) t fault)
+        (Appends (W.contents output.old) (W.contents output.new))) }
+    ensures why { IfErr result IsOfPrinting }
+    ensures err { OnErr result (SomeText (GivesFront raw (lines_of text.now))
+        (AppendsFront (W.contents output.old) (W.contents output.new))) }
+{
+    let mut rest = text;
+    'lines: while let Some((line, more)) = rest.split_once('\n') {
+        let offset = text.len() - rest.len();
+        if let Some(error) = print_line(heap, raw, line, output)? {
+            return Ok(Some(LineFault { offset, error }));
+        }
+        rest = more;
+    }
+    let offset = text.len() - rest.len();
+    match print_line(heap, raw, rest, output)? {
+        Some(error) => Ok(Some(LineFault { offset, error })),
+        None => Ok(None),
+    }
+}
+
+// Reads an input to its end and prints the messages that its lines are.
+fn respond<R: Read, W: Write>(
+    heap: Global,
+    job: &JsonJob<'_>,
+    input: &mut R,
+    output: &mut W,
+) -> Result<Option<LineFault>, Refusal>
+    ensures { RespondsJson job.now
+        (record {
+          input = R.remaining input.old;
+          input_left = R.remaining input.new;
+          output = W.contents output.old;
+          output_now = W.contents output.new;
+        }) result }
+{
+    let taken = read_all(heap, input)?;
+    let Ok(text) = str::from_utf8(taken.as_slice()) else {
+        return Err(Refusal::NotUtf8);
+    };
+    print_lines(heap, job.raw, text, output)
+}
+
+// Writes where the parser stopped, if the line isn't JSON.
+fn tell_column<E: Write>(errors: &mut E, goes: bool, error: JsonError) -> bool
+    ensures { (known : Option (List ℕ)) (front : List ℕ) → Tells goes known (E.contents errors.old) front
+        → Tells result known (E.contents errors.new) (front ++ column_told error) }
+{
+    match error {
+        JsonError::NotJson { column, .. } => {
+            let goes = tell(errors, goes, ", column ");
+            tell(errors, goes, Buffer::new().format(column))
+        }
+        _ => goes,
+    }
+}
+
+// Writes the line that says which line is no message and why, as far as it can be written. It takes no memory.
+fn tell_fault<E: Write>(errors: &mut E, name: &str, fault: LineFault)
+    ensures { AppendsFront (E.contents errors.old) (E.contents errors.new) (bad_line name.now fault) }
+{
+    let goes = tell_place(errors, name, Some(fault.offset));
+    let goes = tell(errors, goes, ": ");
+    let goes = tell(errors, goes, fault.error.words());
+    let goes = tell_column(errors, goes, fault.error);
+    tell(errors, goes, "\n");
+}
+
+/// Reads `input` to its end and prints to `output` the messages that its lines are the JSON of, in hexadecimal, each in a
+/// line of its own, or as raw bytes. It returns the exit status: 0 if each line is a message or empty, 1 if a line is none, 2
+/// if the input can't be read or is not UTF-8, 3 when out of memory or if the output can't be written.
+///
+/// With status 1 the messages before the first line that is none are printed, and `errors` says why that is none. Statuses 2
+/// and 3 are told there as [`run`](crate::run::run) tells them; with status 3 the output has a beginning of what is printed.
+pub fn read_json<R: Read, W: Write, E: Write>(
+    heap: Global,
+    job: &JsonJob<'_>,
+    input: &mut R,
+    output: &mut W,
+    errors: &mut E,
+) -> u8
+    ensures status { result ≤ 3 }
+    // With status 0 each line is a message or empty, and exactly what is printed of them was appended.
+    ensures printed { result ≡ 0 → PrintedJson job.now
+        (record {
+          input = R.remaining input.old;
+          input_left = R.remaining input.new;
+          output = W.contents output.old;
+          output_now = W.contents output.new;
+        }) None
+        × Keeps (E.contents errors.old) (E.contents errors.new) }
+    // With status 1 a line is bad: what is printed of the lines before it was appended, and the errors have its line.
+    ensures malformed { result ≡ 1 → MalformedJson job.now
+        (record {
+          input = R.remaining input.old;
+          input_left = R.remaining input.new;
+          output = W.contents output.old;
+          output_now = W.contents output.new;
+        })
+        (E.contents errors.old) (E.contents errors.new) }
+    // With statuses 2 and 3 there is a reason that is true of the input or of the output, and it is told.
+    ensures refused { (result ≡ 2) ⊎ (result ≡ 3) → RefusedJson job.now
+        (record {
+          input = R.remaining input.old;
+          input_left = R.remaining input.new;
+          output = W.contents output.old;
+          output_now = W.contents output.new;
+        })
+        result (E.contents errors.old) (E.contents errors.new) }
+{
+    match respond(heap, job, input, output) {
+        Ok(None) => 0,
+        Ok(Some(fault)) => {
+            tell_fault(errors, job.name, fault);
+            1
+        }
+        Err(refusal) => {
+            tell_refusal(errors, job.name, refusal);
+            refusal.status()
+        }
+    }
+}

@@ -1,0 +1,202 @@
+//! The bytes of an input that were read and that nothing was printed of yet.
+
+ghost use Rattle.std.specs.Prelude.{◌≡◌, ◌<◌, ◌≤◌, ◌+◌, true, false, [], ◌++◌, length, take, drop, IfOk, IfErr, OnOk, OnErr, vec_len};
+ghost use Rattle.std.specs.Io.KnownBytes.{Consumes, IsAtEnd, Keeps};
+ghost use Rattle.kmip_ttlv_items.specs.ItemWalks.{AreBytes};
+ghost use Rattle.ttlv_run.specs.Inputs.{IsUnread};
+ghost use Rattle.ttlv_run.specs.Backs.{IsOneLine};
+
+use crate::back::line_end;
+use crate::messages::size_stated;
+use crate::refusal::Refusal;
+use kmip_ttlv_types::stream::{PIECE, read_some};
+use std::alloc::{AllocError, Allocator};
+use std::io;
+use std::io::{ErrorKind, Read};
+
+// The first bytes of some.
+fn front(bytes: &[u8], count: usize) -> &[u8]
+    requires { count ≤ length bytes.now }
+    ensures are { result.now ≡ take count bytes.now }
+    ensures bytes { AreBytes result.now }
+{
+    &bytes[..count]
+}
+
+// Puts so many zeros behind bytes.
+fn grow<A: Allocator>(bytes: &mut Vec<u8, A>, more: usize) -> Result<(), AllocError>
+    ensures len { OnOk result (vec_len bytes.new ≡ vec_len bytes.old + more) }
+    ensures kept { take (vec_len bytes.old) bytes.new.items ≡ bytes.old.items }
+{
+    bytes.reserve_exact(more)?;
+    bytes.resize(bytes.len() + more, 0)
+}
+
+// Whether a line feed stands behind a place.
+fn has_line_feed(bytes: &[u8], at: usize) -> bool
+    requires { at ≤ length bytes.now }
+    ensures { result ≡ false → IsOneLine (drop at bytes.now) }
+{
+    let rest = &bytes[at..];
+    line_end(rest) < rest.len()
+}
+
+// One read into `buf` from a place on.
+fn read_at<R: Read>(reader: &mut R, buf: &mut [u8], at: usize) -> io::Result<usize>
+    requires { at < length buf.old }
+    ensures front { take at buf.new ≡ take at buf.old }
+    ensures fits { IfOk result (λ n. at + n ≤ length buf.new) }
+    ensures ok { IfOk result (λ n. Consumes (R.remaining reader.old) (R.remaining reader.new)
+        (take n (drop at buf.new))) }
+    ensures end { IfOk result (λ n. n ≡ 0 → IsAtEnd (R.remaining reader.new)) }
+    ensures err { OnErr result (Keeps (R.remaining reader.old) (R.remaining reader.new)) }
+{
+    read_some(reader, &mut buf[at..])
+}
+
+/// Bytes that were read, in front of room for more.
+#[derive(Drop)]
+pub struct Window<A: Allocator> {
+    bytes: Vec<u8, A>,
+    count: usize,
+    ghost fits: { count ≤ vec_len bytes },
+}
+
+impl<A: Allocator> Window<A> {
+    ghost use Rattle.ttlv_run.specs.Streaming.{held, ComesBy, ComesLines, LinesFail, ComesAll, Begins, BeginFails, RestFails};
+
+    /// No bytes. Takes no memory.
+    pub fn new(alloc: A) -> Window<A>
+        ensures { held result ≡ [] }
+    {
+        Window {
+            bytes: Vec::new(alloc),
+            count: 0,
+        }
+    }
+
+    /// The bytes.
+    pub fn held(&self) -> &[u8]
+        ensures are { result.now ≡ held self.now }
+        ensures bytes { AreBytes result.now }
+    {
+        front(self.bytes.as_slice(), self.count)
+    }
+
+    // For how many bytes room is made: a piece, or as many as are there, but no more than the first message wants.
+    fn room_to_ask(&self) -> usize
+        ensures { 0 < result }
+    {
+        let due = match size_stated(self.held()) {
+            Some(stated) => stated.saturating_sub(self.count),
+            None => 0,
+        };
+        self.count.min(due).max(PIECE)
+    }
+
+    // Makes room for so many bytes where there is none.
+    fn make_room(&mut self, more: usize) -> Result<(), AllocError>
+        requires { 0 < more }
+        ensures held { held self.new ≡ held self.old }
+        ensures count { self.new.count ≡ self.old.count }
+        ensures room { OnOk result (self.new.count < vec_len self.new.bytes) }
+    {
+        if self.count < self.bytes.len() {
+            return Ok(());
+        }
+        grow(&mut self.bytes, more)
+    }
+
+    // Reads once, behind the bytes that are there, into room for so many if there is none.
+    fn read_behind<R: Read>(&mut self, input: &mut R, room: usize) -> Result<usize, Refusal>
+        requires { 0 < room }
+        ensures ok { IfOk result (ComesBy (R.remaining input.old) (R.remaining input.new) (held self.old) (held self.new)) }
+        ensures why { IfErr result IsUnread }
+        ensures err { OnErr result (Keeps (R.remaining input.old) (R.remaining input.new)) }
+        ensures same { OnErr result (held self.new ≡ held self.old) }
+    {
+        self.make_room(room)?;
+        match read_at(input, self.bytes.as_mut_slice(), self.count) {
+            Ok(n) => {
+                self.count += n;
+                Ok(n)
+            }
+            Err(_) => Err(Refusal::UnreadableInput),
+        }
+    }
+
+    /// Reads once, behind the bytes that are there; gives how many came: none at the input's end.
+    pub fn read_more<R: Read>(&mut self, input: &mut R) -> Result<usize, Refusal>
+        ensures ok { IfOk result (ComesBy (R.remaining input.old) (R.remaining input.new) (held self.old) (held self.new)) }
+        ensures why { IfErr result IsUnread }
+        ensures err { OnErr result (Keeps (R.remaining input.old) (R.remaining input.new)) }
+        ensures same { OnErr result (held self.new ≡ held self.old) }
+    {
+        let room = self.room_to_ask();
+        self.read_behind(input, room)
+    }
+
+    /// Reads until a line feed came or the input ended; returns whether it did. How long a line gets isn't known, so room
+    /// for it grows by a piece at a time.
+    pub fn read_lines<R: Read>(&mut self, input: &mut R) -> Result<bool, Refusal>
+        ensures ok { IfOk result (ComesLines (R.remaining input.old) (R.remaining input.new) (held self.old) (held self.new)) }
+        ensures why { IfErr result IsUnread }
+        ensures err { OnErr result (LinesFail (R.remaining input.old) (R.remaining input.new) (held self.old) (held self.new)) }
+    {
+        'pieces: loop {
+            let before = self.held().len();
+            if self.read_behind(input, PIECE)? == 0 {
+                return Ok(true);
+            }
+            if has_line_feed(self.held(), before) {
+                return Ok(false);
+            }
+        }
+    }
+
+    /// Reads until four bytes are there or the input ended; returns whether it did.
+    pub fn begin<R: Read>(&mut self, input: &mut R) -> Result<bool, Refusal>
+        requires { held self.old ≡ [] }
+        ensures ok { IfOk result (Begins (R.remaining input.old) (R.remaining input.new) (held self.new)) }
+        ensures why { IfErr result IsUnread }
+        ensures err { OnErr result (BeginFails (R.remaining input.old) (R.remaining input.new)) }
+    {
+        'pieces: while self.held().len() < 4 {
+            if self.read_more(input)? == 0 {
+                return Ok(true);
+            }
+        }
+        Ok(false)
+    }
+
+    /// All bytes of the input, of which the front is here.
+    pub fn read_rest<R: Read>(self, ended: bool, input: &mut R) -> Result<Vec<u8, A>, Refusal>
+        requires { ended ≡ true → IsAtEnd (R.remaining input.old) }
+        ensures ok { IfOk result (λ all. ComesAll (R.remaining input.old) (R.remaining input.new) (held self) all.items) }
+        ensures why { IfErr result IsUnread }
+        ensures err { OnErr result (RestFails (R.remaining input.old) (R.remaining input.new) ended) }
+    {
+        let mut bytes = self.bytes;
+        bytes.truncate(self.count);
+        if ended {
+            return Ok(bytes);
+        }
+        match input.read_to_end(&mut bytes) {
+            Ok(_) => Ok(bytes),
+            Err(e) if e.kind() == ErrorKind::OutOfMemory => Err(Refusal::RefusedMemory),
+            Err(_) => Err(Refusal::UnreadableInput),
+        }
+    }
+
+    /// Lets go of so many bytes in front.
+    pub fn let_go(&mut self, count: usize)
+        requires { count ≤ length (held self.old) }
+        ensures { held self.new ≡ drop count (held self.old) }
+    {
+        if count == 0 {
+            return;
+        }
+        self.bytes.as_mut_slice().copy_within(count..self.count, 0);
+        self.count -= count;
+    }
+}
