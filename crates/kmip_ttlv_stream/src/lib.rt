@@ -32,7 +32,7 @@ use std::alloc::Allocator;
 /// - `IoError` of kind UnexpectedEof, without a place: the stream ends within the message.
 /// - `IoError` of the reader's kind, without a place: reading failed. Interrupted reads are repeated.
 ///
-/// Memory grows as bytes come. A kept buffer then holds the bytes that were read; if too few came, or memory ran
+/// Memory for 512 bytes is taken first, and grows as more bytes come. A kept buffer then holds the bytes that were read; if too few came, or memory ran
 /// out, it may hold any.
 ///
 /// ```

@@ -1,6 +1,6 @@
 //! Reading the bytes of one message from a stream.
 
-ghost use Rattle.std.specs.Prelude.{◌≡◌, ◌≤◌, length, Some, IfOk, IfErr, OnOk};
+ghost use Rattle.std.specs.Prelude.{◌≡◌, ◌≤◌, [], length, Some, IfOk, IfErr, OnOk};
 ghost use Rattle.kmip_ttlv_types.specs.Streams.{Behind};
 ghost use Rattle.kmip_ttlv_base.specs.Errors.{kind_of, view_of_kind, location_of, view_of_location};
 ghost use Rattle.kmip_ttlv_base.specs.declared.error.ErrorKind.TheVariants.{ResponseSizeExceedsLimit as TooLargeKind};
@@ -12,8 +12,11 @@ use kmip_ttlv_base::types;
 use kmip_ttlv_base::types::places::{length_at, tag_at, type_at};
 use kmip_ttlv_base::types::stream::{Source, append_bytes};
 use kmip_ttlv_base::types::{ByteOffset, TtlvType};
-use std::alloc::Allocator;
+use std::alloc::{AllocError, Allocator};
 use std::io;
+
+// A message of up to so many bytes takes one block of memory.
+const SMALL: usize = 512;
 
 // Reads the bytes of one message. If the header's code is no type's, or the message is larger than the limit, only the
 // header is read.
@@ -25,10 +28,18 @@ pub fn take_message<S: Source, A: Allocator>(
     ensures ok { OnOk result (Comes limit (S.left reader.old) (S.left reader.new) bytes.new.items) }
     ensures err { IfErr result (Stops S.can_fail limit (S.left reader.old) (S.left reader.new) (Some bytes.new.items)) }
 {
-    bytes.clear();
+    empty(bytes)?;
     take_more(reader, bytes, 8)?;
     let size = size_of(bytes.as_slice(), limit)?;
     take_more(reader, bytes, size - 8)
+}
+
+// Removes all bytes, and makes room for a small message.
+fn empty<A: Allocator>(bytes: &mut Vec<u8, A>) -> std::result::Result<(), AllocError>
+    ensures { bytes.new.items ≡ [] }
+{
+    bytes.clear();
+    bytes.reserve(SMALL)
 }
 
 // How many bytes the message with this header has, if its type is known and the limit allows it.
