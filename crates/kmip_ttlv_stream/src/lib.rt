@@ -32,8 +32,8 @@ use std::alloc::Allocator;
 /// - `IoError` of kind UnexpectedEof, without a place: the stream ends within the message.
 /// - `IoError` of the reader's kind, without a place: reading failed. Interrupted reads are repeated.
 ///
-/// Memory for 512 bytes is taken first, and grows as more bytes come. A kept buffer then holds the bytes that were read; if too few came, or memory ran
-/// out, it may hold any.
+/// Memory for 512 bytes is taken first, and grows as more bytes come. A kept buffer then holds the bytes that
+/// were read; if too few came, or memory ran out, it may hold any.
 ///
 /// ```
 /// let mut config = Config::new(alloc).with_max_bytes(65_536).with_read_buf();
