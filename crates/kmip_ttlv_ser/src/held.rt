@@ -49,13 +49,11 @@ impl Held {
     pub fn take(&self, name: &str) -> Option<TtlvTag>
         ensures { result ≡ take_tag self.now name.now }
     {
+        let named = tag_of(name)?;
         match self {
-            Held::Nothing => tag_of(name),
+            Held::Nothing => Some(named),
             Held::Plain(_) => None,
-            Held::Overriding(tag) => {
-                tag_of(name)?;
-                Some(*tag)
-            }
+            Held::Overriding(tag) => Some(*tag),
         }
     }
 

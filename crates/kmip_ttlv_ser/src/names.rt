@@ -121,12 +121,12 @@ pub(crate) fn number_of(text: &str) -> Option<u32>
     ensures { result ≡ number text.now }
 {
     let bytes = text.as_bytes();
-    let found = if begins(bytes, b"0x") {
-        numeral(&bytes[2..])
+    let digits = if begins(bytes, b"0x") {
+        &bytes[2..]
     } else {
-        numeral(bytes)
+        bytes
     };
-    match found {
+    match numeral(digits) {
         Some(n) => Some(n),
         None => number(text),
     }
