@@ -2,7 +2,7 @@
 use Rattle.std.proofs.Common.{◌≡◌, List, [], ◌∷◌, ◌++◌, refl, sym, ap, ◌∙◌, append_assoc, append-nil}
 use Rattle.kmip_ttlv_base.specs.Values.{Value, Values, no_values, value, values_of}
 use Rattle.kmip_ttlv_base.specs.Values.{boolean_value, i8_value, i16_value, i32_value, u32_value, i64_value, u64_value}
-use Rattle.kmip_ttlv_base.specs.Values.{interval_value, text_value, bytes_value, big_integer_value, none_value}
+use Rattle.kmip_ttlv_base.specs.Values.{date_time_value, interval_value, text_value, bytes_value, big_integer_value, none_value}
 use Rattle.kmip_ttlv_base.specs.Values.{some_value, seq_value, struct_value, newtype_value, unit_variant_value}
 use Rattle.kmip_ttlv_base.specs.Values.{newtype_variant_value, tuple_variant_value, unsupported_value}
 use Rattle.kmip_ttlv_base.specs.Visits.{a_some, a_seq, a_struct, a_newtype, a_newtype_variant, a_tuple_variant}
@@ -28,6 +28,7 @@ mutual
   builds (u32_value n) s = refl
   builds (i64_value z) s = refl
   builds (u64_value n) s = refl
+  builds (date_time_value z) s = refl
   builds (interval_value n) s = refl
   builds (text_value t) s = refl
   builds (bytes_value t) s = refl

@@ -1,8 +1,8 @@
 -- The value of data, variant by variant: lemmas for the proofs of a type's `to_data` and `from_data`.
 use Rattle.std.proofs.Common.{◌≡◌, ℕ, ℤ, List, Bool as Boole, String, Vec, Box, Bor, string_bytes, rules}
 use Rattle.kmip_ttlv_base.specs.declared.shape.Data.{Data, the_lemmas}
-use Rattle.kmip_ttlv_base.specs.declared.shape.Data.TheVariants.{Bool, I8, I16, I32, U32, I64, U64, Interval, Text, Bytes, BigInteger, None, Some, Seq, Struct, Newtype, UnitVariant, NewtypeVariant, TupleVariant, Unsupported}
-use Rattle.kmip_ttlv_base.specs.Values.{view, views, boolean_value, i8_value, i16_value, i32_value, u32_value, i64_value, u64_value, interval_value, text_value, bytes_value, big_integer_value, none_value, some_value, seq_value, struct_value, newtype_value, unit_variant_value, newtype_variant_value, tuple_variant_value, unsupported_value}
+use Rattle.kmip_ttlv_base.specs.declared.shape.Data.TheVariants.{Bool, I8, I16, I32, U32, I64, U64, DateTime, Interval, Text, Bytes, BigInteger, None, Some, Seq, Struct, Newtype, UnitVariant, NewtypeVariant, TupleVariant, Unsupported}
+use Rattle.kmip_ttlv_base.specs.Values.{view, views, boolean_value, i8_value, i16_value, i32_value, u32_value, i64_value, u64_value, date_time_value, interval_value, text_value, bytes_value, big_integer_value, none_value, some_value, seq_value, struct_value, newtype_value, unit_variant_value, newtype_variant_value, tuple_variant_value, unsupported_value}
 
 pub view-Bool : (A : Type 0) (b : Boole) → view {A = A} (Bool b) ≡ boolean_value b
 view-Bool A b = search (rules, the_lemmas)
@@ -24,6 +24,9 @@ view-I64 A z = search (rules, the_lemmas)
 
 pub view-U64 : (A : Type 0) (n : ℕ) → view {A = A} (U64 n) ≡ u64_value n
 view-U64 A n = search (rules, the_lemmas)
+
+pub view-DateTime : (A : Type 0) (z : ℤ) → view {A = A} (DateTime z) ≡ date_time_value z
+view-DateTime A z = search (rules, the_lemmas)
 
 pub view-Interval : (A : Type 0) (n : ℕ) → view {A = A} (Interval n) ≡ interval_value n
 view-Interval A n = search (rules, the_lemmas)

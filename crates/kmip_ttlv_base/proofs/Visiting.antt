@@ -14,6 +14,7 @@ visited_leaf step (leaves.I32 z) s = refl
 visited_leaf step (leaves.U32 n) s = refl
 visited_leaf step (leaves.I64 z) s = refl
 visited_leaf step (leaves.U64 n) s = refl
+visited_leaf step (leaves.DateTime z) s = refl
 visited_leaf step (leaves.Interval n) s = refl
 visited_leaf step (leaves.Text t) s = refl
 visited_leaf step (leaves.Bytes t) s = refl

@@ -22,6 +22,7 @@ mutual
     boolean : Form
     text : Form
     octets : Form
+    date_time : Form
     interval : Form
     big_integer : Form
     any_number : Form
@@ -60,6 +61,7 @@ abbrev mutual
   form_of shapes.Bool = boolean
   form_of shapes.Text = text
   form_of shapes.Bytes = octets
+  form_of shapes.DateTime = date_time
   form_of shapes.Interval = interval
   form_of shapes.BigInteger = big_integer
   form_of shapes.U32 = any_number

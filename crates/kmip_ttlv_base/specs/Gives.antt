@@ -1,11 +1,11 @@
 -- The values that a form can give: those of its kind with its names.
 use Rattle.std.specs.Prelude.{◌≡◌, ℕ, List, ◌⊎◌}
-use Rattle.kmip_ttlv_base.specs.Values.{Value, boolean_value, i32_value, u32_value, i64_value, interval_value}
+use Rattle.kmip_ttlv_base.specs.Values.{Value, boolean_value, i32_value, u32_value, i64_value, date_time_value, interval_value}
 use Rattle.kmip_ttlv_base.specs.Values.{text_value, bytes_value, big_integer_value, none_value, some_value, seq_value, struct_value}
 use Rattle.kmip_ttlv_base.specs.Values.{newtype_value, unit_variant_value, newtype_variant_value, tuple_variant_value}
 use Rattle.kmip_ttlv_base.specs.Values.{Values, no_values, value}
 use Rattle.kmip_ttlv_base.specs.Forms.{Form, struct, option, seq, newtype, enum, int32, int64, boolean, text, octets}
-use Rattle.kmip_ttlv_base.specs.Forms.{interval, big_integer, any_number, Fields, no_fields, field, Variants, no_variants, variant}
+use Rattle.kmip_ttlv_base.specs.Forms.{date_time, interval, big_integer, any_number, Fields, no_fields, field, Variants, no_variants, variant}
 use Rattle.kmip_ttlv_base.specs.Forms.{Content, unit, wrapped, tuple, Forms, no_forms, form}
 
 -- a number that an Integer is
@@ -32,6 +32,11 @@ IsText _ = ⊥
 abbrev pub IsBytes : Value → Type 0
 IsBytes (bytes_value s) = Unit {0}
 IsBytes _ = ⊥
+
+-- a date
+abbrev pub IsDateTime : Value → Type 0
+IsDateTime (date_time_value z) = Unit {0}
+IsDateTime _ = ⊥
 
 -- a span of time
 abbrev pub IsInterval : Value → Type 0
@@ -112,6 +117,7 @@ abbrev mutual
   Gives boolean v = IsBool v
   Gives text v = IsText v
   Gives octets v = IsBytes v
+  Gives date_time v = IsDateTime v
   Gives interval v = IsInterval v
   Gives big_integer v = IsBigInteger v
   Gives any_number v = IsNumber v

@@ -13,6 +13,7 @@ mutual
     u32_value : ℕ → Value
     i64_value : ℤ → Value
     u64_value : ℕ → Value
+    date_time_value : ℤ → Value
     interval_value : ℕ → Value
     text_value : List ℕ → Value
     bytes_value : List ℕ → Value
@@ -46,6 +47,7 @@ view_step (layer.I32 z) = i32_value z
 view_step (layer.U32 n) = u32_value n
 view_step (layer.I64 z) = i64_value z
 view_step (layer.U64 n) = u64_value n
+view_step (layer.DateTime z) = date_time_value z
 view_step (layer.Interval n) = interval_value n
 view_step (layer.Text s) = text_value (string_bytes s)
 view_step (layer.Bytes v) = bytes_value v.items

@@ -2,7 +2,7 @@
 use Rattle.std.specs.Prelude.{ℕ, List, Option, None, Some}
 use Rattle.kmip_ttlv_base.specs.Values.{Value, Values, no_values, value}
 use Rattle.kmip_ttlv_base.specs.Values.{boolean_value, i8_value, i16_value, i32_value, u32_value, i64_value, u64_value}
-use Rattle.kmip_ttlv_base.specs.Values.{interval_value, text_value, bytes_value, big_integer_value, none_value}
+use Rattle.kmip_ttlv_base.specs.Values.{date_time_value, interval_value, text_value, bytes_value, big_integer_value, none_value}
 use Rattle.kmip_ttlv_base.specs.Values.{some_value, seq_value, struct_value, newtype_value, unit_variant_value}
 use Rattle.kmip_ttlv_base.specs.Values.{newtype_variant_value, tuple_variant_value, unsupported_value}
 use Rattle.kmip_ttlv_base.specs.declared.visit.Leaf.{Leaf}
@@ -34,6 +34,7 @@ leaf_value (leaves.I32 z) = i32_value z
 leaf_value (leaves.U32 n) = u32_value n
 leaf_value (leaves.I64 z) = i64_value z
 leaf_value (leaves.U64 n) = u64_value n
+leaf_value (leaves.DateTime z) = date_time_value z
 leaf_value (leaves.Interval n) = interval_value n
 leaf_value (leaves.Text s) = text_value s.now
 leaf_value (leaves.Bytes s) = bytes_value s.now
@@ -61,6 +62,7 @@ abbrev mutual
   visited step (u32_value n) s = step (alone (u32_value n)) s
   visited step (i64_value z) s = step (alone (i64_value z)) s
   visited step (u64_value n) s = step (alone (u64_value n)) s
+  visited step (date_time_value z) s = step (alone (date_time_value z)) s
   visited step (interval_value n) s = step (alone (interval_value n)) s
   visited step (text_value t) s = step (alone (text_value t)) s
   visited step (bytes_value t) s = step (alone (bytes_value t)) s

@@ -57,6 +57,7 @@ fn leaf_data<A: Allocator>(alloc: A, leaf: Leaf<'_>) -> Result<Data<A>, AllocErr
         Leaf::U32(n) => Data::U32(n),
         Leaf::I64(n) => Data::I64(n),
         Leaf::U64(n) => Data::U64(n),
+        Leaf::DateTime(seconds) => Data::DateTime(seconds),
         Leaf::Interval(n) => Data::Interval(n),
         Leaf::Text(text) => Data::Text(String::from_str(alloc, text)?),
         Leaf::Bytes(bytes) => Data::Bytes(Vec::from_slice(alloc, bytes)?),

@@ -32,8 +32,10 @@ pub enum Data<A: Allocator = Global> {
     U32(u32),
     /// A Long Integer. It is also decoded from a Date-Time.
     I64(i64),
-    /// A Date-Time.
+    /// A Date-Time, by its 64 bits.
     U64(u64),
+    /// A Date-Time, in seconds since 1970.
+    DateTime(i64),
     /// An Interval.
     Interval(u32),
     /// A Text String.
@@ -124,6 +126,8 @@ pub enum Shape<A: Allocator = Global> {
     Text,
     /// A Byte String or a Big Integer.
     Bytes,
+    /// A Date-Time.
+    DateTime,
     /// An Interval.
     Interval,
     /// A Big Integer.

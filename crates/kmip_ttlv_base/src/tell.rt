@@ -42,6 +42,7 @@ fn tell<A: Allocator, V: Visitor>(value: &Data<A>, visitor: &mut V) -> Result<()
         Data::U32(n) => visitor.leaf(Leaf::U32(*n)),
         Data::I64(n) => visitor.leaf(Leaf::I64(*n)),
         Data::U64(n) => visitor.leaf(Leaf::U64(*n)),
+        Data::DateTime(seconds) => visitor.leaf(Leaf::DateTime(*seconds)),
         Data::Interval(n) => visitor.leaf(Leaf::Interval(*n)),
         Data::Text(text) => visitor.leaf(Leaf::Text(text)),
         Data::Bytes(bytes) => visitor.leaf(Leaf::Bytes(bytes)),

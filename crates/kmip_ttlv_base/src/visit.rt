@@ -21,8 +21,10 @@ pub enum Leaf<'a> {
     U32(u32),
     /// A Long Integer.
     I64(i64),
-    /// A Date-Time.
+    /// A Date-Time, by its 64 bits.
     U64(u64),
+    /// A Date-Time, in seconds since 1970.
+    DateTime(i64),
     /// An Interval.
     Interval(u32),
     /// A Text String.

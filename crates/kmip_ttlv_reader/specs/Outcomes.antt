@@ -6,7 +6,8 @@ use Rattle.std.specs.Prelude.{ℕ, zero, suc, ◌+◌, Bool, false, List, [], �
 use Rattle.std.specs.Prelude.{Option, Some, None, ◌==◌, ◌&&◌, if◌then◌else◌, nat_lt}
 use Rattle.kmip_ttlv_types.specs.declared.typ.TtlvType.{TtlvType}
 use Rattle.kmip_ttlv_types.specs.declared.typ.TtlvType.TheVariants.{Structure, Integer, LongInteger, BigInteger}
-use Rattle.kmip_ttlv_types.specs.declared.typ.TtlvType.TheVariants.{Enumeration, Boolean, TextString, ByteString, Interval}
+use Rattle.kmip_ttlv_types.specs.declared.typ.TtlvType.TheVariants.{Enumeration, Boolean, TextString, ByteString}
+use Rattle.kmip_ttlv_types.specs.declared.typ.TtlvType.TheVariants.{DateTime, Interval}
 use Rattle.kmip_ttlv_types.specs.declared.field.FieldType.{FieldType}
 use Rattle.kmip_ttlv_types.specs.declared.field.FieldType.TheVariants as parts
 use Rattle.kmip_ttlv_types.specs.ItemTypes.{type_of, is_structure, fixed_length}
@@ -20,7 +21,7 @@ use Rattle.kmip_ttlv_base.specs.Values.{Value, none_value, some_value, seq_value
 use Rattle.kmip_ttlv_base.specs.Values.{unit_variant_value, newtype_variant_value, tuple_variant_value, Values}
 use Rattle.kmip_ttlv_base.specs.Values.{no_values, value}
 use Rattle.kmip_ttlv_base.specs.Forms.{Form, struct, option, seq, newtype, enum, int32, int64, boolean, text, octets}
-use Rattle.kmip_ttlv_base.specs.Forms.{interval, big_integer, Fields, no_fields, field, Variants, no_variants, variant}
+use Rattle.kmip_ttlv_base.specs.Forms.{date_time, interval, big_integer, Fields, no_fields, field, Variants, no_variants, variant}
 use Rattle.kmip_ttlv_base.specs.Forms.{Content, unit, wrapped, tuple, Forms, no_forms, form}
 use Rattle.kmip_ttlv_reader.specs.ReadFaults.{at_item, in_struct, bad_code, overflow, at_first}
 use Rattle.kmip_ttlv_reader.specs.Steps.{Fault, Outcome, gives, ends_early, fails, ◌>>=◌, ◌>>◌, must, must_not, within}
@@ -92,6 +93,7 @@ first_type int64 = LongInteger
 first_type boolean = Boolean
 first_type text = TextString
 first_type octets = ByteString
+first_type date_time = DateTime
 first_type interval = Interval
 first_type big_integer = BigInteger
 first_type _ = Enumeration

@@ -13,12 +13,12 @@ use Rattle.kmip_ttlv_types.specs.ItemTypes.{code, is_structure}
 use Rattle.kmip_ttlv_types.specs.Leaves.{is_valid}
 use Rattle.kmip_ttlv_types.specs.Items.{Raw, Splits, IsTextOf}
 use Rattle.kmip_ttlv_types.specs.Names.{tag_of}
-use Rattle.kmip_ttlv_base.specs.Values.{Value, boolean_value, i32_value, u32_value, i64_value, interval_value}
+use Rattle.kmip_ttlv_base.specs.Values.{Value, boolean_value, i32_value, u32_value, i64_value, date_time_value, interval_value}
 use Rattle.kmip_ttlv_base.specs.Values.{text_value, bytes_value, big_integer_value, none_value, some_value, seq_value, struct_value}
 use Rattle.kmip_ttlv_base.specs.Values.{newtype_value, unit_variant_value, newtype_variant_value, tuple_variant_value}
 use Rattle.kmip_ttlv_base.specs.Values.{Values, no_values, value}
 use Rattle.kmip_ttlv_base.specs.Forms.{Form, struct, option, seq, newtype, enum, int32, int64, boolean, text, octets}
-use Rattle.kmip_ttlv_base.specs.Forms.{interval, big_integer, any_number, Fields, no_fields, field, Variants, no_variants, variant}
+use Rattle.kmip_ttlv_base.specs.Forms.{date_time, interval, big_integer, any_number, Fields, no_fields, field, Variants, no_variants, variant}
 use Rattle.kmip_ttlv_base.specs.Forms.{Content, unit, wrapped, tuple, Forms, no_forms, form}
 use Rattle.kmip_ttlv_reader.specs.Keeps.{Keep}
 use Rattle.kmip_ttlv_reader.specs.Rules.{chosen, by_value, choice}
@@ -82,6 +82,7 @@ takes boolean Boolean = true
 takes text TextString = true
 takes octets ByteString = true
 takes octets BigInteger = true
+takes date_time DateTime = true
 takes interval Interval = true
 takes big_integer BigInteger = true
 takes any_number Enumeration = true
@@ -94,6 +95,7 @@ leaf_value int64 content = i64_value (cast_signed w64 (from_be_bytes w64 content
 leaf_value boolean content = boolean_value (from_be_bytes w64 content == 1)
 leaf_value text content = text_value content
 leaf_value octets content = bytes_value content
+leaf_value date_time content = date_time_value (cast_signed w64 (from_be_bytes w64 content))
 leaf_value interval content = interval_value (from_be_bytes w32 content)
 leaf_value big_integer content = big_integer_value content
 leaf_value any_number content = u32_value (from_be_bytes w32 content)

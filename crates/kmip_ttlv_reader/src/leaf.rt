@@ -26,6 +26,7 @@ pub enum Leaf {
     Bool,
     Text,
     Bytes,
+    DateTime,
     Interval,
     BigInteger,
     U32,
@@ -43,6 +44,7 @@ impl Leaf {
             Leaf::Bool => typ == TtlvType::Boolean,
             Leaf::Text => typ == TtlvType::TextString,
             Leaf::Bytes => typ == TtlvType::ByteString || typ == TtlvType::BigInteger,
+            Leaf::DateTime => typ == TtlvType::DateTime,
             Leaf::Interval => typ == TtlvType::Interval,
             Leaf::BigInteger => typ == TtlvType::BigInteger,
             Leaf::U32 => typ == TtlvType::Enumeration,
@@ -59,6 +61,7 @@ impl Leaf {
             Leaf::Bool => TtlvType::Boolean,
             Leaf::Text => TtlvType::TextString,
             Leaf::Bytes => TtlvType::ByteString,
+            Leaf::DateTime => TtlvType::DateTime,
             Leaf::Interval => TtlvType::Interval,
             Leaf::BigInteger => TtlvType::BigInteger,
             Leaf::U32 => TtlvType::Enumeration,
@@ -93,6 +96,7 @@ fn leaf_data<A: Allocator + Copy>(
         Leaf::Bool => Data::Bool(number_of_eight(content) == 1),
         Leaf::Text => Data::Text(String::from_str(alloc, text_of(content))?),
         Leaf::Bytes => Data::Bytes(Vec::from_slice(alloc, content)?),
+        Leaf::DateTime => Data::DateTime(number_of_eight(content).cast_signed()),
         Leaf::Interval => Data::Interval(number_of_four(content)),
         Leaf::BigInteger => Data::BigInteger(Vec::from_slice(alloc, content)?),
         Leaf::U32 => Data::U32(number_of_four(content)),
@@ -116,7 +120,8 @@ fn keep_leaf<'b, A: Allocator + Copy>(
     match leaf {
         Leaf::Text => kept.keep(tag, text_of(content))?,
         Leaf::U32 => kept.keep_number(tag, content)?,
-        Leaf::I32 | Leaf::I64 | Leaf::Bool | Leaf::Bytes | Leaf::Interval | Leaf::BigInteger => {}
+        Leaf::I32 | Leaf::I64 | Leaf::Bool | Leaf::Bytes => {}
+        Leaf::DateTime | Leaf::Interval | Leaf::BigInteger => {}
     }
     Ok(())
 }

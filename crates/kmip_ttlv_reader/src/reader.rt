@@ -21,4 +21,4 @@ pub use crate::sequence::{
 pub use crate::structure::{
     Nested, OptionalNested, ReadNested, ReadStructure, read_form, read_message,
 };
-pub use crate::values::{BigInteger, Interval};
+pub use crate::values::{BigInteger, DateTime, Interval};

@@ -2,7 +2,7 @@
 
 ghost use Rattle.std.specs.Prelude.{string_bytes};
 ghost use Rattle.kmip_ttlv_base.specs.Values.{i32_value, i64_value, boolean_value, u32_value, interval_value};
-ghost use Rattle.kmip_ttlv_base.specs.Values.{text_value, bytes_value, big_integer_value};
+ghost use Rattle.kmip_ttlv_base.specs.Values.{date_time_value, text_value, bytes_value, big_integer_value};
 ghost use Rattle.std.specs.Int.{w32, w64};
 ghost use Rattle.kmip_ttlv_reader.specs.declared.leaf.Leaf.TheVariants as leaves;
 ghost use Rattle.kmip_ttlv_reader.specs.Spots.{by_bits};
@@ -111,6 +111,26 @@ impl<A: Allocator> LeafValue<A> for Vec<u8, A> {
     #[inline(always)]
     fn decode(alloc: A, _typ: TtlvType, content: &[u8]) -> Result<Vec<u8, A>, AllocError> {
         Ok(Vec::from_slice(alloc, content)?)
+    }
+}
+
+/// A Date-Time, in seconds since 1970.
+#[derive(Clone, Copy, Debug, PartialEq, Eq)]
+pub struct DateTime(pub i64);
+
+impl<A: Allocator> LeafValue<A> for DateTime {
+    ghost leaf = { leaves.DateTime };
+
+    ghost value = { λ x. date_time_value (by_bits w64 x.0) };
+
+    #[inline(always)]
+    fn leaf() -> Leaf {
+        Leaf::DateTime
+    }
+
+    #[inline(always)]
+    fn decode(_alloc: A, _typ: TtlvType, content: &[u8]) -> Result<DateTime, AllocError> {
+        Ok(DateTime(number_of_eight(content).cast_signed()))
     }
 }
 

@@ -24,7 +24,7 @@ use Rattle.kmip_ttlv_types.specs.Names.{number, transparent_name}
 use Rattle.kmip_ttlv_types.specs.Primitives.{sign_extended}
 use Rattle.kmip_ttlv_types.proofs.Padding.{length-sign_extended}
 use Rattle.kmip_ttlv_base.specs.Errors.{mismatch, invalid_variant, unsupported_rust_type}
-use Rattle.kmip_ttlv_base.specs.Values.{Value, boolean_value, i8_value, i16_value, i32_value, u32_value, i64_value, u64_value, interval_value, text_value, bytes_value, big_integer_value, none_value as none, some_value as some, seq_value, struct_value, newtype_value, unit_variant_value, newtype_variant_value, tuple_variant_value, unsupported_value, Values, no_values, value}
+use Rattle.kmip_ttlv_base.specs.Values.{Value, boolean_value, i8_value, i16_value, i32_value, u32_value, i64_value, u64_value, date_time_value, interval_value, text_value, bytes_value, big_integer_value, none_value as none, some_value as some, seq_value, struct_value, newtype_value, unit_variant_value, newtype_variant_value, tuple_variant_value, unsupported_value, Values, no_values, value}
 use Rattle.kmip_ttlv_ser.specs.WrittenItems.{enumeration, is_wrapper, items, items_in}
 use Rattle.kmip_ttlv_ser.specs.Faults.{fault, fault_in}
 use Rattle.kmip_ttlv_ser.specs.Lengths.{HasLongLeaf, HaveLongLeaf, HasLongStructure, HaveLongStructure, content_start}
@@ -340,6 +340,7 @@ mutual
   stays (u32_value n) h = refl
   stays (i64_value z) h = refl
   stays (u64_value n) h = refl
+  stays (date_time_value z) h = refl
   stays (interval_value n) h = refl
   stays (text_value s) h = refl
   stays (bytes_value s) h = refl
@@ -367,6 +368,7 @@ mutual
   finds (u32_value n) w p old nest small = leaf_finds ⊥ ⊥ w Enumeration (to_be_bytes w32 n) old (fault_at (no_tag p.opened) w p) p nest 4 refl (λ l. absurd (omega (arith, l))) refl
   finds (i64_value z) w p old nest small = leaf_finds ⊥ ⊥ w LongInteger (to_be_bytes w64 (cast_unsigned w64 z)) old (fault_at (no_tag p.opened) w p) p nest 8 refl (λ l. absurd (omega (arith, l))) refl
   finds (u64_value n) w p old nest small = leaf_finds ⊥ ⊥ w DateTime (to_be_bytes w64 n) old (fault_at (no_tag p.opened) w p) p nest 8 refl (λ l. absurd (omega (arith, l))) refl
+  finds (date_time_value z) w p old nest small = leaf_finds ⊥ ⊥ w DateTime (to_be_bytes w64 (cast_unsigned w64 z)) old (fault_at (no_tag p.opened) w p) p nest 8 refl (λ l. absurd (omega (arith, l))) refl
   finds (interval_value n) w p old nest small = leaf_finds ⊥ ⊥ w Interval (to_be_bytes w32 n) old (fault_at (no_tag p.opened) w p) p nest 4 refl (λ l. absurd (omega (arith, l))) refl
   finds (text_value s) w p old nest small = leaf_finds (2 ^ 32 ≤ length s) ⊥ w TextString s old (fault_at (no_tag p.opened) w p) p nest (length s) refl (λ l. l) refl
   finds (bytes_value s) w p old nest small = leaf_finds (2 ^ 32 ≤ length s) ⊥ w ByteString s old (fault_at (no_tag p.opened) w p) p nest (length s) refl (λ l. l) refl

@@ -3,7 +3,7 @@ use Rattle.std.proofs.Common.{ℕ, ◌≤◌, Bool, true, false, List, Option, S
 use Rattle.kmip_ttlv_types.specs.Names.{tag_of, transparent_name}
 use Rattle.kmip_ttlv_types.specs.Trees.{Tree}
 use Rattle.kmip_ttlv_base.specs.Errors.{Kind, mismatch, invalid_variant, unsupported_rust_type}
-use Rattle.kmip_ttlv_base.specs.Values.{Value, boolean_value, i8_value, i16_value, i32_value, u32_value, i64_value, u64_value, interval_value, text_value, bytes_value, big_integer_value, none_value as none, some_value as some, seq_value, struct_value, newtype_value, unit_variant_value, newtype_variant_value, tuple_variant_value, unsupported_value, Values, no_values, value}
+use Rattle.kmip_ttlv_base.specs.Values.{Value, boolean_value, i8_value, i16_value, i32_value, u32_value, i64_value, u64_value, date_time_value, interval_value, text_value, bytes_value, big_integer_value, none_value as none, some_value as some, seq_value, struct_value, newtype_value, unit_variant_value, newtype_variant_value, tuple_variant_value, unsupported_value, Values, no_values, value}
 use Rattle.kmip_ttlv_ser.specs.declared.held.Held.{Held}
 use Rattle.kmip_ttlv_ser.specs.declared.held.Held.TheVariants.{Nothing, Plain}
 use Rattle.kmip_ttlv_ser.specs.declared.held.Place.{Place}
@@ -47,6 +47,7 @@ mutual
   fault_least (u32_value n) w p = at_least (no_tag p.opened) w p
   fault_least (i64_value z) w p = at_least (no_tag p.opened) w p
   fault_least (u64_value n) w p = at_least (no_tag p.opened) w p
+  fault_least (date_time_value z) w p = at_least (no_tag p.opened) w p
   fault_least (interval_value n) w p = at_least (no_tag p.opened) w p
   fault_least (text_value s) w p = at_least (no_tag p.opened) w p
   fault_least (bytes_value s) w p = at_least (no_tag p.opened) w p

@@ -8,7 +8,7 @@ use Rattle.kmip_ttlv_types.specs.Primitives.{sign_extended}
 use Rattle.kmip_ttlv_types.specs.Trees.{Tree, leaf, node, trees_of, bytes_all, Fits}
 use Rattle.kmip_ttlv_base.specs.declared.error.Error.{Error}
 use Rattle.kmip_ttlv_base.specs.Errors.{Location, only_offset, view_of_kind, location_of, view_of_location, IsMemory}
-use Rattle.kmip_ttlv_base.specs.Values.{Value, boolean_value, i8_value, i16_value, i32_value, u32_value, i64_value, u64_value, interval_value, text_value, bytes_value, big_integer_value, none_value as none, some_value as some, seq_value, struct_value, newtype_value, unit_variant_value, newtype_variant_value, tuple_variant_value, unsupported_value, Values, no_values, value}
+use Rattle.kmip_ttlv_base.specs.Values.{Value, boolean_value, i8_value, i16_value, i32_value, u32_value, i64_value, u64_value, date_time_value, interval_value, text_value, bytes_value, big_integer_value, none_value as none, some_value as some, seq_value, struct_value, newtype_value, unit_variant_value, newtype_variant_value, tuple_variant_value, unsupported_value, Values, no_values, value}
 use Rattle.kmip_ttlv_ser.specs.declared.held.Held.{Held}
 use Rattle.kmip_ttlv_ser.specs.declared.held.Held.TheVariants.{Nothing, Plain}
 use Rattle.kmip_ttlv_ser.specs.declared.held.Place.{Place}
@@ -82,6 +82,7 @@ mutual
   long_leaf_unfit (u32_value n) w ts e h = absurd h
   long_leaf_unfit (i64_value z) w ts e h = absurd h
   long_leaf_unfit (u64_value n) w ts e h = absurd h
+  long_leaf_unfit (date_time_value z) w ts e h = absurd h
   long_leaf_unfit (interval_value n) w ts e h = absurd h
   long_leaf_unfit (text_value s) w ts e h = leaf_unfit (held_tag w) TextString s ts e h
   long_leaf_unfit (bytes_value s) w ts e h = leaf_unfit (held_tag w) ByteString s ts e h
@@ -131,6 +132,7 @@ mutual
   long_structure_unfit (u32_value n) w ts e h = absurd h
   long_structure_unfit (i64_value z) w ts e h = absurd h
   long_structure_unfit (u64_value n) w ts e h = absurd h
+  long_structure_unfit (date_time_value z) w ts e h = absurd h
   long_structure_unfit (interval_value n) w ts e h = absurd h
   long_structure_unfit (text_value s) w ts e h = absurd h
   long_structure_unfit (bytes_value s) w ts e h = absurd h

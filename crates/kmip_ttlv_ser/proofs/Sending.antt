@@ -8,7 +8,7 @@ use Rattle.kmip_ttlv_types.specs.Names.{number, transparent_name}
 use Rattle.kmip_ttlv_types.specs.Primitives.{sign_byte, sign_extended}
 use Rattle.std.specs.Int.{w32, w64, to_be_bytes, cast_unsigned, from_bool}
 use Rattle.kmip_ttlv_types.specs.Trees.{Tree, leaf, node, trees_of, leaf_bytes, node_bytes, bytes_below, bytes_all}
-use Rattle.kmip_ttlv_base.specs.Values.{Value, boolean_value, i8_value, i16_value, i32_value, u32_value, i64_value, u64_value, interval_value, text_value, bytes_value, big_integer_value, none_value as none, some_value as some, seq_value, struct_value, newtype_value, unit_variant_value, newtype_variant_value, tuple_variant_value, unsupported_value, Values, no_values, value}
+use Rattle.kmip_ttlv_base.specs.Values.{Value, boolean_value, i8_value, i16_value, i32_value, u32_value, i64_value, u64_value, date_time_value, interval_value, text_value, bytes_value, big_integer_value, none_value as none, some_value as some, seq_value, struct_value, newtype_value, unit_variant_value, newtype_variant_value, tuple_variant_value, unsupported_value, Values, no_values, value}
 use Rattle.kmip_ttlv_ser.specs.declared.held.Held.{Held}
 use Rattle.kmip_ttlv_ser.specs.declared.held.Held.TheVariants.{Nothing, Plain, Overriding}
 use Rattle.kmip_ttlv_ser.specs.WrittenItems.{◌>>=◌, is_wrapper, without_override, held_over, take_tag, one_leaf, one_node, held_tag, some_item, left_over, enumeration, newtype_row, variant_row, items, items_in}
@@ -96,6 +96,7 @@ mutual
   emits (u32_value n) w st ts old plan rest e p = leaf_emits w Enumeration (to_be_bytes w32 n) st ts old plan rest e p
   emits (i64_value z) w st ts old plan rest e p = leaf_emits w LongInteger (to_be_bytes w64 (cast_unsigned w64 z)) st ts old plan rest e p
   emits (u64_value n) w st ts old plan rest e p = leaf_emits w DateTime (to_be_bytes w64 n) st ts old plan rest e p
+  emits (date_time_value z) w st ts old plan rest e p = leaf_emits w DateTime (to_be_bytes w64 (cast_unsigned w64 z)) st ts old plan rest e p
   emits (interval_value n) w st ts old plan rest e p = leaf_emits w Interval (to_be_bytes w32 n) st ts old plan rest e p
   emits (text_value s) w st ts old plan rest e p = leaf_emits w TextString s st ts old plan rest e p
   emits (bytes_value s) w st ts old plan rest e p = leaf_emits w ByteString s st ts old plan rest e p

@@ -8,7 +8,7 @@ use Rattle.kmip_ttlv_types.specs.declared.typ.TtlvType.TheVariants.{Integer, Lon
 use Rattle.kmip_ttlv_types.specs.ItemTypes.{is_structure}
 use Rattle.kmip_ttlv_types.specs.Names.{number, tag_of, below_tag_limit, transparent_name}
 use Rattle.kmip_ttlv_types.specs.Trees.{Tree, leaf, node, trees_of, bytes_all, Fits}
-use Rattle.kmip_ttlv_base.specs.Values.{Value, boolean_value, i8_value, i16_value, i32_value, u32_value, i64_value, u64_value, interval_value, text_value, bytes_value, big_integer_value, none_value as none, some_value as some, seq_value, struct_value, newtype_value, unit_variant_value, newtype_variant_value, tuple_variant_value, unsupported_value, Values, no_values, value}
+use Rattle.kmip_ttlv_base.specs.Values.{Value, boolean_value, i8_value, i16_value, i32_value, u32_value, i64_value, u64_value, date_time_value, interval_value, text_value, bytes_value, big_integer_value, none_value as none, some_value as some, seq_value, struct_value, newtype_value, unit_variant_value, newtype_variant_value, tuple_variant_value, unsupported_value, Values, no_values, value}
 use Rattle.kmip_ttlv_ser.specs.declared.held.Held.{Held}
 use Rattle.kmip_ttlv_ser.specs.declared.held.Held.TheVariants.{Nothing, Plain, Overriding}
 use Rattle.kmip_ttlv_ser.specs.WrittenItems.{◌>>=◌, take_tag, held_tag, one_leaf, one_node, enumeration, some_item, held_over, without_override, is_wrapper, left_over, newtype_row, variant_row, items, items_in}
@@ -123,6 +123,7 @@ mutual
   value_sound (u32_value n) w ts h e = leaf_sound w Enumeration _ ts refl h e
   value_sound (i64_value z) w ts h e = leaf_sound w LongInteger _ ts refl h e
   value_sound (u64_value n) w ts h e = leaf_sound w DateTime _ ts refl h e
+  value_sound (date_time_value z) w ts h e = leaf_sound w DateTime _ ts refl h e
   value_sound (interval_value n) w ts h e = leaf_sound w Interval _ ts refl h e
   value_sound (text_value s) w ts h e = leaf_sound w TextString s ts refl h e
   value_sound (bytes_value s) w ts h e = leaf_sound w ByteString s ts refl h e

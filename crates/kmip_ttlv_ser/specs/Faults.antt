@@ -8,7 +8,7 @@ use Rattle.kmip_ttlv_types.specs.Trees.{Tree, leaf, node, Trees, no_trees, tree,
 use Rattle.kmip_ttlv_base.specs.declared.error.MalformedTtlvError.TheVariants.{UnexpectedTtlvField}
 use Rattle.kmip_ttlv_base.specs.Errors.{Kind, malformed, mismatch, invalid_tag, invalid_variant, unsupported_rust_type}
 use Rattle.kmip_ttlv_base.specs.Values.{Value, boolean_value, i8_value, i16_value, i32_value, u32_value, i64_value}
-use Rattle.kmip_ttlv_base.specs.Values.{u64_value, interval_value, text_value, bytes_value, big_integer_value}
+use Rattle.kmip_ttlv_base.specs.Values.{u64_value, date_time_value, interval_value, text_value, bytes_value, big_integer_value}
 use Rattle.kmip_ttlv_base.specs.Values.{none_value as none, some_value as some, seq_value, struct_value, newtype_value}
 use Rattle.kmip_ttlv_base.specs.Values.{unit_variant_value, newtype_variant_value, tuple_variant_value}
 use Rattle.kmip_ttlv_base.specs.Values.{unsupported_value, Values, no_values, value}
@@ -117,6 +117,7 @@ abbrev mutual
   fault (u32_value n) w p = fault_at (no_tag p.opened) w p
   fault (i64_value z) w p = fault_at (no_tag p.opened) w p
   fault (u64_value n) w p = fault_at (no_tag p.opened) w p
+  fault (date_time_value z) w p = fault_at (no_tag p.opened) w p
   fault (interval_value n) w p = fault_at (no_tag p.opened) w p
   fault (text_value s) w p = fault_at (no_tag p.opened) w p
   fault (bytes_value s) w p = fault_at (no_tag p.opened) w p

@@ -5,7 +5,7 @@ use Rattle.kmip_ttlv_types.specs.ItemTypes.{pad_len}
 use Rattle.kmip_ttlv_types.specs.Names.{tag_of, number, transparent_name}
 use Rattle.kmip_ttlv_base.specs.Errors.{Kind, mismatch, invalid_variant, unsupported_rust_type}
 use Rattle.kmip_ttlv_base.specs.Values.{Value, boolean_value, i8_value, i16_value, i32_value, u32_value, i64_value}
-use Rattle.kmip_ttlv_base.specs.Values.{u64_value, interval_value, text_value, bytes_value, big_integer_value}
+use Rattle.kmip_ttlv_base.specs.Values.{u64_value, date_time_value, interval_value, text_value, bytes_value, big_integer_value}
 use Rattle.kmip_ttlv_base.specs.Values.{none_value as none, unit_variant_value, unsupported_value}
 use Rattle.kmip_ttlv_ser.specs.declared.held.Held.{Held}
 use Rattle.kmip_ttlv_ser.specs.declared.held.Held.TheVariants.{Nothing, Plain, Overriding}
@@ -104,6 +104,7 @@ after_alone (i32_value z) g = after_leaf (held_tag g.held) 4 g
 after_alone (u32_value n) g = after_leaf (held_tag g.held) 4 g
 after_alone (i64_value z) g = after_leaf (held_tag g.held) 8 g
 after_alone (u64_value n) g = after_leaf (held_tag g.held) 8 g
+after_alone (date_time_value z) g = after_leaf (held_tag g.held) 8 g
 after_alone (interval_value n) g = after_leaf (held_tag g.held) 4 g
 after_alone (text_value s) g = after_leaf (held_tag g.held) (length s) g
 after_alone (bytes_value s) g = after_leaf (held_tag g.held) (length s) g

@@ -1,8 +1,8 @@
 -- Values whose bytes, or whose first errors, are computed here by the definitions themselves.
-use Rattle.std.specs.Prelude.{◌≡◌, ℕ, pos, true, false, List, [], ◌∷◌, Some, None, codes}
+use Rattle.std.specs.Prelude.{◌≡◌, ℕ, pos, negsuc, true, false, List, [], ◌∷◌, Some, None, codes}
 use Rattle.kmip_ttlv_types.specs.Trees.{bytes_all}
 use Rattle.kmip_ttlv_base.specs.Errors.{Kind, mismatch, invalid_tag, invalid_variant, unsupported_rust_type}
-use Rattle.kmip_ttlv_base.specs.Values.{Value, i32_value, u64_value, big_integer_value, interval_value}
+use Rattle.kmip_ttlv_base.specs.Values.{Value, i32_value, u64_value, date_time_value, big_integer_value, interval_value}
 use Rattle.kmip_ttlv_base.specs.Values.{none_value as none, seq_value, struct_value, newtype_value, unit_variant_value}
 use Rattle.kmip_ttlv_base.specs.Values.{newtype_variant_value, Values, no_values, value}
 use Rattle.kmip_ttlv_ser.specs.declared.held.Held.TheVariants.{Nothing}
@@ -62,6 +62,18 @@ abbrev pub an_unsigned_number_of_64_bits : Type 0
 an_unsigned_number_of_64_bits =
     HasBytes (newtype_value (codes "Transparent:0xAABBCC") (u64_value 9223372036854775808))
     (0xAA ∷ 0xBB ∷ 0xCC ∷ 9 ∷ 0 ∷ 0 ∷ 0 ∷ 8 ∷ 0x80 ∷ 0 ∷ 0 ∷ 0 ∷ 0 ∷ 0 ∷ 0 ∷ 0 ∷ [])
+
+-- the date 2009-11-12T10:47:30Z, which has the code 09
+abbrev pub a_date_time : Type 0
+a_date_time =
+    HasBytes (newtype_value (codes "Transparent:0x420092") (date_time_value (pos 0x4AFBE7C2)))
+    (0x42 ∷ 0 ∷ 0x92 ∷ 9 ∷ 0 ∷ 0 ∷ 0 ∷ 8 ∷ 0 ∷ 0 ∷ 0 ∷ 0 ∷ 0x4A ∷ 0xFB ∷ 0xE7 ∷ 0xC2 ∷ [])
+
+-- the second before 1970, in two's complement
+abbrev pub a_date_time_before_1970 : Type 0
+a_date_time_before_1970 =
+    HasBytes (newtype_value (codes "Transparent:0x420092") (date_time_value (negsuc 0)))
+    (0x42 ∷ 0 ∷ 0x92 ∷ 9 ∷ 0 ∷ 0 ∷ 0 ∷ 8 ∷ 0xFF ∷ 0xFF ∷ 0xFF ∷ 0xFF ∷ 0xFF ∷ 0xFF ∷ 0xFF ∷ 0xFF ∷ [])
 
 -- its sign is extended to eight bytes
 abbrev pub a_negative_big_integer : Type 0

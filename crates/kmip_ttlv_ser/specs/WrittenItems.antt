@@ -10,7 +10,7 @@ use Rattle.kmip_ttlv_types.specs.Names.{tag_of, number, transparent_name, overri
 use Rattle.kmip_ttlv_types.specs.Primitives.{sign_extended}
 use Rattle.kmip_ttlv_types.specs.Trees.{Tree, leaf, node, trees_of}
 use Rattle.kmip_ttlv_base.specs.Values.{Value, boolean_value, i8_value, i16_value, i32_value, u32_value, i64_value}
-use Rattle.kmip_ttlv_base.specs.Values.{u64_value, interval_value, text_value, bytes_value, big_integer_value}
+use Rattle.kmip_ttlv_base.specs.Values.{u64_value, date_time_value, interval_value, text_value, bytes_value, big_integer_value}
 use Rattle.kmip_ttlv_base.specs.Values.{none_value as none, some_value as some, seq_value, struct_value, newtype_value}
 use Rattle.kmip_ttlv_base.specs.Values.{unit_variant_value, newtype_variant_value, tuple_variant_value}
 use Rattle.kmip_ttlv_base.specs.Values.{unsupported_value, Values, no_values, value}
@@ -95,6 +95,7 @@ abbrev mutual
   items (u32_value n) w = one_leaf w Enumeration (to_be_bytes w32 n)
   items (i64_value z) w = one_leaf w LongInteger (to_be_bytes w64 (cast_unsigned w64 z))
   items (u64_value n) w = one_leaf w DateTime (to_be_bytes w64 n)
+  items (date_time_value z) w = one_leaf w DateTime (to_be_bytes w64 (cast_unsigned w64 z))
   items (interval_value n) w = one_leaf w Interval (to_be_bytes w32 n)
   items (text_value s) w = one_leaf w TextString s
   items (bytes_value s) w = one_leaf w ByteString s

@@ -227,6 +227,7 @@ impl<'a, O: Output> Visitor for Emitter<'a, O> {
             Leaf::U32(n) => self.put_four(TtlvType::Enumeration, n),
             Leaf::I64(n) => self.put_eight(TtlvType::LongInteger, n.cast_unsigned()),
             Leaf::U64(n) => self.put_eight(TtlvType::DateTime, n),
+            Leaf::DateTime(n) => self.put_eight(TtlvType::DateTime, n.cast_unsigned()),
             Leaf::Interval(n) => self.put_four(TtlvType::Interval, n),
             Leaf::Text(text) => self.put_leaf(TtlvType::TextString, text.as_bytes()),
             Leaf::Bytes(bytes) => self.put_leaf(TtlvType::ByteString, bytes),

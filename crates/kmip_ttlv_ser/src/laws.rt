@@ -11,7 +11,7 @@ ghost use Rattle.kmip_ttlv_ser.specs.WriteAnswers.{IsWrittenAs};
 ghost use Rattle.kmip_ttlv_ser.specs.WriteLaws.{IsSound};
 ghost use Rattle.kmip_ttlv_ser.specs.Rows.{a_transparent_newtype, an_overriding_wrapper};
 ghost use Rattle.kmip_ttlv_ser.specs.Rows.{an_overriding_wrapper_over_two, a_doubled_prefix};
-ghost use Rattle.kmip_ttlv_ser.specs.Rows.{an_unsigned_number_of_64_bits, a_negative_big_integer};
+ghost use Rattle.kmip_ttlv_ser.specs.Rows.{an_unsigned_number_of_64_bits, a_date_time, a_date_time_before_1970, a_negative_big_integer};
 ghost use Rattle.kmip_ttlv_ser.specs.Rows.{an_interval, an_empty_structure, an_empty_sequence, a_bare_field};
 ghost use Rattle.kmip_ttlv_ser.specs.Rows.{a_bare_value, a_wrapper_over_nothing, a_variant_that_is_no_number};
 ghost use Rattle.kmip_ttlv_ser.specs.Rows.{a_wrapper_in_a_wrapper, a_doubled_prefix_of_a_wrapper};
@@ -49,6 +49,8 @@ pub fn worked_values_have_bytes()
     ensures an_overriding_wrapper_over_two { an_overriding_wrapper_over_two }
     ensures a_doubled_prefix { a_doubled_prefix }
     ensures an_unsigned_number_of_64_bits { an_unsigned_number_of_64_bits }
+    ensures a_date_time { a_date_time }
+    ensures a_date_time_before_1970 { a_date_time_before_1970 }
     ensures a_negative_big_integer { a_negative_big_integer }
     ensures an_interval { an_interval }
     ensures an_empty_structure { an_empty_structure }

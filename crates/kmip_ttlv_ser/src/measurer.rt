@@ -280,6 +280,7 @@ impl<A: Allocator> Visitor for Measurer<A> {
             Leaf::U32(_) => self.item(4),
             Leaf::I64(_) => self.item(8),
             Leaf::U64(_) => self.item(8),
+            Leaf::DateTime(_) => self.item(8),
             Leaf::Interval(_) => self.item(4),
             Leaf::Text(text) => self.item(text.len()),
             Leaf::Bytes(bytes) => self.item(bytes.len()),

@@ -6,7 +6,7 @@ use crate::names::{
     IfLongInteger, IfStructure, IfText, One, TagB, TagC,
 };
 use crate::parts::{
-    AnyNumber, BigNumber, Choice, LongNumber, Name, NoContent, Number, Octets, OneField,
+    AnyNumber, BigNumber, Choice, Date, LongNumber, Name, NoContent, Number, Octets, OneField,
     OneVariant, Part, Span, Structure, Text, Truth,
 };
 use std::alloc::Global;
@@ -68,6 +68,7 @@ fn shapes_take_items_of_their_types(rt: HostRuntime) -> Result<(), Fail> {
     takes_only::<Truth>(heap, other, "Boolean", &["06"])?;
     takes_only::<Text>(heap, other, "TextString", &["07"])?;
     takes_only::<Octets>(heap, other, "ByteString", &["08", "04"])?;
+    takes_only::<Date>(heap, other, "DateTime", &["09"])?;
     takes_only::<Span>(heap, other, "Interval", &["0A"])?;
     takes_only::<BigNumber>(heap, other, "BigInteger", &["04"])?;
     takes_only::<AnyNumber>(heap, other, "Enumeration", &["05"])?;

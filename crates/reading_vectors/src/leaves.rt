@@ -3,7 +3,7 @@
 use crate::answer::{Of, Single, answer, check, check_rows};
 use crate::names::{NoTag, TagA, TagB, TagC, TagD};
 use crate::parts::{
-    AnyNumber, BigNumber, ClosedStructure, LongNumber, Maybe, Number, Octets, OneField, Span,
+    AnyNumber, BigNumber, ClosedStructure, Date, LongNumber, Maybe, Number, Octets, OneField, Span,
     Structure, Text, ThreeFields, Truth, TwoFields,
 };
 use std::test::Fail;
@@ -150,6 +150,30 @@ const LONG_NUMBERS: [(&str, &str); 2] = [
     ),
 ];
 
+// The number of a Date-Time is signed, and a Long Integer is none.
+const DATES: [(&str, &str); 5] = [
+    (
+        "AAAAAA0100000010BBBBBB0900000008000000004AFBE7C2",
+        "Struct { name: \"0xAAAAAA\", fields: [DateTime(1258022850)] }",
+    ),
+    (
+        "AAAAAA0100000010BBBBBB0900000008FFFFFFFFFFFFFFFF",
+        "Struct { name: \"0xAAAAAA\", fields: [DateTime(-1)] }",
+    ),
+    (
+        "AAAAAA0100000010BBBBBB03000000080000000000000001",
+        "SerdeError(UnexpectedType { expected: DateTime, actual: LongInteger }); pos: 12 bytes, parent tags: 0xAAAAAA, tag: 0xBBBBBB, type: LongInteger (0x03)",
+    ),
+    (
+        "AAAAAA0100000010BBBBBB09000000044AFBE7C200000000",
+        "MalformedTtlv(InvalidLength { expected: 8, actual: 4, typ: DateTime }); pos: 16 bytes, parent tags: 0xAAAAAA, tag: 0xBBBBBB, type: DateTime (0x09)",
+    ),
+    (
+        "AAAAAA0100000010BBBBBB0900000008000000004AFB",
+        "UnexpectedEof",
+    ),
+];
+
 const SPANS: [(&str, &str); 3] = [
     (
         "AAAAAA0100000010BBBBBB0A000000040000000100000000",
@@ -265,6 +289,7 @@ const ANY_NUMBERS: [(&str, &str); 6] = [
 #[test]
 fn other_leaves(rt: HostRuntime) -> Result<(), Fail> {
     check_rows::<Of<LongNumber>>(rt.alloc(), &LONG_NUMBERS)?;
+    check_rows::<Of<Date>>(rt.alloc(), &DATES)?;
     check_rows::<Of<Span>>(rt.alloc(), &SPANS)?;
     check_rows::<Of<Truth>>(rt.alloc(), &TRUTHS)?;
     check_rows::<Of<Text>>(rt.alloc(), &TEXTS)?;
@@ -317,6 +342,11 @@ fn options(rt: HostRuntime) -> Result<(), Fail> {
         rt.alloc(),
         EMPTY,
         "Struct { name: \"0xAAAAAA\", fields: [None] }",
+    )?;
+    check::<Of<Maybe<Date>>>(
+        rt.alloc(),
+        "AAAAAA0100000010BBBBBB0900000008000000004AFBE7C2",
+        "Struct { name: \"0xAAAAAA\", fields: [Some(DateTime(1258022850))] }",
     )?;
     check::<Lacking>(
         rt.alloc(),

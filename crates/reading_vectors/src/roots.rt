@@ -3,8 +3,8 @@
 use crate::answer::{check, check_place};
 use crate::names::{IfNothing, IfTypeAtLeast, Seven, TagA, TagB};
 use crate::parts::{
-    AnyNumber, BigNumber, Choice, Content, LongNumber, Maybe, NoContent, Number, Octets, OneField,
-    OneVariant, Part, Sequence, Span, Structure, Text, Truth, Wrapping,
+    AnyNumber, BigNumber, Choice, Content, Date, LongNumber, Maybe, NoContent, Number, Octets,
+    OneField, OneVariant, Part, Sequence, Span, Structure, Text, Truth, Wrapping,
 };
 use std::alloc::Global;
 use std::test::Fail;
@@ -27,6 +27,7 @@ fn roots_that_are_leaves(rt: HostRuntime) -> Result<(), Fail> {
     is_leaf::<Truth>(heap)?;
     is_leaf::<Text>(heap)?;
     is_leaf::<Octets>(heap)?;
+    is_leaf::<Date>(heap)?;
     is_leaf::<Span>(heap)?;
     is_leaf::<BigNumber>(heap)?;
     is_leaf::<AnyNumber>(heap)?;

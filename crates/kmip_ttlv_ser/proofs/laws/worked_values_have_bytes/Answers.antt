@@ -1,4 +1,4 @@
-use Rattle.kmip_ttlv_ser.proofs.Rows.{a_transparent_newtype-holds, an_overriding_wrapper-holds, an_overriding_wrapper_over_two-holds, a_doubled_prefix-holds, an_unsigned_number_of_64_bits-holds, a_negative_big_integer-holds, an_interval-holds, an_empty_structure-holds, an_empty_sequence-holds}
+use Rattle.kmip_ttlv_ser.proofs.Rows.{a_transparent_newtype-holds, an_overriding_wrapper-holds, an_overriding_wrapper_over_two-holds, a_doubled_prefix-holds, an_unsigned_number_of_64_bits-holds, a_date_time-holds, a_date_time_before_1970-holds, a_negative_big_integer-holds, an_interval-holds, an_empty_structure-holds, an_empty_sequence-holds}
 use Rattle.kmip_ttlv_ser.proofs.laws.worked_values_have_bytes.Goals as goal
 
 pub returns-clause-a_transparent_newtype : goal.returns-clause-a_transparent_newtype
@@ -15,6 +15,12 @@ returns-clause-a_doubled_prefix c = a_doubled_prefix-holds
 
 pub returns-clause-an_unsigned_number_of_64_bits : goal.returns-clause-an_unsigned_number_of_64_bits
 returns-clause-an_unsigned_number_of_64_bits c = an_unsigned_number_of_64_bits-holds
+
+pub returns-clause-a_date_time : goal.returns-clause-a_date_time
+returns-clause-a_date_time c = a_date_time-holds
+
+pub returns-clause-a_date_time_before_1970 : goal.returns-clause-a_date_time_before_1970
+returns-clause-a_date_time_before_1970 c = a_date_time_before_1970-holds
 
 pub returns-clause-a_negative_big_integer : goal.returns-clause-a_negative_big_integer
 returns-clause-a_negative_big_integer c = a_negative_big_integer-holds
