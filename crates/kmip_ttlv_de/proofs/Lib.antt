@@ -1,2 +1,4 @@
+pub mod ChoiceLemmas
 pub mod FieldTagLemmas
 pub mod RowLemmas
+pub mod StepLemmas

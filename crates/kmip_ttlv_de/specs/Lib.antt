@@ -1,2 +1,3 @@
 pub mod FieldTags
 pub mod ReadRows
+pub mod ReadSteps

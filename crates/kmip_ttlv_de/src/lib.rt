@@ -28,6 +28,7 @@ mod read;
 mod rest;
 mod root;
 mod rows;
+mod steps;
 mod variant;
 
 pub use crate::deserialize::{ByShape, Decode, Deserialize};

@@ -1,7 +1,7 @@
 //! Worked messages, computed on the definitions: what each is read as, by the function that `from_slice`
 //! is proved equal to.
 
-ghost use Rattle.std.specs.Prelude.{◌∷◌, [], codes};
+ghost use Rattle.std.specs.Prelude.{◌∷◌, [], codes, negsuc, pos};
 ghost use Rattle.kmip_ttlv_types.specs.declared.typ.TtlvType.TheVariants.{Structure, Integer, LongInteger};
 ghost use Rattle.kmip_ttlv_types.specs.declared.typ.TtlvType.TheVariants.{BigInteger, Enumeration, Boolean};
 ghost use Rattle.kmip_ttlv_types.specs.declared.typ.TtlvType.TheVariants.{TextString, ByteString, DateTime, Interval};
@@ -9,11 +9,11 @@ ghost use Rattle.kmip_ttlv_types.specs.declared.field.FieldType.TheVariants as p
 ghost use Rattle.kmip_ttlv_base.specs.declared.error.MalformedTtlvError.TheVariants as faults;
 ghost use Rattle.kmip_ttlv_base.specs.Errors.{mismatch, malformed, unexpected_tag, unexpected_type, other_cause};
 ghost use Rattle.kmip_ttlv_base.specs.Errors.{invalid_rule, invalid_tag, missing_identifier};
-ghost use Rattle.kmip_ttlv_base.specs.Values.{big_integer_value, bytes_value, interval_value, newtype_value};
+ghost use Rattle.kmip_ttlv_base.specs.Values.{big_integer_value, bytes_value, date_time_value, interval_value, newtype_value};
 ghost use Rattle.kmip_ttlv_base.specs.Values.{newtype_variant_value, none_value, seq_value, some_value, struct_value};
 ghost use Rattle.kmip_ttlv_base.specs.Values.{text_value, tuple_variant_value, u32_value, unit_variant_value};
 ghost use Rattle.kmip_ttlv_base.specs.Values.{values_of};
-ghost use Rattle.kmip_ttlv_base.specs.Forms.{any_number, big_integer, boolean, field, form, int32, int64};
+ghost use Rattle.kmip_ttlv_base.specs.Forms.{any_number, big_integer, boolean, date_time, field, form, int32, int64};
 ghost use Rattle.kmip_ttlv_base.specs.Forms.{interval, newtype, no_fields, no_forms, octets, option, seq, text};
 ghost use Rattle.kmip_ttlv_base.specs.Forms.{tuple, unit, wrapped};
 ghost use Rattle.kmip_ttlv_reader.specs.Steps.{gives, ends_early};
@@ -108,6 +108,14 @@ pub fn small_messages()
         (error_at (malformed (faults.InvalidLength 4 5 Integer)) 16 (0xAAAAAA ∷ []) 0xBBBBBB Integer)
         × Row (single int32) (codes "AAAAAA0100000010CCCCCC02000000040000000500000000FFBBBBBB02000000040000000300000000")
         (error_at (mismatch (unexpected_tag 0xBBBBBB 0xCCCCCC)) 12 (0xAAAAAA ∷ []) 0xCCCCCC Integer) }
+    // A DateTime, also before 1970, and what is none.
+    ensures dates { Row (single date_time) (codes "AAAAAA0100000010BBBBBB0900000008000000004AFBE7C2")
+        (gives_struct (date_time_value (pos 0x4AFBE7C2) ∷ []))
+        × Row (single date_time) (codes "AAAAAA0100000010BBBBBB0900000008FFFFFFFFFFFFFFFF")
+        (gives_struct (date_time_value (negsuc 0) ∷ []))
+        × Row (single date_time) (codes "AAAAAA0100000010BBBBBB03000000080000000000000001")
+        (error_at (mismatch (unexpected_type DateTime LongInteger)) 12 (0xAAAAAA ∷ []) 0xBBBBBB LongInteger)
+        × Row date_time [] (error_at_start (malformed (faults.UnexpectedTtlvField parts.Tag parts.LengthAndValue))) }
     // A LongInteger, an Interval and a Boolean.
     ensures other_numbers { Row (single int64) (codes "AAAAAA0100000010BBBBBB03000000080000000000000001")
         (gives_struct (long_integer 1 ∷ []))

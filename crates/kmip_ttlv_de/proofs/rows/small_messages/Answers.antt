@@ -30,6 +30,10 @@ pub returns-clause-errors_and_more : goal.returns-clause-errors_and_more
 unfolding reading
 returns-clause-errors_and_more c = (refl, refl, refl, refl)
 
+pub returns-clause-dates : goal.returns-clause-dates
+unfolding reading
+returns-clause-dates c = (refl, refl, refl, refl)
+
 pub returns-clause-other_numbers : goal.returns-clause-other_numbers
 unfolding reading
 returns-clause-other_numbers c = (refl, refl, refl, refl, refl, refl, refl)
