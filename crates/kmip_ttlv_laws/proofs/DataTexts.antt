@@ -22,6 +22,7 @@ layer_texts f h (layer.I32 z) = tt
 layer_texts f h (layer.U32 n) = tt
 layer_texts f h (layer.I64 z) = tt
 layer_texts f h (layer.U64 n) = tt
+layer_texts f h (layer.DateTime z) = tt
 layer_texts f h (layer.Interval n) = tt
 layer_texts f h (layer.Text s) = is_utf8-from_IsUtf8 (string_bytes s) (IsUtf8-string_bytes s)
 layer_texts f h (layer.Bytes v) = tt

@@ -1,21 +1,22 @@
 -- Parts of types whose values are equal if they stand for the same.
-use Rattle.std.proofs.Common.{◌≡◌, refl, sym, ap, ◌∙◌, true, ℕ, ℤ, Bool, List, [], ◌∷◌, map, Option, Some, None, String, string_bytes}
+use Rattle.std.proofs.Common.{◌≡◌, refl, sym, ap, ◌∙◌, true, false, ℕ, ℤ, Bool, List, [], ◌∷◌, map, Option, Some, None, String, string_bytes}
 use Rattle.std.specs.Prelude.{if◌then◌else◌, ◌&&◌, ◌==◌}
 use Rattle.std.specs.Option.{option_eq}
 use Rattle.std.specs.String.{string_eq}
 use mathlib.Core.Bool.{beq}
 use Rattle.std.specs.Ordering.{int_eq}
 use Rattle.std.specs.Cmp.{booleans_Decides}
+use Rattle.std.proofs.lemmas.Bool.{false≢true}
 use Rattle.std.proofs.lemmas.Bool.Decides.{Decides-eqb, Decides-int_eq}
 use Rattle.std.proofs.lemmas.Slice.Eq.{bytes_eq-Decides, slice_eq-Decides}
-use Rattle.kmip_ttlv_messages.specs.MessageParts.{optional}
+use Rattle.kmip_ttlv_messages.specs.MessageParts.{is_listed, numbered_value, optional, optional_sequence, other_number}
 use Rattle.std.specs.Str.{bytes_eq}
 use Rattle.std.specs.Cmp.Lexicographic.{pointwise}
 use Rattle.kmip_ttlv_base.specs.Forms.{Form}
-use Rattle.kmip_ttlv_base.specs.Values.{Value, values_of}
+use Rattle.kmip_ttlv_base.specs.Values.{Value, newtype_variant_value, u32_value, values_of}
 use Rattle.kmip_ttlv_reader.specs.Reads.{is_root}
 use Rattle.kmip_ttlv_laws.specs.Agreements.{MessageAgrees}
-use Rattle.kmip_ttlv_laws.specs.Equal.{AreEqual}
+use Rattle.kmip_ttlv_laws.specs.Equal.{ReturnsEqual}
 use Rattle.kmip_ttlv_laws.specs.Rereads.{Rereads}
 use Rattle.kmip_ttlv_laws.proofs.Agreeing.{agreeing_is_read, agreeing_is_written}
 
@@ -42,26 +43,53 @@ pub bytes_equal : (xs ys : List ℕ) → xs ≡ ys → pointwise (λ x y. x == y
 bytes_equal xs ys e = (slice_eq-Decides Decides-eqb xs ys _ refl).1 e
 
 -- what may be absent
-pub options_equal : {T : Type 0} (f : T → Value) (E : T → T → Bool) → AreEqual f E → (x y : Option T) → optional f x ≡ optional f y → option_eq E x y ≡ true
-options_equal f E equal None None e = refl
-options_equal f E equal None (Some y) e = absurd cc
-options_equal f E equal (Some x) None e = absurd cc
-options_equal f E equal (Some x) (Some y) e = let same : f x ≡ f y = cc in equal x y same
+pub options_equal :
+    {T : Type 0} (f g : T → Value) (E : T → T → Bool)
+    → ReturnsEqual f g E
+    → (x y : Option T)
+    → optional f x ≡ optional g y
+    → option_eq E x y ≡ true
+options_equal f g E equal None None e = refl
+options_equal f g E equal None (Some y) e = absurd cc
+options_equal f g E equal (Some x) None e = absurd cc
+options_equal f g E equal (Some x) (Some y) e = let same : f x ≡ g y = cc in equal x y same
 
 -- elements of a sequence
 pub sequences_equal :
-    {T : Type 0} (f : T → Value) (E : T → T → Bool)
-    → AreEqual f E
+    {T : Type 0} (f g : T → Value) (E : T → T → Bool)
+    → ReturnsEqual f g E
     → (xs ys : List T)
-    → values_of (map f xs) ≡ values_of (map f ys)
+    → values_of (map f xs) ≡ values_of (map g ys)
     → pointwise E xs ys ≡ true
-sequences_equal f E equal [] [] e = refl
-sequences_equal f E equal [] (y ∷ ys) e = absurd cc
-sequences_equal f E equal (x ∷ xs) [] e = absurd cc
-sequences_equal f E equal (x ∷ xs) (y ∷ ys) e =
-    let head : f x ≡ f y = cc in
-    let rest : values_of (map f xs) ≡ values_of (map f ys) = cc in
-    rw (equal x y head) (sequences_equal f E equal xs ys rest)
+sequences_equal f g E equal [] [] e = refl
+sequences_equal f g E equal [] (y ∷ ys) e = absurd cc
+sequences_equal f g E equal (x ∷ xs) [] e = absurd cc
+sequences_equal f g E equal (x ∷ xs) (y ∷ ys) e =
+    let head : f x ≡ g y = cc in
+    let rest : values_of (map f xs) ≡ values_of (map g ys) = cc in
+    rw (equal x y head) (sequences_equal f g E equal xs ys rest)
+
+-- those of a sequence that may be empty
+pub any_equal :
+    {T : Type 0} (f g : T → Value) (E : T → T → Bool)
+    → ReturnsEqual f g E
+    → (xs ys : List T)
+    → optional_sequence f xs ≡ optional_sequence g ys
+    → pointwise E xs ys ≡ true
+any_equal f g E equal [] [] e = refl
+any_equal f g E equal [] (y ∷ ys) e = absurd cc
+any_equal f g E equal (x ∷ xs) [] e = absurd cc
+any_equal f g E equal (x ∷ xs) (y ∷ ys) e =
+    let same : values_of (map f (x ∷ xs)) ≡ values_of (map g (y ∷ ys)) = cc in
+    sequences_equal f g E equal (x ∷ xs) (y ∷ ys) same
+
+-- a number that is read as none of the listed ones is itself
+pub other_same : (listed : List ℕ) (m n : ℕ) → u32_value m ≡ numbered_value (other_number listed n) → m ≡ n
+other_same listed m n e = by_case (is_listed n listed) e
+  where
+    by_case : (b : Bool) → u32_value m ≡ numbered_value (if b then None else Some n) → m ≡ n
+    by_case true same = absurd cc
+    by_case false same = cc
 
 -- the first row of a text
 abbrev pub row_of : {T : Type 0} → List ℕ → List (List ℕ × T) → Option T
@@ -82,22 +110,33 @@ found_same name rows found x y e =
     let d : Some x ≡ Some y = cc in
     cc
 
+-- the name of the variant that a value is
+abbrev pub variant_of : Value → List ℕ
+variant_of (newtype_variant_value own name v) = name
+variant_of v = []
+
+-- variants of different names are not the same
+pub apart : {v w : Value} → v ≡ w → bytes_eq (variant_of v) (variant_of w) ≡ false → ⊥
+apart {v} {w} e differ =
+    let same : variant_of v ≡ variant_of w = ap variant_of e in
+    false≢true (sym differ ∙ (bytes_eq-Decides (variant_of v) (variant_of w)).1 same)
+
 -- messages whose values agree with their form come back
 pub agreeing_rereads :
-    {T : Type 0} (stated decoded : T → Value) (s : Form) (eq : T → T → Bool) (IsSound : T → Type 0)
+    {T : Type 0} (stated returned decoded : T → Value) (s : Form) (eq : T → T → Bool) (IsSound : T → Type 0)
     → is_root s ≡ true
-    → ((x : T) → IsSound x → MessageAgrees s (stated x) (decoded x))
-    → AreEqual decoded eq
+    → ((x : T) → IsSound x → MessageAgrees s (stated x) (returned x))
+    → ReturnsEqual returned decoded eq
     → Rereads stated s (λ v y. v ≡ decoded y) eq IsSound
-agreeing_rereads stated decoded s eq IsSound root agrees equal =
+agreeing_rereads stated returned decoded s eq IsSound root agrees equal =
     record {
       has_items = λ x is.
           let (head, k, a) = agrees x is in
-          let (t, ts, are, tag, typ) = agreeing_is_written s _ k _ (stated x) (decoded x) head a in
+          let (t, ts, are, tag, typ) = agreeing_is_written s _ k _ (stated x) (returned x) head a in
           (t ∷ ts, are);
       begins = λ x written is w.
-          (decoded x, (agreeing_is_read s (stated x) (decoded x) (decoded x) 0 written root (agrees x is) w).1 refl);
+          (returned x, (agreeing_is_read s (stated x) (returned x) (returned x) 0 written root (agrees x is) w).1 refl);
       equal = λ x y written v is w b e.
-          let same : v ≡ decoded x = (agreeing_is_read s (stated x) (decoded x) v 0 written root (agrees x is) w).0 b in
+          let same : v ≡ returned x = (agreeing_is_read s (stated x) (returned x) v 0 written root (agrees x is) w).0 b in
           equal x y (sym same ∙ e);
     }

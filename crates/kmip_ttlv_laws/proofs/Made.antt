@@ -12,7 +12,7 @@ use Rattle.kmip_ttlv_types.specs.Leaves.{is_valid}
 use Rattle.kmip_ttlv_types.specs.Items.{IsTextOf}
 use Rattle.kmip_ttlv_types.specs.Names.{tag_of, number, below_tag_limit, transparent_name, override_name}
 use Rattle.kmip_ttlv_types.specs.Trees.{Tree, leaf, node, Trees, no_trees, tree, trees_of, bytes, bytes_below, raw_of, leaf_bytes, node_bytes, Fits}
-use Rattle.kmip_ttlv_base.specs.Values.{Value, boolean_value, i8_value, i16_value, i32_value, u32_value, i64_value, u64_value, interval_value, text_value, bytes_value, big_integer_value, none_value, some_value, seq_value, struct_value, newtype_value, unit_variant_value, newtype_variant_value, tuple_variant_value, unsupported_value, Values, no_values, value}
+use Rattle.kmip_ttlv_base.specs.Values.{Value, boolean_value, i8_value, i16_value, i32_value, u32_value, i64_value, u64_value, date_time_value, interval_value, text_value, bytes_value, big_integer_value, none_value, some_value, seq_value, struct_value, newtype_value, unit_variant_value, newtype_variant_value, tuple_variant_value, unsupported_value, Values, no_values, value}
 use Rattle.kmip_ttlv_ser.specs.declared.held.Held.{Held}
 use Rattle.kmip_ttlv_ser.specs.declared.held.Held.TheVariants.{Nothing, Plain, Overriding}
 use Rattle.kmip_ttlv_ser.specs.WrittenItems.{◌>>=◌, take_tag, one_leaf, one_node, one_structure, some_item, left_over, without_override, held_over, enumeration, newtype_row, variant_row, is_wrapper, items, items_in}
@@ -149,6 +149,7 @@ mutual
   items_made P (u32_value n) w ts h f e = leaf_made P w Enumeration _ ts f refl e
   items_made P (i64_value z) w ts h f e = leaf_made P w LongInteger _ ts f refl e
   items_made P (u64_value n) w ts h f e = leaf_made P w DateTime _ ts f refl e
+  items_made P (date_time_value z) w ts h f e = leaf_made P w DateTime _ ts f refl e
   items_made P (interval_value n) w ts h f e = leaf_made P w Interval _ ts f refl e
   items_made P (text_value s) w ts h f e = leaf_made P w TextString s ts f h e
   items_made P (bytes_value s) w ts h f e = leaf_made P w ByteString s ts f refl e
@@ -184,6 +185,7 @@ mutual
   any_texts (u32_value n) = tt
   any_texts (i64_value z) = tt
   any_texts (u64_value n) = tt
+  any_texts (date_time_value z) = tt
   any_texts (interval_value n) = tt
   any_texts (text_value s) = tt
   any_texts (bytes_value s) = tt

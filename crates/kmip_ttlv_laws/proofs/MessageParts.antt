@@ -3,24 +3,26 @@ use Rattle.std.proofs.Common.{◌≡◌, ◌<◌, ◌^◌, subst, FitsSigned, �
 use Rattle.std.proofs.lemmas.Bool.{eqb-true, false≢true}
 use Rattle.std.specs.Prelude.{◌&&◌}
 use Rattle.std.specs.List.{AllByRecursion}
-use Rattle.std.specs.Int.{w32, w64, cast_signed, cast_unsigned}
+use Rattle.std.proofs.lemmas.List.Elements.{recursion_from_All}
+use Rattle.std.specs.Prelude.{◌%◌, All, IfSome}
+use Rattle.kmip_ttlv_types.specs.Primitives.{sign_extended}
+use Rattle.std.specs.Int.{w32, w64}
 use Rattle.std.specs.Str.{is_utf8}
 use Rattle.std.proofs.lemmas.Str.{IsUtf8-string_bytes, is_utf8-from_IsUtf8}
-use Rattle.std.proofs.Math.Facts.{Fits-of_z}
 use Rattle.std.proofs.lemmas.Int.{to_z-of_z}
 use Rattle.kmip_ttlv_types.specs.declared.typ.TtlvType.TheVariants.{Structure, Enumeration}
 use Rattle.kmip_ttlv_types.specs.Names.{number, transparent_name}
-use Rattle.kmip_ttlv_base.specs.Forms.{Form, any_number, int32, int64, struct, option, newtype, enum, seq, Fields, no_fields, field, Variants}
-use Rattle.kmip_ttlv_base.specs.Values.{Value, i32_value, i64_value, u32_value, u64_value, newtype_value, unit_variant_value, some_value, none_value, seq_value, struct_value, Values, no_values, value, values_of}
+use Rattle.kmip_ttlv_base.specs.Forms.{Form, big_integer, date_time, int32, int64, struct, option, newtype, enum, seq, Fields, no_fields, field, Variants}
+use Rattle.kmip_ttlv_base.specs.Values.{Value, big_integer_value, date_time_value, i32_value, i64_value, newtype_value, unit_variant_value, some_value, none_value, seq_value, struct_value, Values, no_values, value, values_of}
 use Rattle.kmip_ttlv_base.specs.Visits.{joined, optional}
-use Rattle.kmip_ttlv_messages.specs.MessageParts.{by_bits, optional as read_optional, optional_sequence, read_date, sequence, written_date}
+use Rattle.kmip_ttlv_messages.specs.MessageParts.{by_bits, optional as read_optional, optional_sequence, sequence}
 use Rattle.kmip_ttlv_ser.specs.declared.held.Held.{Held}
 use Rattle.kmip_ttlv_ser.specs.declared.held.Held.TheVariants.{Nothing}
 use Rattle.kmip_ttlv_ser.specs.WrittenItems.{take_tag, held_tag}
 use Rattle.kmip_ttlv_reader.specs.Keeps.{Keep}
 use Rattle.kmip_ttlv_reader.specs.Reads.{has_tag}
 use Rattle.kmip_ttlv_laws.specs.Agreements.{Head, Agrees, FieldsAgree, IsNumbered, MessageAgrees, RunAgrees, Wraps, absent_agrees, field_agrees, inner_agrees, is_alike, is_named, is_field_of, is_run, goes_on, last_agrees, leaf_agrees, leaf_type, newtype_agrees, newtype_encloses, newtype_wraps, next_agrees, no_field_agrees, nothing_agrees, number_agrees, option_agrees, seq_agrees, struct_agrees, struct_encloses, unit_is_numbered}
-use Rattle.kmip_ttlv_laws.specs.Returns.{ComesBack, as_date, as_int32, as_int64, as_number, NamesUnit, text_of_number}
+use Rattle.kmip_ttlv_laws.specs.Returns.{ComesBack, as_big_integer, as_date_time, as_int32, as_int64, NamesUnit, text_of_number}
 
 -- whatever was kept before, the value agrees with the form as the other, as an item of this head
 pub record PartAgrees (s : Form) (w : Value) (x : Head) (v : Value) : Type 0 where
@@ -90,13 +92,12 @@ message {s} {w} {v} {x} p = (x, p.kept [], p.agrees [])
 abbrev pub a_structure : ℕ → Head
 a_structure t = record { tag = t; typ = Structure }
 
--- a date that is encoded by its 64 bits comes back
-pub as_seconds : (z : ℤ) → FitsSigned w64 z → ComesBack int64 (u64_value (cast_unsigned w64 z)) (i64_value z)
-as_seconds z fits =
-    let within : cast_unsigned w64 z < 2 ^ 64 = (Fits-of_z {w = w64} {z = z} fits).fits in
-    let same : cast_signed w64 (cast_unsigned w64 z) ≡ z = to_z-of_z w64 z fits in
-    let P : ℤ → Type 0 = λ y. ComesBack int64 (u64_value (cast_unsigned w64 z)) (i64_value y) in
-    subst P same (as_date within)
+-- a Big Integer of so many bytes that its sign isn't extended comes back as itself
+pub as_whole : (s : List ℕ) → length s % 8 ≡ 0 → ComesBack big_integer (big_integer_value s) (big_integer_value s)
+unfolding sign_extended
+as_whole s whole =
+    let same : sign_extended s ≡ s = rw whole refl in
+    subst (λ t. ComesBack big_integer (big_integer_value s) (big_integer_value t)) same as_big_integer
 
 -- a number in an option that is encoded by its bits comes back as itself
 pub as_int32_by_bits : (z : ℤ) → FitsSigned w32 z → ComesBack int32 (i32_value (by_bits w32 z)) (i32_value z)
@@ -111,11 +112,11 @@ as_int64_by_bits z fits =
     let P : ℤ → Type 0 = λ y. ComesBack int64 (i64_value y) (i64_value z) in
     subst P (sym same) (as_int64 fits)
 
-pub as_seconds_by_bits : (z : ℤ) → FitsSigned w64 z → ComesBack int64 (written_date (by_bits w64 z)) (read_date z)
-as_seconds_by_bits z fits =
+pub as_date_time_by_bits : (z : ℤ) → FitsSigned w64 z → ComesBack date_time (date_time_value (by_bits w64 z)) (date_time_value z)
+as_date_time_by_bits z fits =
     let same : by_bits w64 z ≡ z = to_z-of_z w64 z fits in
-    let P : ℤ → Type 0 = λ y. ComesBack int64 (written_date y) (read_date z) in
-    subst P (sym same) (as_seconds z fits)
+    let P : ℤ → Type 0 = λ y. ComesBack date_time (date_time_value y) (date_time_value z) in
+    subst P (sym same) (as_date_time fits)
 
 -- ---- leaves, units and structures alone, as elements of a sequence and as the content of a variant
 
@@ -131,11 +132,16 @@ wrapped_leaf wraps held back = record { kept = _; agrees = λ k. inner_agrees wr
 pub unit_part : {tag vname : List ℕ} {vs : Variants} {t n : ℕ} → take_tag Nothing tag ≡ Some t → number vname ≡ Some n → text_of_number n ≡ vname → ((k : List Keep) → NamesUnit vs k n) → PartAgrees (enum tag vs) (unit_variant_value tag vname) record { tag = t; typ = Enumeration } (unit_variant_value tag vname)
 unit_part {t = t} {n = n} takes numbered text units = record { kept = λ k. k ++ record { tag = t; text = text_of_number n } ∷ []; agrees = λ k. unit_agrees takes numbered text k (units k) }
 
--- an open Enumeration, in a newtype of the name `Transparent:TAG`
-pub number_part : {name inner : List ℕ} {t n m : ℕ} → transparent_name name ≡ Some inner → take_tag Nothing inner ≡ Some t → n < 2 ^ 32 → m ≡ n → PartAgrees (newtype name any_number) (newtype_value name (u32_value n)) record { tag = t; typ = Enumeration } (newtype_value name (u32_value m))
-number_part {name = name} {t = t} {n = n} wraps takes fits same =
-    let P : ℕ → Type 0 = λ m. PartAgrees (newtype name any_number) (newtype_value name (u32_value n)) record { tag = t; typ = Enumeration } (newtype_value name (u32_value m)) in
-    subst P (sym same) (leaf_part wraps takes (as_number fits))
+-- the number that a name of an Enumeration says: its text is the name, and it is a unit of these
+pub record IsUnit (vs : Variants) (name : List ℕ) : Type 0 where
+  pub n : ℕ
+  pub numbered : number name ≡ Some n
+  pub text : text_of_number n ≡ name
+  pub units : (k : List Keep) → NamesUnit vs k n
+
+-- an Enumeration of listed numbers
+pub enumeration_part : {tag name : List ℕ} {vs : Variants} {t : ℕ} → take_tag Nothing tag ≡ Some t → IsUnit vs name → PartAgrees (enum tag vs) (unit_variant_value tag name) record { tag = t; typ = Enumeration } (unit_variant_value tag name)
+enumeration_part takes u = unit_part takes u.numbered u.text u.units
 
 -- one that is encoded in a wrapper, under any name, and decoded by an enum of another
 pub wrapped_unit : {own name : List ℕ} {vs : Variants} {w u : Value} {h : Held} {t n : ℕ} → Wraps Nothing w h u → IsNumbered h u t n → text_of_number n ≡ name → ((k : List Keep) → NamesUnit vs k n) → PartAgrees (enum own vs) w record { tag = t; typ = Enumeration } (unit_variant_value own name)
@@ -167,6 +173,16 @@ neither_named name o x y there absent = either_head (λ z. is_named name z ≡ f
 abbrev pub PresentAgrees : {T : Type 0} → (T → Value) → (T → Value) → Form → Head → Option T → Type 0
 PresentAgrees f g s x None = Unit {0}
 PresentAgrees f g s x (Some z) = PartAgrees s (f z) x (g z) × (is_run (g z) ≡ false)
+
+-- this follows from what is known of what is there
+pub if_present : {T : Type 0} {P : T → Type 0} {f g : T → Value} {s : Form} {x : Head} → ((t : T) → P t → PartAgrees s (f t) x (g t)) → ((t : T) → is_run (g t) ≡ false) → (o : Option T) → IfSome o P → PresentAgrees f g s x o
+if_present agrees single None is = tt
+if_present agrees single (Some t) is = (agrees t is, single t)
+
+-- the same where nothing has to be known
+pub present : {T : Type 0} {f g : T → Value} {s : Form} {x : Head} → ((t : T) → PartAgrees s (f t) x (g t)) → ((t : T) → is_run (g t) ≡ false) → (o : Option T) → PresentAgrees f g s x o
+present agrees single None = tt
+present agrees single (Some t) = (agrees t, single t)
 
 -- an option, there or left out: the name is that of its own head, and not of the next
 pub optional_then : {T : Type 0} {name : List ℕ} {s : Form} {fs : Fields} {ws vs : Values} {y : Option Head} (f g : T → Value) (x : Head) (o : Option T) → is_field_of name (option s) x ≡ true → is_named name y ≡ false → PresentAgrees f g s x o → PartsAgree fs ws y vs → PartsAgree (field name (option s) fs) (joined (optional (option_map f o)) ws) (head_or o x y) (value (read_optional g o) vs)
@@ -204,6 +220,15 @@ pub each_agrees : {T : Type 0} {P : T → Type 0} {f g : T → Value} {s : Form}
 each_agrees agrees single [] all = tt
 each_agrees agrees single (t ∷ ts) all = (agrees t all.0, single t, each_agrees agrees single ts all.1)
 
+-- the same of what is known of each by its place
+pub every_agrees : {T : Type 0} {P : T → Type 0} {f g : T → Value} {s : Form} {x : Head} → ((t : T) → P t → PartAgrees s (f t) x (g t)) → ((t : T) → is_run (g t) ≡ false) → (ts : List T) → All P ts → EachAgrees f g s x ts
+every_agrees {P = P} agrees single ts all = each_agrees agrees single ts (recursion_from_All P ts all)
+
+-- the same where nothing has to be known
+pub all_agree : {T : Type 0} {f g : T → Value} {s : Form} {x : Head} → ((t : T) → PartAgrees s (f t) x (g t)) → ((t : T) → is_run (g t) ≡ false) → (ts : List T) → EachAgrees f g s x ts
+all_agree agrees single [] = tt
+all_agree agrees single (t ∷ ts) = (agrees t, single t, all_agree agrees single ts)
+
 -- what is kept after one or more of them
 abbrev pub run_kept : {T : Type 0} (f g : T → Value) (s : Form) (x : Head) (t : T) (ts : List T) → EachAgrees f g s x (t ∷ ts) → List Keep → List Keep
 run_kept f g s x t [] e k = e.0.kept k
@@ -236,6 +261,10 @@ unlike name s x (Some z) named other = by_tag (z.tag == x.tag) refl
     by_tag : (b : Boole) → (z.tag == x.tag) ≡ b → is_alike x (Some z) ≡ false
     by_tag false differ = rw differ refl
     by_tag true same = absurd (false≢true (sym other ∙ ap (has_tag name) (eqb-true z.tag x.tag same) ∙ named))
+
+-- a sequence of one or more, also the last part: the name is that of its items, and not of the next
+pub several_then : {T : Type 0} {name : List ℕ} {s : Form} {fs : Fields} {ws vs : Values} {y : Option Head} (f g : T → Value) (x : Head) (ts : List T) → is_field_of name (seq s) x ≡ true → is_named name y ≡ false → 0 < length ts → EachAgrees f g s x ts → PartsAgree fs ws y vs → PartsAgree (field name (seq s) fs) (value (sequence f ts) ws) (Some x) (value (sequence g ts) vs)
+several_then {name = name} {s = s} {y = y} f g x ts named other filled each rest = run_then named (unlike name (seq s) x y named other) (sequence_part f g ts filled each) rest
 
 -- a sequence that may be empty: the name is that of its items, and not of the next
 pub any_then : {T : Type 0} {name : List ℕ} {s : Form} {fs : Fields} {ws vs : Values} {y : Option Head} (f g : T → Value) (x : Head) (ts : List T) → is_field_of name (option (seq s)) x ≡ true → is_named name y ≡ false → EachAgrees f g s x ts → PartsAgree fs ws y vs → PartsAgree (field name (option (seq s)) fs) (value (sequence f ts) ws) (head_or (first_of ts) x y) (value (optional_sequence g ts) vs)

@@ -1,16 +1,16 @@
 -- What decoding says of a message that was encoded.
-use Rattle.std.proofs.Common.{◌≡◌, refl, sym, subst, ℕ, List, [], ◌++◌, Option, Some, None, Result, Ok, Err}
+use Rattle.std.proofs.Common.{◌≡◌, sym, subst, ℕ, List, [], Some, None, Result, Ok, Err}
 use Rattle.std.specs.Prelude.{IfOk, IfErr}
 use Rattle.std.proofs.lemmas.List.{append-nil}
 use Rattle.kmip_ttlv_types.specs.Trees.{Tree}
 use Rattle.kmip_ttlv_base.specs.declared.error.Error.{Error}
 use Rattle.kmip_ttlv_base.specs.Errors.{Kind, Location, io_error, exceeds_limit, malformed, mismatch, out_of_memory, length_overflow}
-use Rattle.kmip_ttlv_base.specs.Errors.{view_of_kind, view_of_location, kind_of, location_of}
+use Rattle.kmip_ttlv_base.specs.Errors.{view_of_kind, kind_of}
 use Rattle.kmip_ttlv_base.specs.Forms.{Form}
 use Rattle.kmip_ttlv_base.specs.Values.{Value}
 use Rattle.kmip_ttlv_ser.specs.declared.held.Held.TheVariants.{Nothing}
 use Rattle.kmip_ttlv_ser.specs.WrittenItems.{items}
-use Rattle.kmip_ttlv_ser.specs.WriteAnswers.{IsRefusedAs, Refuses, origin}
+use Rattle.kmip_ttlv_ser.specs.WriteAnswers.{IsRefusedAs, origin}
 use Rattle.kmip_ttlv_reader.specs.Reads.{Begins}
 use Rattle.kmip_ttlv_reader.specs.ReadResults.{ErrorStands, NothingBegins, sort_of_kind}
 use Rattle.kmip_ttlv_laws.specs.Rereads.{IsOfSize}

@@ -8,8 +8,8 @@ use Rattle.kmip_ttlv_types.specs.declared.typ.TtlvType.TheVariants.{Enumeration}
 use Rattle.kmip_ttlv_types.specs.Leaves.{is_valid}
 use Rattle.kmip_ttlv_types.specs.Items.{Raw}
 use Rattle.kmip_ttlv_types.specs.Trees.{leaf as leaf_tree}
-use Rattle.kmip_ttlv_base.specs.Forms.{Form, int32, int64, boolean, text, octets, interval, big_integer, any_number}
-use Rattle.kmip_ttlv_base.specs.Values.{Value, boolean_value, i8_value, i16_value, i32_value, u32_value, i64_value, u64_value, interval_value, text_value, bytes_value, big_integer_value, unit_variant_value}
+use Rattle.kmip_ttlv_base.specs.Forms.{Form, int32, int64, boolean, text, octets, date_time, interval, big_integer, any_number}
+use Rattle.kmip_ttlv_base.specs.Values.{Value, boolean_value, i8_value, i16_value, i32_value, u32_value, i64_value, u64_value, date_time_value, interval_value, text_value, bytes_value, big_integer_value, unit_variant_value}
 use Rattle.kmip_ttlv_ser.specs.declared.held.Held.{Held}
 use Rattle.kmip_ttlv_ser.specs.declared.held.Held.TheVariants.{Plain}
 use Rattle.kmip_ttlv_types.specs.Primitives.{sign_extended}
@@ -18,7 +18,7 @@ use Rattle.kmip_ttlv_reader.specs.Keeps.{Keep}
 use Rattle.kmip_ttlv_reader.specs.Reads.{Reads, leaf, by_number, leaf_value, takes, with_leaf}
 use Rattle.kmip_ttlv_laws.specs.Agreements.{is_run, leaf_type, with_value}
 use Rattle.kmip_ttlv_laws.specs.ReadingLaws.{LeavesComeBack, UnitsComeBack}
-use Rattle.kmip_ttlv_laws.specs.Returns.{ComesBack, as_big_integer, as_big_octets, as_boolean, as_date, as_int16, as_int32, as_int64, as_int8, as_interval, as_number, as_octets, as_text}
+use Rattle.kmip_ttlv_laws.specs.Returns.{ComesBack, as_big_integer, as_big_octets, as_boolean, as_date, as_date_time, as_int16, as_int32, as_int64, as_int8, as_interval, as_number, as_octets, as_text}
 
 -- a value is encoded as one leaf, whose type and content the form takes, and it reads the other value from these
 pub record LeafIs (s : Form) (w v : Value) : Type 0 where
@@ -63,6 +63,7 @@ leaf_of s w v (as_date {n = n} lt) = leaf_by int64 (u64_value n) (i64_value (cas
 leaf_of s w v (as_boolean {b = b}) = bool_is b
 leaf_of s w v (as_text {s = c} u) = leaf_by text (text_value c) (text_value c) c (λ h. refl) refl u refl refl (λ t k. refl)
 leaf_of s w v (as_octets {s = c}) = leaf_by octets (bytes_value c) (bytes_value c) c (λ h. refl) refl refl refl refl (λ t k. refl)
+leaf_of s w v (as_date_time {z = z} f) = leaf_by date_time (date_time_value z) (date_time_value z) (to_be_bytes w64 (cast_unsigned w64 z)) (λ h. refl) refl refl (ap date_time_value (eight_back z f)) refl (λ t k. refl)
 leaf_of s w v (as_interval {n = n} lt) = leaf_by interval (interval_value n) (interval_value n) (to_be_bytes w32 n) (λ h. refl) refl refl (ap interval_value (from_be_bytes-to_be_bytes_4 n lt)) refl (λ t k. refl)
 leaf_of s w v (as_number {n = n} lt) = leaf_by any_number (u32_value n) (u32_value n) (to_be_bytes w32 n) (λ h. refl) refl refl (ap u32_value (from_be_bytes-to_be_bytes_4 n lt)) refl (λ t k. refl)
 leaf_of s w v (as_big_integer {s = c}) = leaf_by big_integer (big_integer_value c) (big_integer_value (sign_extended c)) (sign_extended c) (λ h. refl) refl refl refl refl (λ t k. refl)

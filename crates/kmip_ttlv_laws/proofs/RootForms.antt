@@ -3,7 +3,7 @@ use Rattle.std.proofs.Common.{◌≡◌, true, List, ◌∷◌}
 use Rattle.kmip_ttlv_types.specs.Items.{Raw}
 use Rattle.kmip_ttlv_types.specs.declared.typ.TtlvType.{TtlvType}
 use Rattle.kmip_ttlv_types.specs.declared.typ.TtlvType.TheVariants.{Structure}
-use Rattle.kmip_ttlv_base.specs.Forms.{Form, struct, option, seq, newtype, enum, int32, int64, boolean, text, octets, interval, big_integer, any_number}
+use Rattle.kmip_ttlv_base.specs.Forms.{Form, struct, option, seq, newtype, enum, int32, int64, boolean, text, octets, date_time, interval, big_integer, any_number}
 use Rattle.kmip_ttlv_base.specs.Values.{Value}
 use Rattle.kmip_ttlv_reader.specs.Keeps.{Keep}
 use Rattle.kmip_ttlv_reader.specs.Reads.{Reads, leaf, wrap_some, wrap, run, structure, by_rule, by_number, is_root, takes}
@@ -20,6 +20,7 @@ no_leaf int64 t e h = absurd cc
 no_leaf boolean t e h = absurd cc
 no_leaf text t e h = absurd cc
 no_leaf octets t e h = absurd cc
+no_leaf date_time t e h = absurd cc
 no_leaf interval t e h = absurd cc
 no_leaf big_integer t e h = absurd cc
 no_leaf any_number t e h = absurd cc

@@ -8,7 +8,7 @@ use Rattle.kmip_ttlv_types.specs.declared.typ.TtlvType.TheVariants.{DateTime, In
 use Rattle.kmip_ttlv_types.specs.ItemTypes.{code}
 use Rattle.kmip_ttlv_types.specs.Names.{number, transparent_name}
 use Rattle.kmip_ttlv_base.specs.Values.{Value, boolean_value, i8_value, i16_value, i32_value, u32_value, i64_value}
-use Rattle.kmip_ttlv_base.specs.Values.{u64_value, interval_value, text_value, bytes_value, big_integer_value}
+use Rattle.kmip_ttlv_base.specs.Values.{u64_value, date_time_value, interval_value, text_value, bytes_value, big_integer_value}
 use Rattle.kmip_ttlv_base.specs.Values.{none_value, some_value, seq_value, struct_value, newtype_value}
 use Rattle.kmip_ttlv_base.specs.Values.{unit_variant_value, newtype_variant_value, tuple_variant_value, Values}
 use Rattle.kmip_ttlv_base.specs.Values.{no_values, value}
@@ -62,6 +62,7 @@ leaf_type (i32_value z) = Integer
 leaf_type (u32_value n) = Enumeration
 leaf_type (i64_value z) = LongInteger
 leaf_type (u64_value n) = DateTime
+leaf_type (date_time_value z) = DateTime
 leaf_type (interval_value n) = Interval
 leaf_type (text_value s) = TextString
 leaf_type (bytes_value s) = ByteString

@@ -5,3 +5,8 @@ use Rattle.kmip_ttlv_base.specs.Values.{Value}
 -- of a type whose values stand for these, two that stand for the same are equal by this `==`
 abbrev pub AreEqual : {T : Type 0} → (T → Value) → (T → T → Bool) → Type 0
 AreEqual {T} stands_for eq = (x y : T) → stands_for x ≡ stands_for y → eq x y ≡ true
+
+-- of a type whose values are encoded as what the first reads, and decoded from what the second says: those that a value is
+-- decoded as are equal to it
+abbrev pub ReturnsEqual : {T : Type 0} → (T → Value) → (T → Value) → (T → T → Bool) → Type 0
+ReturnsEqual {T} returned read eq = (x y : T) → returned x ≡ read y → eq x y ≡ true

@@ -1,5 +1,5 @@
 -- Messages that come back: what is encoded is decoded as an equal message.
-use Rattle.std.specs.Prelude.{◌≡◌, Bool, true, List, ℕ, Option, Some}
+use Rattle.std.specs.Prelude.{◌≡◌, Bool, true, List, ℕ, Some}
 use Rattle.kmip_ttlv_types.specs.Trees.{Tree}
 use Rattle.kmip_ttlv_base.specs.Errors.{Kind, length_overflow, out_of_memory}
 use Rattle.kmip_ttlv_base.specs.Forms.{Form}

@@ -3,10 +3,10 @@ use Rattle.std.specs.Prelude.{◌≡◌, ℕ, ℤ, Bool, true, ◌<◌, ◌^◌,
 use Rattle.std.specs.Int.{w32, w64, cast_signed, to_be_bytes}
 use Rattle.std.specs.Str.{is_utf8}
 use Rattle.kmip_ttlv_types.specs.declared.typ.TtlvType.TheVariants.{Enumeration}
-use Rattle.kmip_ttlv_base.specs.Forms.{Form, int32, int64, boolean, text, octets, interval, big_integer, any_number}
+use Rattle.kmip_ttlv_base.specs.Forms.{Form, int32, int64, boolean, text, octets, date_time, interval, big_integer, any_number}
 use Rattle.kmip_ttlv_base.specs.Forms.{Variants, unit}
 use Rattle.kmip_ttlv_base.specs.Values.{Value, boolean_value, i8_value, i16_value, i32_value, i64_value, u64_value}
-use Rattle.kmip_ttlv_base.specs.Values.{u32_value, interval_value, text_value, bytes_value, big_integer_value}
+use Rattle.kmip_ttlv_base.specs.Values.{date_time_value, u32_value, interval_value, text_value, bytes_value, big_integer_value}
 use Rattle.kmip_ttlv_types.specs.Primitives.{sign_extended}
 use Rattle.kmip_ttlv_reader.specs.Keeps.{Keep}
 use Rattle.kmip_ttlv_reader.specs.Reads.{number_text, first_named}
@@ -22,6 +22,7 @@ pub data ComesBack : Form → Value → Value → Type 0 where
   as_boolean : {b : Bool} → ComesBack boolean (boolean_value b) (boolean_value b)
   as_text : {s : List ℕ} → is_utf8 s ≡ true → ComesBack text (text_value s) (text_value s)
   as_octets : {s : List ℕ} → ComesBack octets (bytes_value s) (bytes_value s)
+  as_date_time : {z : ℤ} → FitsSigned w64 z → ComesBack date_time (date_time_value z) (date_time_value z)
   as_interval : {n : ℕ} → n < 2 ^ 32 → ComesBack interval (interval_value n) (interval_value n)
   as_big_integer : {s : List ℕ} → ComesBack big_integer (big_integer_value s) (big_integer_value (sign_extended s))
   as_number : {n : ℕ} → n < 2 ^ 32 → ComesBack any_number (u32_value n) (u32_value n)

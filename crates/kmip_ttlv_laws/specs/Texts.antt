@@ -2,7 +2,7 @@
 use Rattle.std.specs.Prelude.{◌≡◌, ℕ, true, List}
 use Rattle.std.specs.Str.{is_utf8}
 use Rattle.kmip_ttlv_base.specs.Values.{Value, boolean_value, i8_value, i16_value, i32_value, u32_value, i64_value}
-use Rattle.kmip_ttlv_base.specs.Values.{u64_value, interval_value, text_value, bytes_value, big_integer_value}
+use Rattle.kmip_ttlv_base.specs.Values.{u64_value, date_time_value, interval_value, text_value, bytes_value, big_integer_value}
 use Rattle.kmip_ttlv_base.specs.Values.{none_value, some_value, seq_value, struct_value, newtype_value}
 use Rattle.kmip_ttlv_base.specs.Values.{unit_variant_value, newtype_variant_value, tuple_variant_value}
 use Rattle.kmip_ttlv_base.specs.Values.{unsupported_value, Values, no_values, value}
@@ -24,6 +24,7 @@ abbrev mutual
   EachText P (u32_value n) = Unit {0}
   EachText P (i64_value z) = Unit {0}
   EachText P (u64_value n) = Unit {0}
+  EachText P (date_time_value z) = Unit {0}
   EachText P (interval_value n) = Unit {0}
   EachText P (bytes_value s) = Unit {0}
   EachText P (big_integer_value s) = Unit {0}

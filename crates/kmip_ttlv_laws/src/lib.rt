@@ -17,11 +17,11 @@ ghost use Rattle.kmip_ttlv_laws.specs.ReadingLaws.{WrittenIsWellFormed, WrittenI
 ghost use Rattle.kmip_ttlv_laws.specs.ReadingLaws.{LeavesComeBack, UnitsComeBack, AgreeingIsWritten, AgreeingIsRead};
 ghost use Rattle.kmip_ttlv_laws.specs.WorkedAgreements.{AttributesAgree, OptionsAgree, SequencesAgree};
 
-mod known;
 mod message;
+mod sound;
 
-pub use crate::known::Known;
 pub use crate::message::{Message, reread};
+pub use crate::sound::{Sound, is_absent_or_whole, is_whole};
 use std::alloc::Allocator;
 
 /// If the root item's bytes are all there, bytes after it change neither whether it is decoded as a value
@@ -153,8 +153,8 @@ pub fn canonical_is_text()
 {}
 
 /// A leaf that was encoded is decoded again: an integer of 8, 16 or 32 bits as the same integer of 32, a
-/// Long Integer, Boolean, Text String, Byte String, Interval and Enumeration as itself, a Date-Time as its signed
-/// number, and a Big Integer as its sign-extended bytes.
+/// Long Integer, Boolean, Text String, Byte String, `DateTime`, Interval and Enumeration as itself, a `U64` as the
+/// `I64` of its bits, and a Big Integer as its sign-extended bytes.
 ///
 /// Round trips of users' types rest on it, field by field.
 pub fn leaves_are_read_back()

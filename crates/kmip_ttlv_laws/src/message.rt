@@ -4,6 +4,7 @@ ghost use Rattle.std.specs.Prelude.{◌≡◌, true, IfOk, IfErr};
 ghost use Rattle.kmip_ttlv_base.specs.Errors.{view_of_kind, kind_of};
 ghost use Rattle.kmip_ttlv_laws.specs.Rereads.{IsOfSize};
 
+use crate::sound::Sound;
 use kmip_ttlv_base::error::Error;
 use kmip_ttlv_base::shape::Serialize;
 use kmip_ttlv_de::{Decode, from_slice};
@@ -11,19 +12,12 @@ use kmip_ttlv_ser::to_vec;
 use std::alloc::Allocator;
 
 /// A type of messages of which the sound ones come back: what is encoded is decoded as an equal message.
-pub trait Message<A: Allocator + Copy>: Serialize + Decode<A> + PartialEq {
+pub trait Message<A: Allocator + Copy>: Serialize + Decode<A> + PartialEq + Sound {
     ghost use Rattle.kmip_ttlv_laws.specs.Rereads.{Rereads};
-
-    // What `is_sound` checks.
-    ghost IsSound: { Self → Type 0 };
-
-    /// Whether the message has what its type wants of it, as an element in each list that must not be empty.
-    fn is_sound(&self) -> bool
-        ensures { result ≡ true → IsSound self.now };
 
     /// A sound message comes back: the law of the type.
     fn comes_back()
-        ensures { Rereads Self.stated Self.form Self.is_value Self.eq IsSound };
+        ensures { Rereads Self.stated Self.form Self.is_value Self.eq Self.IsSound };
 }
 
 /// Encodes a message and decodes it again. A sound message comes back as one that is equal to it.

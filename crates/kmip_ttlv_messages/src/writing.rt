@@ -5,10 +5,10 @@
 //! is stated by its bits, which are those of the number itself where it fits.
 
 ghost use Rattle.std.specs.Prelude.{OnOk, OnErr, option_map, string_bytes};
-ghost use Rattle.std.specs.Int.{w32, w64, cast_unsigned};
-ghost use Rattle.kmip_ttlv_base.specs.Values.{newtype_value, boolean_value, i32_value, u32_value, i64_value, u64_value, interval_value, text_value, bytes_value, big_integer_value};
+ghost use Rattle.std.specs.Int.{w32, w64};
+ghost use Rattle.kmip_ttlv_base.specs.Values.{newtype_value, boolean_value, i32_value, u32_value, i64_value, date_time_value, interval_value, text_value, bytes_value, big_integer_value};
 ghost use Rattle.kmip_ttlv_base.specs.Visits.{Tells, TellsEach, optional};
-ghost use Rattle.kmip_ttlv_messages.specs.MessageParts.{by_bits, written_date};
+ghost use Rattle.kmip_ttlv_messages.specs.MessageParts.{by_bits};
 
 use kmip_ttlv_base::parts;
 pub use kmip_ttlv_base::parts::{
@@ -17,20 +17,26 @@ pub use kmip_ttlv_base::parts::{
     end_tuple_variant, enumeration, integer, interval, long_integer, newtype, newtype_variant,
     option, seq, text_string, unit_variant,
 };
-use kmip_ttlv_base::visit::Visitor;
+use kmip_ttlv_base::visit::{Group, Leaf, Visitor};
 use std::alloc::{AllocError, Allocator};
 
 /// A Date-Time, in seconds since 1970, in a newtype of this name.
+///
+/// ```
+/// date_time(visitor, "Transparent:0x420092", 0x4AFB_E7C2)?; // 42009209 00000008 00000000 4AFBE7C2
+/// ```
 #[inline(always)]
 pub fn date_time<V: Visitor>(
     visitor: &mut V,
     name: &'static str,
     seconds: i64,
 ) -> Result<(), AllocError>
-    ensures told { OnOk result (Tells V.knows V.step (newtype_value name.now (u64_value (cast_unsigned w64 seconds))) visitor.old visitor.new) }
+    ensures told { OnOk result (Tells V.knows V.step (newtype_value name.now (date_time_value seconds)) visitor.old visitor.new) }
     ensures stopped { OnErr result (V.stopped visitor.new) }
 {
-    parts::date_time(visitor, name, seconds.cast_unsigned())
+    visitor.begin(Group::Newtype { name })?;
+    visitor.leaf(Leaf::DateTime(seconds))?;
+    visitor.end(Group::Newtype { name })
 }
 
 /// An Integer, in a newtype of this name. Where it is absent, nothing is told.
@@ -72,7 +78,7 @@ pub fn optional_date_time<V: Visitor>(
     name: &'static str,
     seconds: &Option<i64>,
 ) -> Result<(), AllocError>
-    ensures told { OnOk result (TellsEach V.knows V.step (optional (option_map (λ x. newtype_value name.now (written_date (by_bits w64 x))) seconds.now)) visitor.old visitor.new) }
+    ensures told { OnOk result (TellsEach V.knows V.step (optional (option_map (λ x. newtype_value name.now (date_time_value (by_bits w64 x))) seconds.now)) visitor.old visitor.new) }
     ensures stopped { OnErr result (V.stopped visitor.new) }
 {
     match seconds {
