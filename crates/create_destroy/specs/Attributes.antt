@@ -5,7 +5,7 @@ use Rattle.kmip_ttlv.specs.Forms.{variant, wrapped}
 use Rattle.kmip_ttlv.specs.MessageParts.{sequence}
 use Rattle.kmip_ttlv.specs.Values.{Value, i32_value, newtype_value, newtype_variant_value, no_values, struct_value}
 use Rattle.kmip_ttlv.specs.Values.{text_value, unit_variant_value, value}
-use Rattle.std.specs.Prelude.{codes, false, string_bytes}
+use Rattle.std.specs.Prelude.{List, codes, false, string_bytes, ℕ, ◌≡◌, ◌⊎◌}
 use Rattle.create_destroy.specs.declared.attribute.AttributeValue.{AttributeValue}
 use Rattle.create_destroy.specs.declared.attribute.AttributeValue.TheVariants as attribute_value
 use Rattle.create_destroy.specs.declared.attribute.Attribute.{Attribute}
@@ -42,6 +42,11 @@ read_attribute_value (attribute_value.Integer x) =
     newtype_variant_value (codes "value")
     (codes "if 0x42000A in [Cryptographic Length, Cryptographic Usage Mask]")
     (i32_value x)
+
+-- what is said, if it is the text of 42000A, chooses what is in a `AttributeValue`
+abbrev pub ChoosesAttributeValue : List ℕ → AttributeValue → Type 0
+ChoosesAttributeValue said attribute_value.Aes = (said ≡ codes "Cryptographic Algorithm")
+ChoosesAttributeValue said (attribute_value.Integer x) = (said ≡ codes "Cryptographic Length") ⊎ (said ≡ codes "Cryptographic Usage Mask")
 
 -- the form of a `Attribute`
 abbrev pub attribute_form : Form

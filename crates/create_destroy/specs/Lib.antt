@@ -3,5 +3,5 @@ pub mod Attributes
 pub mod Requests
 pub mod Responses
 pub mod Consistent
-pub mod Ranges
+pub mod Soundness
 pub mod Laws

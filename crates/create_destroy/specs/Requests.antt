@@ -5,7 +5,7 @@ use Rattle.kmip_ttlv.specs.Forms.{wrapped}
 use Rattle.kmip_ttlv.specs.MessageParts.{sequence}
 use Rattle.kmip_ttlv.specs.Values.{Value, newtype_value, newtype_variant_value, no_values, struct_value, text_value}
 use Rattle.kmip_ttlv.specs.Values.{unit_variant_value, value}
-use Rattle.std.specs.Prelude.{codes, false, string_bytes}
+use Rattle.std.specs.Prelude.{List, codes, false, string_bytes, ℕ, ◌≡◌}
 use Rattle.create_destroy.specs.declared.request.CreatePayload.{CreatePayload}
 use Rattle.create_destroy.specs.declared.request.DestroyPayload.{DestroyPayload}
 use Rattle.create_destroy.specs.declared.request.RequestPayload.{RequestPayload}
@@ -82,6 +82,11 @@ read_request_payload (request_payload.Destroy x) =
     newtype_variant_value (codes "payload")
     (codes "if 0x42005C==0x00000014")
     (read_destroy_payload record { unique_identifier = x })
+
+-- what is said, if it is the text of 42005C, chooses what is in a `RequestPayload`
+abbrev pub ChoosesRequestPayload : {A : Type 0} → List ℕ → RequestPayload A → Type 0
+ChoosesRequestPayload said (request_payload.Create x) = (said ≡ codes "0x00000001")
+ChoosesRequestPayload said (request_payload.Destroy x) = (said ≡ codes "0x00000014")
 
 -- the form of a `RequestItem`
 abbrev pub request_item_form : Form

@@ -2,10 +2,10 @@
 -- Forms and values of the types in `response`.
 use Rattle.kmip_ttlv.specs.Forms.{Form, enum, field, newtype, no_fields, no_variants, seq, struct, text, unit, variant}
 use Rattle.kmip_ttlv.specs.Forms.{wrapped}
-use Rattle.kmip_ttlv.specs.MessageParts.{read_date, sequence, written_date}
+use Rattle.kmip_ttlv.specs.MessageParts.{sequence}
 use Rattle.kmip_ttlv.specs.Values.{Value, newtype_value, newtype_variant_value, no_values, struct_value, text_value}
 use Rattle.kmip_ttlv.specs.Values.{unit_variant_value, value}
-use Rattle.std.specs.Prelude.{codes, false, string_bytes}
+use Rattle.std.specs.Prelude.{List, codes, false, string_bytes, ℕ, ◌≡◌}
 use Rattle.create_destroy.specs.declared.response.Created.{Created}
 use Rattle.create_destroy.specs.declared.response.Destroyed.{Destroyed}
 use Rattle.create_destroy.specs.declared.response.ResponsePayload.{ResponsePayload}
@@ -69,6 +69,11 @@ read_response_payload (response_payload.Destroy x) =
     (codes "if 0x42005C==0x00000014")
     (destroyed_value record { unique_identifier = x })
 
+-- what is said, if it is the text of 42005C, chooses what is in a `ResponsePayload`
+abbrev pub ChoosesResponsePayload : {A : Type 0} → List ℕ → ResponsePayload A → Type 0
+ChoosesResponsePayload said (response_payload.Create x) = (said ≡ codes "0x00000001")
+ChoosesResponsePayload said (response_payload.Destroy x) = (said ≡ codes "0x00000014")
+
 -- the form of a `ResponseItem`
 abbrev pub response_item_form : Form
 response_item_form =
@@ -113,12 +118,12 @@ response_header x =
 unfoldable pub written_response : {A : Type 0} → Response A → Value
 written_response x =
     struct_value (codes "0x42007B") (
-    value (response_header_value written_date (response_header x)) (
+    value (response_header_value (response_header x)) (
     value (sequence written_response_item x.items.items) no_values))
 
 -- what is read of a `Response`
 unfoldable pub read_response : {A : Type 0} → Response A → Value
 read_response x =
     struct_value (codes "0x42007B") (
-    value (response_header_value read_date (response_header x)) (
+    value (response_header_value (response_header x)) (
     value (sequence read_response_item x.items.items) no_values))

@@ -1,12 +1,12 @@
 // Written by codegen from types.table: change that, and run codegen/codegen.
 //! Attributes of a key, and the template that has them (KMIP 1.0, sections 2.1.1 and 2.1.8).
 
-ghost use Rattle.std.specs.Prelude.{◌≡◌, refl, OnErr, OnOk, codes, false};
+ghost use Rattle.std.specs.Prelude.{◌≡◌, ◌↔◌, refl, IsTrue, OnErr, OnOk, codes, false};
 ghost use Rattle.kmip_ttlv.specs.Forms.{enum, no_variants, unit, variant};
 ghost use Rattle.kmip_ttlv.specs.Spots.{fields_in, struct_fields};
 ghost use Rattle.kmip_ttlv.specs.Values.{unit_variant_value};
 ghost use Rattle.kmip_ttlv.specs.Visits.{Tells, leaf_value};
-ghost use Rattle.create_destroy.specs.Attributes.{attribute_value_form, written_attribute_value, read_attribute_value, attribute_value_content, attribute_form, written_attribute, read_attribute, template_form, written_template, read_template};
+ghost use Rattle.create_destroy.specs.Attributes.{attribute_value_form, written_attribute_value, read_attribute_value, attribute_value_content, ChoosesAttributeValue, attribute_form, written_attribute, read_attribute, template_form, written_template, read_template};
 
 use kmip_ttlv::messages::writing;
 use kmip_ttlv::shape::{Decode, Serialize};
@@ -45,6 +45,19 @@ impl AttributeValue {
     {
         visitor.leaf(self.leaf())?;
         Ok(())
+    }
+}
+
+impl AttributeValue {
+    /// Whether this text, if it is that of 0x42000A, chooses it.
+    pub fn is_chosen_by(&self, text: &str) -> bool
+        ensures { IsTrue result ↔ ChoosesAttributeValue text.now self.now }
+    {
+        match self {
+            AttributeValue::Aes => text == "Cryptographic Algorithm",
+            AttributeValue::Integer(_) => text == "Cryptographic Length"
+                || text == "Cryptographic Usage Mask",
+        }
     }
 }
 

@@ -1,33 +1,32 @@
+// Written by codegen from types.table: change that, and run codegen/codegen.
 //! What was written is read back: the laws of `kmip_ttlv::laws`, at these messages.
 
 ghost use Rattle.std.specs.Prelude.{◌≡◌};
 ghost use Rattle.kmip_ttlv.specs.Equal.{AreEqual};
-ghost use Rattle.create_destroy.specs.Attributes.{read_attribute, read_attribute_value};
-ghost use Rattle.create_destroy.specs.Consistent.{IsConsistentRequest, IsConsistentResponse};
-ghost use Rattle.create_destroy.specs.Laws.{RequestsComeBack, ResponsesComeBack};
 ghost use Rattle.create_destroy.specs.Operations.{operation_value};
-ghost use Rattle.create_destroy.specs.Ranges.{IsAsked, IsAttributeValue, IsRequest, IsResponse};
-ghost use Rattle.create_destroy.specs.Requests.{read_request, read_request_item, read_request_payload};
-ghost use Rattle.create_destroy.specs.Responses.{read_response, read_response_item, read_response_payload};
+ghost use Rattle.create_destroy.specs.Attributes.{read_attribute_value, read_attribute};
+ghost use Rattle.create_destroy.specs.Requests.{read_request_payload, read_request_item, read_request};
+ghost use Rattle.create_destroy.specs.Responses.{read_response_payload, read_response_item, read_response};
+ghost use Rattle.create_destroy.specs.Soundness.{IsAttributeValue, IsAttribute, IsRequestPayload, IsRequestItem, IsRequest, IsResponseItem, IsResponse};
+ghost use Rattle.create_destroy.specs.Laws.{RequestsComeBack, ResponsesComeBack};
 
 use crate::attribute::{Attribute, AttributeValue};
 use crate::operation::Operation;
 use crate::request::{Request, RequestItem, RequestPayload};
 use crate::response::{Response, ResponseItem, ResponsePayload};
-use kmip_ttlv::laws::{Known, Message, agreeing_values_come_back};
+use kmip_ttlv::laws::{Message, Sound, agreeing_values_come_back};
 use std::alloc::Allocator;
 
-/// The bytes of a consistent request begin, by its form, with the value that it is read from and with no
-/// other, whatever stands behind them.
-///
-/// It has to be consistent: an item that creates a key from no attribute is written, and not read.
+/// The bytes of a `Request` begin with the value that it is read from and with no other,
+/// whatever stands behind them.
 pub fn requests_come_back<A: Allocator>()
     ensures { RequestsComeBack A }
 {
     agreeing_values_come_back();
 }
 
-/// The same of a response.
+/// The bytes of a `Response` begin with the value that it is read from and with no other,
+/// whatever stands behind them.
 pub fn responses_come_back<A: Allocator>()
     ensures { ResponsesComeBack A }
 {
@@ -45,89 +44,79 @@ pub fn equal_values<A: Allocator>()
     ensures response_payload { AreEqual read_response_payload ⟦<ResponsePayload<A> as PartialEq>⟧.eq }
     ensures response_item { AreEqual read_response_item ⟦<ResponseItem<A> as PartialEq>⟧.eq }
     ensures response { AreEqual read_response ⟦<Response<A> as PartialEq>⟧.eq }
-{}
-
-impl Known for AttributeValue {
-    ghost IsKnown = { IsAttributeValue };
-
-    fn know(&self) {
-        if let AttributeValue::Integer(number) = self {
-            number.know();
-        }
-    }
+{
+    get_messages::laws::equal_values::<A>();
 }
 
-impl<A: Allocator> Known for Attribute<A> {
-    ghost IsKnown = { λ x. IsAttributeValue x.value };
-
-    fn know(&self) {
-        self.value.know();
-    }
-}
-
-impl<A: Allocator> Known for RequestPayload<A> {
-    ghost IsKnown = { IsAsked };
-
-    fn know(&self) {
-        if let RequestPayload::Create(attributes) = self {
-            attributes.know();
-        }
-    }
-}
-
-impl<A: Allocator> Known for RequestItem<A> {
-    ghost IsKnown = { λ x. IsAsked x.payload };
-
-    fn know(&self) {
-        self.payload.know();
-    }
-}
-
-impl<A: Allocator> Known for Request<A> {
-    ghost IsKnown = { IsRequest };
-
-    fn know(&self) {
-        self.major.know();
-        self.minor.know();
-        self.batch_count.know();
-        self.items.know();
-    }
-}
-
-impl<A: Allocator> Known for Response<A> {
-    ghost IsKnown = { IsResponse };
-
-    fn know(&self) {
-        self.major.know();
-        self.minor.know();
-        self.timestamp.know();
-        self.batch_count.know();
-    }
-}
-
-/// A consistent request comes back.
-impl<A: Allocator + Copy> Message<A> for Request<A> {
-    ghost IsSound = { λ x. IsRequest x × IsConsistentRequest x };
+impl Sound for AttributeValue {
+    ghost IsSound = { IsAttributeValue };
 
     fn is_sound(&self) -> bool {
-        self.know();
-        self.is_consistent()
+        match self {
+            AttributeValue::Aes => true,
+            AttributeValue::Integer(number) => number.is_sound(),
+        }
     }
+}
 
+impl<A: Allocator> Sound for Attribute<A> {
+    ghost IsSound = { IsAttribute };
+
+    fn is_sound(&self) -> bool {
+        self.value.is_chosen_by(self.name.as_str()) && self.value.is_sound()
+    }
+}
+
+impl<A: Allocator> Sound for RequestPayload<A> {
+    ghost IsSound = { IsRequestPayload };
+
+    fn is_sound(&self) -> bool {
+        match self {
+            RequestPayload::Create(attributes) => !attributes.is_empty() && attributes.is_sound(),
+            RequestPayload::Destroy(_) => true,
+        }
+    }
+}
+
+impl<A: Allocator> Sound for RequestItem<A> {
+    ghost IsSound = { IsRequestItem };
+
+    fn is_sound(&self) -> bool {
+        self.payload.is_chosen_by(self.operation.number()) && self.payload.is_sound()
+    }
+}
+
+impl<A: Allocator> Sound for Request<A> {
+    ghost IsSound = { IsRequest };
+
+    fn is_sound(&self) -> bool {
+        self.header().is_sound() && !self.items.is_empty() && self.items.is_sound()
+    }
+}
+
+impl<A: Allocator> Sound for ResponseItem<A> {
+    ghost IsSound = { IsResponseItem };
+
+    fn is_sound(&self) -> bool {
+        self.payload.is_chosen_by(self.operation.number())
+    }
+}
+
+impl<A: Allocator> Sound for Response<A> {
+    ghost IsSound = { IsResponse };
+
+    fn is_sound(&self) -> bool {
+        self.header().is_sound() && !self.items.is_empty() && self.items.is_sound()
+    }
+}
+
+impl<A: Allocator + Copy> Message<A> for Request<A> {
     fn comes_back() {
         equal_values::<A>();
     }
 }
 
-/// A consistent response comes back.
 impl<A: Allocator + Copy> Message<A> for Response<A> {
-    ghost IsSound = { λ x. IsResponse x × IsConsistentResponse x };
-
-    fn is_sound(&self) -> bool {
-        self.know();
-        self.is_consistent()
-    }
-
     fn comes_back() {
         equal_values::<A>();
     }

@@ -26,8 +26,8 @@ const OPERATION: [(&str, Operation); 2] = [
 ];
 
 impl Operation {
-    // Its number.
-    fn number(self) -> &'static str
+    /// Its number, as rules see it: `0x` and eight digits.
+    pub fn number(self) -> &'static str
         ensures { result.now ≡ operation_number self }
     {
         match self {

@@ -1,13 +1,13 @@
 // Written by codegen from types.table: change that, and run codegen/codegen.
 //! Requests to create and destroy symmetric keys.
 
-ghost use Rattle.std.specs.Prelude.{◌≡◌, refl, OnErr, OnOk, codes, false, string_bytes};
+ghost use Rattle.std.specs.Prelude.{◌≡◌, ◌↔◌, refl, IsTrue, OnErr, OnOk, codes, false, string_bytes};
 ghost use Rattle.kmip_ttlv.specs.Forms.{enum, no_variants, unit, variant};
 ghost use Rattle.kmip_ttlv.specs.Spots.{fields_in, struct_fields};
 ghost use Rattle.kmip_ttlv.specs.Values.{newtype_value, text_value, unit_variant_value};
 ghost use Rattle.kmip_ttlv.specs.Visits.{Tells};
 ghost use Rattle.get_messages.specs.Headers.{request_header_value};
-ghost use Rattle.create_destroy.specs.Requests.{create_payload_form, written_create_payload, read_create_payload, destroy_payload_form, written_destroy_payload, read_destroy_payload, request_payload_form, written_request_payload, read_request_payload, request_item_form, written_request_item, read_request_item, request_form, written_request, read_request, request_header};
+ghost use Rattle.create_destroy.specs.Requests.{create_payload_form, written_create_payload, read_create_payload, destroy_payload_form, written_destroy_payload, read_destroy_payload, request_payload_form, written_request_payload, read_request_payload, ChoosesRequestPayload, request_item_form, written_request_item, read_request_item, request_form, written_request, read_request, request_header};
 
 use crate::attribute::{Attribute, Template};
 use crate::operation::Operation;
@@ -223,6 +223,18 @@ pub enum RequestPayload<A: Allocator = Global> {
     Destroy(String<A>),
 }
 
+impl<A: Allocator> RequestPayload<A> {
+    /// Whether this text, if it is that of 0x42005C, chooses it.
+    pub fn is_chosen_by(&self, text: &str) -> bool
+        ensures { IsTrue result ↔ ChoosesRequestPayload text.now self.now }
+    {
+        match self {
+            RequestPayload::Create(_) => text == "0x00000001",
+            RequestPayload::Destroy(_) => text == "0x00000014",
+        }
+    }
+}
+
 impl<B: Allocator> Serialize for RequestPayload<B> {
     ghost stated = { written_request_payload };
 
@@ -399,7 +411,7 @@ pub struct Request<A: Allocator = Global> {
 
 impl<A: Allocator> Request<A> {
     // Its fields that are a `RequestHeader`.
-    fn header(&self) -> RequestHeader
+    pub(crate) fn header(&self) -> RequestHeader
         ensures { result ≡ request_header self.now }
     {
         RequestHeader {

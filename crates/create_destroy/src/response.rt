@@ -1,14 +1,13 @@
 // Written by codegen from types.table: change that, and run codegen/codegen.
 //! Responses on symmetric keys that were created or destroyed.
 
-ghost use Rattle.std.specs.Prelude.{◌≡◌, refl, OnErr, OnOk, codes, false, string_bytes};
+ghost use Rattle.std.specs.Prelude.{◌≡◌, ◌↔◌, refl, IsTrue, OnErr, OnOk, codes, false, string_bytes};
 ghost use Rattle.kmip_ttlv.specs.Forms.{enum, no_variants, unit, variant};
-ghost use Rattle.kmip_ttlv.specs.MessageParts.{written_date};
 ghost use Rattle.kmip_ttlv.specs.Spots.{fields_in, struct_fields};
 ghost use Rattle.kmip_ttlv.specs.Values.{newtype_value, text_value, unit_variant_value};
 ghost use Rattle.kmip_ttlv.specs.Visits.{Tells};
 ghost use Rattle.get_messages.specs.Headers.{response_header_value};
-ghost use Rattle.create_destroy.specs.Responses.{created_form, created_value, destroyed_form, destroyed_value, response_payload_form, written_response_payload, read_response_payload, response_item_form, written_response_item, read_response_item, response_form, written_response, read_response, response_header};
+ghost use Rattle.create_destroy.specs.Responses.{created_form, created_value, destroyed_form, destroyed_value, response_payload_form, written_response_payload, read_response_payload, ChoosesResponsePayload, response_item_form, written_response_item, read_response_item, response_form, written_response, read_response, response_header};
 
 use crate::operation::Operation;
 use get_messages::header::{ProtocolVersion, ResponseHeader};
@@ -235,6 +234,18 @@ pub enum ResponsePayload<A: Allocator = Global> {
     Destroy(String<A>),
 }
 
+impl<A: Allocator> ResponsePayload<A> {
+    /// Whether this text, if it is that of 0x42005C, chooses it.
+    pub fn is_chosen_by(&self, text: &str) -> bool
+        ensures { IsTrue result ↔ ChoosesResponsePayload text.now self.now }
+    {
+        match self {
+            ResponsePayload::Create(_) => text == "0x00000001",
+            ResponsePayload::Destroy(_) => text == "0x00000014",
+        }
+    }
+}
+
 impl<B: Allocator> Serialize for ResponsePayload<B> {
     ghost stated = { written_response_payload };
 
@@ -449,7 +460,7 @@ pub struct Response<A: Allocator = Global> {
 
 impl<A: Allocator> Response<A> {
     // Its fields that are a `ResponseHeader`.
-    fn header(&self) -> ResponseHeader
+    pub(crate) fn header(&self) -> ResponseHeader
         ensures { result ≡ response_header self.now }
     {
         ResponseHeader {
@@ -464,7 +475,7 @@ impl<A: Allocator> Response<A> {
 
     // Tells these.
     fn tell_header<V: Visitor>(&self, visitor: &mut V) -> Result<(), AllocError>
-        ensures told { OnOk result (Tells V.knows V.step (response_header_value written_date (response_header self.now)) visitor.old visitor.new) }
+        ensures told { OnOk result (Tells V.knows V.step (response_header_value (response_header self.now)) visitor.old visitor.new) }
         ensures stopped { OnErr result (V.stopped visitor.new) }
     {
         self.header().visit(visitor)?;

@@ -1,8 +1,8 @@
 -- Written by codegen from types.table: change that, and run codegen/codegen.
 -- Forms and values of the types in `header`.
-use Rattle.kmip_ttlv.specs.Forms.{Form, field, int32, int64, newtype, no_fields, struct}
-use Rattle.kmip_ttlv.specs.Values.{Value, i32_value, newtype_value, no_values, struct_value, value}
-use Rattle.std.specs.Prelude.{codes, false, ℤ}
+use Rattle.kmip_ttlv.specs.Forms.{Form, date_time, field, int32, newtype, no_fields, struct}
+use Rattle.kmip_ttlv.specs.Values.{Value, date_time_value, i32_value, newtype_value, no_values, struct_value, value}
+use Rattle.std.specs.Prelude.{codes, false}
 use Rattle.get_messages.specs.declared.header.ProtocolVersion.{ProtocolVersion}
 use Rattle.get_messages.specs.declared.header.RequestHeader.{RequestHeader}
 use Rattle.get_messages.specs.declared.header.ResponseHeader.{ResponseHeader}
@@ -40,13 +40,13 @@ abbrev pub response_header_form : Form
 response_header_form =
     struct (codes "0x42007A") (
     field (codes "0x420069") protocol_version_form (
-    field (codes "0x420092") (newtype (codes "Transparent:0x420092") int64) (
+    field (codes "0x420092") (newtype (codes "Transparent:0x420092") date_time) (
     field (codes "0x42000D") (newtype (codes "Transparent:0x42000D") int32) no_fields))) false
 
--- the value of a `ResponseHeader`; a date is written and read as this says
-unfoldable pub response_header_value : (ℤ → Value) → ResponseHeader → Value
-response_header_value date x =
+-- the value of a `ResponseHeader`
+unfoldable pub response_header_value : ResponseHeader → Value
+response_header_value x =
     struct_value (codes "0x42007A") (
     value (protocol_version_value x.version) (
-    value (newtype_value (codes "Transparent:0x420092") (date x.time_stamp)) (
+    value (newtype_value (codes "Transparent:0x420092") (date_time_value x.time_stamp)) (
     value (newtype_value (codes "Transparent:0x42000D") (i32_value x.batch_count)) no_values)))

@@ -5,10 +5,10 @@ use Rattle.kmip_ttlv.specs.Values.{Value}
 use Rattle.kmip_ttlv.specs.WriteAnswers.{IsWrittenAs}
 use Rattle.kmip_ttlv.specs.Reads.{Begins}
 use Rattle.get_messages.specs.Requests.{get_request_form, get_request_value}
-use Rattle.get_messages.specs.Ranges.{IsGetRequest}
+use Rattle.get_messages.specs.Soundness.{IsGetRequest}
 use Rattle.get_messages.specs.declared.request.GetRequest.{GetRequest}
 use Rattle.get_messages.specs.Responses.{get_response_form, written_get_response, read_get_response}
-use Rattle.get_messages.specs.Ranges.{IsGetResponse}
+use Rattle.get_messages.specs.Soundness.{IsGetResponse}
 use Rattle.get_messages.specs.declared.response.GetResponse.{GetResponse}
 
 -- the bytes of a `GetRequest`, behind any others, begin by its form with its own value and with no other

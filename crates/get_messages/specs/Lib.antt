@@ -3,5 +3,5 @@ pub mod Wrappings
 pub mod Keys
 pub mod Requests
 pub mod Responses
-pub mod Ranges
+pub mod Soundness
 pub mod Laws

@@ -1,7 +1,6 @@
 -- Written by codegen from types.table: change that, and run codegen/codegen.
 -- Forms and values of the types in `response`.
 use Rattle.kmip_ttlv.specs.Forms.{Form, enum, field, newtype, no_fields, no_variants, struct, text, unit, variant}
-use Rattle.kmip_ttlv.specs.MessageParts.{read_date, written_date}
 use Rattle.kmip_ttlv.specs.Values.{Value, newtype_value, no_values, struct_value, text_value, unit_variant_value, value}
 use Rattle.std.specs.Prelude.{codes, false, string_bytes}
 use Rattle.get_messages.specs.declared.response.GetResponsePayload.{GetResponsePayload}
@@ -69,12 +68,12 @@ get_response_form =
 unfoldable pub written_get_response : {A : Type 0} → GetResponse A → Value
 written_get_response x =
     struct_value (codes "0x42007B") (
-    value (response_header_value written_date x.header) (
+    value (response_header_value x.header) (
     value (written_get_response_item x.item) no_values))
 
 -- what is read of a `GetResponse`
 unfoldable pub read_get_response : {A : Type 0} → GetResponse A → Value
 read_get_response x =
     struct_value (codes "0x42007B") (
-    value (response_header_value read_date x.header) (
+    value (response_header_value x.header) (
     value (read_get_response_item x.item) no_values))

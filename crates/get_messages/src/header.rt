@@ -2,7 +2,6 @@
 //! What requests and responses begin with (KMIP 1.0, sections 6.1, 6.4 and 6.5).
 
 ghost use Rattle.std.specs.Prelude.{◌≡◌, false};
-ghost use Rattle.kmip_ttlv.specs.MessageParts.{read_date, written_date};
 ghost use Rattle.kmip_ttlv.specs.Spots.{fields_in, struct_fields};
 ghost use Rattle.get_messages.specs.Headers.{protocol_version_form, protocol_version_value, request_header_form, request_header_value, response_header_form, response_header_value};
 
@@ -179,7 +178,7 @@ pub struct ResponseHeader {
 }
 
 impl Serialize for ResponseHeader {
-    ghost stated = { response_header_value written_date };
+    ghost stated = { response_header_value };
 
     #[tactic(auto, unfolding(crate::specs::Headers::response_header_value))]
     fn visit<V: Visitor>(&self, visitor: &mut V) -> Result<(), AllocError> {
@@ -197,12 +196,12 @@ impl<A: Allocator + Copy> reader::ReadStructure<A> for ResponseHeader {
 
     ghost DENIES_UNKNOWN = { false };
 
-    ghost values = { λ x. fields_in (response_header_value read_date x) };
+    ghost values = { λ x. fields_in (response_header_value x) };
 
     type Fields = (
         reader::Nested<ProtocolVersion>,
         (
-            reader::Leaf<i64, 0x420092>,
+            reader::Leaf<reader::DateTime, 0x420092>,
             (reader::Leaf<i32, 0x42000D>, ()),
         ),
     );
@@ -212,11 +211,11 @@ impl<A: Allocator + Copy> reader::ReadStructure<A> for ResponseHeader {
     const DENIES_UNKNOWN: bool = false;
 
     #[tactic(auto, unfolding(kmip_ttlv_types::specs::Digits::six_digits, crate::specs::Headers::response_header_value, crate::specs::Headers::protocol_version_value))]
-    fn from_fields(fields: (ProtocolVersion, (i64, (i32, ())))) -> Self {
+    fn from_fields(fields: (ProtocolVersion, (reader::DateTime, (i32, ())))) -> Self {
         let (version, (time_stamp, (batch_count, ()))) = fields;
         ResponseHeader {
             version,
-            time_stamp,
+            time_stamp: time_stamp.0,
             batch_count,
         }
     }
@@ -225,7 +224,7 @@ impl<A: Allocator + Copy> reader::ReadStructure<A> for ResponseHeader {
 impl<A: Allocator + Copy> Decode<A> for ResponseHeader {
     ghost form = { response_header_form };
 
-    ghost is_value = { λ v x. v ≡ response_header_value read_date x };
+    ghost is_value = { λ v x. v ≡ response_header_value x };
 
     #[tactic(auto, unfolding(kmip_ttlv_types::specs::Digits::six_digits, crate::specs::Headers::response_header_value))]
     fn decode(alloc: A, bytes: &[u8]) -> Result<Self, error::Error<A>> {
@@ -240,7 +239,7 @@ impl<A: Allocator + Copy> reader::ReadNested<A> for ResponseHeader {
 
     ghost denies_unknown = { false };
 
-    ghost values = { λ x. fields_in (response_header_value read_date x) };
+    ghost values = { λ x. fields_in (response_header_value x) };
 
     const TAG: u32 = 0x42007A;
 

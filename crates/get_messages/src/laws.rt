@@ -3,13 +3,12 @@
 
 ghost use Rattle.std.specs.Prelude.{◌≡◌};
 ghost use Rattle.kmip_ttlv.specs.Equal.{AreEqual};
-ghost use Rattle.kmip_ttlv.specs.MessageParts.{read_date};
 ghost use Rattle.get_messages.specs.Headers.{protocol_version_value, request_header_value, response_header_value};
 ghost use Rattle.get_messages.specs.Wrappings.{wrapping_method_value, block_cipher_mode_value, padding_method_value, hashing_algorithm_value, role_type_value, read_cryptographic_parameters, read_encryption_key_information, read_mac_signature_key_information, read_key_wrapping_data};
 ghost use Rattle.get_messages.specs.Keys.{key_value_value, key_length_value, read_key_block, read_symmetric_key};
 ghost use Rattle.get_messages.specs.Requests.{get_request_payload_value, get_request_item_value, get_request_value};
 ghost use Rattle.get_messages.specs.Responses.{read_get_response_payload, read_get_response_item, read_get_response};
-ghost use Rattle.get_messages.specs.Ranges.{IsProtocolVersion, IsRequestHeader, IsResponseHeader, IsKeyBlock, IsSymmetricKey, IsGetRequest, IsGetResponsePayload, IsGetResponseItem, IsGetResponse};
+ghost use Rattle.get_messages.specs.Soundness.{IsProtocolVersion, IsRequestHeader, IsResponseHeader, IsKeyLength, IsKeyBlock, IsSymmetricKey, IsGetRequest, IsGetResponsePayload, IsGetResponseItem, IsGetResponse};
 ghost use Rattle.get_messages.specs.Laws.{GetRequestsComeBack, GetResponsesComeBack};
 
 use crate::header::{ProtocolVersion, RequestHeader, ResponseHeader};
@@ -20,7 +19,7 @@ use crate::wrapping::{
     BlockCipherMode, CryptographicParameters, EncryptionKeyInformation, HashingAlgorithm,
     KeyWrappingData, MacSignatureKeyInformation, PaddingMethod, RoleType, WrappingMethod,
 };
-use kmip_ttlv::laws::{Known, Message, agreeing_values_come_back};
+use kmip_ttlv::laws::{Message, Sound, agreeing_values_come_back};
 use std::alloc::Allocator;
 
 /// The bytes of a `GetRequest` begin with the value that it is read from and with no other,
@@ -43,7 +42,7 @@ pub fn get_responses_come_back<A: Allocator>()
 pub fn equal_values<A: Allocator>()
     ensures protocol_version { AreEqual protocol_version_value ⟦<ProtocolVersion as PartialEq>⟧.eq }
     ensures request_header { AreEqual request_header_value ⟦<RequestHeader as PartialEq>⟧.eq }
-    ensures response_header { AreEqual (response_header_value read_date) ⟦<ResponseHeader as PartialEq>⟧.eq }
+    ensures response_header { AreEqual response_header_value ⟦<ResponseHeader as PartialEq>⟧.eq }
     ensures wrapping_method { AreEqual wrapping_method_value ⟦<WrappingMethod as PartialEq>⟧.eq }
     ensures block_cipher_mode { AreEqual block_cipher_mode_value ⟦<BlockCipherMode as PartialEq>⟧.eq }
     ensures padding_method { AreEqual padding_method_value ⟦<PaddingMethod as PartialEq>⟧.eq }
@@ -65,104 +64,93 @@ pub fn equal_values<A: Allocator>()
     ensures get_response { AreEqual read_get_response ⟦<GetResponse<A> as PartialEq>⟧.eq }
 {}
 
-impl Known for ProtocolVersion {
-    ghost IsKnown = { IsProtocolVersion };
+impl Sound for ProtocolVersion {
+    ghost IsSound = { IsProtocolVersion };
 
-    fn know(&self) {
-        self.major.know();
-        self.minor.know();
+    fn is_sound(&self) -> bool {
+        self.major.is_sound() && self.minor.is_sound()
     }
 }
 
-impl Known for RequestHeader {
-    ghost IsKnown = { IsRequestHeader };
+impl Sound for RequestHeader {
+    ghost IsSound = { IsRequestHeader };
 
-    fn know(&self) {
-        self.version.know();
-        self.batch_count.know();
+    fn is_sound(&self) -> bool {
+        self.version.is_sound() && self.batch_count.is_sound()
     }
 }
 
-impl Known for ResponseHeader {
-    ghost IsKnown = { IsResponseHeader };
+impl Sound for ResponseHeader {
+    ghost IsSound = { IsResponseHeader };
 
-    fn know(&self) {
-        self.version.know();
-        self.time_stamp.know();
-        self.batch_count.know();
+    fn is_sound(&self) -> bool {
+        self.version.is_sound() && self.time_stamp.is_sound() && self.batch_count.is_sound()
     }
 }
 
-impl<A: Allocator> Known for KeyBlock<A> {
-    ghost IsKnown = { IsKeyBlock };
+impl Sound for KeyLength {
+    ghost IsSound = { IsKeyLength };
 
-    fn know(&self) {
-        self.cryptographic_length.bits.know();
+    fn is_sound(&self) -> bool {
+        self.bits.is_sound()
     }
 }
 
-impl<A: Allocator> Known for SymmetricKey<A> {
-    ghost IsKnown = { IsSymmetricKey };
+impl<A: Allocator> Sound for KeyBlock<A> {
+    ghost IsSound = { IsKeyBlock };
 
-    fn know(&self) {
-        self.key_block.know();
+    fn is_sound(&self) -> bool {
+        self.cryptographic_length.is_sound()
     }
 }
 
-impl<A: Allocator> Known for GetRequest<A> {
-    ghost IsKnown = { IsGetRequest };
+impl<A: Allocator> Sound for SymmetricKey<A> {
+    ghost IsSound = { IsSymmetricKey };
 
-    fn know(&self) {
-        self.header.know();
+    fn is_sound(&self) -> bool {
+        self.key_block.is_sound()
     }
 }
 
-impl<A: Allocator> Known for GetResponsePayload<A> {
-    ghost IsKnown = { IsGetResponsePayload };
+impl<A: Allocator> Sound for GetRequest<A> {
+    ghost IsSound = { IsGetRequest };
 
-    fn know(&self) {
-        self.symmetric_key.know();
+    fn is_sound(&self) -> bool {
+        self.header.is_sound()
     }
 }
 
-impl<A: Allocator> Known for GetResponseItem<A> {
-    ghost IsKnown = { IsGetResponseItem };
+impl<A: Allocator> Sound for GetResponsePayload<A> {
+    ghost IsSound = { IsGetResponsePayload };
 
-    fn know(&self) {
-        self.payload.know();
+    fn is_sound(&self) -> bool {
+        self.symmetric_key.is_sound()
     }
 }
 
-impl<A: Allocator> Known for GetResponse<A> {
-    ghost IsKnown = { IsGetResponse };
+impl<A: Allocator> Sound for GetResponseItem<A> {
+    ghost IsSound = { IsGetResponseItem };
 
-    fn know(&self) {
-        self.header.know();
-        self.item.know();
+    fn is_sound(&self) -> bool {
+        self.payload.is_sound()
+    }
+}
+
+impl<A: Allocator> Sound for GetResponse<A> {
+    ghost IsSound = { IsGetResponse };
+
+    fn is_sound(&self) -> bool {
+        self.header.is_sound() && self.item.is_sound()
     }
 }
 
 impl<A: Allocator + Copy> Message<A> for GetRequest<A> {
-    ghost IsSound = { IsGetRequest };
-
-    fn is_sound(&self) -> bool {
-        self.know();
-        true
-    }
-
     fn comes_back() {
         equal_values::<A>();
     }
 }
 
 impl<A: Allocator + Copy> Message<A> for GetResponse<A> {
-    ghost IsSound = { IsGetResponse };
-
-    fn is_sound(&self) -> bool {
-        self.know();
-        true
-    }
-
     fn comes_back() {
         equal_values::<A>();
     }

@@ -36,8 +36,8 @@ const WRAPPING_METHOD: [(&str, WrappingMethod); 5] = [
 ];
 
 impl WrappingMethod {
-    // Its number.
-    fn number(self) -> &'static str
+    /// Its number, as rules see it: `0x` and eight digits.
+    pub fn number(self) -> &'static str
         ensures { result.now ≡ wrapping_method_number self }
     {
         match self {
@@ -145,8 +145,8 @@ const BLOCK_CIPHER_MODE: [(&str, BlockCipherMode); 17] = [
 ];
 
 impl BlockCipherMode {
-    // Its number.
-    fn number(self) -> &'static str
+    /// Its number, as rules see it: `0x` and eight digits.
+    pub fn number(self) -> &'static str
         ensures { result.now ≡ block_cipher_mode_number self }
     {
         match self {
@@ -245,8 +245,8 @@ const PADDING_METHOD: [(&str, PaddingMethod); 10] = [
 ];
 
 impl PaddingMethod {
-    // Its number.
-    fn number(self) -> &'static str
+    /// Its number, as rules see it: `0x` and eight digits.
+    pub fn number(self) -> &'static str
         ensures { result.now ≡ padding_method_number self }
     {
         match self {
@@ -332,8 +332,8 @@ const HASHING_ALGORITHM: [(&str, HashingAlgorithm); 8] = [
 ];
 
 impl HashingAlgorithm {
-    // Its number.
-    fn number(self) -> &'static str
+    /// Its number, as rules see it: `0x` and eight digits.
+    pub fn number(self) -> &'static str
         ensures { result.now ≡ hashing_algorithm_number self }
     {
         match self {
@@ -456,8 +456,8 @@ const ROLE_TYPE: [(&str, RoleType); 21] = [
 ];
 
 impl RoleType {
-    // Its number.
-    fn number(self) -> &'static str
+    /// Its number, as rules see it: `0x` and eight digits.
+    pub fn number(self) -> &'static str
         ensures { result.now ≡ role_type_number self }
     {
         match self {

@@ -1,44 +1,63 @@
 -- Written by codegen from types.table: change that, and run codegen/codegen.
 -- The types agree with their forms: one line for each part.
 use Rattle.kmip_ttlv.specs.Agreements.{MessageAgrees}
-use Rattle.kmip_ttlv.specs.Forms.{newtype, text}
-use Rattle.kmip_ttlv.specs.MessageParts.{read_date, written_date}
 use Rattle.kmip_ttlv.specs.Names.{number, tag_of, transparent_name}
-use Rattle.kmip_ttlv.specs.Returns.{as_boolean, as_int32, as_int64, as_interval, as_text}
+use Rattle.kmip_ttlv.specs.Returns.{as_boolean, as_date_time, as_int32, as_int64, as_interval, as_number, as_octets}
+use Rattle.kmip_ttlv.specs.Returns.{as_text}
 use Rattle.kmip_ttlv.specs.Rules.{rule}
-use Rattle.kmip_ttlv.specs.Values.{newtype_value, text_value}
+use Rattle.kmip_ttlv.specs.Values.{big_integer_value, boolean_value, bytes_value, interval_value, newtype_value}
+use Rattle.kmip_ttlv.specs.Values.{text_value}
 use Rattle.kmip_ttlv.specs.WrittenItems.{take_tag}
-use Rattle.kmip_ttlv_laws.proofs.MessageParts.{PartAgrees, PresentAgrees, a_structure, as_seconds, leaf_part, leaf_then}
-use Rattle.kmip_ttlv_laws.proofs.MessageParts.{message, neither_named, nothing_left, number_part, optional_then}
-use Rattle.kmip_ttlv_laws.proofs.MessageParts.{part_then, structure, text_is_utf8, unit_part}
-use Rattle.std.proofs.Common.{String, refl}
-use Rattle.std.specs.Prelude.{IfSome, None, Option, Some, codes, string_bytes}
+use Rattle.kmip_ttlv_laws.proofs.MessageParts.{IsUnit, PartAgrees, a_structure, all_agree, any_then, as_whole}
+use Rattle.kmip_ttlv_laws.proofs.MessageParts.{enumeration_part, every_agrees, first_of, head_or, if_present, leaf_part}
+use Rattle.kmip_ttlv_laws.proofs.MessageParts.{leaf_then, message, neither_named, nothing_left, optional_then}
+use Rattle.kmip_ttlv_laws.proofs.MessageParts.{part_then, present, structure, text_is_utf8}
+use Rattle.std.proofs.Common.{refl}
+use Rattle.std.specs.Prelude.{None, codes, string_bytes}
+use Rattle.kmip_ttlv.specs.declared.types.TtlvType.{TtlvType}
 use Rattle.kmip_ttlv.specs.declared.types.TtlvType.TheVariants as types
 use Rattle.ttlv_vectors.specs.Leaves.{numbers_form, numbers_value}
-use Rattle.ttlv_vectors.specs.Ranges.{IsNumbers}
+use Rattle.ttlv_vectors.specs.Soundness.{IsNumbers}
 use Rattle.ttlv_vectors.specs.declared.leaves.Numbers.{Numbers}
 use Rattle.ttlv_vectors.specs.Leaves.{moments_form, moments_value}
-use Rattle.ttlv_vectors.specs.Ranges.{IsMoments}
+use Rattle.ttlv_vectors.specs.Soundness.{IsMoments}
 use Rattle.ttlv_vectors.specs.declared.leaves.Moments.{Moments}
-use Rattle.ttlv_vectors.specs.Leaves.{kind_form, kind_value}
+use Rattle.ttlv_vectors.specs.Leaves.{contents_form, contents_value}
+use Rattle.ttlv_vectors.specs.Soundness.{IsContents}
+use Rattle.ttlv_vectors.specs.declared.leaves.Contents.{Contents}
+use Rattle.ttlv_vectors.specs.Leaves.{optional_contents_form, written_optional_contents, read_optional_contents}
+use Rattle.ttlv_vectors.specs.Soundness.{IsOptionalContents}
+use Rattle.ttlv_vectors.specs.declared.leaves.OptionalContents.{OptionalContents}
+use Rattle.ttlv_vectors.specs.Leaves.{kind_form, kind_value, kind_number, kind_variants}
 use Rattle.ttlv_vectors.specs.declared.leaves.Kind.{Kind}
 use Rattle.ttlv_vectors.specs.declared.leaves.Kind.TheVariants as kind
+use Rattle.ttlv_vectors.specs.Queries.{maximum_items_form, maximum_items_value}
+use Rattle.ttlv_vectors.specs.Soundness.{IsMaximumItems}
+use Rattle.ttlv_vectors.specs.declared.query.MaximumItems.{MaximumItems}
 use Rattle.ttlv_vectors.specs.Queries.{text_attribute_form, text_attribute_value}
 use Rattle.ttlv_vectors.specs.declared.query.TextAttribute.{TextAttribute}
-use Rattle.ttlv_vectors.specs.Queries.{operation_form, written_operation, read_operation}
-use Rattle.ttlv_vectors.specs.Ranges.{IsOperation}
+use Rattle.ttlv_vectors.specs.Queries.{locate_request_payload_form, written_locate_request_payload, read_locate_request_payload}
+use Rattle.ttlv_vectors.specs.Soundness.{IsLocateRequestPayload}
+use Rattle.ttlv_vectors.specs.declared.query.LocateRequestPayload.{LocateRequestPayload}
+use Rattle.ttlv_vectors.specs.Queries.{operation_form, written_operation, read_operation, operation_number}
+use Rattle.ttlv_vectors.specs.Soundness.{IsOperation}
 use Rattle.ttlv_vectors.specs.declared.query.Operation.{Operation}
-use Rattle.ttlv_vectors.specs.Queries.{object_type_form, object_type_value}
+use Rattle.ttlv_vectors.specs.Queries.{object_type_form, object_type_value, object_type_number, object_type_variants}
 use Rattle.ttlv_vectors.specs.declared.query.ObjectType.{ObjectType}
 use Rattle.ttlv_vectors.specs.declared.query.ObjectType.TheVariants as object_type
-use Rattle.ttlv_vectors.specs.Queries.{result_reason_form, written_result_reason, read_result_reason}
-use Rattle.ttlv_vectors.specs.Ranges.{IsResultReason}
+use Rattle.ttlv_vectors.specs.Queries.{application_namespace_form, application_namespace_value}
+use Rattle.ttlv_vectors.specs.declared.query.ApplicationNamespace.{ApplicationNamespace}
+use Rattle.ttlv_vectors.specs.Queries.{query_response_payload_form, written_query_response_payload, read_query_response_payload, returned_query_response_payload}
+use Rattle.ttlv_vectors.specs.Soundness.{IsQueryResponsePayload}
+use Rattle.ttlv_vectors.specs.declared.query.QueryResponsePayload.{QueryResponsePayload}
+use Rattle.ttlv_vectors.specs.Queries.{result_reason_form, written_result_reason, read_result_reason, result_reason_number}
+use Rattle.ttlv_vectors.specs.Soundness.{IsResultReason}
 use Rattle.ttlv_vectors.specs.declared.query.ResultReason.{ResultReason}
-use Rattle.ttlv_vectors.specs.Queries.{result_status_form, result_status_value}
+use Rattle.ttlv_vectors.specs.Queries.{result_status_form, result_status_value, result_status_number, result_status_variants}
 use Rattle.ttlv_vectors.specs.declared.query.ResultStatus.{ResultStatus}
 use Rattle.ttlv_vectors.specs.declared.query.ResultStatus.TheVariants as result_status
-use Rattle.ttlv_vectors.specs.Queries.{failed_item_form, written_failed_item, read_failed_item}
-use Rattle.ttlv_vectors.specs.Ranges.{IsFailedItem}
+use Rattle.ttlv_vectors.specs.Queries.{failed_item_form, written_failed_item, read_failed_item, returned_failed_item}
+use Rattle.ttlv_vectors.specs.Soundness.{IsFailedItem}
 use Rattle.ttlv_vectors.specs.declared.query.FailedItem.{FailedItem}
 
 pub numbers_agrees : (x : Numbers) → IsNumbers x
@@ -53,24 +72,58 @@ numbers_agrees x is =
 
 pub moments_agrees : (x : Moments) → IsMoments x
     → PartAgrees moments_form
-    (moments_value written_date x) (a_structure 0x540009)
-    (moments_value read_date x)
+    (moments_value x) (a_structure 0x540009)
+    (moments_value x)
 unfolding take_tag tag_of number transparent_name rule moments_value
 moments_agrees x is =
     structure refl refl (
-    leaf_then refl refl refl refl (as_seconds x.date is.0) (
+    leaf_then refl refl refl refl (as_date_time is.0) (
     leaf_then refl refl refl refl (as_boolean) (
     leaf_then refl refl refl refl (as_interval is.1) nothing_left)))
+
+pub contents_agrees : {A : Type 0} (x : Contents A) → IsContents x
+    → PartAgrees contents_form
+    (contents_value x) (a_structure 0x540020)
+    (contents_value x)
+unfolding take_tag tag_of number transparent_name rule contents_value
+contents_agrees x is =
+    structure refl refl (
+    leaf_then refl refl refl refl (as_text (text_is_utf8 x.text)) (
+    leaf_then refl refl refl refl (as_octets) (
+    leaf_then refl refl refl refl (as_whole x.big.items is) nothing_left)))
+
+pub optional_contents_agrees : {A : Type 0} (x : OptionalContents A) → IsOptionalContents x
+    → PartAgrees optional_contents_form
+    (written_optional_contents x) (a_structure 0x540030)
+    (read_optional_contents x)
+unfolding take_tag tag_of number transparent_name rule written_optional_contents read_optional_contents
+optional_contents_agrees x is =
+    structure refl refl (
+    optional_then (λ y. newtype_value (codes "Transparent:0x540005") (boolean_value y)) (λ y. newtype_value (codes "Transparent:0x540005") (boolean_value y)) record { tag = 0x540005; typ = types.Boolean } x.truth refl (neither_named (codes "0x540005") x.seconds record { tag = 0x540006; typ = types.Interval } (head_or x.text record { tag = 0x540021; typ = types.TextString } (head_or x.bytes record { tag = 0x540022; typ = types.ByteString } (head_or x.big record { tag = 0x540023; typ = types.BigInteger } None))) refl (neither_named (codes "0x540005") x.text record { tag = 0x540021; typ = types.TextString } (head_or x.bytes record { tag = 0x540022; typ = types.ByteString } (head_or x.big record { tag = 0x540023; typ = types.BigInteger } None)) refl (neither_named (codes "0x540005") x.bytes record { tag = 0x540022; typ = types.ByteString } (head_or x.big record { tag = 0x540023; typ = types.BigInteger } None) refl (neither_named (codes "0x540005") x.big record { tag = 0x540023; typ = types.BigInteger } None refl refl)))) (present (λ y. leaf_part refl refl (as_boolean)) (λ y. refl) x.truth) (
+    optional_then (λ y. newtype_value (codes "Transparent:0x540006") (interval_value y)) (λ y. newtype_value (codes "Transparent:0x540006") (interval_value y)) record { tag = 0x540006; typ = types.Interval } x.seconds refl (neither_named (codes "0x540006") x.text record { tag = 0x540021; typ = types.TextString } (head_or x.bytes record { tag = 0x540022; typ = types.ByteString } (head_or x.big record { tag = 0x540023; typ = types.BigInteger } None)) refl (neither_named (codes "0x540006") x.bytes record { tag = 0x540022; typ = types.ByteString } (head_or x.big record { tag = 0x540023; typ = types.BigInteger } None) refl (neither_named (codes "0x540006") x.big record { tag = 0x540023; typ = types.BigInteger } None refl refl))) (if_present (λ y is. leaf_part refl refl (as_interval is)) (λ y. refl) x.seconds is.0) (
+    optional_then (λ y. newtype_value (codes "Transparent:0x540021") (text_value (string_bytes y))) (λ y. newtype_value (codes "Transparent:0x540021") (text_value (string_bytes y))) record { tag = 0x540021; typ = types.TextString } x.text refl (neither_named (codes "0x540021") x.bytes record { tag = 0x540022; typ = types.ByteString } (head_or x.big record { tag = 0x540023; typ = types.BigInteger } None) refl (neither_named (codes "0x540021") x.big record { tag = 0x540023; typ = types.BigInteger } None refl refl)) (present (λ y. leaf_part refl refl (as_text (text_is_utf8 y))) (λ y. refl) x.text) (
+    optional_then (λ y. newtype_value (codes "Transparent:0x540022") (bytes_value y.items)) (λ y. newtype_value (codes "Transparent:0x540022") (bytes_value y.items)) record { tag = 0x540022; typ = types.ByteString } x.bytes refl (neither_named (codes "0x540022") x.big record { tag = 0x540023; typ = types.BigInteger } None refl refl) (present (λ y. leaf_part refl refl (as_octets)) (λ y. refl) x.bytes) (
+    optional_then (λ y. newtype_value (codes "Transparent:0x540023") (big_integer_value y.items)) (λ y. newtype_value (codes "Transparent:0x540023") (big_integer_value y.items)) record { tag = 0x540023; typ = types.BigInteger } x.big refl refl (if_present (λ y is. leaf_part refl refl (as_whole y.items is)) (λ y. refl) x.big is.1) nothing_left)))))
+
+pub kind_is_unit : (x : Kind) → IsUnit kind_variants (kind_number x)
+unfolding number rule
+kind_is_unit kind.First = record { n = 0x00000001; numbered = refl; text = refl; units = λ k. record { no_rule = refl; named = refl } }
+kind_is_unit kind.Second = record { n = 0x00000002; numbered = refl; text = refl; units = λ k. record { no_rule = refl; named = refl } }
 
 pub kind_agrees : (x : Kind)
     → PartAgrees kind_form
     (kind_value x) record { tag = 0x540040; typ = types.Enumeration }
     (kind_value x)
-unfolding take_tag tag_of number transparent_name rule kind_value
-kind_agrees kind.First =
-    unit_part {n = 0x00000001} refl refl refl (λ k. record { no_rule = refl; named = refl })
-kind_agrees kind.Second =
-    unit_part {n = 0x00000002} refl refl refl (λ k. record { no_rule = refl; named = refl })
+unfolding take_tag tag_of number kind_value
+kind_agrees x = enumeration_part refl (kind_is_unit x)
+
+pub maximum_items_agrees : (x : MaximumItems) → IsMaximumItems x
+    → PartAgrees maximum_items_form
+    (maximum_items_value x) record { tag = 0x42004F; typ = types.Integer }
+    (maximum_items_value x)
+unfolding take_tag tag_of number transparent_name
+maximum_items_agrees x is =
+    leaf_part refl refl (as_int32 is)
 
 pub text_attribute_agrees : {A : Type 0} (x : TextAttribute A)
     → PartAgrees text_attribute_form
@@ -82,64 +135,83 @@ text_attribute_agrees x =
     leaf_then refl refl refl refl (as_text (text_is_utf8 x.name)) (
     leaf_then refl refl refl refl (as_text (text_is_utf8 x.value)) nothing_left))
 
+pub locate_request_payload_agrees : {A : Type 0} (x : LocateRequestPayload A) → IsLocateRequestPayload x
+    → PartAgrees locate_request_payload_form
+    (written_locate_request_payload x) (a_structure 0x420079)
+    (read_locate_request_payload x)
+unfolding take_tag tag_of number transparent_name rule written_locate_request_payload read_locate_request_payload text_attribute_value
+locate_request_payload_agrees x is =
+    structure refl refl (
+    optional_then maximum_items_value maximum_items_value record { tag = 0x42004F; typ = types.Integer } x.maximum_items refl (neither_named (codes "0x42004F") (first_of x.attributes.items) (a_structure 0x420008) None refl refl) (if_present maximum_items_agrees (λ y. refl) x.maximum_items is) (
+    any_then text_attribute_value text_attribute_value (a_structure 0x420008) x.attributes.items refl refl (all_agree text_attribute_agrees (λ y. refl) x.attributes.items) nothing_left))
+
 pub operation_agrees : (x : Operation) → IsOperation x
     → PartAgrees operation_form
     (written_operation x) record { tag = 0x42005C; typ = types.Enumeration }
-    (read_operation x)
-unfolding take_tag tag_of number transparent_name written_operation read_operation
-operation_agrees x is = number_part refl refl is.0 is.1
+    (written_operation x)
+unfolding take_tag tag_of number transparent_name written_operation
+operation_agrees x is = leaf_part refl refl (as_number is)
+
+pub object_type_is_unit : (x : ObjectType) → IsUnit object_type_variants (object_type_number x)
+unfolding number rule
+object_type_is_unit object_type.Certificate = record { n = 0x00000001; numbered = refl; text = refl; units = λ k. record { no_rule = refl; named = refl } }
+object_type_is_unit object_type.SymmetricKey = record { n = 0x00000002; numbered = refl; text = refl; units = λ k. record { no_rule = refl; named = refl } }
 
 pub object_type_agrees : (x : ObjectType)
     → PartAgrees object_type_form
     (object_type_value x) record { tag = 0x420057; typ = types.Enumeration }
     (object_type_value x)
-unfolding take_tag tag_of number transparent_name rule object_type_value
-object_type_agrees object_type.Certificate =
-    unit_part {n = 0x00000001} refl refl refl (λ k. record { no_rule = refl; named = refl })
-object_type_agrees object_type.SymmetricKey =
-    unit_part {n = 0x00000002} refl refl refl (λ k. record { no_rule = refl; named = refl })
+unfolding take_tag tag_of number object_type_value
+object_type_agrees x = enumeration_part refl (object_type_is_unit x)
+
+pub application_namespace_agrees : {A : Type 0} (x : ApplicationNamespace A)
+    → PartAgrees application_namespace_form
+    (application_namespace_value x) record { tag = 0x420003; typ = types.TextString }
+    (application_namespace_value x)
+unfolding take_tag tag_of number transparent_name
+application_namespace_agrees x =
+    leaf_part refl refl (as_text (text_is_utf8 x.name))
+
+pub query_response_payload_agrees : {A : Type 0} (x : QueryResponsePayload A) → IsQueryResponsePayload x
+    → PartAgrees query_response_payload_form
+    (written_query_response_payload x) (a_structure 0x42007C)
+    (returned_query_response_payload x)
+unfolding take_tag tag_of number transparent_name rule written_query_response_payload returned_query_response_payload written_operation object_type_value
+query_response_payload_agrees x is =
+    structure refl refl (
+    any_then written_operation written_operation record { tag = 0x42005C; typ = types.Enumeration } x.operations.items refl (neither_named (codes "0x42005C") (first_of x.object_types.items) record { tag = 0x420057; typ = types.Enumeration } (head_or x.vendor record { tag = 0x42009D; typ = types.TextString } (head_or (first_of x.namespaces.items) record { tag = 0x420003; typ = types.TextString } None)) refl (neither_named (codes "0x42005C") x.vendor record { tag = 0x42009D; typ = types.TextString } (head_or (first_of x.namespaces.items) record { tag = 0x420003; typ = types.TextString } None) refl (neither_named (codes "0x42005C") (first_of x.namespaces.items) record { tag = 0x420003; typ = types.TextString } None refl refl))) (every_agrees operation_agrees (λ y. refl) x.operations.items is) (
+    any_then object_type_value object_type_value record { tag = 0x420057; typ = types.Enumeration } x.object_types.items refl (neither_named (codes "0x420057") x.vendor record { tag = 0x42009D; typ = types.TextString } (head_or (first_of x.namespaces.items) record { tag = 0x420003; typ = types.TextString } None) refl (neither_named (codes "0x420057") (first_of x.namespaces.items) record { tag = 0x420003; typ = types.TextString } None refl refl)) (all_agree object_type_agrees (λ y. refl) x.object_types.items) (
+    optional_then (λ y. newtype_value (codes "Transparent:0x42009D") (text_value (string_bytes y))) (λ y. newtype_value (codes "Transparent:0x42009D") (text_value (string_bytes y))) record { tag = 0x42009D; typ = types.TextString } x.vendor refl (neither_named (codes "0x42009D") (first_of x.namespaces.items) record { tag = 0x420003; typ = types.TextString } None refl refl) (present (λ y. leaf_part refl refl (as_text (text_is_utf8 y))) (λ y. refl) x.vendor) (
+    any_then application_namespace_value application_namespace_value record { tag = 0x420003; typ = types.TextString } x.namespaces.items refl refl (all_agree application_namespace_agrees (λ y. refl) x.namespaces.items) nothing_left))))
 
 pub result_reason_agrees : (x : ResultReason) → IsResultReason x
     → PartAgrees result_reason_form
     (written_result_reason x) record { tag = 0x42007E; typ = types.Enumeration }
-    (read_result_reason x)
-unfolding take_tag tag_of number transparent_name written_result_reason read_result_reason
-result_reason_agrees x is = number_part refl refl is.0 is.1
+    (written_result_reason x)
+unfolding take_tag tag_of number transparent_name written_result_reason
+result_reason_agrees x is = leaf_part refl refl (as_number is)
+
+pub result_status_is_unit : (x : ResultStatus) → IsUnit result_status_variants (result_status_number x)
+unfolding number rule
+result_status_is_unit result_status.Failed = record { n = 0x00000001; numbered = refl; text = refl; units = λ k. record { no_rule = refl; named = refl } }
+result_status_is_unit result_status.Pending = record { n = 0x00000002; numbered = refl; text = refl; units = λ k. record { no_rule = refl; named = refl } }
+result_status_is_unit result_status.Undone = record { n = 0x00000003; numbered = refl; text = refl; units = λ k. record { no_rule = refl; named = refl } }
 
 pub result_status_agrees : (x : ResultStatus)
     → PartAgrees result_status_form
     (result_status_value x) record { tag = 0x42007F; typ = types.Enumeration }
     (result_status_value x)
-unfolding take_tag tag_of number transparent_name rule result_status_value
-result_status_agrees result_status.Failed =
-    unit_part {n = 0x00000001} refl refl refl (λ k. record { no_rule = refl; named = refl })
-result_status_agrees result_status.Pending =
-    unit_part {n = 0x00000002} refl refl refl (λ k. record { no_rule = refl; named = refl })
-result_status_agrees result_status.Undone =
-    unit_part {n = 0x00000003} refl refl refl (λ k. record { no_rule = refl; named = refl })
-
-failed_item_reason_there : (x : Option ResultReason) → IfSome x IsResultReason
-    → PresentAgrees written_result_reason read_result_reason result_reason_form
-    record { tag = 0x42007E; typ = types.Enumeration } x
-unfolding take_tag tag_of number transparent_name read_result_reason
-failed_item_reason_there None is = tt
-failed_item_reason_there (Some y) is = (result_reason_agrees y is, refl)
-
-failed_item_message_there : {A : Type 0} (x : Option (String A))
-    → PresentAgrees (λ y. newtype_value (codes "Transparent:0x42007D") (text_value (string_bytes y))) (λ y. newtype_value (codes "Transparent:0x42007D") (text_value (string_bytes y))) (newtype (codes "Transparent:0x42007D") text)
-    record { tag = 0x42007D; typ = types.TextString } x
-unfolding take_tag tag_of number transparent_name
-failed_item_message_there None = tt
-failed_item_message_there (Some y) = (leaf_part refl refl (as_text (text_is_utf8 y)), refl)
+unfolding take_tag tag_of number result_status_value
+result_status_agrees x = enumeration_part refl (result_status_is_unit x)
 
 pub failed_item_agrees : {A : Type 0} (x : FailedItem A) → IsFailedItem x
     → MessageAgrees failed_item_form
     (written_failed_item x)
-    (read_failed_item x)
-unfolding take_tag tag_of number transparent_name rule written_failed_item read_failed_item read_operation result_status_value
+    (returned_failed_item x)
+unfolding take_tag tag_of number transparent_name rule written_failed_item returned_failed_item written_operation result_status_value written_result_reason
 failed_item_agrees x is =
     message (structure refl refl (
     part_then refl refl (operation_agrees x.operation is.0) (
     part_then refl refl (result_status_agrees x.status) (
-    optional_then written_result_reason read_result_reason record { tag = 0x42007E; typ = types.Enumeration } x.reason refl (neither_named (codes "0x42007E") x.message record { tag = 0x42007D; typ = types.TextString } None refl refl) (failed_item_reason_there x.reason is.1) (
-    optional_then (λ y. newtype_value (codes "Transparent:0x42007D") (text_value (string_bytes y))) (λ y. newtype_value (codes "Transparent:0x42007D") (text_value (string_bytes y))) record { tag = 0x42007D; typ = types.TextString } x.message refl refl (failed_item_message_there x.message) nothing_left)))))
+    optional_then written_result_reason written_result_reason record { tag = 0x42007E; typ = types.Enumeration } x.reason refl (neither_named (codes "0x42007E") x.message record { tag = 0x42007D; typ = types.TextString } None refl refl) (if_present result_reason_agrees (λ y. refl) x.reason is.1) (
+    optional_then (λ y. newtype_value (codes "Transparent:0x42007D") (text_value (string_bytes y))) (λ y. newtype_value (codes "Transparent:0x42007D") (text_value (string_bytes y))) record { tag = 0x42007D; typ = types.TextString } x.message refl refl (present (λ y. leaf_part refl refl (as_text (text_is_utf8 y))) (λ y. refl) x.message) nothing_left)))))

@@ -4,8 +4,8 @@ use Rattle.std.specs.Prelude.{◌≡◌, ◌↔◌, List, ℕ}
 use Rattle.kmip_ttlv.specs.Values.{Value}
 use Rattle.kmip_ttlv.specs.WriteAnswers.{IsWrittenAs}
 use Rattle.kmip_ttlv.specs.Reads.{Begins}
-use Rattle.ttlv_vectors.specs.Queries.{failed_item_form, written_failed_item, read_failed_item}
-use Rattle.ttlv_vectors.specs.Ranges.{IsFailedItem}
+use Rattle.ttlv_vectors.specs.Queries.{failed_item_form, written_failed_item, read_failed_item, returned_failed_item}
+use Rattle.ttlv_vectors.specs.Soundness.{IsFailedItem}
 use Rattle.ttlv_vectors.specs.declared.query.FailedItem.{FailedItem}
 
 -- the bytes of a `FailedItem`, behind any others, begin by its form with its own value and with no other
@@ -14,4 +14,4 @@ FailedItemsComeBack A =
     (x : FailedItem A) (n : ℕ) (written : List ℕ) (v : Value)
     → IsFailedItem x
     → IsWrittenAs (written_failed_item x) n written
-    → Begins failed_item_form written v ↔ (v ≡ read_failed_item x)
+    → Begins failed_item_form written v ↔ (v ≡ returned_failed_item x)

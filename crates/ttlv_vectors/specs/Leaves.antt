@@ -1,13 +1,13 @@
 -- Written by codegen from types.table: change that, and run codegen/codegen.
 -- Forms and values of the types in `leaves`.
-use Rattle.kmip_ttlv.specs.Forms.{Form, Variants, big_integer, boolean, enum, field, int32, int64, interval, newtype}
-use Rattle.kmip_ttlv.specs.Forms.{no_fields, no_variants, octets, option, struct, text, unit, variant}
+use Rattle.kmip_ttlv.specs.Forms.{Form, Variants, big_integer, boolean, date_time, enum, field, int32, int64, interval}
+use Rattle.kmip_ttlv.specs.Forms.{newtype, no_fields, no_variants, octets, option, struct, text, unit, variant}
 use Rattle.kmip_ttlv.specs.MessageParts.{optional}
-use Rattle.kmip_ttlv.specs.Values.{Value, big_integer_value, boolean_value, bytes_value, i32_value, i64_value}
-use Rattle.kmip_ttlv.specs.Values.{interval_value, newtype_value, no_values, struct_value, text_value}
+use Rattle.kmip_ttlv.specs.Values.{Value, big_integer_value, boolean_value, bytes_value, date_time_value, i32_value}
+use Rattle.kmip_ttlv.specs.Values.{i64_value, interval_value, newtype_value, no_values, struct_value, text_value}
 use Rattle.kmip_ttlv.specs.Values.{unit_variant_value, value}
 use Rattle.kmip_ttlv.specs.Visits.{joined}
-use Rattle.std.specs.Prelude.{List, codes, false, option_map, string_bytes, ℕ, ℤ}
+use Rattle.std.specs.Prelude.{List, codes, false, option_map, string_bytes, ℕ}
 use Rattle.kmip_ttlv.specs.Visits as told
 use Rattle.ttlv_vectors.specs.declared.leaves.Numbers.{Numbers}
 use Rattle.ttlv_vectors.specs.declared.leaves.Moments.{Moments}
@@ -34,15 +34,15 @@ numbers_value x =
 abbrev pub moments_form : Form
 moments_form =
     struct (codes "0x540009") (
-    field (codes "0x540004") (newtype (codes "Transparent:0x540004") int64) (
+    field (codes "0x540004") (newtype (codes "Transparent:0x540004") date_time) (
     field (codes "0x540005") (newtype (codes "Transparent:0x540005") boolean) (
     field (codes "0x540006") (newtype (codes "Transparent:0x540006") interval) no_fields))) false
 
--- the value of a `Moments`; a date is written and read as this says
-unfoldable pub moments_value : (ℤ → Value) → Moments → Value
-moments_value date x =
+-- the value of a `Moments`
+unfoldable pub moments_value : Moments → Value
+moments_value x =
     struct_value (codes "0x540009") (
-    value (newtype_value (codes "Transparent:0x540004") (date x.date)) (
+    value (newtype_value (codes "Transparent:0x540004") (date_time_value x.date)) (
     value (newtype_value (codes "Transparent:0x540005") (boolean_value x.truth)) (
     value (newtype_value (codes "Transparent:0x540006") (interval_value x.seconds)) no_values)))
 

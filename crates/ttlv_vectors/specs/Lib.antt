@@ -6,5 +6,5 @@ pub mod Leaves
 pub mod Messages
 pub mod Numbers
 pub mod Queries
-pub mod Ranges
+pub mod Soundness
 pub mod Laws

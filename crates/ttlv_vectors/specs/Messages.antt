@@ -1,7 +1,7 @@
 -- Written by codegen from types.table: change that, and run codegen/codegen.
 -- Forms and values of the types in `message`.
 use Rattle.kmip_ttlv.specs.Forms.{Form, enum, field, no_fields, no_variants, option, seq, struct, unit, variant}
-use Rattle.kmip_ttlv.specs.MessageParts.{optional, read_date, sequence, written_date}
+use Rattle.kmip_ttlv.specs.MessageParts.{optional, sequence}
 use Rattle.kmip_ttlv.specs.Values.{Value, no_values, struct_value, unit_variant_value, value}
 use Rattle.kmip_ttlv.specs.Visits.{joined}
 use Rattle.std.specs.Prelude.{codes, false, option_map}
@@ -35,7 +35,7 @@ written_every x =
     value (unit_variant_value (codes "0x540061") (codes "0x00000001")) (
     value (kind_value x.kind) (
     value (numbers_value x.numbers) (
-    value (moments_value written_date x.moments) (
+    value (moments_value x.moments) (
     joined (told.optional (option_map written_optional_numbers x.optional_numbers)) (
     joined (told.optional (option_map written_optional_contents x.optional_contents)) (
     value (written_reasons x.reasons) (
@@ -48,7 +48,7 @@ read_every x =
     value (unit_variant_value (codes "0x540061") (codes "0x00000001")) (
     value (kind_value x.kind) (
     value (numbers_value x.numbers) (
-    value (moments_value read_date x.moments) (
+    value (moments_value x.moments) (
     value (optional read_optional_numbers x.optional_numbers) (
     value (optional read_optional_contents x.optional_contents) (
     value (read_reasons x.reasons) (

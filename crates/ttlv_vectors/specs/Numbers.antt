@@ -1,12 +1,12 @@
 -- Numbers that may be absent, and Enumerations of any number: forms and values.
-use Rattle.kmip_ttlv.specs.Forms.{Form, any_number, boolean, field, int32, int64, interval, newtype, no_fields, option}
-use Rattle.kmip_ttlv.specs.Forms.{struct, text}
-use Rattle.kmip_ttlv.specs.MessageParts.{by_bits, optional, read_date, written_date}
+use Rattle.kmip_ttlv.specs.Forms.{Form, any_number, boolean, date_time, field, int32, int64, interval, newtype, no_fields}
+use Rattle.kmip_ttlv.specs.Forms.{option, struct, text}
+use Rattle.kmip_ttlv.specs.MessageParts.{by_bits, optional}
 use Rattle.kmip_ttlv.specs.Values.{Value, i32_value, i64_value, u32_value, newtype_value, no_values, struct_value}
-use Rattle.kmip_ttlv.specs.Values.{boolean_value, interval_value, text_value, value}
+use Rattle.kmip_ttlv.specs.Values.{boolean_value, date_time_value, interval_value, text_value, value}
 use Rattle.kmip_ttlv.specs.Visits.{joined}
 use Rattle.std.specs.Int.{w32, w64}
-use Rattle.std.specs.Prelude.{ℤ, codes, false, option_map, string_bytes}
+use Rattle.std.specs.Prelude.{codes, false, option_map, string_bytes}
 use Rattle.kmip_ttlv.specs.Visits as told
 use Rattle.ttlv_vectors.specs.declared.numbers.OptionalNumbers.{OptionalNumbers}
 use Rattle.ttlv_vectors.specs.declared.numbers.Many.{Many}
@@ -19,7 +19,7 @@ optional_numbers_form =
     struct (codes "0x540010") (
     field (codes "0x540002") (option (newtype (codes "Transparent:0x540002") int32)) (
     field (codes "0x540003") (option (newtype (codes "Transparent:0x540003") int64)) (
-    field (codes "0x540004") (option (newtype (codes "Transparent:0x540004") int64)) no_fields))) false
+    field (codes "0x540004") (option (newtype (codes "Transparent:0x540004") date_time)) no_fields))) false
 
 -- what is written of them
 unfoldable pub written_optional_numbers : OptionalNumbers → Value
@@ -30,7 +30,7 @@ written_optional_numbers x =
     joined (told.optional (option_map
     (λ y. newtype_value (codes "Transparent:0x540003") (i64_value (by_bits w64 y))) x.long)) (
     joined (told.optional (option_map
-    (λ y. newtype_value (codes "Transparent:0x540004") (written_date (by_bits w64 y))) x.date)) no_values)))
+    (λ y. newtype_value (codes "Transparent:0x540004") (date_time_value (by_bits w64 y))) x.date)) no_values)))
 
 -- what is read of them
 unfoldable pub read_optional_numbers : OptionalNumbers → Value
@@ -38,7 +38,7 @@ read_optional_numbers x =
     struct_value (codes "0x540010") (
     value (optional (λ y. newtype_value (codes "Transparent:0x540002") (i32_value (by_bits w32 y))) x.count) (
     value (optional (λ y. newtype_value (codes "Transparent:0x540003") (i64_value (by_bits w64 y))) x.long) (
-    value (optional (λ y. newtype_value (codes "Transparent:0x540004") (read_date (by_bits w64 y))) x.date) no_values)))
+    value (optional (λ y. newtype_value (codes "Transparent:0x540004") (date_time_value (by_bits w64 y))) x.date) no_values)))
 
 -- an Enumeration of any number, and another that may be absent
 abbrev pub reasons_form : Form
@@ -68,15 +68,15 @@ named_form =
     struct (codes "0x540070") (
     field (codes "0x540042") (newtype (codes "Transparent:0x540042") text) (
     field (codes "0x540002") (newtype (codes "Transparent:0x540002") int32) (
-    field (codes "0x540004") (newtype (codes "Transparent:0x540004") int64) no_fields))) false
+    field (codes "0x540004") (newtype (codes "Transparent:0x540004") date_time) no_fields))) false
 
--- their value; a date is written and read as this says
-unfoldable pub named_value : {A : Type 0} → (ℤ → Value) → Named A → Value
-named_value date x =
+-- their value
+unfoldable pub named_value : {A : Type 0} → Named A → Value
+named_value x =
     struct_value (codes "0x540070") (
     value (newtype_value (codes "Transparent:0x540042") (text_value (string_bytes x.name))) (
     value (newtype_value (codes "Transparent:0x540002") (i32_value (by_bits w32 x.count))) (
-    value (newtype_value (codes "Transparent:0x540004") (date (by_bits w64 x.date))) no_values)))
+    value (newtype_value (codes "Transparent:0x540004") (date_time_value (by_bits w64 x.date))) no_values)))
 
 -- six leaves
 abbrev pub many_form : Form
@@ -85,17 +85,17 @@ many_form =
     field (codes "0x540002") (newtype (codes "Transparent:0x540002") int32) (
     field (codes "0x540081") (newtype (codes "Transparent:0x540081") int32) (
     field (codes "0x540003") (newtype (codes "Transparent:0x540003") int64) (
-    field (codes "0x540004") (newtype (codes "Transparent:0x540004") int64) (
+    field (codes "0x540004") (newtype (codes "Transparent:0x540004") date_time) (
     field (codes "0x540005") (newtype (codes "Transparent:0x540005") boolean) (
     field (codes "0x540006") (newtype (codes "Transparent:0x540006") interval) no_fields)))))) false
 
--- their value; a date is written and read as this says
-unfoldable pub many_value : (ℤ → Value) → Many → Value
-many_value date x =
+-- their value
+unfoldable pub many_value : Many → Value
+many_value x =
     struct_value (codes "0x540080") (
     value (newtype_value (codes "Transparent:0x540002") (i32_value (by_bits w32 x.count))) (
     value (newtype_value (codes "Transparent:0x540081") (i32_value (by_bits w32 x.other))) (
     value (newtype_value (codes "Transparent:0x540003") (i64_value (by_bits w64 x.long))) (
-    value (newtype_value (codes "Transparent:0x540004") (date (by_bits w64 x.date))) (
+    value (newtype_value (codes "Transparent:0x540004") (date_time_value (by_bits w64 x.date))) (
     value (newtype_value (codes "Transparent:0x540005") (boolean_value x.truth)) (
     value (newtype_value (codes "Transparent:0x540006") (interval_value x.seconds)) no_values))))))

@@ -2,11 +2,11 @@
 -- Forms and values of the types in `query`.
 use Rattle.kmip_ttlv.specs.Forms.{Form, Variants, any_number, enum, field, int32, newtype, no_fields, no_variants}
 use Rattle.kmip_ttlv.specs.Forms.{option, seq, struct, text, unit, variant}
-use Rattle.kmip_ttlv.specs.MessageParts.{optional, optional_sequence, other_number, sequence}
+use Rattle.kmip_ttlv.specs.MessageParts.{numbered_value, optional, optional_sequence, other_number, sequence}
 use Rattle.kmip_ttlv.specs.Values.{Value, i32_value, newtype_value, no_values, struct_value, text_value, u32_value}
 use Rattle.kmip_ttlv.specs.Values.{unit_variant_value, value}
 use Rattle.kmip_ttlv.specs.Visits.{joined}
-use Rattle.std.specs.Prelude.{List, [], codes, false, option_map, string_bytes, ℕ, ◌∷◌}
+use Rattle.std.specs.Prelude.{List, Option, Some, [], codes, false, option_map, string_bytes, ℕ, ◌∷◌}
 use Rattle.kmip_ttlv.specs.Visits as told
 use Rattle.ttlv_vectors.specs.declared.query.MaximumItems.{MaximumItems}
 use Rattle.ttlv_vectors.specs.declared.query.TextAttribute.{TextAttribute}
@@ -85,10 +85,10 @@ operation_number operation.Get = 0x0000000A
 operation_number operation.Query = 0x00000018
 operation_number (operation.Other n) = n
 
--- the number that a `Operation` is read from; `Other` is read from none that has a name
-abbrev pub operation_read_number : Operation → ℕ
+-- the number that a `Operation` is read from; `Other` with a number that has a name is read from none
+abbrev pub operation_read_number : Operation → Option ℕ
 operation_read_number (operation.Other n) = other_number operation_numbers n
-operation_read_number x = operation_number x
+operation_read_number x = Some (operation_number x)
 
 -- what is written of a `Operation`
 unfoldable pub written_operation : Operation → Value
@@ -96,7 +96,7 @@ written_operation x = newtype_value (codes "Transparent:0x42005C") (u32_value (o
 
 -- what is read of a `Operation`
 unfoldable pub read_operation : Operation → Value
-read_operation x = newtype_value (codes "Transparent:0x42005C") (u32_value (operation_read_number x))
+read_operation x = newtype_value (codes "Transparent:0x42005C") (numbered_value (operation_read_number x))
 
 -- the numbers of a `ObjectType`
 abbrev pub object_type_variants : Variants
@@ -154,6 +154,16 @@ read_query_response_payload x =
     (λ y. newtype_value (codes "Transparent:0x42009D") (text_value (string_bytes y))) x.vendor) (
     value (optional_sequence application_namespace_value x.namespaces.items) no_values))))
 
+-- what is read of the bytes of a `QueryResponsePayload`
+unfoldable pub returned_query_response_payload : {A : Type 0} → QueryResponsePayload A → Value
+returned_query_response_payload x =
+    struct_value (codes "0x42007C") (
+    value (optional_sequence written_operation x.operations.items) (
+    value (optional_sequence object_type_value x.object_types.items) (
+    value (optional
+    (λ y. newtype_value (codes "Transparent:0x42009D") (text_value (string_bytes y))) x.vendor) (
+    value (optional_sequence application_namespace_value x.namespaces.items) no_values))))
+
 -- the form of a `ResultReason`: any number
 abbrev pub result_reason_form : Form
 result_reason_form = newtype (codes "Transparent:0x42007E") any_number
@@ -173,10 +183,10 @@ result_reason_number result_reason.OperationNotSupported = 0x00000005
 result_reason_number result_reason.GeneralFailure = 0x00000100
 result_reason_number (result_reason.Other n) = n
 
--- the number that a `ResultReason` is read from; `Other` is read from none that has a name
-abbrev pub result_reason_read_number : ResultReason → ℕ
+-- the number that a `ResultReason` is read from; `Other` with a number that has a name is read from none
+abbrev pub result_reason_read_number : ResultReason → Option ℕ
 result_reason_read_number (result_reason.Other n) = other_number result_reason_numbers n
-result_reason_read_number x = result_reason_number x
+result_reason_read_number x = Some (result_reason_number x)
 
 -- what is written of a `ResultReason`
 unfoldable pub written_result_reason : ResultReason → Value
@@ -184,7 +194,7 @@ written_result_reason x = newtype_value (codes "Transparent:0x42007E") (u32_valu
 
 -- what is read of a `ResultReason`
 unfoldable pub read_result_reason : ResultReason → Value
-read_result_reason x = newtype_value (codes "Transparent:0x42007E") (u32_value (result_reason_read_number x))
+read_result_reason x = newtype_value (codes "Transparent:0x42007E") (numbered_value (result_reason_read_number x))
 
 -- the numbers of a `ResultStatus`
 abbrev pub result_status_variants : Variants
@@ -233,5 +243,15 @@ read_failed_item x =
     value (read_operation x.operation) (
     value (result_status_value x.status) (
     value (optional read_result_reason x.reason) (
+    value (optional
+    (λ y. newtype_value (codes "Transparent:0x42007D") (text_value (string_bytes y))) x.message) no_values))))
+
+-- what is read of the bytes of a `FailedItem`
+unfoldable pub returned_failed_item : {A : Type 0} → FailedItem A → Value
+returned_failed_item x =
+    struct_value (codes "0x42000F") (
+    value (written_operation x.operation) (
+    value (result_status_value x.status) (
+    value (optional written_result_reason x.reason) (
     value (optional
     (λ y. newtype_value (codes "Transparent:0x42007D") (text_value (string_bytes y))) x.message) no_values))))

@@ -1,9 +1,19 @@
 // Written by codegen from types.table: change that, and run codegen/codegen.
 //! What was written is read back: the laws of `kmip_ttlv::laws`, at these messages.
 
+ghost use Rattle.std.specs.Prelude.{◌≡◌};
+ghost use Rattle.kmip_ttlv.specs.Equal.{AreEqual, ReturnsEqual};
+ghost use Rattle.ttlv_vectors.specs.Leaves.{numbers_value, moments_value, contents_value, read_optional_contents, kind_value};
+ghost use Rattle.ttlv_vectors.specs.Queries.{maximum_items_value, text_attribute_value, read_locate_request_payload, written_operation, read_operation, object_type_value, application_namespace_value, returned_query_response_payload, read_query_response_payload, written_result_reason, read_result_reason, result_status_value, returned_failed_item, read_failed_item};
+ghost use Rattle.ttlv_vectors.specs.Soundness.{IsNumbers, IsMoments, IsContents, IsOptionalContents, IsMaximumItems, IsLocateRequestPayload, IsOperation, IsQueryResponsePayload, IsResultReason, IsFailedItem};
 ghost use Rattle.ttlv_vectors.specs.Laws.{FailedItemsComeBack};
 
-use kmip_ttlv::laws::agreeing_values_come_back;
+use crate::leaves::{Contents, Kind, Moments, Numbers, OptionalContents};
+use crate::query::{
+    ApplicationNamespace, FailedItem, LocateRequestPayload, MaximumItems, ObjectType, Operation,
+    QueryResponsePayload, ResultReason, ResultStatus, TextAttribute,
+};
+use kmip_ttlv::laws::{Message, Sound, agreeing_values_come_back, is_absent_or_whole, is_whole};
 use std::alloc::Allocator;
 
 /// The bytes of a `FailedItem` begin with the value that it is read from and with no other,
@@ -12,4 +22,109 @@ pub fn failed_items_come_back<A: Allocator>()
     ensures { FailedItemsComeBack A }
 {
     agreeing_values_come_back();
+}
+
+/// Values of a type are equal if they stand for the same: no type loses a part of what it is decoded from.
+pub fn equal_values<A: Allocator>()
+    ensures numbers { AreEqual numbers_value ⟦<Numbers as PartialEq>⟧.eq }
+    ensures moments { AreEqual moments_value ⟦<Moments as PartialEq>⟧.eq }
+    ensures contents { AreEqual contents_value ⟦<Contents<A> as PartialEq>⟧.eq }
+    ensures optional_contents { AreEqual read_optional_contents ⟦<OptionalContents<A> as PartialEq>⟧.eq }
+    ensures kind { AreEqual kind_value ⟦<Kind as PartialEq>⟧.eq }
+    ensures maximum_items { AreEqual maximum_items_value ⟦<MaximumItems as PartialEq>⟧.eq }
+    ensures text_attribute { AreEqual text_attribute_value ⟦<TextAttribute<A> as PartialEq>⟧.eq }
+    ensures locate_request_payload { AreEqual read_locate_request_payload ⟦<LocateRequestPayload<A> as PartialEq>⟧.eq }
+    ensures operation { ReturnsEqual written_operation read_operation ⟦<Operation as PartialEq>⟧.eq }
+    ensures object_type { AreEqual object_type_value ⟦<ObjectType as PartialEq>⟧.eq }
+    ensures application_namespace { AreEqual application_namespace_value ⟦<ApplicationNamespace<A> as PartialEq>⟧.eq }
+    ensures query_response_payload { ReturnsEqual returned_query_response_payload read_query_response_payload ⟦<QueryResponsePayload<A> as PartialEq>⟧.eq }
+    ensures result_reason { ReturnsEqual written_result_reason read_result_reason ⟦<ResultReason as PartialEq>⟧.eq }
+    ensures result_status { AreEqual result_status_value ⟦<ResultStatus as PartialEq>⟧.eq }
+    ensures failed_item { ReturnsEqual returned_failed_item read_failed_item ⟦<FailedItem<A> as PartialEq>⟧.eq }
+{}
+
+impl Sound for Numbers {
+    ghost IsSound = { IsNumbers };
+
+    fn is_sound(&self) -> bool {
+        self.count.is_sound() && self.long.is_sound()
+    }
+}
+
+impl Sound for Moments {
+    ghost IsSound = { IsMoments };
+
+    fn is_sound(&self) -> bool {
+        self.date.is_sound() && self.seconds.is_sound()
+    }
+}
+
+impl<A: Allocator> Sound for Contents<A> {
+    ghost IsSound = { IsContents };
+
+    fn is_sound(&self) -> bool {
+        is_whole(self.big.as_slice())
+    }
+}
+
+impl<A: Allocator> Sound for OptionalContents<A> {
+    ghost IsSound = { IsOptionalContents };
+
+    fn is_sound(&self) -> bool {
+        self.seconds.is_sound() && is_absent_or_whole(&self.big)
+    }
+}
+
+impl Sound for MaximumItems {
+    ghost IsSound = { IsMaximumItems };
+
+    fn is_sound(&self) -> bool {
+        self.count.is_sound()
+    }
+}
+
+impl<A: Allocator> Sound for LocateRequestPayload<A> {
+    ghost IsSound = { IsLocateRequestPayload };
+
+    fn is_sound(&self) -> bool {
+        self.maximum_items.is_sound()
+    }
+}
+
+impl Sound for Operation {
+    ghost IsSound = { IsOperation };
+
+    fn is_sound(&self) -> bool {
+        self.number().is_sound()
+    }
+}
+
+impl<A: Allocator> Sound for QueryResponsePayload<A> {
+    ghost IsSound = { IsQueryResponsePayload };
+
+    fn is_sound(&self) -> bool {
+        self.operations.is_sound()
+    }
+}
+
+impl Sound for ResultReason {
+    ghost IsSound = { IsResultReason };
+
+    fn is_sound(&self) -> bool {
+        self.number().is_sound()
+    }
+}
+
+impl<A: Allocator> Sound for FailedItem<A> {
+    ghost IsSound = { IsFailedItem };
+
+    fn is_sound(&self) -> bool {
+        self.operation.is_sound() && self.reason.is_sound()
+    }
+}
+
+impl<A: Allocator + Copy> Message<A> for FailedItem<A> {
+    fn comes_back() {
+        equal_values::<A>();
+    }
 }

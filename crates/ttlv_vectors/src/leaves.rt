@@ -2,7 +2,6 @@
 //! Leaves of every kind.
 
 ghost use Rattle.std.specs.Prelude.{◌≡◌, refl, codes, false};
-ghost use Rattle.kmip_ttlv.specs.MessageParts.{read_date, written_date};
 ghost use Rattle.kmip_ttlv.specs.Spots.{fields_in, struct_fields};
 ghost use Rattle.ttlv_vectors.specs.Leaves.{numbers_form, numbers_value, moments_form, moments_value, contents_form, contents_value, optional_contents_form, written_optional_contents, read_optional_contents, kind_form, kind_value, kind_number, kind_variants};
 
@@ -100,7 +99,7 @@ pub struct Moments {
 }
 
 impl Serialize for Moments {
-    ghost stated = { moments_value written_date };
+    ghost stated = { moments_value };
 
     #[tactic(auto, unfolding(crate::specs::Leaves::moments_value))]
     fn visit<V: Visitor>(&self, visitor: &mut V) -> Result<(), AllocError> {
@@ -118,10 +117,10 @@ impl<A: Allocator + Copy> reader::ReadStructure<A> for Moments {
 
     ghost DENIES_UNKNOWN = { false };
 
-    ghost values = { λ x. fields_in (moments_value read_date x) };
+    ghost values = { λ x. fields_in (moments_value x) };
 
     type Fields = (
-        reader::Leaf<i64, 0x540004>,
+        reader::Leaf<reader::DateTime, 0x540004>,
         (
             reader::Leaf<bool, 0x540005>,
             (reader::Leaf<reader::Interval, 0x540006>, ()),
@@ -133,10 +132,10 @@ impl<A: Allocator + Copy> reader::ReadStructure<A> for Moments {
     const DENIES_UNKNOWN: bool = false;
 
     #[tactic(auto, unfolding(kmip_ttlv_types::specs::Digits::six_digits, crate::specs::Leaves::moments_value))]
-    fn from_fields(fields: (i64, (bool, (reader::Interval, ())))) -> Self {
+    fn from_fields(fields: (reader::DateTime, (bool, (reader::Interval, ())))) -> Self {
         let (date, (truth, (seconds, ()))) = fields;
         Moments {
-            date,
+            date: date.0,
             truth,
             seconds: seconds.0,
         }
@@ -146,7 +145,7 @@ impl<A: Allocator + Copy> reader::ReadStructure<A> for Moments {
 impl<A: Allocator + Copy> Decode<A> for Moments {
     ghost form = { moments_form };
 
-    ghost is_value = { λ v x. v ≡ moments_value read_date x };
+    ghost is_value = { λ v x. v ≡ moments_value x };
 
     #[tactic(auto, unfolding(kmip_ttlv_types::specs::Digits::six_digits, crate::specs::Leaves::moments_value))]
     fn decode(alloc: A, bytes: &[u8]) -> Result<Self, error::Error<A>> {
@@ -161,7 +160,7 @@ impl<A: Allocator + Copy> reader::ReadNested<A> for Moments {
 
     ghost denies_unknown = { false };
 
-    ghost values = { λ x. fields_in (moments_value read_date x) };
+    ghost values = { λ x. fields_in (moments_value x) };
 
     const TAG: u32 = 0x540009;
 
@@ -386,8 +385,8 @@ pub enum Kind {
 const KIND: [(&str, Kind); 2] = [("0x00000001", Kind::First), ("0x00000002", Kind::Second)];
 
 impl Kind {
-    // Its number.
-    fn number(self) -> &'static str
+    /// Its number, as rules see it: `0x` and eight digits.
+    pub fn number(self) -> &'static str
         ensures { result.now ≡ kind_number self }
     {
         match self {

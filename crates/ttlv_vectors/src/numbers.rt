@@ -2,7 +2,6 @@
 //! no table can have. The first two are parts of the message in `message`.
 
 ghost use Rattle.std.specs.Prelude.{◌≡◌, false};
-ghost use Rattle.kmip_ttlv.specs.MessageParts.{read_date, written_date};
 ghost use Rattle.kmip_ttlv.specs.Spots.{fields_in, struct_fields};
 ghost use Rattle.ttlv_vectors.specs.Numbers.{optional_numbers_form, read_optional_numbers, written_optional_numbers};
 ghost use Rattle.ttlv_vectors.specs.Numbers.{read_reasons, reasons_form, written_reasons};
@@ -11,8 +10,8 @@ ghost use Rattle.ttlv_vectors.specs.Numbers.{named_form, named_value, many_form,
 use kmip_ttlv::error::Error;
 use kmip_ttlv::messages::writing;
 use kmip_ttlv::reader::{
-    Cursor, Four, Interval, Leaf, OptionalLeaf, ReadNested, ReadStructure, Scope, Step, read_form,
-    read_message,
+    Cursor, DateTime, Four, Interval, Leaf, OptionalLeaf, ReadNested, ReadStructure, Scope, Step,
+    read_form, read_message,
 };
 use kmip_ttlv::shape::{Decode, Serialize};
 use kmip_ttlv::visit::Visitor;
@@ -54,7 +53,7 @@ impl<A: Allocator + Copy> ReadStructure<A> for OptionalNumbers {
         OptionalLeaf<i32, 0x540002>,
         (
             OptionalLeaf<i64, 0x540003>,
-            (OptionalLeaf<i64, 0x540004>, ()),
+            (OptionalLeaf<DateTime, 0x540004>, ()),
         ),
     );
 
@@ -63,9 +62,16 @@ impl<A: Allocator + Copy> ReadStructure<A> for OptionalNumbers {
     const DENIES_UNKNOWN: bool = false;
 
     #[tactic(auto, unfolding(kmip_ttlv_types::specs::Digits::six_digits, crate::specs::Numbers::read_optional_numbers))]
-    fn from_fields(fields: (Option<i32>, (Option<i64>, (Option<i64>, ())))) -> Self {
+    fn from_fields(fields: (Option<i32>, (Option<i64>, (Option<DateTime>, ())))) -> Self {
         let (count, (long, (date, ()))) = fields;
-        OptionalNumbers { count, long, date }
+        OptionalNumbers {
+            count,
+            long,
+            date: match date {
+                Some(held) => Some(held.0),
+                None => None,
+            },
+        }
     }
 }
 
@@ -180,7 +186,7 @@ pub struct Named<A: Allocator = Global> {
 }
 
 impl<B: Allocator> Serialize for Named<B> {
-    ghost stated = { named_value written_date };
+    ghost stated = { named_value };
 
     #[tactic(auto, unfolding(crate::specs::Numbers::named_value))]
     fn visit<V: Visitor>(&self, visitor: &mut V) -> Result<(), AllocError> {
@@ -198,11 +204,11 @@ impl<A: Allocator + Copy> ReadStructure<A> for Named<A> {
 
     ghost DENIES_UNKNOWN = { false };
 
-    ghost values = { λ x. fields_in (named_value read_date x) };
+    ghost values = { λ x. fields_in (named_value x) };
 
     type Fields = (
         Leaf<String<A>, 0x540042>,
-        (Leaf<i32, 0x540002>, (Leaf<i64, 0x540004>, ())),
+        (Leaf<i32, 0x540002>, (Leaf<DateTime, 0x540004>, ())),
     );
 
     const TAG: u32 = 0x540070;
@@ -210,16 +216,20 @@ impl<A: Allocator + Copy> ReadStructure<A> for Named<A> {
     const DENIES_UNKNOWN: bool = false;
 
     #[tactic(auto, unfolding(kmip_ttlv_types::specs::Digits::six_digits, crate::specs::Numbers::named_value))]
-    fn from_fields(fields: (String<A>, (i32, (i64, ())))) -> Self {
+    fn from_fields(fields: (String<A>, (i32, (DateTime, ())))) -> Self {
         let (name, (count, (date, ()))) = fields;
-        Named { name, count, date }
+        Named {
+            name,
+            count,
+            date: date.0,
+        }
     }
 }
 
 impl<A: Allocator + Copy> Decode<A> for Named<A> {
     ghost form = { named_form };
 
-    ghost is_value = { λ v x. v ≡ named_value read_date x };
+    ghost is_value = { λ v x. v ≡ named_value x };
 
     #[tactic(auto, unfolding(kmip_ttlv_types::specs::Digits::six_digits, crate::specs::Numbers::named_value))]
     fn decode(alloc: A, bytes: &[u8]) -> Result<Self, Error<A>> {
@@ -246,7 +256,7 @@ pub struct Many {
 }
 
 impl Serialize for Many {
-    ghost stated = { many_value written_date };
+    ghost stated = { many_value };
 
     fn visit<V: Visitor>(&self, visitor: &mut V) -> Result<(), AllocError> {
         writing::begin_struct(visitor, "0x540080")?;
@@ -266,13 +276,13 @@ impl<A: Allocator + Copy> ReadStructure<A> for Many {
 
     ghost DENIES_UNKNOWN = { false };
 
-    ghost values = { λ x. fields_in (many_value read_date x) };
+    ghost values = { λ x. fields_in (many_value x) };
 
     type Fields = Four<
         Leaf<i32, 0x540002>,
         Leaf<i32, 0x540081>,
         Leaf<i64, 0x540003>,
-        Leaf<i64, 0x540004>,
+        Leaf<DateTime, 0x540004>,
         (Leaf<bool, 0x540005>, (Leaf<Interval, 0x540006>, ())),
     >;
 
@@ -281,13 +291,13 @@ impl<A: Allocator + Copy> ReadStructure<A> for Many {
     const DENIES_UNKNOWN: bool = false;
 
     #[tactic(auto, unfolding(kmip_ttlv_types::specs::Digits::six_digits, crate::specs::Numbers::many_value))]
-    fn from_fields(fields: (i32, (i32, (i64, (i64, (bool, (Interval, ()))))))) -> Self {
+    fn from_fields(fields: (i32, (i32, (i64, (DateTime, (bool, (Interval, ()))))))) -> Self {
         let (count, (other, (long, (date, (truth, (seconds, ())))))) = fields;
         Many {
             count,
             other,
             long,
-            date,
+            date: date.0,
             truth,
             seconds: seconds.0,
         }
@@ -297,7 +307,7 @@ impl<A: Allocator + Copy> ReadStructure<A> for Many {
 impl<A: Allocator + Copy> Decode<A> for Many {
     ghost form = { many_form };
 
-    ghost is_value = { λ v x. v ≡ many_value read_date x };
+    ghost is_value = { λ v x. v ≡ many_value x };
 
     #[tactic(auto, unfolding(kmip_ttlv_types::specs::Digits::six_digits, crate::specs::Numbers::many_value))]
     fn decode(alloc: A, bytes: &[u8]) -> Result<Self, Error<A>> {

@@ -198,8 +198,12 @@ fn many_leaves(rt: HostRuntime) -> Result<(), Fail> {
     Ok(())
 }
 
-// Messages that are errors: a kind of 3, no contents at all, another constant.
-const REFUSED: [[&str; 7]; 3] = [
+// A Long Integer in the place of a date, truth, and an hour.
+const NO_MOMENTS: &str = "54000901000000305400040300000008000000004AFBE7C2\
+540005060000000800000000000000015400060A0000000400000E1000000000";
+
+// Messages that are errors: a kind of 3, no contents at all, another constant, a number that is no date.
+const REFUSED: [[&str; 7]; 4] = [
     [
         SMALL,
         CONSTANT,
@@ -226,6 +230,9 @@ const REFUSED: [[&str; 7]; 3] = [
         MOMENTS,
         REASONS,
         CONTENTS,
+    ],
+    [
+        SMALL, CONSTANT, SECOND, NUMBERS, NO_MOMENTS, REASONS, CONTENTS,
     ],
 ];
 

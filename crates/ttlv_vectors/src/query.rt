@@ -1,7 +1,10 @@
 // Written by codegen from types.table: change that, and run codegen/codegen.
 //! A search for objects, what a server can do, and what failed (KMIP 1.0, sections 4.8, 4.24 and 7).
 
-ghost use Rattle.std.specs.Prelude.{◌≡◌, refl, OnErr, OnOk, codes, false};
+ghost use Rattle.std.specs.Prelude.{◌≡◌, ◌==◌, refl, OnErr, OnOk, Some, codes, false};
+ghost use Rattle.std.proofs.Common.{rules};
+ghost use Rattle.std.specs.Cmp.Rules.{comparing};
+ghost use Rattle.std.specs.Ordering.{on};
 ghost use Rattle.kmip_ttlv.specs.MessageParts.{sequence};
 ghost use Rattle.kmip_ttlv.specs.Spots.{fields_in, struct_fields};
 ghost use Rattle.kmip_ttlv.specs.Visits.{Tells};
@@ -204,7 +207,7 @@ impl<A: Allocator + Copy> reader::ReadNested<A> for LocateRequestPayload<A> {
 }
 
 /// What a request asks for (KMIP 1.0, section 9.1.3.2.26).
-#[derive(Clone, Copy, Debug, PartialEq, Eq)]
+#[derive(Clone, Copy, Debug)]
 pub enum Operation {
     /// Objects are sought.
     Locate,
@@ -212,7 +215,7 @@ pub enum Operation {
     Get,
     /// The server is to say what it can do.
     Query,
-    /// Any other number. One that has a name is encoded as it is, and decoded by its name.
+    /// Any other number. One that has a name is encoded as it is, and decoded by its name, to which it is equal.
     Other(u32),
 }
 
@@ -231,7 +234,7 @@ impl Operation {
 
     /// The one of a number: by its name, if it has one.
     pub fn from_number(number: u32) -> Operation
-        ensures { operation_read_number result ≡ number }
+        ensures { operation_read_number result ≡ Some number }
     {
         match number {
             0x00000008 => Operation::Locate,
@@ -240,6 +243,21 @@ impl Operation {
             _ => Operation::Other(number),
         }
     }
+}
+
+/// By their numbers.
+impl PartialEq for Operation {
+    ghost eq = { on operation_number ◌==◌ };
+
+    ghost laws = { Prim.search (comparing, rules) };
+
+    fn eq(&self, other: &Operation) -> bool {
+        self.number() == other.number()
+    }
+}
+
+impl Eq for Operation {
+    ghost laws = { Prim.search (comparing, rules) };
 }
 
 impl Serialize for Operation {
@@ -285,8 +303,8 @@ const OBJECT_TYPE: [(&str, ObjectType); 2] = [
 ];
 
 impl ObjectType {
-    // Its number.
-    fn number(self) -> &'static str
+    /// Its number, as rules see it: `0x` and eight digits.
+    pub fn number(self) -> &'static str
         ensures { result.now ≡ object_type_number self }
     {
         match self {
@@ -493,7 +511,7 @@ impl<A: Allocator + Copy> reader::ReadNested<A> for QueryResponsePayload<A> {
 }
 
 /// Why an operation failed (KMIP 1.0, section 9.1.3.2).
-#[derive(Clone, Copy, Debug, PartialEq, Eq)]
+#[derive(Clone, Copy, Debug)]
 pub enum ResultReason {
     /// There is no such object.
     ItemNotFound,
@@ -501,7 +519,7 @@ pub enum ResultReason {
     OperationNotSupported,
     /// Anything that has no other reason.
     GeneralFailure,
-    /// Any other number. One that has a name is encoded as it is, and decoded by its name.
+    /// Any other number. One that has a name is encoded as it is, and decoded by its name, to which it is equal.
     Other(u32),
 }
 
@@ -520,7 +538,7 @@ impl ResultReason {
 
     /// The one of a number: by its name, if it has one.
     pub fn from_number(number: u32) -> ResultReason
-        ensures { result_reason_read_number result ≡ number }
+        ensures { result_reason_read_number result ≡ Some number }
     {
         match number {
             0x00000001 => ResultReason::ItemNotFound,
@@ -529,6 +547,21 @@ impl ResultReason {
             _ => ResultReason::Other(number),
         }
     }
+}
+
+/// By their numbers.
+impl PartialEq for ResultReason {
+    ghost eq = { on result_reason_number ◌==◌ };
+
+    ghost laws = { Prim.search (comparing, rules) };
+
+    fn eq(&self, other: &ResultReason) -> bool {
+        self.number() == other.number()
+    }
+}
+
+impl Eq for ResultReason {
+    ghost laws = { Prim.search (comparing, rules) };
 }
 
 impl Serialize for ResultReason {
@@ -577,8 +610,8 @@ const RESULT_STATUS: [(&str, ResultStatus); 3] = [
 ];
 
 impl ResultStatus {
-    // Its number.
-    fn number(self) -> &'static str
+    /// Its number, as rules see it: `0x` and eight digits.
+    pub fn number(self) -> &'static str
         ensures { result.now ≡ result_status_number self }
     {
         match self {

@@ -8,7 +8,7 @@ use get_messages::request::GetRequest;
 use get_messages::response::GetResponse;
 use kmip_ttlv::error::Error;
 use kmip_ttlv::from_slice;
-use kmip_ttlv::laws::{Message, reread};
+use kmip_ttlv::laws::{Message, Sound, reread};
 use kmip_ttlv::memory::BoundedAllocator;
 use std::alloc::{Allocator, Global};
 use std::test::Fail;

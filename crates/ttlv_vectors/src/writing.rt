@@ -163,6 +163,16 @@ fn numbers_of_the_standard(rt: HostRuntime) -> Result<(), Fail> {
     assert!(rt; leaf_writes(alloc, Data::Bool(true), "06000000080000000000000001"));
     assert!(rt; leaf_writes(alloc, Data::Bool(false), "06000000080000000000000000"));
     assert!(rt; leaf_writes(alloc, Data::U64(0x47DA_67F8), "09000000080000000047DA67F8"));
+    assert!(rt;
+        leaf_writes(
+            alloc,
+            Data::DateTime(0x47DA_67F8),
+            "09000000080000000047DA67F8"
+        )
+    );
+    assert!(rt; leaf_writes(alloc, Data::DateTime(-1), "0900000008FFFFFFFFFFFFFFFF"));
+    let before = Data::DateTime(-0x7FFF_FFFF_FFFF_FFFF);
+    assert!(rt; leaf_writes(alloc, before, "09000000088000000000000001"));
     assert!(rt; leaf_writes(alloc, Data::Interval(864000), "0A00000004000D2F0000000000"));
     Ok(())
 }

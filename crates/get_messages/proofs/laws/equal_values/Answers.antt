@@ -1,33 +1,16 @@
 -- Written by codegen from types.table: change that, and run codegen/codegen.
 -- Values of a type are equal if they stand for the same: each part is, and numbers tell the variants of an Enumeration.
-use Rattle.kmip_ttlv.specs.MessageParts.{optional, read_date}
+use Rattle.kmip_ttlv.specs.MessageParts.{optional}
 use Rattle.kmip_ttlv.specs.Values.{bytes_value, newtype_value}
 use Rattle.kmip_ttlv_laws.proofs.Equal.{both, bytes_equal, found_same, options_equal, row_of, signed_equal, texts_equal}
 use Rattle.std.proofs.Common.{refl}
 use Rattle.std.specs.Prelude.{List, Some, [], codes, string_bytes, ℕ, ◌∷◌, ◌≡◌}
 use denote.Enum.Bare.{true_same}
-use Rattle.get_messages.specs.Headers.{protocol_version_value}
-use Rattle.get_messages.specs.Headers.{request_header_value}
-use Rattle.get_messages.specs.Headers.{response_header_value}
-use Rattle.get_messages.specs.Wrappings.{wrapping_method_value, wrapping_method_number}
-use Rattle.get_messages.specs.Wrappings.{block_cipher_mode_value, block_cipher_mode_number}
-use Rattle.get_messages.specs.Wrappings.{padding_method_value, padding_method_number}
-use Rattle.get_messages.specs.Wrappings.{hashing_algorithm_value, hashing_algorithm_number}
-use Rattle.get_messages.specs.Wrappings.{role_type_value, role_type_number}
-use Rattle.get_messages.specs.Wrappings.{read_cryptographic_parameters}
-use Rattle.get_messages.specs.Wrappings.{read_encryption_key_information}
-use Rattle.get_messages.specs.Wrappings.{read_mac_signature_key_information}
-use Rattle.get_messages.specs.Wrappings.{read_key_wrapping_data}
-use Rattle.get_messages.specs.Keys.{key_value_value}
-use Rattle.get_messages.specs.Keys.{key_length_value}
-use Rattle.get_messages.specs.Keys.{read_key_block}
-use Rattle.get_messages.specs.Keys.{read_symmetric_key}
-use Rattle.get_messages.specs.Requests.{get_request_payload_value}
-use Rattle.get_messages.specs.Requests.{get_request_item_value}
-use Rattle.get_messages.specs.Requests.{get_request_value}
-use Rattle.get_messages.specs.Responses.{read_get_response_payload}
-use Rattle.get_messages.specs.Responses.{read_get_response_item}
-use Rattle.get_messages.specs.Responses.{read_get_response}
+use Rattle.get_messages.specs.Headers.{protocol_version_value, request_header_value, response_header_value}
+use Rattle.get_messages.specs.Wrappings.{wrapping_method_number, wrapping_method_value, block_cipher_mode_number, block_cipher_mode_value, padding_method_number, padding_method_value, hashing_algorithm_number, hashing_algorithm_value, role_type_number, role_type_value, read_cryptographic_parameters, read_encryption_key_information, read_mac_signature_key_information, read_key_wrapping_data}
+use Rattle.get_messages.specs.Keys.{key_value_value, key_length_value, read_key_block, read_symmetric_key}
+use Rattle.get_messages.specs.Requests.{get_request_payload_value, get_request_item_value, get_request_value}
+use Rattle.get_messages.specs.Responses.{read_get_response_payload, read_get_response_item, read_get_response}
 use Rattle.get_messages.specs.declared.wrapping.WrappingMethod.{WrappingMethod}
 use Rattle.get_messages.specs.declared.wrapping.WrappingMethod.TheVariants as wrapping_method
 use Rattle.get_messages.specs.contracts.wrapping.WrappingMethod as wrapping_method_contract
@@ -256,21 +239,21 @@ returns-clause-cryptographic_parameters g c x y e =
     let padding_method : optional padding_method_value x.padding_method ≡ optional padding_method_value y.padding_method = cc in
     let hashing_algorithm : optional hashing_algorithm_value x.hashing_algorithm ≡ optional hashing_algorithm_value y.hashing_algorithm = cc in
     let role_type : optional role_type_value x.role_type ≡ optional role_type_value y.role_type = cc in
-    both (options_equal block_cipher_mode_value _ (returns-clause-block_cipher_mode g c) x.block_cipher_mode y.block_cipher_mode block_cipher_mode) (both (options_equal padding_method_value _ (returns-clause-padding_method g c) x.padding_method y.padding_method padding_method) (both (options_equal hashing_algorithm_value _ (returns-clause-hashing_algorithm g c) x.hashing_algorithm y.hashing_algorithm hashing_algorithm) (options_equal role_type_value _ (returns-clause-role_type g c) x.role_type y.role_type role_type)))
+    both (options_equal block_cipher_mode_value block_cipher_mode_value _ (returns-clause-block_cipher_mode g c) x.block_cipher_mode y.block_cipher_mode block_cipher_mode) (both (options_equal padding_method_value padding_method_value _ (returns-clause-padding_method g c) x.padding_method y.padding_method padding_method) (both (options_equal hashing_algorithm_value hashing_algorithm_value _ (returns-clause-hashing_algorithm g c) x.hashing_algorithm y.hashing_algorithm hashing_algorithm) (options_equal role_type_value role_type_value _ (returns-clause-role_type g c) x.role_type y.role_type role_type)))
 
 pub returns-clause-encryption_key_information : goal.returns-clause-encryption_key_information
 unfolding read_encryption_key_information
 returns-clause-encryption_key_information g c x y e =
     let unique_identifier : (string_bytes x.unique_identifier) ≡ (string_bytes y.unique_identifier) = cc in
     let cryptographic_parameters : optional read_cryptographic_parameters x.cryptographic_parameters ≡ optional read_cryptographic_parameters y.cryptographic_parameters = cc in
-    both (texts_equal x.unique_identifier y.unique_identifier unique_identifier) (options_equal read_cryptographic_parameters _ (returns-clause-cryptographic_parameters g c) x.cryptographic_parameters y.cryptographic_parameters cryptographic_parameters)
+    both (texts_equal x.unique_identifier y.unique_identifier unique_identifier) (options_equal read_cryptographic_parameters read_cryptographic_parameters _ (returns-clause-cryptographic_parameters g c) x.cryptographic_parameters y.cryptographic_parameters cryptographic_parameters)
 
 pub returns-clause-mac_signature_key_information : goal.returns-clause-mac_signature_key_information
 unfolding read_mac_signature_key_information
 returns-clause-mac_signature_key_information g c x y e =
     let unique_identifier : (string_bytes x.unique_identifier) ≡ (string_bytes y.unique_identifier) = cc in
     let cryptographic_parameters : optional read_cryptographic_parameters x.cryptographic_parameters ≡ optional read_cryptographic_parameters y.cryptographic_parameters = cc in
-    both (texts_equal x.unique_identifier y.unique_identifier unique_identifier) (options_equal read_cryptographic_parameters _ (returns-clause-cryptographic_parameters g c) x.cryptographic_parameters y.cryptographic_parameters cryptographic_parameters)
+    both (texts_equal x.unique_identifier y.unique_identifier unique_identifier) (options_equal read_cryptographic_parameters read_cryptographic_parameters _ (returns-clause-cryptographic_parameters g c) x.cryptographic_parameters y.cryptographic_parameters cryptographic_parameters)
 
 pub returns-clause-key_wrapping_data : goal.returns-clause-key_wrapping_data
 unfolding read_key_wrapping_data
@@ -280,7 +263,7 @@ returns-clause-key_wrapping_data g c x y e =
     let mac_signature_key_information : optional read_mac_signature_key_information x.mac_signature_key_information ≡ optional read_mac_signature_key_information y.mac_signature_key_information = cc in
     let mac_signature : optional (λ y. newtype_value (codes "Transparent:0x42004D") (bytes_value y.items)) x.mac_signature ≡ optional (λ y. newtype_value (codes "Transparent:0x42004D") (bytes_value y.items)) y.mac_signature = cc in
     let iv_counter_nonce : optional (λ y. newtype_value (codes "Transparent:0x42003D") (bytes_value y.items)) x.iv_counter_nonce ≡ optional (λ y. newtype_value (codes "Transparent:0x42003D") (bytes_value y.items)) y.iv_counter_nonce = cc in
-    both (returns-clause-wrapping_method g c x.wrapping_method y.wrapping_method wrapping_method) (both (options_equal read_encryption_key_information _ (returns-clause-encryption_key_information g c) x.encryption_key_information y.encryption_key_information encryption_key_information) (both (options_equal read_mac_signature_key_information _ (returns-clause-mac_signature_key_information g c) x.mac_signature_key_information y.mac_signature_key_information mac_signature_key_information) (both (options_equal (λ y. newtype_value (codes "Transparent:0x42004D") (bytes_value y.items)) _ (λ a b e. let same : a.items ≡ b.items = cc in bytes_equal a.items b.items same) x.mac_signature y.mac_signature mac_signature) (options_equal (λ y. newtype_value (codes "Transparent:0x42003D") (bytes_value y.items)) _ (λ a b e. let same : a.items ≡ b.items = cc in bytes_equal a.items b.items same) x.iv_counter_nonce y.iv_counter_nonce iv_counter_nonce))))
+    both (returns-clause-wrapping_method g c x.wrapping_method y.wrapping_method wrapping_method) (both (options_equal read_encryption_key_information read_encryption_key_information _ (returns-clause-encryption_key_information g c) x.encryption_key_information y.encryption_key_information encryption_key_information) (both (options_equal read_mac_signature_key_information read_mac_signature_key_information _ (returns-clause-mac_signature_key_information g c) x.mac_signature_key_information y.mac_signature_key_information mac_signature_key_information) (both (options_equal (λ y. newtype_value (codes "Transparent:0x42004D") (bytes_value y.items)) (λ y. newtype_value (codes "Transparent:0x42004D") (bytes_value y.items)) _ (λ a b e. let same : a.items ≡ b.items = cc in bytes_equal a.items b.items same) x.mac_signature y.mac_signature mac_signature) (options_equal (λ y. newtype_value (codes "Transparent:0x42003D") (bytes_value y.items)) (λ y. newtype_value (codes "Transparent:0x42003D") (bytes_value y.items)) _ (λ a b e. let same : a.items ≡ b.items = cc in bytes_equal a.items b.items same) x.iv_counter_nonce y.iv_counter_nonce iv_counter_nonce))))
 
 pub returns-clause-key_value : goal.returns-clause-key_value
 unfolding key_value_value
@@ -299,7 +282,7 @@ returns-clause-key_block g c x y e =
     let key_value : key_value_value x.key_value ≡ key_value_value y.key_value = cc in
     let cryptographic_length : key_length_value x.cryptographic_length ≡ key_length_value y.cryptographic_length = cc in
     let key_wrapping_data : optional read_key_wrapping_data x.key_wrapping_data ≡ optional read_key_wrapping_data y.key_wrapping_data = cc in
-    both (returns-clause-key_value g c x.key_value y.key_value key_value) (both (returns-clause-key_length g c x.cryptographic_length y.cryptographic_length cryptographic_length) (options_equal read_key_wrapping_data _ (returns-clause-key_wrapping_data g c) x.key_wrapping_data y.key_wrapping_data key_wrapping_data))
+    both (returns-clause-key_value g c x.key_value y.key_value key_value) (both (returns-clause-key_length g c x.cryptographic_length y.cryptographic_length cryptographic_length) (options_equal read_key_wrapping_data read_key_wrapping_data _ (returns-clause-key_wrapping_data g c) x.key_wrapping_data y.key_wrapping_data key_wrapping_data))
 
 pub returns-clause-symmetric_key : goal.returns-clause-symmetric_key
 unfolding read_symmetric_key
@@ -342,6 +325,6 @@ returns-clause-get_response_item g c x y e =
 pub returns-clause-get_response : goal.returns-clause-get_response
 unfolding read_get_response
 returns-clause-get_response g c x y e =
-    let header : response_header_value read_date x.header ≡ response_header_value read_date y.header = cc in
+    let header : response_header_value x.header ≡ response_header_value y.header = cc in
     let item : read_get_response_item x.item ≡ read_get_response_item y.item = cc in
     both (returns-clause-response_header g c x.header y.header header) (returns-clause-get_response_item g c x.item y.item item)

@@ -1,9 +1,11 @@
--- A consistent response comes back: it agrees with its form, and values that stand for the same are equal.
-use Rattle.std.proofs.Common.{refl}
+-- Written by codegen from types.table: change that, and run codegen/codegen.
+-- A message comes back: it agrees with its form, and values that stand for the same are equal.
 use Rattle.kmip_ttlv_laws.proofs.Equal.{agreeing_rereads}
-use Rattle.create_destroy.specs.Responses.{response_form, read_response, written_response}
+use Rattle.std.proofs.Common.{refl}
+use Rattle.create_destroy.specs.Responses.{response_form, written_response, read_response}
 use Rattle.create_destroy.proofs.Agreeing.{response_agrees}
 use Rattle.create_destroy.proofs.laws.ResponseMessage.comes_back.Goals as goal
 
 pub returns : goal.returns
-returns g c = agreeing_rereads written_response read_response response_form _ _ refl (λ x sound. response_agrees x sound.0 sound.1) c.equal_values.ensures.response
+returns g c =
+    agreeing_rereads written_response read_response read_response response_form _ _ refl response_agrees c.equal_values.ensures.response

@@ -1,3 +1,5 @@
+-- Written by codegen from types.table: change that, and run codegen/codegen.
+-- What is read is in the variant that the rule chose.
 use Rattle.kmip_ttlv_types.specs.Digits as digits
 use Rattle.create_destroy.specs.Requests.{read_request_payload, read_create_payload, read_destroy_payload}
 use Rattle.create_destroy.proofs.request.RequestPayloadReadItem.read_item.Goals as goal

@@ -1,3 +1,5 @@
+-- Written by codegen from types.table: change that, and run codegen/codegen.
+-- What is read is in the variant that the rule chose.
 use Rattle.kmip_ttlv_types.specs.Digits as digits
 use Rattle.create_destroy.specs.Responses.{read_response_payload, created_value, destroyed_value}
 use Rattle.create_destroy.proofs.response.ResponsePayloadReadItem.read_item.Goals as goal

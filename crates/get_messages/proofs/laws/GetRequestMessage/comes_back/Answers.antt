@@ -8,4 +8,4 @@ use Rattle.get_messages.proofs.laws.GetRequestMessage.comes_back.Goals as goal
 
 pub returns : goal.returns
 returns g c =
-    agreeing_rereads get_request_value get_request_value get_request_form _ _ refl get_request_agrees c.equal_values.ensures.get_request
+    agreeing_rereads get_request_value get_request_value get_request_value get_request_form _ _ refl get_request_agrees c.equal_values.ensures.get_request

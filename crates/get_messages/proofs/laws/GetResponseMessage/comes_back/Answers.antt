@@ -8,4 +8,4 @@ use Rattle.get_messages.proofs.laws.GetResponseMessage.comes_back.Goals as goal
 
 pub returns : goal.returns
 returns g c =
-    agreeing_rereads written_get_response read_get_response get_response_form _ _ refl get_response_agrees c.equal_values.ensures.get_response
+    agreeing_rereads written_get_response read_get_response read_get_response get_response_form _ _ refl get_response_agrees c.equal_values.ensures.get_response

@@ -1,7 +1,7 @@
 -- The sequence that is told is that of the contents; then a line for each call, which tells its part behind what was told before; what may be absent is joined to what follows.
 use Rattle.std.proofs.Common.{◌∙◌, sym, subst}
 use Rattle.std.specs.Prelude.{codes, option_map}
-use Rattle.kmip_ttlv.specs.MessageParts.{sequence, written_date}
+use Rattle.kmip_ttlv.specs.MessageParts.{sequence}
 use Rattle.kmip_ttlv_base.proofs.Visiting.{visited_joined}
 use Rattle.kmip_ttlv_base.specs.Values.{no_values, unit_variant_value, value}
 use Rattle.kmip_ttlv_base.specs.Visits.{a_struct, begun, ended, joined, optional, visited, visited_in}
@@ -18,7 +18,7 @@ returns-clause-told g c = λ s known.
     let inside = step (begun (a_struct (codes "0x540060"))) s in
     let constant = visited step (unit_variant_value (codes "0x540061") (codes "0x00000001")) inside in
     let numbered = visited step (numbers_value every.numbers) (visited step (kind_value every.kind) constant) in
-    let before = visited step (moments_value written_date every.moments) numbered in
+    let before = visited step (moments_value every.moments) numbered in
     let numbers = optional (option_map written_optional_numbers every.optional_numbers) in
     let contents = optional (option_map written_optional_contents every.optional_contents) in
     let later = value (written_reasons every.reasons) (value (sequence contents_value c.as_slice.result.now) no_values) in

@@ -1,0 +1,358 @@
+// Written by codegen from types.table: change that, and run codegen/codegen.
+//! What was written is read back: the laws of `kmip_ttlv::laws`, at these messages.
+
+ghost use Rattle.std.specs.Prelude.{◌≡◌};
+ghost use Rattle.kmip_ttlv.specs.Equal.{AreEqual, ReturnsEqual};
+ghost use Rattle.object_messages.specs.Attributes.{written_object_type, read_object_type, written_cryptographic_algorithm, read_cryptographic_algorithm, object_state_value, unique_identifier_value, attribute_name_value, attribute_index_value, attribute_number_value, attribute_date_value, attribute_text_value, returned_attribute_value, read_attribute_value, returned_attribute, read_attribute};
+ghost use Rattle.object_messages.specs.Objects.{written_key_format_type, read_key_format_type, cryptographic_length_value, key_value_value, returned_key_block, read_key_block, returned_symmetric_key, read_symmetric_key, returned_public_key, read_public_key, written_certificate_type, read_certificate_type, returned_certificate, read_certificate};
+ghost use Rattle.object_messages.specs.Requests.{operation_value, returned_template_attribute, read_template_attribute, returned_register_payload, read_register_payload, maximum_items_value, returned_locate_payload, read_locate_payload, read_get_attributes_payload, written_query_function, read_query_function, returned_query_payload, read_query_payload, returned_request_payload, read_request_payload, returned_request_item, read_request_item, returned_request, read_request};
+ghost use Rattle.object_messages.specs.Responses.{registered_value, read_located, returned_got_attributes, read_got_attributes, written_any_operation, read_any_operation, returned_answered, read_answered, returned_response_payload, read_response_payload, returned_response_item, read_response_item, returned_response, read_response};
+ghost use Rattle.object_messages.specs.Soundness.{IsObjectType, IsCryptographicAlgorithm, IsAttributeIndex, IsAttributeNumber, IsAttributeDate, IsAttributeValue, IsAttribute, IsKeyFormatType, IsCryptographicLength, IsKeyBlock, IsSymmetricKey, IsPublicKey, IsCertificateType, IsCertificate, IsTemplateAttribute, IsRegisterPayload, IsMaximumItems, IsLocatePayload, IsQueryFunction, IsQueryPayload, IsRequestPayload, IsRequestItem, IsRequest, IsGotAttributes, IsAnyOperation, IsAnswered, IsResponsePayload, IsResponseItem, IsResponse};
+ghost use Rattle.object_messages.specs.Laws.{RequestsComeBack, ResponsesComeBack};
+
+use crate::attribute::{
+    Attribute, AttributeDate, AttributeIndex, AttributeName, AttributeNumber, AttributeText,
+    AttributeValue, CryptographicAlgorithm, ObjectState, ObjectType, UniqueIdentifier,
+};
+use crate::object::{
+    Certificate, CertificateType, CryptographicLength, KeyBlock, KeyFormatType, KeyValue,
+    PublicKey, SymmetricKey,
+};
+use crate::request::{
+    GetAttributesPayload, LocatePayload, MaximumItems, Operation, QueryFunction, QueryPayload,
+    RegisterPayload, Request, RequestItem, RequestPayload, TemplateAttribute,
+};
+use crate::response::{
+    Answered, AnyOperation, GotAttributes, Located, Registered, Response, ResponseItem,
+    ResponsePayload,
+};
+use kmip_ttlv::laws::{Message, Sound, agreeing_values_come_back};
+use std::alloc::Allocator;
+
+/// The bytes of a `Request` begin with the value that it is read from and with no other,
+/// whatever stands behind them.
+pub fn requests_come_back<A: Allocator>()
+    ensures { RequestsComeBack A }
+{
+    agreeing_values_come_back();
+}
+
+/// The bytes of a `Response` begin with the value that it is read from and with no other,
+/// whatever stands behind them.
+pub fn responses_come_back<A: Allocator>()
+    ensures { ResponsesComeBack A }
+{
+    agreeing_values_come_back();
+}
+
+/// Values of a type are equal if they stand for the same: no type loses a part of what it is decoded from.
+pub fn equal_values<A: Allocator>()
+    ensures object_type { ReturnsEqual written_object_type read_object_type ⟦<ObjectType as PartialEq>⟧.eq }
+    ensures cryptographic_algorithm { ReturnsEqual written_cryptographic_algorithm read_cryptographic_algorithm ⟦<CryptographicAlgorithm as PartialEq>⟧.eq }
+    ensures object_state { AreEqual object_state_value ⟦<ObjectState as PartialEq>⟧.eq }
+    ensures unique_identifier { AreEqual unique_identifier_value ⟦<UniqueIdentifier<A> as PartialEq>⟧.eq }
+    ensures attribute_name { AreEqual attribute_name_value ⟦<AttributeName<A> as PartialEq>⟧.eq }
+    ensures attribute_index { AreEqual attribute_index_value ⟦<AttributeIndex as PartialEq>⟧.eq }
+    ensures attribute_number { AreEqual attribute_number_value ⟦<AttributeNumber as PartialEq>⟧.eq }
+    ensures attribute_date { AreEqual attribute_date_value ⟦<AttributeDate as PartialEq>⟧.eq }
+    ensures attribute_text { AreEqual attribute_text_value ⟦<AttributeText<A> as PartialEq>⟧.eq }
+    ensures attribute_value { ReturnsEqual returned_attribute_value read_attribute_value ⟦<AttributeValue<A> as PartialEq>⟧.eq }
+    ensures attribute { ReturnsEqual returned_attribute read_attribute ⟦<Attribute<A> as PartialEq>⟧.eq }
+    ensures key_format_type { ReturnsEqual written_key_format_type read_key_format_type ⟦<KeyFormatType as PartialEq>⟧.eq }
+    ensures cryptographic_length { AreEqual cryptographic_length_value ⟦<CryptographicLength as PartialEq>⟧.eq }
+    ensures key_value { AreEqual key_value_value ⟦<KeyValue<A> as PartialEq>⟧.eq }
+    ensures key_block { ReturnsEqual returned_key_block read_key_block ⟦<KeyBlock<A> as PartialEq>⟧.eq }
+    ensures symmetric_key { ReturnsEqual returned_symmetric_key read_symmetric_key ⟦<SymmetricKey<A> as PartialEq>⟧.eq }
+    ensures public_key { ReturnsEqual returned_public_key read_public_key ⟦<PublicKey<A> as PartialEq>⟧.eq }
+    ensures certificate_type { ReturnsEqual written_certificate_type read_certificate_type ⟦<CertificateType as PartialEq>⟧.eq }
+    ensures certificate { ReturnsEqual returned_certificate read_certificate ⟦<Certificate<A> as PartialEq>⟧.eq }
+    ensures operation { AreEqual operation_value ⟦<Operation as PartialEq>⟧.eq }
+    ensures template_attribute { ReturnsEqual returned_template_attribute read_template_attribute ⟦<TemplateAttribute<A> as PartialEq>⟧.eq }
+    ensures register_payload { ReturnsEqual returned_register_payload read_register_payload ⟦<RegisterPayload<A> as PartialEq>⟧.eq }
+    ensures maximum_items { AreEqual maximum_items_value ⟦<MaximumItems as PartialEq>⟧.eq }
+    ensures locate_payload { ReturnsEqual returned_locate_payload read_locate_payload ⟦<LocatePayload<A> as PartialEq>⟧.eq }
+    ensures get_attributes_payload { AreEqual read_get_attributes_payload ⟦<GetAttributesPayload<A> as PartialEq>⟧.eq }
+    ensures query_function { ReturnsEqual written_query_function read_query_function ⟦<QueryFunction as PartialEq>⟧.eq }
+    ensures query_payload { ReturnsEqual returned_query_payload read_query_payload ⟦<QueryPayload<A> as PartialEq>⟧.eq }
+    ensures request_payload { ReturnsEqual returned_request_payload read_request_payload ⟦<RequestPayload<A> as PartialEq>⟧.eq }
+    ensures request_item { ReturnsEqual returned_request_item read_request_item ⟦<RequestItem<A> as PartialEq>⟧.eq }
+    ensures request { ReturnsEqual returned_request read_request ⟦<Request<A> as PartialEq>⟧.eq }
+    ensures registered { AreEqual registered_value ⟦<Registered<A> as PartialEq>⟧.eq }
+    ensures located { AreEqual read_located ⟦<Located<A> as PartialEq>⟧.eq }
+    ensures got_attributes { ReturnsEqual returned_got_attributes read_got_attributes ⟦<GotAttributes<A> as PartialEq>⟧.eq }
+    ensures any_operation { ReturnsEqual written_any_operation read_any_operation ⟦<AnyOperation as PartialEq>⟧.eq }
+    ensures answered { ReturnsEqual returned_answered read_answered ⟦<Answered<A> as PartialEq>⟧.eq }
+    ensures response_payload { ReturnsEqual returned_response_payload read_response_payload ⟦<ResponsePayload<A> as PartialEq>⟧.eq }
+    ensures response_item { ReturnsEqual returned_response_item read_response_item ⟦<ResponseItem<A> as PartialEq>⟧.eq }
+    ensures response { ReturnsEqual returned_response read_response ⟦<Response<A> as PartialEq>⟧.eq }
+{
+    get_messages::laws::equal_values::<A>();
+}
+
+impl Sound for ObjectType {
+    ghost IsSound = { IsObjectType };
+
+    fn is_sound(&self) -> bool {
+        self.number().is_sound()
+    }
+}
+
+impl Sound for CryptographicAlgorithm {
+    ghost IsSound = { IsCryptographicAlgorithm };
+
+    fn is_sound(&self) -> bool {
+        self.number().is_sound()
+    }
+}
+
+impl Sound for AttributeIndex {
+    ghost IsSound = { IsAttributeIndex };
+
+    fn is_sound(&self) -> bool {
+        self.index.is_sound()
+    }
+}
+
+impl Sound for AttributeNumber {
+    ghost IsSound = { IsAttributeNumber };
+
+    fn is_sound(&self) -> bool {
+        self.number.is_sound()
+    }
+}
+
+impl Sound for AttributeDate {
+    ghost IsSound = { IsAttributeDate };
+
+    fn is_sound(&self) -> bool {
+        self.seconds.is_sound()
+    }
+}
+
+impl<A: Allocator> Sound for AttributeValue<A> {
+    ghost IsSound = { IsAttributeValue };
+
+    fn is_sound(&self) -> bool {
+        match self {
+            AttributeValue::Type(held) => held.is_sound(),
+            AttributeValue::Algorithm(held) => held.is_sound(),
+            AttributeValue::State(_) => true,
+            AttributeValue::Number(held) => held.is_sound(),
+            AttributeValue::Date(held) => held.is_sound(),
+            AttributeValue::Text(_) => true,
+        }
+    }
+}
+
+impl<A: Allocator> Sound for Attribute<A> {
+    ghost IsSound = { IsAttribute };
+
+    fn is_sound(&self) -> bool {
+        self.index.is_sound()
+            && self.value.is_chosen_by(self.name.text.as_str())
+            && self.value.is_sound()
+    }
+}
+
+impl Sound for KeyFormatType {
+    ghost IsSound = { IsKeyFormatType };
+
+    fn is_sound(&self) -> bool {
+        self.number().is_sound()
+    }
+}
+
+impl Sound for CryptographicLength {
+    ghost IsSound = { IsCryptographicLength };
+
+    fn is_sound(&self) -> bool {
+        self.bits.is_sound()
+    }
+}
+
+impl<A: Allocator> Sound for KeyBlock<A> {
+    ghost IsSound = { IsKeyBlock };
+
+    fn is_sound(&self) -> bool {
+        self.format.is_sound() && self.algorithm.is_sound() && self.length.is_sound()
+    }
+}
+
+impl<A: Allocator> Sound for SymmetricKey<A> {
+    ghost IsSound = { IsSymmetricKey };
+
+    fn is_sound(&self) -> bool {
+        self.key_block.is_sound()
+    }
+}
+
+impl<A: Allocator> Sound for PublicKey<A> {
+    ghost IsSound = { IsPublicKey };
+
+    fn is_sound(&self) -> bool {
+        self.key_block.is_sound()
+    }
+}
+
+impl Sound for CertificateType {
+    ghost IsSound = { IsCertificateType };
+
+    fn is_sound(&self) -> bool {
+        self.number().is_sound()
+    }
+}
+
+impl<A: Allocator> Sound for Certificate<A> {
+    ghost IsSound = { IsCertificate };
+
+    fn is_sound(&self) -> bool {
+        self.certificate_type.is_sound()
+    }
+}
+
+impl<A: Allocator> Sound for TemplateAttribute<A> {
+    ghost IsSound = { IsTemplateAttribute };
+
+    fn is_sound(&self) -> bool {
+        !self.attributes.is_empty() && self.attributes.is_sound()
+    }
+}
+
+impl<A: Allocator> Sound for RegisterPayload<A> {
+    ghost IsSound = { IsRegisterPayload };
+
+    fn is_sound(&self) -> bool {
+        self.object_type.is_sound()
+            && self.template.is_sound()
+            && self.certificate.is_sound()
+            && self.symmetric_key.is_sound()
+            && self.public_key.is_sound()
+            && self.object().is_some()
+    }
+}
+
+impl Sound for MaximumItems {
+    ghost IsSound = { IsMaximumItems };
+
+    fn is_sound(&self) -> bool {
+        self.count.is_sound()
+    }
+}
+
+impl<A: Allocator> Sound for LocatePayload<A> {
+    ghost IsSound = { IsLocatePayload };
+
+    fn is_sound(&self) -> bool {
+        self.maximum_items.is_sound() && self.attributes.is_sound()
+    }
+}
+
+impl Sound for QueryFunction {
+    ghost IsSound = { IsQueryFunction };
+
+    fn is_sound(&self) -> bool {
+        self.number().is_sound()
+    }
+}
+
+impl<A: Allocator> Sound for QueryPayload<A> {
+    ghost IsSound = { IsQueryPayload };
+
+    fn is_sound(&self) -> bool {
+        !self.functions.is_empty() && self.functions.is_sound()
+    }
+}
+
+impl<A: Allocator> Sound for RequestPayload<A> {
+    ghost IsSound = { IsRequestPayload };
+
+    fn is_sound(&self) -> bool {
+        match self {
+            RequestPayload::Register(held) => held.is_sound(),
+            RequestPayload::Locate(held) => held.is_sound(),
+            RequestPayload::GetAttributes(_) => true,
+            RequestPayload::Query(held) => held.is_sound(),
+        }
+    }
+}
+
+impl<A: Allocator> Sound for RequestItem<A> {
+    ghost IsSound = { IsRequestItem };
+
+    fn is_sound(&self) -> bool {
+        self.payload.is_chosen_by(self.operation.number()) && self.payload.is_sound()
+    }
+}
+
+impl<A: Allocator> Sound for Request<A> {
+    ghost IsSound = { IsRequest };
+
+    fn is_sound(&self) -> bool {
+        self.header.is_sound() && !self.items.is_empty() && self.items.is_sound()
+    }
+}
+
+impl<A: Allocator> Sound for GotAttributes<A> {
+    ghost IsSound = { IsGotAttributes };
+
+    fn is_sound(&self) -> bool {
+        !self.attributes.is_empty() && self.attributes.is_sound()
+    }
+}
+
+impl Sound for AnyOperation {
+    ghost IsSound = { IsAnyOperation };
+
+    fn is_sound(&self) -> bool {
+        self.number().is_sound()
+    }
+}
+
+impl<A: Allocator> Sound for Answered<A> {
+    ghost IsSound = { IsAnswered };
+
+    fn is_sound(&self) -> bool {
+        self.operations.is_sound() && self.object_types.is_sound()
+    }
+}
+
+impl<A: Allocator> Sound for ResponsePayload<A> {
+    ghost IsSound = { IsResponsePayload };
+
+    fn is_sound(&self) -> bool {
+        match self {
+            ResponsePayload::Register(_) => true,
+            ResponsePayload::Locate(_) => true,
+            ResponsePayload::GetAttributes(held) => held.is_sound(),
+            ResponsePayload::Query(held) => held.is_sound(),
+        }
+    }
+}
+
+impl<A: Allocator> Sound for ResponseItem<A> {
+    ghost IsSound = { IsResponseItem };
+
+    fn is_sound(&self) -> bool {
+        self.payload.is_chosen_by(self.operation.number()) && self.payload.is_sound()
+    }
+}
+
+impl<A: Allocator> Sound for Response<A> {
+    ghost IsSound = { IsResponse };
+
+    fn is_sound(&self) -> bool {
+        self.header.is_sound() && !self.items.is_empty() && self.items.is_sound()
+    }
+}
+
+impl<A: Allocator + Copy> Message<A> for Request<A> {
+    fn comes_back() {
+        equal_values::<A>();
+    }
+}
+
+impl<A: Allocator + Copy> Message<A> for Response<A> {
+    fn comes_back() {
+        equal_values::<A>();
+    }
+}

@@ -1,0 +1,813 @@
+// Written by codegen from types.table: change that, and run codegen/codegen.
+//! What was done.
+
+ghost use Rattle.std.specs.Prelude.{◌≡◌, ◌↔◌, ◌==◌, refl, IsTrue, OnErr, OnOk, Some, codes, false};
+ghost use Rattle.std.proofs.Common.{rules};
+ghost use Rattle.std.specs.Cmp.Rules.{comparing};
+ghost use Rattle.std.specs.Ordering.{on};
+ghost use Rattle.kmip_ttlv.specs.Forms.{enum, no_variants, unit, variant};
+ghost use Rattle.kmip_ttlv.specs.MessageParts.{sequence};
+ghost use Rattle.kmip_ttlv.specs.Spots.{fields_in, struct_fields};
+ghost use Rattle.kmip_ttlv.specs.Values.{unit_variant_value};
+ghost use Rattle.kmip_ttlv.specs.Visits.{Tells};
+ghost use Rattle.object_messages.specs.Attributes.{written_object_type};
+ghost use Rattle.object_messages.specs.Responses.{registered_form, registered_value, located_form, written_located, read_located, got_attributes_form, written_got_attributes, read_got_attributes, any_operation_form, written_any_operation, read_any_operation, any_operation_number, any_operation_read_number, answered_form, written_answered, read_answered, response_payload_form, written_response_payload, read_response_payload, ChoosesResponsePayload, response_item_form, written_response_item, read_response_item, response_form, written_response, read_response};
+
+use crate::attribute::{Attribute, ObjectType, UniqueIdentifier};
+use crate::request::Operation;
+use get_messages::header::ResponseHeader;
+use kmip_ttlv::messages::writing;
+use kmip_ttlv::shape::{Decode, Serialize};
+use kmip_ttlv::visit::Visitor;
+use kmip_ttlv::{error, reader};
+use std::alloc::{AllocError, Allocator, Global};
+
+/// The object is kept.
+#[derive(Drop)]
+#[derive_where(Debug, PartialEq)]
+pub struct Registered<A: Allocator = Global> {
+    /// Its identifier.
+    pub unique_identifier: UniqueIdentifier<A>,
+}
+
+impl<B: Allocator> Serialize for Registered<B> {
+    ghost stated = { registered_value };
+
+    #[tactic(auto, unfolding(crate::specs::Responses::registered_value))]
+    fn visit<V: Visitor>(&self, visitor: &mut V) -> Result<(), AllocError> {
+        writing::begin_struct(visitor, "0x42007C")?;
+        self.unique_identifier.visit(visitor)?;
+        writing::end_struct(visitor, "0x42007C")?;
+        Ok(())
+    }
+}
+
+impl<A: Allocator + Copy> reader::ReadStructure<A> for Registered<A> {
+    ghost TAG = { 0x42007C };
+
+    ghost DENIES_UNKNOWN = { false };
+
+    ghost values = { λ x. fields_in (registered_value x) };
+
+    type Fields = (reader::Item<UniqueIdentifier<A>, 0x420094>, ());
+
+    const TAG: u32 = 0x42007C;
+
+    const DENIES_UNKNOWN: bool = false;
+
+    #[tactic(auto, unfolding(kmip_ttlv_types::specs::Digits::six_digits, crate::specs::Responses::registered_value))]
+    fn from_fields(fields: (UniqueIdentifier<A>, ())) -> Self {
+        let (unique_identifier, ()) = fields;
+        Registered { unique_identifier }
+    }
+}
+
+impl<A: Allocator + Copy> Decode<A> for Registered<A> {
+    ghost form = { registered_form };
+
+    ghost is_value = { λ v x. v ≡ registered_value x };
+
+    #[tactic(auto, unfolding(kmip_ttlv_types::specs::Digits::six_digits, crate::specs::Responses::registered_value))]
+    fn decode(alloc: A, bytes: &[u8]) -> Result<Self, error::Error<A>> {
+        reader::read_message(alloc, bytes)
+    }
+}
+
+impl<A: Allocator + Copy> reader::ReadNested<A> for Registered<A> {
+    ghost TAG = { 0x42007C };
+
+    ghost fields = { struct_fields registered_form };
+
+    ghost denies_unknown = { false };
+
+    ghost values = { λ x. fields_in (registered_value x) };
+
+    const TAG: u32 = 0x42007C;
+
+    #[tactic(auto, unfolding(kmip_ttlv_types::specs::Digits::six_digits, crate::specs::Responses::registered_value))]
+    fn read_nested<'b>(
+        scope: &reader::Scope<'b, A>,
+        cursor: &mut reader::Cursor<'b, A>,
+    ) -> reader::Step<Self, A> {
+        reader::read_form(scope, cursor)
+    }
+}
+
+/// Which objects were found.
+#[derive(Drop)]
+#[derive_where(Debug, PartialEq)]
+pub struct Located<A: Allocator = Global> {
+    /// Their identifiers.
+    pub unique_identifiers: Vec<UniqueIdentifier<A>, A>,
+}
+
+impl<B: Allocator> Serialize for Located<B> {
+    ghost stated = { written_located };
+
+    #[tactic(auto, unfolding(crate::specs::Responses::written_located))]
+    fn visit<V: Visitor>(&self, visitor: &mut V) -> Result<(), AllocError> {
+        writing::begin_struct(visitor, "0x42007C")?;
+        writing::seq(visitor, self.unique_identifiers.as_slice())?;
+        writing::end_struct(visitor, "0x42007C")?;
+        Ok(())
+    }
+}
+
+impl<A: Allocator + Copy> reader::ReadStructure<A> for Located<A> {
+    ghost TAG = { 0x42007C };
+
+    ghost DENIES_UNKNOWN = { false };
+
+    ghost values = { λ x. fields_in (read_located x) };
+
+    type Fields = (
+        reader::OptionalSeveralItems<UniqueIdentifier<A>, 0x420094>,
+        (),
+    );
+
+    const TAG: u32 = 0x42007C;
+
+    const DENIES_UNKNOWN: bool = false;
+
+    #[tactic(auto, unfolding(kmip_ttlv_types::specs::Digits::six_digits, crate::specs::Responses::read_located))]
+    fn from_fields(fields: (Vec<UniqueIdentifier<A>, A>, ())) -> Self {
+        let (unique_identifiers, ()) = fields;
+        Located { unique_identifiers }
+    }
+}
+
+impl<A: Allocator + Copy> Decode<A> for Located<A> {
+    ghost form = { located_form };
+
+    ghost is_value = { λ v x. v ≡ read_located x };
+
+    #[tactic(auto, unfolding(kmip_ttlv_types::specs::Digits::six_digits, crate::specs::Responses::read_located))]
+    fn decode(alloc: A, bytes: &[u8]) -> Result<Self, error::Error<A>> {
+        reader::read_message(alloc, bytes)
+    }
+}
+
+impl<A: Allocator + Copy> reader::ReadNested<A> for Located<A> {
+    ghost TAG = { 0x42007C };
+
+    ghost fields = { struct_fields located_form };
+
+    ghost denies_unknown = { false };
+
+    ghost values = { λ x. fields_in (read_located x) };
+
+    const TAG: u32 = 0x42007C;
+
+    #[tactic(auto, unfolding(kmip_ttlv_types::specs::Digits::six_digits, crate::specs::Responses::read_located))]
+    fn read_nested<'b>(
+        scope: &reader::Scope<'b, A>,
+        cursor: &mut reader::Cursor<'b, A>,
+    ) -> reader::Step<Self, A> {
+        reader::read_form(scope, cursor)
+    }
+}
+
+/// What is known of an object.
+#[derive(Drop)]
+#[derive_where(Debug, PartialEq)]
+pub struct GotAttributes<A: Allocator = Global> {
+    /// Its identifier.
+    pub unique_identifier: UniqueIdentifier<A>,
+    /// What is known.
+    pub attributes: Vec<Attribute<A>, A>,
+}
+
+impl<B: Allocator> Serialize for GotAttributes<B> {
+    ghost stated = { written_got_attributes };
+
+    #[tactic(auto, unfolding(crate::specs::Responses::written_got_attributes))]
+    fn visit<V: Visitor>(&self, visitor: &mut V) -> Result<(), AllocError> {
+        writing::begin_struct(visitor, "0x42007C")?;
+        self.unique_identifier.visit(visitor)?;
+        writing::seq(visitor, self.attributes.as_slice())?;
+        writing::end_struct(visitor, "0x42007C")?;
+        Ok(())
+    }
+}
+
+impl<A: Allocator + Copy> reader::ReadStructure<A> for GotAttributes<A> {
+    ghost TAG = { 0x42007C };
+
+    ghost DENIES_UNKNOWN = { false };
+
+    ghost values = { λ x. fields_in (read_got_attributes x) };
+
+    type Fields = (
+        reader::Item<UniqueIdentifier<A>, 0x420094>,
+        (reader::Several<Attribute<A>>, ()),
+    );
+
+    const TAG: u32 = 0x42007C;
+
+    const DENIES_UNKNOWN: bool = false;
+
+    #[tactic(auto, unfolding(kmip_ttlv_types::specs::Digits::six_digits, crate::specs::Responses::read_got_attributes, crate::specs::Attributes::read_attribute))]
+    fn from_fields(fields: (UniqueIdentifier<A>, (Vec<Attribute<A>, A>, ()))) -> Self {
+        let (unique_identifier, (attributes, ())) = fields;
+        GotAttributes {
+            unique_identifier,
+            attributes,
+        }
+    }
+}
+
+impl<A: Allocator + Copy> Decode<A> for GotAttributes<A> {
+    ghost form = { got_attributes_form };
+
+    ghost is_value = { λ v x. v ≡ read_got_attributes x };
+
+    #[tactic(auto, unfolding(kmip_ttlv_types::specs::Digits::six_digits, crate::specs::Responses::read_got_attributes))]
+    fn decode(alloc: A, bytes: &[u8]) -> Result<Self, error::Error<A>> {
+        reader::read_message(alloc, bytes)
+    }
+}
+
+impl<A: Allocator + Copy> reader::ReadNested<A> for GotAttributes<A> {
+    ghost TAG = { 0x42007C };
+
+    ghost fields = { struct_fields got_attributes_form };
+
+    ghost denies_unknown = { false };
+
+    ghost values = { λ x. fields_in (read_got_attributes x) };
+
+    const TAG: u32 = 0x42007C;
+
+    #[tactic(auto, unfolding(kmip_ttlv_types::specs::Digits::six_digits, crate::specs::Responses::read_got_attributes))]
+    fn read_nested<'b>(
+        scope: &reader::Scope<'b, A>,
+        cursor: &mut reader::Cursor<'b, A>,
+    ) -> reader::Step<Self, A> {
+        reader::read_form(scope, cursor)
+    }
+}
+
+/// What a server may be asked for (KMIP 1.0, section 9.1.3.2.26).
+#[derive(Clone, Copy, Debug)]
+pub enum AnyOperation {
+    /// To make a key.
+    Create,
+    /// To keep an object.
+    Register,
+    /// To find objects.
+    Locate,
+    /// To get an object.
+    Get,
+    /// To get what is known of it.
+    GetAttributes,
+    /// To say what it can do.
+    Query,
+    /// Any other number. One that has a name is encoded as it is, and decoded by its name, to which it is equal.
+    Other(u32),
+}
+
+impl AnyOperation {
+    /// Its number.
+    pub fn number(self) -> u32
+        ensures { result ≡ any_operation_number self }
+    {
+        match self {
+            AnyOperation::Create => 0x00000001,
+            AnyOperation::Register => 0x00000003,
+            AnyOperation::Locate => 0x00000008,
+            AnyOperation::Get => 0x0000000A,
+            AnyOperation::GetAttributes => 0x0000000B,
+            AnyOperation::Query => 0x00000018,
+            AnyOperation::Other(number) => number,
+        }
+    }
+
+    /// The one of a number: by its name, if it has one.
+    pub fn from_number(number: u32) -> AnyOperation
+        ensures { any_operation_read_number result ≡ Some number }
+    {
+        match number {
+            0x00000001 => AnyOperation::Create,
+            0x00000003 => AnyOperation::Register,
+            0x00000008 => AnyOperation::Locate,
+            0x0000000A => AnyOperation::Get,
+            0x0000000B => AnyOperation::GetAttributes,
+            0x00000018 => AnyOperation::Query,
+            _ => AnyOperation::Other(number),
+        }
+    }
+}
+
+/// By their numbers.
+impl PartialEq for AnyOperation {
+    ghost eq = { on any_operation_number ◌==◌ };
+
+    ghost laws = { Prim.search (comparing, rules) };
+
+    fn eq(&self, other: &AnyOperation) -> bool {
+        self.number() == other.number()
+    }
+}
+
+impl Eq for AnyOperation {
+    ghost laws = { Prim.search (comparing, rules) };
+}
+
+impl Serialize for AnyOperation {
+    ghost stated = { written_any_operation };
+
+    #[tactic(auto, unfolding(crate::specs::Responses::written_any_operation))]
+    fn visit<V: Visitor>(&self, visitor: &mut V) -> Result<(), AllocError> {
+        writing::enumeration(visitor, "Transparent:0x42005C", self.number())?;
+        Ok(())
+    }
+}
+
+impl<A: Allocator + Copy> reader::ReadItem<A> for AnyOperation {
+    ghost form = { any_operation_form };
+
+    ghost value = { read_any_operation };
+
+    ghost plain = { (refl, refl) };
+
+    #[tactic(auto, unfolding(kmip_ttlv_types::specs::Digits::six_digits, crate::specs::Responses::read_any_operation))]
+    fn read_item<'b>(
+        scope: &reader::Scope<'b, A>,
+        cursor: &mut reader::Cursor<'b, A>,
+    ) -> reader::Step<Self, A> {
+        let number: u32 = cursor.wrapped_leaf(scope, 0x42005C)?;
+        Ok(AnyOperation::from_number(number))
+    }
+}
+
+/// What the server can do: of each only what was asked for.
+#[derive(Drop)]
+#[derive_where(Debug, PartialEq)]
+pub struct Answered<A: Allocator = Global> {
+    /// Its operations.
+    pub operations: Vec<AnyOperation, A>,
+    /// The kinds of objects that it keeps.
+    pub object_types: Vec<ObjectType, A>,
+    /// Who made it.
+    pub vendor: Option<String<A>>,
+}
+
+impl<A: Allocator> Answered<A> {
+    // Tells `operations`.
+    fn tell_operations<V: Visitor>(&self, visitor: &mut V) -> Result<(), AllocError>
+        ensures told { OnOk result (Tells V.knows V.step (sequence written_any_operation self.now.operations.items) visitor.old visitor.new) }
+        ensures stopped { OnErr result (V.stopped visitor.new) }
+    {
+        writing::seq(visitor, self.operations.as_slice())?;
+        Ok(())
+    }
+
+    // Tells `object_types`.
+    fn tell_object_types<V: Visitor>(&self, visitor: &mut V) -> Result<(), AllocError>
+        ensures told { OnOk result (Tells V.knows V.step (sequence written_object_type self.now.object_types.items) visitor.old visitor.new) }
+        ensures stopped { OnErr result (V.stopped visitor.new) }
+    {
+        writing::seq(visitor, self.object_types.as_slice())?;
+        Ok(())
+    }
+}
+
+impl<B: Allocator> Serialize for Answered<B> {
+    ghost stated = { written_answered };
+
+    #[tactic(auto, using(kmip_ttlv_base::proofs::Visiting::visited_joined), unfolding(crate::specs::Responses::written_answered))]
+    fn visit<V: Visitor>(&self, visitor: &mut V) -> Result<(), AllocError> {
+        writing::begin_struct(visitor, "0x42007C")?;
+        self.tell_operations(visitor)?;
+        self.tell_object_types(visitor)?;
+        writing::optional_text_string(visitor, "Transparent:0x42009D", &self.vendor)?;
+        writing::end_struct(visitor, "0x42007C")?;
+        Ok(())
+    }
+}
+
+impl<A: Allocator + Copy> reader::ReadStructure<A> for Answered<A> {
+    ghost TAG = { 0x42007C };
+
+    ghost DENIES_UNKNOWN = { false };
+
+    ghost values = { λ x. fields_in (read_answered x) };
+
+    type Fields = (
+        reader::OptionalSeveralItems<AnyOperation, 0x42005C>,
+        (
+            reader::OptionalSeveralItems<ObjectType, 0x420057>,
+            (reader::OptionalLeaf<String<A>, 0x42009D>, ()),
+        ),
+    );
+
+    const TAG: u32 = 0x42007C;
+
+    const DENIES_UNKNOWN: bool = false;
+
+    #[tactic(auto, unfolding(kmip_ttlv_types::specs::Digits::six_digits, crate::specs::Responses::read_answered))]
+    fn from_fields(
+        fields: (
+            Vec<AnyOperation, A>,
+            (Vec<ObjectType, A>, (Option<String<A>>, ())),
+        ),
+    ) -> Self {
+        let (operations, (object_types, (vendor, ()))) = fields;
+        Answered {
+            operations,
+            object_types,
+            vendor,
+        }
+    }
+}
+
+impl<A: Allocator + Copy> Decode<A> for Answered<A> {
+    ghost form = { answered_form };
+
+    ghost is_value = { λ v x. v ≡ read_answered x };
+
+    #[tactic(auto, unfolding(kmip_ttlv_types::specs::Digits::six_digits, crate::specs::Responses::read_answered))]
+    fn decode(alloc: A, bytes: &[u8]) -> Result<Self, error::Error<A>> {
+        reader::read_message(alloc, bytes)
+    }
+}
+
+impl<A: Allocator + Copy> reader::ReadNested<A> for Answered<A> {
+    ghost TAG = { 0x42007C };
+
+    ghost fields = { struct_fields answered_form };
+
+    ghost denies_unknown = { false };
+
+    ghost values = { λ x. fields_in (read_answered x) };
+
+    const TAG: u32 = 0x42007C;
+
+    #[tactic(auto, unfolding(kmip_ttlv_types::specs::Digits::six_digits, crate::specs::Responses::read_answered))]
+    fn read_nested<'b>(
+        scope: &reader::Scope<'b, A>,
+        cursor: &mut reader::Cursor<'b, A>,
+    ) -> reader::Step<Self, A> {
+        reader::read_form(scope, cursor)
+    }
+}
+
+/// What was done.
+#[derive(Drop)]
+#[derive_where(Debug, PartialEq)]
+pub enum ResponsePayload<A: Allocator = Global> {
+    /// The object is kept.
+    Register(Registered<A>),
+    /// Which objects were found.
+    Locate(Located<A>),
+    /// What is known of an object.
+    GetAttributes(GotAttributes<A>),
+    /// What the server can do.
+    Query(Answered<A>),
+}
+
+impl<A: Allocator> ResponsePayload<A> {
+    /// Whether this text, if it is that of 0x42005C, chooses it.
+    pub fn is_chosen_by(&self, text: &str) -> bool
+        ensures { IsTrue result ↔ ChoosesResponsePayload text.now self.now }
+    {
+        match self {
+            ResponsePayload::Register(_) => text == "0x00000003",
+            ResponsePayload::Locate(_) => text == "0x00000008",
+            ResponsePayload::GetAttributes(_) => text == "0x0000000B",
+            ResponsePayload::Query(_) => text == "0x00000018",
+        }
+    }
+}
+
+impl<B: Allocator> Serialize for ResponsePayload<B> {
+    ghost stated = { written_response_payload };
+
+    #[tactic(auto, unfolding(crate::specs::Responses::written_response_payload))]
+    fn visit<V: Visitor>(&self, visitor: &mut V) -> Result<(), AllocError> {
+        match self {
+            ResponsePayload::Register(held) => {
+                held.visit(visitor)?;
+            }
+            ResponsePayload::Locate(held) => {
+                held.visit(visitor)?;
+            }
+            ResponsePayload::GetAttributes(held) => {
+                held.visit(visitor)?;
+            }
+            ResponsePayload::Query(held) => {
+                held.visit(visitor)?;
+            }
+        }
+        Ok(())
+    }
+}
+
+/// The rule that chooses `ResponsePayload::Register`.
+pub struct ResponsePayloadRegisterRule;
+
+impl reader::Rule for ResponsePayloadRegisterRule {
+    ghost condition = { codes "0x42005C==0x00000003" };
+
+    fn name() -> &'static str {
+        "if 0x42005C==0x00000003"
+    }
+
+    #[tactic(auto, unfolding(kmip_ttlv_reader::specs::RuleParts::parts_of))]
+    fn parts() -> Option<reader::RuleParts> {
+        Some(reader::RuleParts {
+            tag: 0x42005C,
+            texts: &["0x00000003"],
+        })
+    }
+}
+
+/// The rule that chooses `ResponsePayload::Locate`.
+pub struct ResponsePayloadLocateRule;
+
+impl reader::Rule for ResponsePayloadLocateRule {
+    ghost condition = { codes "0x42005C==0x00000008" };
+
+    fn name() -> &'static str {
+        "if 0x42005C==0x00000008"
+    }
+
+    #[tactic(auto, unfolding(kmip_ttlv_reader::specs::RuleParts::parts_of))]
+    fn parts() -> Option<reader::RuleParts> {
+        Some(reader::RuleParts {
+            tag: 0x42005C,
+            texts: &["0x00000008"],
+        })
+    }
+}
+
+/// The rule that chooses `ResponsePayload::GetAttributes`.
+pub struct ResponsePayloadGetAttributesRule;
+
+impl reader::Rule for ResponsePayloadGetAttributesRule {
+    ghost condition = { codes "0x42005C==0x0000000B" };
+
+    fn name() -> &'static str {
+        "if 0x42005C==0x0000000B"
+    }
+
+    #[tactic(auto, unfolding(kmip_ttlv_reader::specs::RuleParts::parts_of))]
+    fn parts() -> Option<reader::RuleParts> {
+        Some(reader::RuleParts {
+            tag: 0x42005C,
+            texts: &["0x0000000B"],
+        })
+    }
+}
+
+/// The rule that chooses `ResponsePayload::Query`.
+pub struct ResponsePayloadQueryRule;
+
+impl reader::Rule for ResponsePayloadQueryRule {
+    ghost condition = { codes "0x42005C==0x00000018" };
+
+    fn name() -> &'static str {
+        "if 0x42005C==0x00000018"
+    }
+
+    #[tactic(auto, unfolding(kmip_ttlv_reader::specs::RuleParts::parts_of))]
+    fn parts() -> Option<reader::RuleParts> {
+        Some(reader::RuleParts {
+            tag: 0x42005C,
+            texts: &["0x00000018"],
+        })
+    }
+}
+
+impl<A: Allocator + Copy> reader::Choice<A> for ResponsePayload<A> {
+    ghost own = { codes "payload" };
+
+    type Variants = (
+        reader::Variant<ResponsePayloadRegisterRule, reader::StructureElement<Registered<A>>>,
+        (
+            reader::Variant<ResponsePayloadLocateRule, reader::StructureElement<Located<A>>>,
+            (
+                reader::Variant<
+                    ResponsePayloadGetAttributesRule,
+                    reader::StructureElement<GotAttributes<A>>,
+                >,
+                reader::Variant<ResponsePayloadQueryRule, reader::StructureElement<Answered<A>>>,
+            ),
+        ),
+    );
+}
+
+impl<A: Allocator + Copy> reader::ReadItem<A> for ResponsePayload<A> {
+    ghost form = { response_payload_form };
+
+    ghost value = { read_response_payload };
+
+    ghost plain = { (refl, refl) };
+
+    #[tactic(auto, unfolding(kmip_ttlv_types::specs::Digits::six_digits, crate::specs::Responses::read_response_payload, crate::specs::Responses::registered_value, crate::specs::Responses::read_located, crate::specs::Responses::read_got_attributes, crate::specs::Responses::read_answered))]
+    fn read_item<'b>(
+        scope: &reader::Scope<'b, A>,
+        cursor: &mut reader::Cursor<'b, A>,
+    ) -> reader::Step<Self, A> {
+        match reader::read_choice::<Self, A>(scope, cursor)? {
+            reader::OneOf::First(held) => Ok(ResponsePayload::Register(held)),
+            reader::OneOf::Other(reader::OneOf::First(held)) => Ok(ResponsePayload::Locate(held)),
+            reader::OneOf::Other(reader::OneOf::Other(reader::OneOf::First(held))) => Ok(
+                ResponsePayload::GetAttributes(held),
+            ),
+            reader::OneOf::Other(reader::OneOf::Other(reader::OneOf::Other(held))) => Ok(
+                ResponsePayload::Query(held),
+            ),
+        }
+    }
+}
+
+/// One thing that was done.
+#[derive(Drop)]
+#[derive_where(Debug, PartialEq)]
+pub struct ResponseItem<A: Allocator = Global> {
+    /// What was asked for.
+    pub operation: Operation,
+    /// What was done.
+    pub payload: ResponsePayload<A>,
+}
+
+impl<B: Allocator> Serialize for ResponseItem<B> {
+    ghost stated = { written_response_item };
+
+    #[tactic(auto, unfolding(crate::specs::Responses::written_response_item))]
+    fn visit<V: Visitor>(&self, visitor: &mut V) -> Result<(), AllocError> {
+        writing::begin_struct(visitor, "0x42000F")?;
+        self.operation.visit(visitor)?;
+        writing::unit_variant(visitor, "0x42007F", "0x00000000")?;
+        self.payload.visit(visitor)?;
+        writing::end_struct(visitor, "0x42000F")?;
+        Ok(())
+    }
+}
+
+impl<A: Allocator + Copy> reader::ReadStructure<A> for ResponseItem<A> {
+    ghost TAG = { 0x42000F };
+
+    ghost DENIES_UNKNOWN = { false };
+
+    ghost values = { λ x. fields_in (read_response_item x) };
+
+    type Fields = (
+        reader::Item<Operation, 0x42005C>,
+        (
+            reader::Item<ResponseItemResultStatus, 0x42007F>,
+            (reader::Item<ResponsePayload<A>, 0x42007C>, ()),
+        ),
+    );
+
+    const TAG: u32 = 0x42000F;
+
+    const DENIES_UNKNOWN: bool = false;
+
+    #[tactic(auto, unfolding(kmip_ttlv_types::specs::Digits::six_digits, crate::specs::Responses::read_response_item))]
+    fn from_fields(
+        fields: (
+            Operation,
+            (ResponseItemResultStatus, (ResponsePayload<A>, ())),
+        ),
+    ) -> Self {
+        let (operation, (_, (payload, ()))) = fields;
+        ResponseItem { operation, payload }
+    }
+}
+
+impl<A: Allocator + Copy> Decode<A> for ResponseItem<A> {
+    ghost form = { response_item_form };
+
+    ghost is_value = { λ v x. v ≡ read_response_item x };
+
+    #[tactic(auto, unfolding(kmip_ttlv_types::specs::Digits::six_digits, crate::specs::Responses::read_response_item))]
+    fn decode(alloc: A, bytes: &[u8]) -> Result<Self, error::Error<A>> {
+        reader::read_message(alloc, bytes)
+    }
+}
+
+impl<A: Allocator + Copy> reader::ReadNested<A> for ResponseItem<A> {
+    ghost TAG = { 0x42000F };
+
+    ghost fields = { struct_fields response_item_form };
+
+    ghost denies_unknown = { false };
+
+    ghost values = { λ x. fields_in (read_response_item x) };
+
+    const TAG: u32 = 0x42000F;
+
+    #[tactic(auto, unfolding(kmip_ttlv_types::specs::Digits::six_digits, crate::specs::Responses::read_response_item))]
+    fn read_nested<'b>(
+        scope: &reader::Scope<'b, A>,
+        cursor: &mut reader::Cursor<'b, A>,
+    ) -> reader::Step<Self, A> {
+        reader::read_form(scope, cursor)
+    }
+}
+
+/// What `result_status` of a `ResponseItem` always is.
+#[derive(Clone, Copy, Debug, PartialEq, Eq)]
+pub struct ResponseItemResultStatus;
+
+impl reader::Listed for ResponseItemResultStatus {
+    ghost own = { codes "0x42007F" };
+
+    ghost variants = { variant (codes "0x00000000") unit no_variants };
+
+    ghost value = { λ _. unit_variant_value (codes "0x42007F") (codes "0x00000000") };
+}
+
+impl<A: Allocator + Copy> reader::ReadItem<A> for ResponseItemResultStatus {
+    ghost form = { enum (codes "0x42007F") (variant (codes "0x00000000") unit no_variants) };
+
+    ghost value = { λ _. unit_variant_value (codes "0x42007F") (codes "0x00000000") };
+
+    ghost plain = { (refl, refl) };
+
+    fn read_item<'b>(
+        scope: &reader::Scope<'b, A>,
+        cursor: &mut reader::Cursor<'b, A>,
+    ) -> reader::Step<Self, A> {
+        cursor.listed(scope, &[("0x00000000", ResponseItemResultStatus)])
+    }
+}
+
+/// A response.
+#[derive(Drop)]
+#[derive_where(Debug, PartialEq)]
+pub struct Response<A: Allocator = Global> {
+    /// What it begins with.
+    pub header: ResponseHeader,
+    /// One or more.
+    pub items: Vec<ResponseItem<A>, A>,
+}
+
+impl<B: Allocator> Serialize for Response<B> {
+    ghost stated = { written_response };
+
+    #[tactic(auto, unfolding(crate::specs::Responses::written_response))]
+    fn visit<V: Visitor>(&self, visitor: &mut V) -> Result<(), AllocError> {
+        writing::begin_struct(visitor, "0x42007B")?;
+        self.header.visit(visitor)?;
+        writing::seq(visitor, self.items.as_slice())?;
+        writing::end_struct(visitor, "0x42007B")?;
+        Ok(())
+    }
+}
+
+impl<A: Allocator + Copy> reader::ReadStructure<A> for Response<A> {
+    ghost TAG = { 0x42007B };
+
+    ghost DENIES_UNKNOWN = { false };
+
+    ghost values = { λ x. fields_in (read_response x) };
+
+    type Fields = (
+        reader::Nested<ResponseHeader>,
+        (reader::Several<ResponseItem<A>>, ()),
+    );
+
+    const TAG: u32 = 0x42007B;
+
+    const DENIES_UNKNOWN: bool = false;
+
+    #[tactic(auto, unfolding(kmip_ttlv_types::specs::Digits::six_digits, crate::specs::Responses::read_response, get_messages::specs::Headers::response_header_value, crate::specs::Responses::read_response_item))]
+    fn from_fields(fields: (ResponseHeader, (Vec<ResponseItem<A>, A>, ()))) -> Self {
+        let (header, (items, ())) = fields;
+        Response { header, items }
+    }
+}
+
+impl<A: Allocator + Copy> Decode<A> for Response<A> {
+    ghost form = { response_form };
+
+    ghost is_value = { λ v x. v ≡ read_response x };
+
+    #[tactic(auto, unfolding(kmip_ttlv_types::specs::Digits::six_digits, crate::specs::Responses::read_response))]
+    fn decode(alloc: A, bytes: &[u8]) -> Result<Self, error::Error<A>> {
+        reader::read_message(alloc, bytes)
+    }
+}
+
+impl<A: Allocator + Copy> reader::ReadNested<A> for Response<A> {
+    ghost TAG = { 0x42007B };
+
+    ghost fields = { struct_fields response_form };
+
+    ghost denies_unknown = { false };
+
+    ghost values = { λ x. fields_in (read_response x) };
+
+    const TAG: u32 = 0x42007B;
+
+    #[tactic(auto, unfolding(kmip_ttlv_types::specs::Digits::six_digits, crate::specs::Responses::read_response))]
+    fn read_nested<'b>(
+        scope: &reader::Scope<'b, A>,
+        cursor: &mut reader::Cursor<'b, A>,
+    ) -> reader::Step<Self, A> {
+        reader::read_form(scope, cursor)
+    }
+}

@@ -1,0 +1,69 @@
+-- Written by codegen from types.table: change that, and run codegen/codegen.
+-- Which values of each type are sound: what was encoded of them is decoded again.
+use Rattle.std.specs.Int.{w32, w64}
+use Rattle.std.specs.Prelude.{All, FitsSigned, IfSome, length, ◌%◌, ◌<◌, ◌^◌, ◌≡◌}
+use Rattle.ttlv_vectors.specs.declared.leaves.Numbers.{Numbers}
+use Rattle.ttlv_vectors.specs.declared.leaves.Moments.{Moments}
+use Rattle.ttlv_vectors.specs.declared.leaves.Contents.{Contents}
+use Rattle.ttlv_vectors.specs.declared.leaves.OptionalContents.{OptionalContents}
+use Rattle.ttlv_vectors.specs.declared.query.MaximumItems.{MaximumItems}
+use Rattle.ttlv_vectors.specs.declared.query.LocateRequestPayload.{LocateRequestPayload}
+use Rattle.ttlv_vectors.specs.declared.query.Operation.{Operation}
+use Rattle.ttlv_vectors.specs.declared.query.QueryResponsePayload.{QueryResponsePayload}
+use Rattle.ttlv_vectors.specs.declared.query.ResultReason.{ResultReason}
+use Rattle.ttlv_vectors.specs.declared.query.FailedItem.{FailedItem}
+use Rattle.ttlv_vectors.specs.Queries.{operation_number, result_reason_number}
+
+-- which values of `Numbers` are sound
+abbrev pub IsNumbers : Numbers → Type 0
+IsNumbers x =
+    FitsSigned w32 x.count
+    × FitsSigned w64 x.long
+
+-- which values of `Moments` are sound
+abbrev pub IsMoments : Moments → Type 0
+IsMoments x =
+    FitsSigned w64 x.date
+    × (x.seconds < 2 ^ 32)
+
+-- which values of `Contents` are sound
+abbrev pub IsContents : {A : Type 0} → Contents A → Type 0
+IsContents x =
+    (length x.big.items % 8 ≡ 0)
+
+-- which values of `OptionalContents` are sound
+abbrev pub IsOptionalContents : {A : Type 0} → OptionalContents A → Type 0
+IsOptionalContents x =
+    IfSome x.seconds (λ y. (y < 2 ^ 32))
+    × IfSome x.big (λ y. (length y.items % 8 ≡ 0))
+
+-- which values of `MaximumItems` are sound
+abbrev pub IsMaximumItems : MaximumItems → Type 0
+IsMaximumItems x =
+    FitsSigned w32 x.count
+
+-- which values of `LocateRequestPayload` are sound
+abbrev pub IsLocateRequestPayload : {A : Type 0} → LocateRequestPayload A → Type 0
+IsLocateRequestPayload x =
+    IfSome x.maximum_items IsMaximumItems
+
+-- which values of `Operation` are sound
+abbrev pub IsOperation : Operation → Type 0
+IsOperation x =
+    (operation_number x < 2 ^ 32)
+
+-- which values of `QueryResponsePayload` are sound
+abbrev pub IsQueryResponsePayload : {A : Type 0} → QueryResponsePayload A → Type 0
+IsQueryResponsePayload x =
+    All IsOperation x.operations.items
+
+-- which values of `ResultReason` are sound
+abbrev pub IsResultReason : ResultReason → Type 0
+IsResultReason x =
+    (result_reason_number x < 2 ^ 32)
+
+-- which values of `FailedItem` are sound
+abbrev pub IsFailedItem : {A : Type 0} → FailedItem A → Type 0
+IsFailedItem x =
+    IsOperation x.operation
+    × IfSome x.reason IsResultReason
