@@ -1,6 +1,6 @@
 //! Tests of the tool `ttlv`: what a run prints of worked messages in each encoding, the status and the
 //! error line of malformed or undecodable input, the results of failing allocations, failing writers and
-//! closed pipes, what is printed of long inputs and of raw messages and diagnostics that come in pieces, and what the
+//! closed pipes, what is printed of long inputs and of raw messages, texts and diagnostics that come in pieces, and what the
 //! command line asks for.
 #![tactic(auto)]
 
@@ -32,5 +32,7 @@ mod printed;
 mod read_jsons;
 #[cfg(test)]
 mod runs;
+#[cfg(test)]
+mod texts;
 #[cfg(test)]
 mod words;

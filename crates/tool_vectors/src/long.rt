@@ -121,15 +121,23 @@ fn decodes_in_place(alloc: Global, encoding: Encoding, text: &str) -> Result<boo
 
 #[test]
 fn text_is_decoded_in_its_own_memory(rt: HostRuntime) {
-    let alloc = rt.alloc();
     assert_eq!(rt;
-        decodes_in_place(alloc, Encoding::Hexadecimal, VERSION),
+        decodes_in_place(rt.alloc(), Encoding::Base64, ONE_NUMBER),
         Ok(true)
     );
-    assert_eq!(rt;
-        decodes_in_place(alloc, Encoding::Base64, ONE_NUMBER),
-        Ok(true)
-    );
+}
+
+// How many allocations a run makes for messages in hexadecimal, so many times.
+fn buffers(alloc: Global, times: u64) -> Result<u64, AllocError> {
+    let text = repeated(alloc, VERSION, times)?;
+    growths(alloc, Encoding::Hexadecimal, text.as_str())
+}
+
+// Hexadecimal takes a buffer for the text and one for the bytes, however long it is.
+#[test]
+fn text_that_is_printed_as_it_comes_takes_two_buffers(rt: HostRuntime) {
+    assert_eq!(rt; buffers(rt.alloc(), 1), Ok(2));
+    assert_eq!(rt; buffers(rt.alloc(), 2000), Ok(2));
 }
 
 // The headers of nested structures, each in the one before.

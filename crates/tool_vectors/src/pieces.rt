@@ -1,4 +1,5 @@
-//! Raw input that comes in pieces: each message is printed once it is whole, in memory of the longest message's size.
+//! Input that comes in pieces, raw or in hexadecimal: each message is printed once it is whole, in memory of the longest message's
+//! size.
 
 use crate::runs::{Outcome, VERSION_LINES, names_in, repeated};
 use kmip_ttlv_memory::BoundedAllocator;
@@ -70,11 +71,12 @@ pub fn times(alloc: Global, bytes: &[u8], times: u64) -> Result<Vec<u8>, AllocEr
     Ok(all)
 }
 
-// A run over pieces of so many bytes, and how much was written by the second read.
-fn run_slow<A: Allocator + Copy>(
+/// A run over pieces of so many bytes, and how much was written by the second read.
+pub fn run_slow<A: Allocator + Copy>(
     heap: A,
     alloc: Global,
     task: Task<'_>,
+    encoding: Encoding,
     bytes: &[u8],
     most: usize,
     fails: bool,
@@ -83,7 +85,7 @@ fn run_slow<A: Allocator + Copy>(
     let job = Job {
         name: "capture",
         task,
-        encoding: Encoding::Detected,
+        encoding,
     };
     let memory = Memory {
         input: heap,
@@ -117,7 +119,15 @@ fn run_slow<A: Allocator + Copy>(
 // Whether the first of two messages, which comes in the first read, is printed before the second read.
 fn prints_at_once(alloc: Global) -> Result<bool, AllocError> {
     let all = times(alloc, &VERSION, 2)?;
-    let (outcome, by_second) = run_slow(alloc, alloc, SHOW, all.as_slice(), 47, false)?;
+    let (outcome, by_second) = run_slow(
+        alloc,
+        alloc,
+        SHOW,
+        Encoding::Detected,
+        all.as_slice(),
+        47,
+        false,
+    )?;
     let text = repeated(alloc, VERSION_LINES, 2)?;
     Ok(outcome.is(0, text.as_str(), "") && by_second == VERSION_LINES.len())
 }
@@ -130,7 +140,15 @@ fn a_message_is_printed_before_the_next_read(rt: HostRuntime) {
 // Whether messages are printed alike, however they are cut.
 fn prints_alike(alloc: Global, most: usize) -> Result<bool, AllocError> {
     let all = times(alloc, &VERSION, 4)?;
-    let (outcome, _) = run_slow(alloc, alloc, SHOW, all.as_slice(), most, false)?;
+    let (outcome, _) = run_slow(
+        alloc,
+        alloc,
+        SHOW,
+        Encoding::Detected,
+        all.as_slice(),
+        most,
+        false,
+    )?;
     let text = repeated(alloc, VERSION_LINES, 4)?;
     Ok(outcome.is(0, text.as_str(), ""))
 }
@@ -202,7 +220,15 @@ const BROKEN: [Row; 5] = [
 
 fn breaks_so(alloc: Global, row: Row) -> bool {
     let (bytes, fails, status, text, line) = row;
-    match run_slow(alloc, alloc, Task::Hexadecimal, bytes, 7, fails) {
+    match run_slow(
+        alloc,
+        alloc,
+        Task::Hexadecimal,
+        Encoding::Detected,
+        bytes,
+        7,
+        fails,
+    ) {
         Ok((outcome, _)) => outcome.is(status, text, line),
         Err(AllocError) => false,
     }
@@ -224,6 +250,7 @@ fn prints_within(alloc: Global, count: u64, most: usize) -> Result<bool, AllocEr
         &heap,
         alloc,
         Task::Hexadecimal,
+        Encoding::Detected,
         all.as_slice(),
         70_000,
         false,
@@ -254,7 +281,15 @@ fn long_status(alloc: Global, length: u32, most: usize) -> Result<u8, AllocError
     let all = times(alloc, one.as_slice(), 3)?;
     let heap = BoundedAllocator::in_blocks(alloc, most);
     let task = Task::Check { kmip: false };
-    let (outcome, _) = run_slow(&heap, alloc, task, all.as_slice(), 70_000, false)?;
+    let (outcome, _) = run_slow(
+        &heap,
+        alloc,
+        task,
+        Encoding::Detected,
+        all.as_slice(),
+        70_000,
+        false,
+    )?;
     Ok(outcome.status)
 }
 
@@ -263,7 +298,15 @@ fn claimed_status(alloc: Global, most: usize) -> Result<u8, AllocError> {
     let bytes = [0x42, 0x00, 0x69, 0x01, 0xFF, 0xFF, 0xFF, 0xF0, 0x42];
     let heap = BoundedAllocator::in_blocks(alloc, most);
     let task = Task::Check { kmip: false };
-    let (outcome, _) = run_slow(&heap, alloc, task, bytes.as_slice(), 70_000, false)?;
+    let (outcome, _) = run_slow(
+        &heap,
+        alloc,
+        task,
+        Encoding::Detected,
+        bytes.as_slice(),
+        70_000,
+        false,
+    )?;
     Ok(outcome.status)
 }
 

@@ -7,7 +7,7 @@ use Rattle.std.proofs.lemmas.List.{get_or-take, get_or-drop, get_or_past, length
 use Rattle.kmip_ttlv_types.specs.Places.{length_at}
 use Rattle.kmip_ttlv_items.specs.declared.found.FoundItem.{FoundItem}
 use Rattle.kmip_ttlv_items.specs.declared.found.Fault.{Fault}
-use Rattle.kmip_ttlv_items.specs.ItemWalks.{Meets, at_first, Ended, Ends}
+use Rattle.kmip_ttlv_items.specs.ItemWalks.{Meets, at_first, Ends}
 use Rattle.kmip_ttlv_items.proofs.Completes.{ends}
 use Rattle.ttlv_run.specs.declared.job.Task.{Task}
 use Rattle.ttlv_run.specs.declared.job.Task.TheVariants.{Show}

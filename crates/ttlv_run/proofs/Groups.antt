@@ -2,6 +2,7 @@
 use Rattle.std.proofs.Common.{◌≡◌, ℕ, zero, suc, ◌+◌, ◌-◌, ◌*◌, ◌/◌, ◌%◌, ◌<◌, ◌≤◌, nat_lt, true, false, Bool, if◌then◌else◌, List, [], ◌∷◌, ◌++◌, length, take, drop, slice_index, Option, None, Some, Result, Ok, Err, refl, sym, ap, subst, append_assoc, ◌∙◌, arith, inl, inr}
 use Rattle.std.specs.Io.KnownBytes.{prepend_known}
 use Rattle.std.proofs.lemmas.List.{append-nil, length-append, take_all, take-append-drop, drop-drop, get_or-drop, length-drop, length-take-le}
+use Rattle.std.proofs.lemmas.Bool.Decides.{nat_tests}
 use Rattle.std.proofs.lemmas.Bool.{ltb-true, ltb-false, lt-ltb, le-ltb}
 use Rattle.std.proofs.Math.Seq.{take-append_seam, drop-append_seam}
 use Rattle.std.specs.Prelude.{replicate, IfOk, IfSome}
@@ -23,6 +24,7 @@ use Rattle.base64.proofs.RoundTrip.{groups_encoded, length-encode_symbols}
 use Rattle.base64.proofs.Streams.{decoded_of-groups}
 use Rattle.base64.proofs.Tables.{encode-decode_table, are_tables_inverse}
 use Rattle.ttlv_run.proofs.InPlace.{same_further}
+use Rattle.ttlv_run.specs.Columns as Columns
 use Rattle.ttlv_run.specs.Inputs.{answer_of, decode_digits, width}
 use Rattle.ttlv_run.specs.declared.coding.Alphabet.{Alphabet}
 use Rattle.ttlv_run.specs.declared.coding.Alphabet.TheVariants.{HexadecimalDigits, Base64Digits, UrlDigits, BareUrlDigits}
@@ -385,3 +387,66 @@ one_group a old s new x at made n m wide more bytes is are least most front behi
       same_further new s (made + length x) (at + n) (omega (arith, m.1, most)) behind ∙ same_further s old at (at + n) (omega arith) m.3,
       step ∙ full ∙ prepended (take made s) x (decode_digits a (drop (at + n) old)) ∙ ap (λ (t : List ℕ). prepend_known t (decode_digits a (drop (at + n) old))) (sym front),
     )
+
+-- ---- pairs of hexadecimal digits, one behind the other
+
+in_front_parts : (b : Option ℕ) (r : Option (List ℕ)) (bytes : List ℕ) → in_front b r ≡ Some bytes → (x : ℕ) × (xs : List ℕ) × (b ≡ Some x) × (r ≡ Some xs) × (bytes ≡ x ∷ xs)
+in_front_parts None r bytes is = cc is
+in_front_parts (Some b) None bytes is = cc is
+in_front_parts (Some b) (Some xs) bytes is = (b, xs, refl, refl, sym (some_same is))
+
+in_front_of : (x : ℕ) (xs : List ℕ) (o : Option (List ℕ)) → in_front (Some x) (prepend_known xs o) ≡ prepend_known (x ∷ xs) o
+in_front_of x xs None = refl
+in_front_of x xs (Some ys) = refl
+
+nothing_in_front : (o : Option (List ℕ)) → o ≡ prepend_known [] o
+nothing_in_front None = refl
+nothing_in_front (Some xs) = refl
+
+pairs_behind : (s t bytes : List ℕ) → pairs s ≡ Some bytes → pairs (s ++ t) ≡ prepend_known bytes (pairs t)
+unfolding pairs
+pairs_behind [] t bytes is = nothing_in_front (pairs t) ∙ ap (λ (b : List ℕ). prepend_known b (pairs t)) (some_same is)
+pairs_behind (digit ∷ []) t bytes is = cc is
+pairs_behind (high ∷ low ∷ rest) t bytes is =
+    let p = in_front_parts (both (hex_digit_value high) (hex_digit_value low)) (pairs rest) bytes is in
+    ap (λ (o : Option ℕ). in_front o (pairs (rest ++ t))) p.2
+    ∙ ap (in_front (Some p.0)) (pairs_behind rest t p.1 p.3)
+    ∙ in_front_of p.0 p.1 (pairs t)
+    ∙ ap (λ (b : List ℕ). prepend_known b (pairs t)) (sym p.4)
+
+-- one more
+pub pair_behind : (s bytes : List ℕ) (h l x : ℕ) → decode_digits HexadecimalDigits s ≡ Some bytes → decode_digits HexadecimalDigits (h ∷ l ∷ []) ≡ Some (x ∷ []) → decode_digits HexadecimalDigits (s ++ h ∷ l ∷ []) ≡ Some (bytes ++ x ∷ [])
+pair_behind s bytes h l x is one =
+    hex_pairs (s ++ h ∷ l ∷ []) ∙ pairs_behind s (h ∷ l ∷ []) bytes (sym (hex_pairs s) ∙ is)
+    ∙ ap (prepend_known bytes) (sym (hex_pairs (h ∷ l ∷ [])) ∙ one)
+
+-- or half of one
+pub odd_behind : (s bytes : List ℕ) (h : ℕ) → decode_digits HexadecimalDigits s ≡ Some bytes → decode_digits HexadecimalDigits (s ++ h ∷ []) ≡ None
+unfolding pairs
+odd_behind s bytes h is = hex_pairs (s ++ h ∷ []) ∙ pairs_behind s (h ∷ []) bytes (sym (hex_pairs s) ∙ is)
+
+-- two digits are a byte
+digit_known : (b : ℕ) → Columns.is_hex_digit b ≡ true → hex_digit_value b ≡ None → ⊥
+digit_known b digit none = grind (arith, nat_tests)
+
+pair_both : (h l : Option ℕ) → (h ≡ None → ⊥) → (l ≡ None → ⊥) → in_front (both h l) (Some []) ≡ None → ⊥
+pair_both None l p q none = p refl
+pair_both (Some a) None p q none = q refl
+pair_both (Some a) (Some b) p q none = cc none
+
+pub pair_known : (h l : ℕ) → Columns.is_hex_digit h ≡ true → Columns.is_hex_digit l ≡ true → decode_digits HexadecimalDigits (h ∷ l ∷ []) ≡ None → ⊥
+unfolding pairs
+pair_known h l high low none = pair_both (hex_digit_value h) (hex_digit_value l) (digit_known h high) (digit_known l low) (sym (hex_pairs (h ∷ l ∷ [])) ∙ none)
+
+pub no_digits : decode_digits HexadecimalDigits [] ≡ Some []
+unfolding pairs
+no_digits = hex_pairs []
+
+-- the bytes of a front of digits are a front of all bytes
+some_front : (front all : List ℕ) (o : Option (List ℕ)) → prepend_known front o ≡ Some all → (more : List ℕ) × (all ≡ front ++ more)
+some_front front all None e = cc e
+some_front front all (Some more) e = (more, sym (some_same e))
+
+pub digits_behind : (s t front all : List ℕ) → decode_digits HexadecimalDigits s ≡ Some front → decode_digits HexadecimalDigits (s ++ t) ≡ Some all → (more : List ℕ) × (all ≡ front ++ more)
+digits_behind s t front all is whole =
+    some_front front all (pairs t) (sym (hex_pairs (s ++ t) ∙ pairs_behind s t front (sym (hex_pairs s) ∙ is)) ∙ whole)

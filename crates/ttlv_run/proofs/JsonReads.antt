@@ -1,12 +1,11 @@
 -- Lines of JSON, printed one after the other.
-use Rattle.std.proofs.Common.{◌≡◌, ◌∙◌, inl, inr, ℕ, ◌+◌, List, [], ◌∷◌, ◌++◌, length, Option, Some, None, refl, ap, sym, subst, append_assoc, append-nil}
-use Rattle.std.proofs.KnownBytes.{Appends-trans, Appends-nil}
+use Rattle.std.proofs.Common.{◌≡◌, ◌∙◌, inl, inr, ℕ, ◌+◌, List, [], ◌∷◌, ◌++◌, length, Option, None, refl, ap, sym, subst, append_assoc, append-nil}
+use Rattle.std.proofs.KnownBytes.{Appends-trans}
 use Rattle.std.specs.Io.KnownBytes.{Appends}
 use Rattle.std.specs.Prelude.{Bool}
 use Rattle.kmip_ttlv_types.specs.Streams.{AppendsFront}
 use Rattle.kmip_ttlv_util.specs.Pieces.{SomeText}
 use Rattle.kmip_ttlv_json.specs.declared.failure.JsonError.{JsonError}
-use Rattle.ttlv_run.specs.declared.from_json.LineFault.{LineFault}
 use Rattle.ttlv_run.specs.JsonLines.{Gives, IsBad, Spoils, AllGive, no_line, one_more, GivesFront, FirstBad, PrintsLines}
 use Rattle.ttlv_run.proofs.Appending.{all_front}
 use Rattle.ttlv_run.proofs.Told.{front_more}

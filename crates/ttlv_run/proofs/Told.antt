@@ -1,12 +1,10 @@
 -- What is told of an input, and why a run fails.
 use Rattle.std.proofs.Common.{◌≡◌, inl, inr, ℕ, suc, List, [], ◌∷◌, ◌++◌, Option, Result, Ok, Err, OnOk, OnErr, Bool, true, is_ok, length, take, sym, ap, subst, ◌∙◌, ◌+◌, arith, codes, length-append}
 use Rattle.std.proofs.KnownBytes.{Appends-trans}
-use Rattle.std.specs.Io.KnownBytes.{Appends, Keeps}
+use Rattle.std.specs.Io.KnownBytes.{Appends}
 use Rattle.kmip_ttlv_types.specs.Streams.{AppendsFront}
 use Rattle.ttlv_run.specs.declared.job.Job.{Job}
 use Rattle.ttlv_run.specs.declared.refusal.Refusal.{Refusal}
-use Rattle.ttlv_run.specs.declared.refusal.Refusal.TheVariants.{UnopenedInput, UnreadableInput, MisreadInput, NotUtf8, UnwritableOutput, ClosedPipe, RefusedMemory}
-use Rattle.ttlv_run.specs.Inputs.{TakesAll, IsUndecoded}
 use Rattle.ttlv_run.specs.declared.job.BackJob.{BackJob}
 use Rattle.std.specs.Fmt.{decimal}
 use Rattle.ttlv_run.specs.declared.misread.Misread.{Misread}
@@ -36,16 +34,6 @@ tells_more (Ok x) goes said known mid new front text is says all some h =
 tells_more (Err e) goes said known mid new front text is says all some h =
     let before = subst (λ b. Tells b known mid front) is h in
     subst (λ b. Tells b known new (front ++ text)) (sym says) (front_more known mid new front text before some)
-
--- an input that was taken stands for no bytes, and the output stays as it was
-pub undecoded : (names : Names) (job : Job) (s : Streams) (why : Refusal) (input : List ℕ) → TakesAll s.input s.input_left input → IsUndecoded job.encoding input why → Keeps s.output s.output_now → Fails names job s why
-undecoded names job s UnopenedInput input taken none kept = (record { input = input; taken = taken; undecoded = none }, kept)
-undecoded names job s UnreadableInput input taken none kept = absurd none
-undecoded names job s (MisreadInput m) input taken none kept = (record { input = input; taken = taken; undecoded = none }, kept)
-undecoded names job s NotUtf8 input taken none kept = (record { input = input; taken = taken; undecoded = none }, kept)
-undecoded names job s UnwritableOutput input taken none kept = absurd none
-undecoded names job s ClosedPipe input taken none kept = absurd none
-undecoded names job s RefusedMemory input taken none kept = inl kept
 
 -- printing failed behind a beginning of the text
 pub unwritten : (names : Names) (job : Job) (s : Streams) (why : Refusal) → IsOfPrinting why → Unwritten names job s → Fails names job s why

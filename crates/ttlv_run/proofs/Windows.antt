@@ -8,7 +8,7 @@ use Rattle.std.proofs.lemmas.Bool.{cases_lt, leb-true, le-leb, ltb-true, lt-ltb,
 use Rattle.std.proofs.lemmas.List.{take-append-drop, get_or-take, get_or-drop, get_or_past, get_or_append_left, get_or-append_right, take-append-le, drop-append-le, length-append, length-drop, length-take-le, drop_all, drop-drop}
 use Rattle.kmip_ttlv_types.specs.Places.{length_at}
 use Rattle.kmip_ttlv_types.specs.Streams.{AppendsFront}
-use Rattle.kmip_ttlv_types.proofs.Taken.{AppendsFront-first, AppendsFront-second}
+use Rattle.kmip_ttlv_types.proofs.Taken.{AppendsFront-second}
 use Rattle.kmip_ttlv_items.specs.declared.found.Fault.{Fault}
 use Rattle.kmip_ttlv_items.specs.ItemWalks.{AreBytes}
 use Rattle.kmip_ttlv_util.specs.Pieces.{SomeText}
@@ -23,10 +23,11 @@ use Rattle.ttlv_run.specs.declared.messages.Reached.TheVariants.{Behind, Fault a
 use Rattle.ttlv_run.specs.declared.refusal.Refusal.{Refusal}
 use Rattle.ttlv_run.specs.declared.refusal.Refusal.TheVariants.{UnopenedInput, UnreadableInput, MisreadInput, NotUtf8, UnwritableOutput, ClosedPipe, RefusedMemory}
 use Rattle.ttlv_run.specs.Columns.{body}
-use Rattle.ttlv_run.specs.Guesses.{has_control, text_found, is_raw}
-use Rattle.ttlv_run.specs.Inputs.{IsUnread, form_of, StandsIn, Stands}
+use Rattle.ttlv_run.specs.Fronts.{StandsFrontIn, StandsUpTo}
+use Rattle.ttlv_run.specs.Guesses.{has_control, text_found, front_of, is_raw}
+use Rattle.ttlv_run.specs.Inputs.{TakesSome, IsUnread, form_of, encoding_of, StandsIn, Stands}
 use Rattle.ttlv_run.specs.Messages.{is_there, first_size, message_at, is_taken, Whole, whole_none, whole_more, IsWrong, Breaks, GoesOn}
-use Rattle.ttlv_run.specs.Runs.{Streams, Printed, Faults, Unwritten, Fronts, FrontsIf, Unread, Fails}
+use Rattle.ttlv_run.specs.Runs.{Streams, Printed, Faults, Unwritten, Fronts, FrontsIf, Fails}
 use Rattle.ttlv_run.specs.Streaming.{is_due, StandsAt, EndsAt, PrintsOn, GoesOnBehind, Comes, ComesBy}
 use Rattle.ttlv_run.specs.Texts.{Names, IsMessageText}
 use Rattle.ttlv_run.proofs.Appending.{all_front}
@@ -211,21 +212,20 @@ raw_stands Base64Url s h = absurd (true_is_false (sym h))
 raw_stands Armoured s h = absurd (true_is_false (sym h))
 raw_stands Dump s h = absurd (true_is_false (sym h))
 raw_stands Packets s h = absurd (true_is_false (sym h))
-raw_stands Detected s h = subst (λ (f : Option Form). StandsIn f s s) (sym (ap (λ (b : Bool). form_of (if b then Raw else text_found (body s))) h)) refl
+raw_stands Detected s h = subst (λ (f : Option Form). StandsIn f s s) (sym (ap (λ (b : Bool). form_of (if b then Raw else text_found (front_of s) (body s))) h)) refl
 
 -- the bytes that were taken and those that are left: none where an input ended, and no one knows which where no one says so
 pub record Left (known : Option (List ℕ)) (ended : Bool) : Type 0 where
   pub left : List ℕ
   pub are : IfSome known (λ s. s ≡ left)
   pub none : ended ≡ true → left ≡ []
-  pub bytes : IfSome known AreBytes → AreBytes left
 
-no_bytes : AreBytes []
+pub no_bytes : AreBytes []
 no_bytes k lt = absurd (omega (arith, lt))
 
 pub left_of : (known : Option (List ℕ)) (ended : Bool) → (ended ≡ true → IsAtEnd known) → Left known ended
-left_of None ended end = record { left = []; are = tt; none = λ _. refl; bytes = λ _. no_bytes }
-left_of (Some s) ended end = record { left = s; are = refl; none = end; bytes = λ h. h }
+left_of None ended end = record { left = []; are = tt; none = λ _. refl }
+left_of (Some s) ended end = record { left = s; are = refl; none = end }
 
 -- what was read behind the bytes that were there
 pub came_behind : (a b : Option (List ℕ)) (buf all before : List ℕ) (k n : ℕ) → all ≡ buf → take k buf ≡ before → k + n ≤ length buf → Consumes a b (take n (drop k buf)) → (n ≡ 0 → IsAtEnd b) → ComesBy a b before (take (k + n) all) n
@@ -248,169 +248,226 @@ abbrev pub as_number : Bool → ℕ
 as_number true = 1
 as_number false = 0
 
--- what is known of an input whose raw messages are printed as they come
-pub record Printing (names : Names) (job : Job) (known now output output_now : Option (List ℕ)) (base : ℕ) (bytes : List ℕ) (ended : Bool) : Type 0 where
-  pub taken : List ℕ
+-- what was printed of messages that come one by one: of the bytes that came, those behind a place are there, and what stands
+-- in front of it was printed
+pub record Shown (names : Names) (task : Task) (output output_now : Option (List ℕ)) (base : ℕ) (came bytes : List ℕ) : Type 0 where
   pub text : List ℕ
-  pub consumed : Consumes known now taken
-  pub plain : AreBytes (take base taken)
-  pub raw : is_raw job.encoding taken ≡ true
-  pub four : ended ≡ false → 4 ≤ length taken
-  pub at_end : ended ≡ true → IsAtEnd now
-  pub within : base ≤ length taken
-  pub are : drop base taken ≡ bytes
-  pub whole : (more : List ℕ) → Whole names job.task (taken ++ more) base text
+  pub plain : AreBytes (take base came)
+  pub within : base ≤ length came
+  pub are : drop base came ≡ bytes
+  pub whole : (more : List ℕ) → Whole names task (came ++ more) base text
   pub appended : Appends output output_now text
 
-pub starts : (names : Names) (job : Job) (known now output : Option (List ℕ)) (bytes : List ℕ) (ended : Bool) → Consumes known now bytes → is_raw job.encoding bytes ≡ true → (ended ≡ false → 4 ≤ length bytes) → (ended ≡ true → IsAtEnd now) → Printing names job known now output output 0 bytes ended
-starts names job known now output bytes ended consumed raw four at_end = record {
-  taken = bytes;
+pub shown_none : (names : Names) (task : Task) (output : Option (List ℕ)) (bytes : List ℕ) → Shown names task output output 0 bytes bytes
+shown_none names task output bytes = record {
   text = [];
-  consumed = consumed;
   plain = no_bytes;
-  raw = raw;
-  four = four;
-  at_end = at_end;
   within = omega arith;
   are = refl;
   whole = λ more. whole_none;
   appended = Appends-nil output;
 }
 
-module _ (names : Names) (job : Job) (known now output mid : Option (List ℕ)) (base : ℕ) (bytes : List ℕ) (ended : Bool) (p : Printing names job known now output mid base bytes ended) where
-  -- the bytes stand among those that were taken and those that are left
-  pub stands : (more : List ℕ) → (ended ≡ true → more ≡ []) → StandsAt (p.taken ++ more) base bytes ended
+-- bytes that came, which an input stands for: all of them, or those of some front
+pub record Standing (e : Encoding) (known now : Option (List ℕ)) (came : List ℕ) (last : Bool) : Type 0 where
+  pub input : List ℕ
+  pub taken : TakesSome known now input
+  pub stands : StandsUpTo e input came last
+
+module _ (names : Names) (job : Job) (output mid : Option (List ℕ)) (base : ℕ) (came bytes : List ℕ) (last : Bool) (p : Shown names job.task output mid base came bytes) where
+  -- the bytes stand among those that came and others
+  stands : (more : List ℕ) → (last ≡ true → more ≡ []) → StandsAt (came ++ more) base bytes last
   stands more none = record {
     more = more;
-    within = omega (arith, p.within, length-append p.taken more);
-    are = drop-append-le base p.taken more p.within ∙ ap (λ (s : List ℕ). s ++ more) p.are;
+    within = omega (arith, p.within, length-append came more);
+    are = drop-append-le base came more p.within ∙ ap (λ (s : List ℕ). s ++ more) p.are;
     ends = none;
   }
 
-  -- all that were taken are bytes
-  plain_all : AreBytes bytes → AreBytes p.taken
-  plain_all plain = subst AreBytes (take-append-drop base p.taken) (bytes_append (take base p.taken) (drop base p.taken) p.plain (subst AreBytes (sym p.are) plain))
+  -- all that came are bytes
+  plain_all : AreBytes bytes → AreBytes came
+  plain_all plain = subst AreBytes (take-append-drop base came) (bytes_append (take base came) (drop base came) p.plain (subst AreBytes (sym p.are) plain))
 
-  raw_all : (more : List ℕ) → (ended ≡ true → more ≡ []) → Stands job.encoding (p.taken ++ more) (p.taken ++ more)
-  raw_all more none = raw_stands job.encoding (p.taken ++ more) (raw_on job.encoding p.taken more (by ended refl) ∙ p.raw)
-    where
-      by : (b : Bool) → ended ≡ b → (4 ≤ length p.taken) ⊎ (more ≡ [])
-      by true is = inr (none is)
-      by false is = inl (p.four is)
+  -- exactly what is printed of whole messages was printed
+  pub fronts : is_there bytes ≡ false → Fronts names job.task came output mid
+  fronts none = record {
+    place = base;
+    text = p.text;
+    whole = subst (λ (s : List ℕ). Whole names job.task s base p.text) (append-nil came) (p.whole []);
+    no_more = ap is_there p.are ∙ none;
+    appended = p.appended;
+  }
 
-  module _ (output_now : Option (List ℕ)) where
-    -- the streams, when printing ended here
-    abbrev pub now_at : Streams
-    now_at = record { input = known; input_left = now; output = output; output_now = output_now }
+  -- more bytes came
+  pub more_shown : (others : List ℕ) → Shown names job.task output mid base (came ++ others) (bytes ++ others)
+  more_shown others = record {
+    text = p.text;
+    plain = subst AreBytes (sym (take-append-le base came others p.within)) p.plain;
+    within = omega (arith, p.within, length-append came others);
+    are = drop-append-le base came others p.within ∙ ap (λ (s : List ℕ). s ++ others) p.are;
+    whole = λ more. subst (λ (s : List ℕ). Whole names job.task s base p.text) (sym (append_assoc came others more)) (p.whole (others ++ more));
+    appended = p.appended;
+  }
 
-    -- a fault
-    pub faults : (place : Place) → SomeText (PrintsOn names job.task base bytes ended (AtFault place)) (Appends mid output_now) → Faults names job now_at place
-    faults place told =
-        let l = left_of now ended p.at_end in
-        let all = p.taken ++ l.left in
-        record {
-          input = all;
-          text = p.text ++ told.text;
-          taken = record { front = p.taken; left = l.left; are = refl; taken = p.consumed; rest = l.are };
-          has = record { bytes = all; stands = raw_all l.left l.none; prints = told.is all p.text (stands l.left l.none) (p.whole l.left) };
-          appended = Appends-trans output mid output_now p.text told.text p.appended told.holds;
-        }
-
-    -- printing failed
-    pub fails_in : AreBytes bytes → SomeText (GoesOnBehind names job.task base bytes ended) (AppendsFront mid output_now) → Unwritten names job now_at
-    fails_in plain told some =
-        let l = left_of now ended p.at_end in
-        let all = p.taken ++ l.left in
-        let goes = told.is all p.text (stands l.left l.none) (bytes_append p.taken l.left (plain_all plain) (l.bytes some)) (p.whole l.left) in
-        record {
-          input = all;
-          text = (p.text ++ told.text) ++ goes.more;
-          place = goes.place;
-          taken = record { front = p.taken; left = l.left; are = refl; taken = p.consumed; rest = l.are };
-          has = record { bytes = all; stands = raw_all l.left l.none; prints = goes.prints };
-          appended = AppendsFront-first output output_now (p.text ++ told.text) goes.more (AppendsFront-second output mid output_now p.text told.text p.appended told.holds);
-        }
-
+  module _ (now : Option (List ℕ)) where
     -- whole messages, and all is printed
-    pub printed : (count : ℕ) → ended ≡ true → count ≡ length bytes → SomeText (PrintsOn names job.task base bytes ended (Behind count)) (Appends mid output_now) → Printed names job now_at
-    printed count end is told =
-        let all = p.taken ++ [] in
-        let here = told.is all p.text (stands [] (λ _. refl)) (p.whole []) in
-        let whole : base + count ≡ length all = omega (arith, is, p.within, ap (λ (s : List ℕ). length s) p.are, length-drop base p.taken, ap (λ (s : List ℕ). length s) (append-nil p.taken)) in
-        record {
-          input = p.taken;
-          text = p.text ++ told.text;
-          taken = record { taken = p.consumed; ended = p.at_end end };
-          has = record { bytes = p.taken; stands = subst (λ (s : List ℕ). Stands job.encoding s s) (append-nil p.taken) (raw_all [] (λ _. refl)); prints = subst (λ (s : List ℕ). Whole names job.task s (length s) (p.text ++ told.text)) (append-nil p.taken) (subst (λ (n : ℕ). Whole names job.task all n (p.text ++ told.text)) whole here) };
-          appended = Appends-trans output mid output_now p.text told.text p.appended told.holds;
-        }
+    pub whole_shown : (count : ℕ) → count ≡ length bytes → (told : SomeText (PrintsOn names job.task base bytes last (Behind count)) (Appends mid now)) → Whole names job.task came (length came) (p.text ++ told.text)
+    whole_shown count is told =
+        let here = told.is (came ++ []) p.text (stands [] (λ _. refl)) (p.whole []) in
+        let end : base + count ≡ length came = omega (arith, is, p.within, ap (λ (s : List ℕ). length s) p.are, length-drop base came) in
+        subst (λ (s : List ℕ). Whole names job.task s (length came) (p.text ++ told.text)) (append-nil came) (subst (λ (n : ℕ). Whole names job.task (came ++ []) n (p.text ++ told.text)) end here)
 
     -- whole messages, which are let go of
-    pub goes_further : AreBytes bytes → (count : ℕ) → ended ≡ false → count ≤ length bytes → SomeText (PrintsOn names job.task base bytes ended (Behind count)) (Appends mid output_now) → Printing names job known now output output_now (base + count) (drop count bytes) false
+    pub goes_further : AreBytes bytes → (count : ℕ) → last ≡ false → count ≤ length bytes → SomeText (PrintsOn names job.task base bytes last (Behind count)) (Appends mid now) → Shown names job.task output now (base + count) came (drop count bytes)
     goes_further plain count unended le told = record {
-      taken = p.taken;
       text = p.text ++ told.text;
-      consumed = p.consumed;
-      plain = subst AreBytes (ap (λ (s : List ℕ). take base p.taken ++ take count s) (sym p.are) ∙ sym (take-add base count p.taken)) (bytes_append (take base p.taken) (take count bytes) p.plain (bytes_take count bytes le plain));
-      raw = p.raw;
-      four = λ _. p.four unended;
-      at_end = λ end. absurd (true_is_false (sym end));
-      within = omega (arith, le, p.within, ap (λ (s : List ℕ). length s) p.are, length-drop base p.taken);
-      are = sym (drop-drop count base p.taken) ∙ ap (drop count) p.are;
-      whole = λ more. told.is (p.taken ++ more) p.text (stands more (λ end. absurd (true_is_false (sym end ∙ unended)))) (p.whole more);
-      appended = Appends-trans output mid output_now p.text told.text p.appended told.holds;
+      plain = subst AreBytes (ap (λ (s : List ℕ). take base came ++ take count s) (sym p.are) ∙ sym (take-add base count came)) (bytes_append (take base came) (take count bytes) p.plain (bytes_take count bytes le plain));
+      within = omega (arith, le, p.within, ap (λ (s : List ℕ). length s) p.are, length-drop base came);
+      are = sym (drop-drop count base came) ∙ ap (drop count) p.are;
+      whole = λ more. told.is (came ++ more) p.text (stands more (λ end. absurd (true_is_false (sym end ∙ unended)))) (p.whole more);
+      appended = Appends-trans output mid now p.text told.text p.appended told.holds;
     }
+
+    module _ (known left : Option (List ℕ)) (k : Standing job.encoding known left came last) where
+      -- the streams, when printing ended here
+      abbrev pub now_at : Streams
+      now_at = record { input = known; input_left = left; output = output; output_now = now }
+
+      -- a fault
+      pub faults : (place : Place) → SomeText (PrintsOn names job.task base bytes last (AtFault place)) (Appends mid now) → Faults names job now_at place
+      faults place told = record {
+        input = k.input;
+        bytes = came;
+        last = last;
+        text = p.text ++ told.text;
+        taken = k.taken;
+        stands = k.stands;
+        prints = λ more none. told.is (came ++ more) p.text (stands more none) (p.whole more);
+        appended = Appends-trans output mid now p.text told.text p.appended told.holds;
+      }
+
+      -- printing failed
+      pub fails_in : AreBytes bytes → SomeText (GoesOnBehind names job.task base bytes last) (AppendsFront mid now) → Unwritten names job now_at
+      fails_in plain told = record {
+        input = k.input;
+        bytes = came;
+        last = last;
+        text = p.text ++ told.text;
+        taken = k.taken;
+        stands = k.stands;
+        goes = λ more none others. told.is (came ++ more) p.text (stands more none) (bytes_append came more (plain_all plain) others) (p.whole more);
+        appended = AppendsFront-second output mid now p.text told.text p.appended told.holds;
+      }
+
+  -- memory ran out behind whole messages
+  pub no_memory : AreBytes bytes → (known left : Option (List ℕ)) → (k : Standing job.encoding known left came last) → Unwritten names job (record { input = known; input_left = left; output = output; output_now = mid })
+  no_memory plain known left k = record {
+    input = k.input;
+    bytes = came;
+    last = last;
+    text = p.text;
+    taken = k.taken;
+    stands = k.stands;
+    goes = λ more none others. whole_goes names job.task (came ++ more) (plain_bytes (came ++ more) (bytes_append came more (plain_all plain) others)) base p.text (omega (arith, p.within, length-append came more)) (p.whole more);
+    appended = all_front output mid p.text p.appended;
+  }
+
+-- ---- a raw input
+
+-- what is known of raw bytes that came: they stand for themselves, whatever follows
+pub record RawInput (e : Encoding) (known now : Option (List ℕ)) (came : List ℕ) (ended : Bool) : Type 0 where
+  pub consumed : Consumes known now came
+  pub raw : is_raw e came ≡ true
+  pub four : ended ≡ false → 4 ≤ length came
+  pub at_end : ended ≡ true → IsAtEnd now
+
+-- digits of no form stand in raw bytes
+raw_form : (e : Encoding) (s : List ℕ) → is_raw e s ≡ true → form_of (encoding_of e s) ≡ None
+raw_form Raw s h = refl
+raw_form Hexadecimal s h = absurd (true_is_false (sym h))
+raw_form Base64 s h = absurd (true_is_false (sym h))
+raw_form Base64Url s h = absurd (true_is_false (sym h))
+raw_form Armoured s h = absurd (true_is_false (sym h))
+raw_form Dump s h = absurd (true_is_false (sym h))
+raw_form Packets s h = absurd (true_is_false (sym h))
+raw_form Detected s h = ap (λ (b : Bool). form_of (if b then Raw else text_found (front_of s) (body s))) h
+
+module _ (e : Encoding) (known now : Option (List ℕ)) (came : List ℕ) (ended : Bool) (r : RawInput e known now came ended) where
+  still_raw : (more : List ℕ) → (ended ≡ true → more ≡ []) → is_raw e (came ++ more) ≡ true
+  still_raw more none = raw_on e came more (by ended refl) ∙ r.raw
+    where
+      by : (b : Bool) → ended ≡ b → (4 ≤ length came) ⊎ (more ≡ [])
+      by true is = inr (none is)
+      by false is = inl (r.four is)
+
+  pub raw_standing : Standing e known now came ended
+  raw_standing = record {
+    input = came ++ l.left;
+    taken = record { front = came; left = l.left; are = refl; taken = r.consumed; rest = l.are };
+    stands = by ended refl;
+  }
+    where
+      l : Left now ended
+      l = left_of now ended r.at_end
+
+      by : (b : Bool) → ended ≡ b → StandsUpTo e (came ++ l.left) came b
+      by true is = subst (Stands e (came ++ l.left)) (ap (λ (t : List ℕ). came ++ t) (l.none is) ∙ append-nil came) (raw_stands e (came ++ l.left) (still_raw l.left l.none))
+      by false is = subst (λ (f : Option Form). StandsFrontIn f (came ++ l.left) came) (sym (raw_form e (came ++ l.left) (still_raw l.left l.none))) (l.left, refl)
+
+  -- more bytes came
+  pub more_raw : (next : Option (List ℕ)) (others : List ℕ) (then_ : Bool) → Consumes now next others → ended ≡ false → (then_ ≡ true → IsAtEnd next) → RawInput e known next (came ++ others) then_
+  more_raw next others then_ consumed unended at_end = record {
+    consumed = Consumes-trans known now next came others r.consumed consumed;
+    raw = raw_on e came others (inl (r.four unended)) ∙ r.raw;
+    four = λ _. omega (arith, r.four unended, length-append came others);
+    at_end = at_end;
+  }
+
+-- what is known of raw messages that are printed as they come
+pub record Printing (names : Names) (job : Job) (known now output output_now : Option (List ℕ)) (base : ℕ) (bytes : List ℕ) (ended : Bool) : Type 0 where
+  pub came : List ℕ
+  pub shown : Shown names job.task output output_now base came bytes
+  pub input : RawInput job.encoding known now came ended
+
+module _ (names : Names) (job : Job) (known now output mid : Option (List ℕ)) (base : ℕ) (bytes : List ℕ) (ended : Bool) (p : Printing names job known now output mid base bytes ended) where
+  pub standing : Standing job.encoding known now p.came ended
+  standing = raw_standing job.encoding known now p.came ended p.input
+
+  -- whole messages, and all is printed
+  pub printed : (output_now : Option (List ℕ)) (count : ℕ) → ended ≡ true → count ≡ length bytes → SomeText (PrintsOn names job.task base bytes ended (Behind count)) (Appends mid output_now) → Printed names job (record { input = known; input_left = now; output = output; output_now = output_now })
+  printed output_now count end is told =
+      record {
+        input = p.came;
+        text = p.shown.text ++ told.text;
+        taken = record { taken = p.input.consumed; ended = p.input.at_end end };
+        has = record { bytes = p.came; stands = raw_stands job.encoding p.came p.input.raw; prints = whole_shown names job output mid base p.came bytes ended p.shown output_now count is told };
+        appended = Appends-trans output mid output_now p.shown.text told.text p.shown.appended told.holds;
+      }
 
   -- more bytes came
   pub more_came : (next : Option (List ℕ)) (after : List ℕ) (then_ : Bool) → Comes now next bytes after → ended ≡ false → (then_ ≡ true → IsAtEnd next) → Printing names job known next output mid base after then_
-  more_came next after then_ comes unended at_end =
-      let all = p.taken ++ comes.came in
-      let rest : drop base all ≡ after = drop-append-le base p.taken comes.came p.within ∙ ap (λ (s : List ℕ). s ++ comes.came) p.are ∙ sym comes.are in
-      record {
-        taken = all;
-        text = p.text;
-        consumed = Consumes-trans known now next p.taken comes.came p.consumed comes.consumed;
-        plain = subst AreBytes (sym (take-append-le base p.taken comes.came p.within)) p.plain;
-        raw = raw_on job.encoding p.taken comes.came (inl (p.four unended)) ∙ p.raw;
-        four = λ _. omega (arith, p.four unended, length-append p.taken comes.came);
-        at_end = at_end;
-        within = omega (arith, p.within, length-append p.taken comes.came);
-        are = rest;
-        whole = λ more. subst (λ (s : List ℕ). Whole names job.task s base p.text) (sym (append_assoc p.taken comes.came more)) (p.whole (comes.came ++ more));
-        appended = p.appended;
-      }
+  more_came next after then_ comes unended at_end = record {
+    came = p.came ++ comes.came;
+    shown = subst (Shown names job.task output mid base (p.came ++ comes.came)) (sym comes.are) (more_shown names job output mid base p.came bytes ended p.shown comes.came);
+    input = more_raw job.encoding known now p.came ended p.input next comes.came then_ comes.consumed unended at_end;
+  }
 
-  -- reading failed in front of a message that isn't there as a whole
-  pub unread : (next : Option (List ℕ)) → is_there bytes ≡ false → Keeps now next → ended ≡ false → Unread names job (record { input = known; input_left = next; output = output; output_now = mid })
-  unread next none keeps unended =
-      let fronts : Fronts names job.task p.taken output mid = record {
-        place = base;
-        text = p.text;
-        whole = subst (λ (s : List ℕ). Whole names job.task s base p.text) (append-nil p.taken) (p.whole []);
-        no_more = ap is_there p.are ∙ none;
-        appended = p.appended;
-      } in
-      record { bytes = p.taken; taken = Consumes-kept known now next p.taken p.consumed keeps; fronts = subst (λ (b : Bool). FrontsIf b names job.task p.taken output mid) (sym p.raw) fronts }
-
-  -- memory ran out behind whole messages
-  pub no_memory : AreBytes bytes → (next : Option (List ℕ)) → Keeps now next → (ended ≡ true → IsAtEnd next) → Unwritten names job (record { input = known; input_left = next; output = output; output_now = mid })
-  no_memory plain next keeps at_end some =
-      let l = left_of next ended at_end in
-      let all = p.taken ++ l.left in
-      let goes : GoesOn names job.task all p.text = whole_goes names job.task all (plain_bytes all (bytes_append p.taken l.left (plain_all plain) (l.bytes some))) base p.text (omega (arith, p.within, length-append p.taken l.left)) (p.whole l.left) in
-      record {
-        input = all;
-        text = p.text ++ goes.more;
-        place = goes.place;
-        taken = record { front = p.taken; left = l.left; are = refl; taken = Consumes-kept known now next p.taken p.consumed keeps; rest = l.are };
-        has = record { bytes = all; stands = raw_all l.left l.none; prints = goes.prints };
-        appended = AppendsFront-first output mid p.text goes.more (all_front output mid p.text p.appended);
-      }
-
-  -- reading failed, or memory ran out for it
+  -- reading failed, or memory ran out for it, in front of a message that isn't there as a whole
   pub read_fails : AreBytes bytes → (next : Option (List ℕ)) (why : Refusal) → IsUnread why → is_there bytes ≡ false → Keeps now next → ended ≡ false → Fails names job (record { input = known; input_left = next; output = output; output_now = mid }) why
-  read_fails plain next UnreadableInput h none keeps unended = unread next none keeps unended
-  read_fails plain next RefusedMemory h none keeps unended = inr (no_memory plain next keeps (λ end. absurd (true_is_false (sym end ∙ unended))))
+  read_fails plain next UnreadableInput h none keeps unended =
+      record {
+        bytes = p.came;
+        taken = Consumes-kept known now next p.came p.input.consumed keeps;
+        fronts = subst (λ (b : Bool). FrontsIf b names job p.came output mid) (sym p.input.raw) (fronts names job output mid base p.came bytes ended p.shown none);
+      }
+  read_fails plain next RefusedMemory h none keeps unended =
+      let still : RawInput job.encoding known next p.came false = record {
+        consumed = Consumes-kept known now next p.came p.input.consumed keeps;
+        raw = p.input.raw;
+        four = λ _. p.input.four unended;
+        at_end = λ end. absurd (true_is_false (sym end));
+      } in
+      inr (no_memory names job output mid base p.came bytes false p.shown plain known next (raw_standing job.encoding known next p.came false still))
   read_fails plain next UnopenedInput h none keeps unended = absurd h
   read_fails plain next (MisreadInput m) h none keeps unended = absurd h
   read_fails plain next NotUtf8 h none keeps unended = absurd h

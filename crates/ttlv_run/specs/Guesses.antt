@@ -64,13 +64,44 @@ abbrev pub by_first : List ℕ → Option ℕ → Encoding
 by_first s None = Hexadecimal
 by_first s (Some b) = by_first_byte s b
 
--- what a text looks like
-abbrev pub text_found : List ℕ → Encoding
-text_found s = if has_packet s then Packets else if starts_dump s then Dump else by_first s (first_byte s)
+-- a byte that stands in a text of hexadecimal digits
+abbrev pub is_in_hexadecimal : ℕ → Bool
+is_in_hexadecimal b = is_hex_digit b || is_between b || b == 45 || b == 92 || b == 120 || b == 88
+
+-- no other byte stands in a text
+abbrev pub is_hexadecimal : List ℕ → Bool
+is_hexadecimal [] = true
+is_hexadecimal (b ∷ s) = is_in_hexadecimal b && is_hexadecimal s
+
+-- a text of hexadecimal digits begins with one, or with a backslash
+abbrev pub starts_digit : Option ℕ → Bool
+starts_digit None = false
+starts_digit (Some b) = is_hex_digit b || b == 92
+
+-- how many bytes of a text are its front, which alone tells some encodings
+abbrev pub front_length : ℕ
+front_length = 64
+
+-- what the front of a text tells: a dump of packets, another dump, or hexadecimal digits; or none of these
+abbrev pub front_found : List ℕ → Option Encoding
+front_found s =
+    if has_packet s then Some Packets
+    else if starts_dump s then Some Dump
+    else if starts_digit (first_byte s) && is_hexadecimal s then Some Hexadecimal
+    else None
+
+-- what a text looks like: what its front tells, or else what all of it does
+abbrev pub text_found : Option Encoding → List ℕ → Encoding
+text_found (Some e) s = e
+text_found None s = if has_packet s then Packets else if starts_dump s then Dump else by_first s (first_byte s)
+
+-- what the front of an input that isn't raw tells
+abbrev pub front_of : List ℕ → Option Encoding
+front_of s = front_found (body (take front_length s))
 
 -- what an input looks like
 abbrev pub encoding_found : List ℕ → Encoding
-encoding_found s = if looks_raw s then Raw else text_found (body s)
+encoding_found s = if looks_raw s then Raw else text_found (front_of s) (body s)
 
 -- an input is taken as raw messages
 abbrev pub is_raw : Encoding → List ℕ → Bool

@@ -1,8 +1,10 @@
 pub mod Backs
 pub mod Columns
 pub mod Dates
+pub mod Decoding
 pub mod DumpLines
 pub mod Files
+pub mod Fronts
 pub mod Guesses
 pub mod Inputs
 pub mod Items

@@ -1,5 +1,5 @@
 -- The names of values, and of a mask's bits.
-use Rattle.std.specs.Prelude.{ℕ, zero, suc, ◌*◌, ◌/◌, ◌%◌, Bool, true, false, ◌==◌, List, [], ◌∷◌, ◌++◌}
+use Rattle.std.specs.Prelude.{ℕ, zero, suc, ◌*◌, ◌/◌, ◌%◌, Bool, true, false, ◌==◌, List, [], ◌++◌}
 use Rattle.std.specs.Prelude.{Option, Some, None, if◌then◌else◌, codes}
 use Rattle.kmip_ttlv_names.specs.ValueNames.{name_of_value, or_else}
 use Rattle.kmip_ttlv_names.specs.OwnNames.{value_key}

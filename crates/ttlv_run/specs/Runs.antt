@@ -1,23 +1,27 @@
 -- What a run takes, prints and says.
-use Rattle.std.specs.Prelude.{◌≡◌, ◌⊎◌, ℕ, Bool, true, false, List, [], ◌∷◌, ◌++◌, drop, Option, Some, None, IfSome, Result, Ok, Err}
+use Rattle.std.specs.Prelude.{◌≡◌, ◌⊎◌, ℕ, Bool, true, false, List, [], ◌∷◌, ◌++◌, ◌≤◌, length, drop, nat_lt, if◌then◌else◌, Option, Some, None, Result, Ok, Err}
 use Rattle.std.specs.Io.KnownBytes.{Appends, Consumes, Keeps}
 use Rattle.kmip_ttlv_items.specs.ItemWalks.{AreBytes}
 use Rattle.kmip_ttlv_types.specs.Streams.{AppendsFront}
 use Rattle.std.specs.Str.{IsUtf8}
+use Rattle.ttlv_run.specs.declared.form.Form.{Form}
+use Rattle.ttlv_run.specs.declared.job.Encoding.{Encoding}
 use Rattle.ttlv_run.specs.declared.job.Job.{Job}
 use Rattle.ttlv_run.specs.declared.job.BackJob.{BackJob}
 use Rattle.ttlv_run.specs.declared.job.Task.{Task}
 use Rattle.ttlv_run.specs.declared.messages.Place.{Place}
+use Rattle.ttlv_run.specs.declared.misread.Misread.{Misread}
 use Rattle.ttlv_run.specs.declared.refusal.Refusal.{Refusal}
-use Rattle.ttlv_run.specs.declared.refusal.Refusal.TheVariants.{UnreadableInput, NotUtf8}
+use Rattle.ttlv_run.specs.declared.refusal.Refusal.TheVariants.{UnopenedInput, UnreadableInput, MisreadInput, NotUtf8}
 use Rattle.ttlv_run.specs.declared.refusal.Refusal.TheVariants.{UnwritableOutput, ClosedPipe, RefusedMemory}
 use Rattle.kmip_ttlv_names.specs.NameTables.{lines_of}
 use Rattle.kmip_ttlv_util.specs.Pieces.{SomeText}
 use Rattle.ttlv_run.specs.declared.back.BackFault.{BackFault}
 use Rattle.ttlv_run.specs.Backs.{FirstBreak, IsOneLine, AreLines, ReadsLines, back_line}
+use Rattle.ttlv_run.specs.Fronts.{coming, front_size, DecodesTo, StandsUpTo}
 use Rattle.ttlv_run.specs.Guesses.{is_raw}
-use Rattle.ttlv_run.specs.Inputs.{TakesAll, TakesSome, Stands, IsUndecoded}
-use Rattle.ttlv_run.specs.Messages.{is_there, Whole, Prints, fault_line}
+use Rattle.ttlv_run.specs.Inputs.{TakesAll, TakesSome, Stands, Misreads}
+use Rattle.ttlv_run.specs.Messages.{is_there, Whole, Prints, GoesOn, Breaks as MessageBreaks, fault_line}
 use Rattle.ttlv_run.specs.Reasons.{IsOfPrinting, status_of, refusal_line}
 use Rattle.ttlv_run.specs.Texts.{Names, text_back}
 
@@ -42,12 +46,16 @@ pub record Printed (names : Names) (job : Job) (s : Streams) : Type 0 where
   pub has : HasText names job input text None
   pub appended : Appends s.output s.output_now text
 
--- a message of the input is wrong, and exactly what is printed up to its fault was appended to the output
+-- behind a front of the input, or all of it, stands a message that is wrong, whatever follows; and exactly what is printed up to
+-- its fault was appended to the output
 pub record Faults (names : Names) (job : Job) (s : Streams) (place : Place) : Type 0 where
   pub input : List ℕ
+  pub bytes : List ℕ
+  pub last : Bool
   pub text : List ℕ
   pub taken : TakesSome s.input s.input_left input
-  pub has : HasText names job input text (Some place)
+  pub stands : StandsUpTo job.encoding input bytes last
+  pub prints : (more : List ℕ) → (last ≡ true → more ≡ []) → MessageBreaks names job.task (bytes ++ more) text place
   pub appended : Appends s.output s.output_now text
 
 -- and this line says so
@@ -56,26 +64,19 @@ pub record Breaks (names : Names) (job : Job) (s : Streams) (line : List ℕ) : 
   pub faults : Faults names job s place
   pub says : line ≡ fault_line names job.name.now place
 
--- the whole input was taken, and this is why it stands for no bytes
-pub record Undecoded (job : Job) (s : Streams) (why : Refusal) : Type 0 where
+-- a beginning of what is printed of the input was appended to the output, whatever follows the bytes that a front of it, or all
+-- of it, stands for
+pub record Unwritten (names : Names) (job : Job) (s : Streams) : Type 0 where
   pub input : List ℕ
-  pub taken : TakesAll s.input s.input_left input
-  pub undecoded : IsUndecoded job.encoding input why
-
--- a beginning of what is printed of the input was appended to the output
-pub record Begun (names : Names) (job : Job) (s : Streams) : Type 0 where
-  pub input : List ℕ
+  pub bytes : List ℕ
+  pub last : Bool
   pub text : List ℕ
-  pub place : Option Place
   pub taken : TakesSome s.input s.input_left input
-  pub has : HasText names job input text place
+  pub stands : StandsUpTo job.encoding input bytes last
+  pub goes : (more : List ℕ) → (last ≡ true → more ≡ []) → AreBytes more → GoesOn names job.task (bytes ++ more) text
   pub appended : AppendsFront s.output s.output_now text
 
--- the same, as long as what the input has left are bytes
-abbrev pub Unwritten : Names → Job → Streams → Type 0
-Unwritten names job s = IfSome s.input_left AreBytes → Begun names job s
-
--- exactly what is printed of the messages that are whole among raw bytes was appended to the output
+-- exactly what is printed of the messages that are whole among bytes was appended to the output
 pub record Fronts (names : Names) (task : Task) (bytes : List ℕ) (output output_now : Option (List ℕ)) : Type 0 where
   pub place : ℕ
   pub text : List ℕ
@@ -83,24 +84,55 @@ pub record Fronts (names : Names) (task : Task) (bytes : List ℕ) (output outpu
   pub no_more : is_there (drop place bytes) ≡ false
   pub appended : Appends output output_now text
 
--- these bytes came before reading failed: raw, or a text, of which nothing is printed then
-abbrev pub FrontsIf : Bool → Names → Task → List ℕ → Option (List ℕ) → Option (List ℕ) → Type 0
-FrontsIf true names task bytes output output_now = Fronts names task bytes output output_now
-FrontsIf false names task bytes output output_now = Keeps output output_now
+-- exactly what is printed of the messages that are whole among the bytes of a text up to a rest was appended to the output
+pub record TextFronts
+    (names : Names) (task : Task) (form : Form) (s rest : List ℕ) (output output_now : Option (List ℕ)) : Type 0 where
+  pub bytes : List ℕ
+  pub decodes : DecodesTo form s bytes rest
+  pub fronts : Fronts names task bytes output output_now
+
+-- the input stands for no bytes, and this is why; of a text that is decoded as it comes, what is printed of the messages that
+-- are whole in front of the error was appended; any other was taken to its end, and nothing was appended
+abbrev pub UndecodedIn : Option Form → Names → Task → Streams → List ℕ → ℕ → Type 0
+UndecodedIn (Some form) names task s input place =
+    TakesSome s.input s.input_left input × TextFronts names task form input (drop place input) s.output s.output_now
+UndecodedIn None names task s input place = TakesAll s.input s.input_left input × Keeps s.output s.output_now
+
+pub record Undecoded (names : Names) (job : Job) (s : Streams) (m : Misread) : Type 0 where
+  pub input : List ℕ
+  pub misreads : Misreads job.encoding input m
+  pub printed : UndecodedIn (coming job.encoding input) names job.task s input m.offset
+
+-- these bytes of a text came before reading failed. If it is decoded as it comes, and its front came, what is printed of the
+-- messages that are whole in front of the last character or behind it was appended; or else nothing
+abbrev pub TextFrontsIf : Option Form → Names → Task → List ℕ → Option (List ℕ) → Option (List ℕ) → Type 0
+TextFrontsIf (Some form) names task s output output_now =
+    (rest : List ℕ) × (length rest ≤ 1) × TextFronts names task form s rest output output_now
+TextFrontsIf None names task s output output_now = Keeps output output_now
+
+abbrev pub form_told : Encoding → List ℕ → Option Form
+form_told e s = if nat_lt (length s) (front_size e) then None else coming e s
+
+-- these bytes came before reading failed: raw, or a text
+abbrev pub FrontsIf : Bool → Names → Job → List ℕ → Option (List ℕ) → Option (List ℕ) → Type 0
+FrontsIf true names job bytes output output_now = Fronts names job.task bytes output output_now
+FrontsIf false names job bytes output output_now =
+    TextFrontsIf (form_told job.encoding bytes) names job.task bytes output output_now
 
 pub record Unread (names : Names) (job : Job) (s : Streams) : Type 0 where
   pub bytes : List ℕ
   pub taken : Consumes s.input s.input_left bytes
-  pub fronts : FrontsIf (is_raw job.encoding bytes) names job.task bytes s.output s.output_now
+  pub fronts : FrontsIf (is_raw job.encoding bytes) names job bytes s.output s.output_now
 
--- why a run ends with status 2 or 3, and what it did by then: the output stays as it was, but where raw messages came before
--- reading failed, where the output can't be written, and where memory ran out behind a beginning of what is printed
+-- why a run ends with status 2 or 3, and what it did by then
 abbrev pub Fails : Names → Job → Streams → Refusal → Type 0
 Fails names job s UnreadableInput = Unread names job s
 Fails names job s UnwritableOutput = Unwritten names job s
 Fails names job s ClosedPipe = Unwritten names job s
 Fails names job s RefusedMemory = Keeps s.output s.output_now ⊎ Unwritten names job s
-Fails names job s why = Undecoded job s why × Keeps s.output s.output_now
+Fails names job s (MisreadInput m) = Undecoded names job s m
+Fails names job s UnopenedInput = ⊥
+Fails names job s NotUtf8 = ⊥
 
 -- what is printed for a job, up to the first fault
 abbrev pub Places : Names → Job → Streams → Result (Option Place) Refusal → Type 0
@@ -114,9 +146,8 @@ abbrev pub PrintsInput :
 PrintsInput names job input output output_now (Ok place) =
     SomeText (λ text. HasText names job input text place) (Appends output output_now)
 PrintsInput names job input output output_now (Err why) =
-    (IsUndecoded job.encoding input why × Keeps output output_now)
-    ⊎ (IsOfPrinting why
-    × SomeText (λ text. (place : Option Place) × HasText names job input text place) (AppendsFront output output_now))
+    IsOfPrinting why
+    × SomeText (λ text. (place : Option Place) × HasText names job input text place) (AppendsFront output output_now)
 
 -- what is done for a job
 abbrev pub Responds : {T : Type 0} → (T → List ℕ) → Names → Job → Streams → Result (Option T) Refusal → Type 0

@@ -83,14 +83,14 @@ pub record RestFails (old new : Option (List ℕ)) (ended : Bool) : Type 0 where
   pub consumed : Consumes old new came
   pub before : ended ≡ false
 
--- an input begins with these bytes, which are four at least or all
-pub record Begins (old new : Option (List ℕ)) (front : List ℕ) (ended : Bool) : Type 0 where
-  pub consumed : Consumes old new front
-  pub four : ended ≡ false → 4 ≤ length front
+-- bytes came behind those that were there, and now so many are there at least, or all
+pub record Begins (old new : Option (List ℕ)) (before after : List ℕ) (least : ℕ) (ended : Bool) : Type 0 where
+  pub comes : Comes old new before after
+  pub enough : ended ≡ false → least ≤ length after
   pub at_end : ended ≡ true → IsAtEnd new
 
--- fewer were taken
-pub record BeginFails (old new : Option (List ℕ)) : Type 0 where
-  pub front : List ℕ
-  pub consumed : Consumes old new front
-  pub few : length front < 4
+-- reading failed, and fewer came
+pub record BeginFails (old new : Option (List ℕ)) (before : List ℕ) (least : ℕ) : Type 0 where
+  pub after : List ℕ
+  pub comes : Comes old new before after
+  pub few : length after < least

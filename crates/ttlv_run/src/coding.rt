@@ -2,11 +2,14 @@
 
 ghost use Rattle.std.specs.Prelude.{◌≡◌, ◌<◌, ◌≤◌, ◌+◌, ◌++◌, true, length, take, drop, Some, None, IfOk, IfErr, IfSome, IfNone};
 ghost use Rattle.base64.specs.GeneralPurpose.{IsBytes};
+ghost use Rattle.ttlv_run.specs.declared.refusal.Refusal.TheVariants.{MisreadInput as AMisread};
+ghost use Rattle.ttlv_run.specs.Fronts.{front_size, form_if, if_streamed, coming, taken_as};
 ghost use Rattle.ttlv_run.specs.Inputs.{TakesAll, IsUnread, Kept, IsUnkept, has_padding, url_alphabet, alphabet_of, width, decode_digits};
 ghost use Rattle.ttlv_run.specs.Inputs.{Decodes, IsUndecodable, form_of, encoding_of, is_detected, Stands, IsUndecoded};
 
+use crate::decoder::is_streamed;
 use crate::form::{Form, Step, first_part, step_of};
-use crate::guess::{byte_at, encoding_found, mark_length};
+use crate::guess::{FRONT, byte_at, encoding_found, front_of, mark_length};
 use crate::job::Encoding;
 use crate::misread::{Misread, MisreadKind};
 use crate::refusal::Refusal;
@@ -233,6 +236,73 @@ fn encoding_of(encoding: Encoding, input: &[u8]) -> Encoding
     encoding
 }
 
+/// The error of an input that was taken as an encoding and stands for no bytes.
+pub fn misread(encoding: Encoding, taken: Encoding, why: Undecoded) -> Refusal
+    ensures { result ≡ AMisread (record {
+      taken = taken;
+      guessed = is_detected encoding;
+      offset = why.offset;
+      kind = why.kind;
+    }) }
+{
+    Refusal::MisreadInput(Misread {
+        taken,
+        guessed: is_detected(encoding),
+        offset: why.offset,
+        kind: why.kind,
+    })
+}
+
+/// How many bytes of an input tell whether it is decoded as it comes, if it is as long.
+pub fn front_size(encoding: Encoding) -> usize
+    ensures { result ≡ front_size encoding }
+{
+    if is_detected(encoding) { FRONT } else { 4 }
+}
+
+// How digits stand in an input of an encoding, if that is known.
+fn form_if(encoding: Option<Encoding>) -> Option<Form>
+    ensures { result ≡ form_if encoding }
+{
+    form_of(encoding?)
+}
+
+// How digits stand in a text, if that is decoded as it comes.
+fn if_streamed(form: Option<Form>) -> Option<Form>
+    ensures { result ≡ if_streamed form }
+{
+    match form {
+        Some(form) if is_streamed(form) => Some(form),
+        _ => None,
+    }
+}
+
+/// How digits stand in an input that is decoded as it comes, of which the front is there or all.
+pub fn coming(encoding: Encoding, front: &[u8]) -> Option<Form>
+    ensures { result ≡ coming encoding front.now }
+{
+    let told = if is_detected(encoding) {
+        front_of(front)
+    } else {
+        Some(encoding)
+    };
+    if_streamed(form_if(told))
+}
+
+/// The encoding of a text.
+pub fn taken_as(form: Form) -> Encoding
+    ensures { result ≡ taken_as form }
+{
+    match form {
+        Form::HexadecimalText => Encoding::Hexadecimal,
+        Form::Base64Text => Encoding::Base64,
+        Form::Base64UrlText => Encoding::Base64Url,
+        Form::ArmouredText => Encoding::Armoured,
+        Form::DumpText => Encoding::Dump,
+        Form::PacketText => Encoding::Packets,
+    }
+}
+
 /// The bytes of messages that an input stands for, in the memory of the input.
 pub fn bytes_of<A: Allocator>(encoding: Encoding, input: Vec<u8, A>) -> Result<Vec<u8, A>, Refusal>
     ensures ok { IfOk result (λ bytes. Stands encoding input.items bytes.items) }
@@ -244,11 +314,6 @@ pub fn bytes_of<A: Allocator>(encoding: Encoding, input: Vec<u8, A>) -> Result<V
     };
     match decode(form, input) {
         Ok(bytes) => Ok(bytes),
-        Err(why) => Err(Refusal::MisreadInput(Misread {
-            taken,
-            guessed: is_detected(encoding),
-            offset: why.offset,
-            kind: why.kind,
-        })),
+        Err(why) => Err(misread(encoding, taken, why)),
     }
 }

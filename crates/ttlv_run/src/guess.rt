@@ -1,12 +1,15 @@
 //! What an input is taken as, where its encoding isn't named: raw messages, or one of the texts that stand for some.
 
-ghost use Rattle.std.specs.Prelude.{◌≡◌, ◌<◌, ◌≤◌, length, slice_index};
+ghost use Rattle.std.specs.Prelude.{◌≡◌, ◌<◌, ◌≤◌, length, slice_index, take};
 ghost use Rattle.ttlv_run.specs.Columns.{mark_length};
 ghost use Rattle.ttlv_run.specs.Guesses.{is_control, has_control, looks_raw, first_byte, zeros, ends_offset, starts_dump};
-ghost use Rattle.ttlv_run.specs.Guesses.{starts_packet, has_packet, has_url_digit, by_first_byte, text_found, encoding_found, is_raw};
+ghost use Rattle.ttlv_run.specs.Guesses.{starts_packet, has_packet, has_url_digit, by_first_byte, is_in_hexadecimal, is_hexadecimal, starts_digit, front_length, front_found, text_found, front_of, encoding_found, is_raw};
 
 use crate::form::{is_between, is_hex_digit};
 use crate::job::Encoding;
+
+/// How many bytes of a text are its front.
+pub const FRONT: usize = 64;
 
 fn is_control(b: u8) -> bool
     ensures { result ≡ is_control b }
@@ -137,10 +140,57 @@ fn by_first_byte(text: &[u8], first: u8) -> Encoding
     Encoding::Base64
 }
 
-// What a text looks like.
-fn text_found(text: &[u8]) -> Encoding
-    ensures { result ≡ text_found text.now }
+fn is_in_hexadecimal(b: u8) -> bool
+    ensures { result ≡ is_in_hexadecimal b }
 {
+    is_hex_digit(b) || is_between(b) || b == 45 || b == 92 || b == 120 || b == 88
+}
+
+// Whether each byte of a text stands in texts of hexadecimal digits.
+fn is_hexadecimal(text: &[u8]) -> bool
+    ensures { result ≡ is_hexadecimal text.now }
+{
+    for b in text {
+        if !is_in_hexadecimal(*b) {
+            return false;
+        }
+    }
+    true
+}
+
+// Whether a text begins with a hexadecimal digit or a backslash.
+fn starts_digit(first: Option<u8>) -> bool
+    ensures { result ≡ starts_digit first }
+{
+    match first {
+        Some(b) => is_hex_digit(b) || b == 92,
+        None => false,
+    }
+}
+
+// What the front of a text tells.
+fn front_found(text: &[u8]) -> Option<Encoding>
+    ensures { result ≡ front_found text.now }
+{
+    if has_packet(text) {
+        return Some(Encoding::Packets);
+    }
+    if starts_dump(text) {
+        return Some(Encoding::Dump);
+    }
+    if starts_digit(first_byte(text)) && is_hexadecimal(text) {
+        return Some(Encoding::Hexadecimal);
+    }
+    None
+}
+
+// What a text looks like, by what its front tells or else by all of it.
+fn text_found(front: Option<Encoding>, text: &[u8]) -> Encoding
+    ensures { result ≡ text_found front text.now }
+{
+    if let Some(encoding) = front {
+        return encoding;
+    }
     if has_packet(text) {
         return Encoding::Packets;
     }
@@ -164,6 +214,24 @@ pub fn mark_length(input: &[u8]) -> usize
     0
 }
 
+// The front of an input.
+fn front(input: &[u8]) -> &[u8]
+    ensures { result.now ≡ take front_length input.now }
+{
+    if input.len() < FRONT {
+        return input;
+    }
+    &input[..FRONT]
+}
+
+/// What the front of an input that isn't raw tells: what it is, if that is decoded as it comes.
+pub fn front_of(input: &[u8]) -> Option<Encoding>
+    ensures { result ≡ front_of input.now }
+{
+    let text = front(input);
+    front_found(&text[mark_length(text)..])
+}
+
 /// What an input looks like.
 pub fn encoding_found(input: &[u8]) -> Encoding
     ensures { result ≡ encoding_found input.now }
@@ -171,7 +239,7 @@ pub fn encoding_found(input: &[u8]) -> Encoding
     if looks_raw(input) {
         return Encoding::Raw;
     }
-    text_found(&input[mark_length(input)..])
+    text_found(front_of(input), &input[mark_length(input)..])
 }
 
 /// Whether an input is raw messages, of which the first four bytes are there or all.

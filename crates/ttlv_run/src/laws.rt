@@ -1,6 +1,6 @@
 //! Laws of the definitions that the run's contract cites, each on a function without a body.
 
-ghost use Rattle.std.specs.Prelude.{◌<◌, ◌≤◌, ◌++◌, ℕ, List, [], length};
+ghost use Rattle.std.specs.Prelude.{◌≡◌, ◌<◌, ◌≤◌, ◌++◌, ℕ, List, [], Some, length};
 ghost use Rattle.kmip_ttlv_items.specs.declared.found.FoundItem.{FoundItem as AnItem};
 ghost use Rattle.kmip_ttlv_items.specs.ItemWalks.{AreBytes, Meets};
 ghost use Rattle.ttlv_run.specs.declared.job.Task.{Task as ATask};
@@ -8,7 +8,13 @@ ghost use Rattle.ttlv_run.specs.declared.job.Task.TheVariants.{Show as ToShow};
 ghost use Rattle.ttlv_run.specs.declared.job.Look.{Look as TheLook};
 ghost use Rattle.ttlv_run.specs.declared.form.Form.TheVariants.{DumpText};
 ghost use Rattle.ttlv_run.specs.DumpLines.{ColonLine, BareLine, CountsColumn};
+ghost use Rattle.ttlv_run.specs.declared.job.Encoding.{Encoding as AnEncoding};
+ghost use Rattle.ttlv_run.specs.declared.job.Job.{Job as AJob};
+ghost use Rattle.ttlv_run.specs.declared.messages.Place.{Place as APlace};
+ghost use Rattle.ttlv_run.specs.Fronts.{StandsFront};
+ghost use Rattle.ttlv_run.specs.Inputs.{Stands};
 ghost use Rattle.ttlv_run.specs.Messages.{Whole, message_at, GoesOn};
+ghost use Rattle.ttlv_run.specs.Runs.{Streams as TheStreams, HasText, Faults, Unwritten};
 ghost use Rattle.ttlv_run.specs.Texts.{Names as TheNames, lines_from, no_reach};
 
 /// What is printed of an input exists, whatever its bytes are; and it goes on behind what is printed of
@@ -30,4 +36,15 @@ pub fn each_input_is_printed()
 pub fn a_dump_is_its_columns()
     ensures xxd { (t column rest : List ℕ) → ColonLine t column rest → CountsColumn DumpText t column rest }
     ensures hexdump { (t column rest : List ℕ) → BareLine t column rest → CountsColumn DumpText t column rest }
+{}
+
+/// Bytes that a front of an input stands for are a front of those that the whole input stands for, if it stands for any. So what
+/// a run printed up to a fault, and a beginning of it, are what is printed of the whole input then.
+pub fn a_front_stands_for_a_front()
+    ensures bytes { (encoding : AnEncoding) (input front all : List ℕ) → StandsFront encoding input front → Stands encoding input all
+        → (more : List ℕ) × (all ≡ front ++ more) }
+    ensures fault { (names : TheNames) (job : AJob) (s : TheStreams) (all : List ℕ) (place : APlace) (f : Faults names job s place)
+        → Stands job.encoding f.input all → HasText names job f.input f.text (Some place) }
+    ensures beginning { (names : TheNames) (job : AJob) (s : TheStreams) (all : List ℕ) (u : Unwritten names job s)
+        → AreBytes all → Stands job.encoding u.input all → GoesOn names job.task all u.text }
 {}

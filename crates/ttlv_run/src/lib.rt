@@ -3,7 +3,8 @@
 //! diagnostics, as JSON or in hexadecimal, or checks them; or it reads diagnostics or JSON back.
 //!
 //! `files` is the entry, for several inputs, and `run` for one. `job` says what is to be done, `window` holds what was
-//! read and not printed yet, `coding` takes the bytes out of a text, `guess` finds its encoding, `form` says which bytes
+//! read and not printed yet, `coding` takes the bytes out of a text, `digits` those of hexadecimal digits as these come,
+//! one by one by `decoder`, `guess` finds its encoding, `form` says which bytes
 //! of it are digits, `misread` why it stands for no bytes, `messages` goes from message to message, `texts`, `lines`,
 //! `values`, `dates`, `masks`, `colors` and `escape` print one to any sink of texts, `back` reads diagnostics back, `from_json` JSON, and
 //! `refusal` has the reasons for statuses 2 and 3. `table` reads a file of names, `progress` tells how far the reading
@@ -15,6 +16,8 @@ mod back;
 mod coding;
 mod colors;
 mod dates;
+mod decoder;
+mod digits;
 mod escape;
 pub mod files;
 mod form;

@@ -13,7 +13,8 @@ ghost use Rattle.ttlv_run.specs.Runs.{Places, PrintsInput, Responds, Printed, Ma
 ghost use Rattle.ttlv_run.specs.Texts.{names_of};
 
 use crate::back::{BackFault, BackReached, print_back};
-use crate::coding::bytes_of;
+use crate::coding::{bytes_of, coming, front_size};
+use crate::digits::print_digits;
 use crate::guess::is_raw;
 use crate::job::{BackJob, Job, Names, Task};
 use crate::memory::Memory;
@@ -38,9 +39,9 @@ pub(crate) fn refusal_of(error: &Error) -> Refusal
     }
 }
 
-// Prints what a task prints of messages to the output, in pieces. Their bytes stand at an offset among those of all
-// messages; where they aren't the last, it ends in front of a message that isn't there as a whole.
-fn print_messages<A: Allocator + Copy, W: Write>(
+/// Prints what a task prints of messages to the output, in pieces. Their bytes stand at an offset among those of all
+/// messages; where they aren't the last, it ends in front of a message that isn't there as a whole.
+pub(crate) fn print_messages<A: Allocator + Copy, W: Write>(
     alloc: A,
     names: &Names<'_, A>,
     task: Task<'_>,
@@ -126,6 +127,38 @@ fn print_raw<A: Allocator, B: Allocator + Copy, R: Read, W: Write>(
     }
 }
 
+// Prints what a job asks for of a text, of which the first bytes are there, and gives the first fault: as it comes if its
+// front tells how, or else when all of it is there.
+fn print_text<A: Allocator + Copy, B: Allocator + Copy, R: Read, W: Write>(
+    memory: Memory<A, B>,
+    job: &Job<'_>,
+    names: &Names<'_, B>,
+    mut window: Window<A>,
+    ended: bool,
+    input: &mut R,
+    output: &mut W,
+) -> Result<Option<Place>, Refusal>
+    requires text { is_raw job.now.encoding (held window) ≡ false }
+    requires four { ended ≡ false → 4 ≤ length (held window) }
+    requires at_end { ended ≡ true → IsAtEnd (R.remaining input.old) }
+    ensures { (known : Option (List ℕ)) → Consumes known (R.remaining input.old) (held window)
+        → Places (names_of names.now) job.now
+        (record {
+          input = known;
+          input_left = R.remaining input.new;
+          output = W.contents output.old;
+          output_now = W.contents output.new;
+        }) result }
+{
+    let ended = window.begin(front_size(job.encoding), ended, input)?;
+    if let Some(form) = coming(job.encoding, window.held()) {
+        return print_digits(memory, job, names, form, window, ended, input, output);
+    }
+    let taken = window.read_rest(ended, input)?;
+    let bytes = bytes_of(job.encoding, taken)?;
+    print_whole(memory.rest, job, names, bytes.as_slice(), output)
+}
+
 // Prints what a job asks for, message by message, and gives the first fault.
 fn print_input<A: Allocator + Copy, B: Allocator + Copy, R: Read, W: Write>(
     memory: Memory<A, B>,
@@ -143,13 +176,11 @@ fn print_input<A: Allocator + Copy, B: Allocator + Copy, R: Read, W: Write>(
         }) result }
 {
     let mut window = Window::new(memory.input);
-    let ended = window.begin(input)?;
+    let ended = window.begin(4, false, input)?;
     if is_raw(job.encoding, window.held()) {
         return print_raw(memory.rest, job, names, window, ended, input, output);
     }
-    let taken = window.read_rest(ended, input)?;
-    let bytes = bytes_of(job.encoding, taken)?;
-    print_whole(memory.rest, job, names, bytes.as_slice(), output)
+    print_text(memory, job, names, window, ended, input, output)
 }
 
 // Prints what a job asks for, and gives the line that says what is malformed, if anything is.
@@ -304,12 +335,14 @@ fn tell_back_fault<E: Write>(errors: &mut E, name: &str, fault: BackFault)
 /// whole, 1 if one is malformed, 2 if the input can't be read or decoded, 3 when out of memory or if the output
 /// can't be written.
 ///
-/// Raw messages are printed as they come, each before the next read if all of it is there; a text is read to its
-/// end first. Output is sent in pieces of 8,192 bytes, and never held as a whole. With status 1 the output has
-/// what is printed up to the fault, and nothing more is read. If reading fails, it has what is printed of the raw
-/// messages that were whole. With status 3 it has a beginning of what is printed, or nothing. With statuses 1 to 3
-/// one line on `errors` says why, except for a closed pipe. Interrupted reads and writes are tried again, as often
-/// as a 64-bit count allows. If `errors` can't be written, the status is the same.
+/// Raw messages, and those in hexadecimal digits or a dump, if that was named or the first 64 bytes tell it, are printed
+/// as they come, each before the next read if all of it is there, of a text with one character more; other texts are
+/// read to their end first. Output is sent in pieces of 8,192 bytes, and never held as a whole. With status 1 the output
+/// has what is printed up to the fault, and nothing more is read. If reading fails or a digit is bad, it has what is
+/// printed of the messages that were whole, or nothing of a text that is read to its end first. With status 3 it has a
+/// beginning of what is printed, or nothing. With statuses 1 to 3 one line on `errors` says why, except for a closed
+/// pipe. Interrupted reads and writes are tried again, as often as a 64-bit count allows. If `errors` can't be written,
+/// the status is the same.
 pub fn run<A: Allocator + Copy, B: Allocator + Copy, R: Read, W: Write, E: Write>(
     memory: Memory<A, B>,
     job: &Job<'_>,

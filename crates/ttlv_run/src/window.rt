@@ -1,6 +1,6 @@
 //! The bytes of an input that were read and that nothing was printed of yet.
 
-ghost use Rattle.std.specs.Prelude.{◌≡◌, ◌<◌, ◌≤◌, ◌+◌, true, false, [], ◌++◌, length, take, drop, IfOk, IfErr, OnOk, OnErr, vec_len};
+ghost use Rattle.std.specs.Prelude.{◌≡◌, ◌<◌, ◌≤◌, ◌+◌, true, false, [], ◌∷◌, ◌++◌, length, take, drop, IfOk, IfErr, OnOk, OnErr, vec_len};
 ghost use Rattle.std.specs.Io.KnownBytes.{Consumes, IsAtEnd, Keeps};
 ghost use Rattle.kmip_ttlv_items.specs.ItemWalks.{AreBytes};
 ghost use Rattle.ttlv_run.specs.Inputs.{IsUnread};
@@ -154,14 +154,24 @@ impl<A: Allocator> Window<A> {
         }
     }
 
-    /// Reads until four bytes are there or the input ended; returns whether it did.
-    pub fn begin<R: Read>(&mut self, input: &mut R) -> Result<bool, Refusal>
-        requires { held self.old ≡ [] }
-        ensures ok { IfOk result (Begins (R.remaining input.old) (R.remaining input.new) (held self.new)) }
+    /// Reads until so many bytes are there or the input ended, if it had not; returns whether it ended.
+    pub fn begin<R: Read>(
+        &mut self,
+        least: usize,
+        ended: bool,
+        input: &mut R,
+    ) -> Result<bool, Refusal>
+        requires { ended ≡ true → IsAtEnd (R.remaining input.old) }
+        ensures ok { IfOk result (Begins (R.remaining input.old) (R.remaining input.new) (held self.old) (held self.new) least) }
         ensures why { IfErr result IsUnread }
-        ensures err { OnErr result (BeginFails (R.remaining input.old) (R.remaining input.new)) }
+        ensures err { OnErr result (BeginFails (R.remaining input.old) (R.remaining input.new) (held self.old) least) }
+        ensures unended { OnErr result (ended ≡ false) }
+        ensures same { ended ≡ true → held self.new ≡ held self.old }
     {
-        'pieces: while self.held().len() < 4 {
+        if ended {
+            return Ok(true);
+        }
+        'pieces: while self.held().len() < least {
             if self.read_more(input)? == 0 {
                 return Ok(true);
             }
@@ -173,6 +183,7 @@ impl<A: Allocator> Window<A> {
     pub fn read_rest<R: Read>(self, ended: bool, input: &mut R) -> Result<Vec<u8, A>, Refusal>
         requires { ended ≡ true → IsAtEnd (R.remaining input.old) }
         ensures ok { IfOk result (λ all. ComesAll (R.remaining input.old) (R.remaining input.new) (held self) all.items) }
+        ensures same { IfOk result (λ all. ended ≡ true → all.items ≡ held self) }
         ensures why { IfErr result IsUnread }
         ensures err { OnErr result (RestFails (R.remaining input.old) (R.remaining input.new) ended) }
     {
@@ -186,6 +197,18 @@ impl<A: Allocator> Window<A> {
             Err(e) if e.kind() == ErrorKind::OutOfMemory => Err(Refusal::RefusedMemory),
             Err(_) => Err(Refusal::UnreadableInput),
         }
+    }
+
+    /// Adds a byte behind those that are there.
+    pub fn add(&mut self, byte: u8) -> Result<(), AllocError>
+        ensures ok { OnOk result (held self.new ≡ held self.old ++ byte ∷ []) }
+        ensures err { OnErr result (held self.new ≡ held self.old) }
+    {
+        let room = self.room_to_ask();
+        self.make_room(room)?;
+        self.bytes[self.count] = byte;
+        self.count += 1;
+        Ok(())
     }
 
     /// Lets go of so many bytes in front.

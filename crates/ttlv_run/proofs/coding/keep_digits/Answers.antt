@@ -1,4 +1,4 @@
-use Rattle.std.proofs.Common.{◌≡◌, ◌+◌, ◌∙◌, sym, ap}
+use Rattle.std.proofs.Common.{◌∙◌, sym, ap}
 use Rattle.std.specs.Prelude.{slice_index}
 use Rattle.ttlv_run.specs.Columns.{step}
 use Rattle.ttlv_run.proofs.InPlace.{starts, at_digit, at_skipped}

@@ -1,4 +1,4 @@
-use Rattle.std.proofs.Common.{rules, arith, ℕ, ◌+◌, ◌-◌, ◌≡◌, ◌∙◌, ap, sym}
+use Rattle.std.proofs.Common.{arith, ℕ, ◌+◌, ◌-◌, ◌∙◌, ap, sym}
 use Rattle.ttlv_run.specs.Dates.{in_month}
 use Rattle.ttlv_run.proofs.Calendar.{month_on, month_end, month_some}
 use Rattle.ttlv_run.proofs.dates.in_month.Goals as goal

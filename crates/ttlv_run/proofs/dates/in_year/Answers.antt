@@ -1,4 +1,4 @@
-use Rattle.std.proofs.Common.{rules, arith, ℕ, ◌+◌, ◌-◌, ◌≡◌, ◌∙◌, ap, sym}
+use Rattle.std.proofs.Common.{arith, ℕ, ◌+◌, ◌-◌, ◌∙◌, ap, sym}
 use Rattle.ttlv_run.specs.Dates.{in_year}
 use Rattle.ttlv_run.proofs.Calendar.{year_on, year_end, year_some}
 use Rattle.ttlv_run.proofs.dates.in_year.Goals as goal

@@ -1,4 +1,4 @@
-use Rattle.std.proofs.Common.{rules, arith, ◌≡◌, ◌-◌, ◌≤◌, ◌∷◌, [], ◌++◌, length, ℕ, List, Option, Some, None, get_or, ap, refl, subst, append-nil, length-append}
+use Rattle.std.proofs.Common.{rules, arith, ◌-◌, ◌≤◌, ◌∷◌, [], ◌++◌, length, Some, None, get_or, ap, refl, subst, append-nil, length-append}
 use Rattle.std.specs.List.{position_or_len}
 use Rattle.std.proofs.lemmas.Str.Pattern.{split_once_first}
 use Rattle.std.proofs.KnownBytes.{Appends-trans, Appends-nil}

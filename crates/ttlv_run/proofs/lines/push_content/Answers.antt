@@ -1,7 +1,7 @@
 use Rattle.std.proofs.Common.{rules, ◌≡◌, ◌≢◌}
 use Rattle.kmip_ttlv_types.specs.declared.typ.TtlvType.TheVariants.{Structure}
 use Rattle.kmip_ttlv_util.proofs.Saying.{adds_same, breaks_same, ok_same, err_same, err_now, ok_then, err_then}
-use Rattle.ttlv_run.specs.Texts.{names_of, value_part}
+use Rattle.ttlv_run.specs.Texts.{names_of}
 use Rattle.ttlv_run.proofs.Parts.{value_structure, value_leaf}
 use Rattle.ttlv_run.proofs.lines.push_content.Goals as goal
 

@@ -1,7 +1,7 @@
-use Rattle.std.proofs.Common.{◌≡◌, ◌++◌, Bool, ℕ, List, Option, Bor, ap, sym, ◌∙◌}
+use Rattle.std.proofs.Common.{◌++◌, Bool, ℕ, List, Option, Bor, ap, sym, ◌∙◌}
 use Rattle.std.specs.Prelude.{option_map}
 use Rattle.kmip_ttlv_util.proofs.Saying.{breaks_same, ok_same, err_same, err_now, ok_then, err_then}
-use Rattle.ttlv_run.specs.Masks.{mark, behind_mark}
+use Rattle.ttlv_run.specs.Masks.{behind_mark}
 use Rattle.ttlv_run.proofs.masks.push_bit.Goals as goal
 
 abbrev shown_name : Bool → Option (Bor (List ℕ)) → List ℕ

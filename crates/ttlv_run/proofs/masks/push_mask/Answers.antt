@@ -3,7 +3,7 @@ use Rattle.std.specs.Prelude.{option_map}
 use Rattle.kmip_ttlv_util.specs.TagNames.{name_in}
 use Rattle.kmip_ttlv_util.proofs.Saying.{adds_same, breaks_same, err_now}
 use Rattle.ttlv_run.specs.Masks.{behind_mark, set_name, still_first, bit_names, mask_names, value_named}
-use Rattle.ttlv_run.proofs.Bits.{first_place, bit_small, next_place, none_left, none_named}
+use Rattle.ttlv_run.proofs.Bits.{first_place, next_place, none_left, none_named}
 use Rattle.ttlv_run.proofs.masks.push_mask.Goals as goal
 
 pub bits-init : goal.bits-init

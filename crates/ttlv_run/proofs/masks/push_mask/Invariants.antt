@@ -1,4 +1,4 @@
-use Rattle.std.proofs.Common.{◌≡◌, ◌+◌, ◌<◌, ◌^◌, ◌++◌, ℕ, List, Bor}
+use Rattle.std.proofs.Common.{◌≡◌, ◌++◌, ℕ, List, Bor}
 use Rattle.std.specs.Prelude.{option_map}
 use Rattle.kmip_ttlv_util.specs.TagNames.{name_in}
 use Rattle.kmip_ttlv_util.specs.Pieces.{SomeText}

@@ -1,6 +1,5 @@
 use Rattle.std.proofs.Common.{◌≡◌, ◌∙◌, ◌+◌, ◌≤◌, inr, ℕ, Bool, true, false, List, length, drop, ap, refl, sym, subst, nat_eq}
 use Rattle.std.specs.Io.KnownBytes.{Appends, IsAtEnd}
-use Rattle.std.proofs.KnownBytes.{Keeps-refl}
 use Rattle.std.proofs.lemmas.Result.{err_from_is_err_and}
 use Rattle.std.proofs.lemmas.Bool.{eqb-true}
 use Rattle.kmip_ttlv_util.specs.Pieces.{SomeText}
@@ -13,11 +12,16 @@ use Rattle.ttlv_run.specs.Runs.{Streams, Places}
 use Rattle.ttlv_run.specs.Streaming.{held, EndsAt, PrintsOn, Comes}
 use Rattle.ttlv_run.specs.Texts.{names_of}
 use Rattle.ttlv_run.proofs.Told.{unwritten}
-use Rattle.ttlv_run.proofs.Windows.{Printing, starts, bytes_drop, faults, fails_in, printed, goes_further, more_came, no_memory, read_fails}
+use Rattle.ttlv_run.proofs.Windows.{RawInput, Printing, shown_none, standing, bytes_drop, faults, fails_in, printed, goes_further, more_came, no_memory, read_fails}
 use Rattle.ttlv_run.proofs.run.print_raw.Goals as goal
 
 pub pieces-init : goal.pieces-init
-pieces-init g c = λ known h. starts (names_of c.args.names.now) c.args.job.now known (g.R.Read.remaining c.args.input.now) (g.W.Write.contents c.args.output.now) (held c.args.window) c.args.ended h c.requires.raw c.requires.four c.requires.at_end
+pieces-init g c = λ known h.
+    record {
+      came = held c.args.window;
+      shown = shown_none (names_of c.args.names.now) c.args.job.now.task (g.W.Write.contents c.args.output.now) (held c.args.window);
+      input = record { consumed = h; raw = c.requires.raw; four = c.requires.four; at_end = c.requires.at_end };
+    }
 
 -- offsets end
 pub returns-then-base-held : goal.returns-then-base-held
@@ -29,7 +33,7 @@ returns-then-base-held g c = λ known h.
     let mid = g.W.Write.contents c.pieces.output in
     let bytes = c.held-held.result.now in
     let p = subst (λ (b : List ℕ). Printing names job known now old mid c.pieces.base b c.pieces.ended) (sym c.held-held.ensures.are) (c.pieces.invariant known h) in
-    inr (no_memory names job known now old mid c.pieces.base bytes c.pieces.ended p c.held-held.ensures.bytes now (Keeps-refl now) p.at_end)
+    inr (no_memory names job old mid c.pieces.base p.came bytes c.pieces.ended p.shown c.held-held.ensures.bytes known now (standing names job known now old mid c.pieces.base bytes c.pieces.ended p))
 
 -- printing failed
 pub returns-in_err-count : goal.returns-in_err-count
@@ -44,7 +48,7 @@ returns-in_err-count g c = λ known h.
     let p = subst (λ (b : List ℕ). Printing names job known now old mid c.pieces.base b c.pieces.ended) (sym c.held-held.ensures.are) (c.pieces.invariant known h) in
     let new = g.W.Write.contents c.print_messages.new.output in
     let s : Streams = record { input = known; input_left = now; output = old; output_now = new } in
-    subst (Places names job s) (sym y.1) (unwritten names job s y.0 (subst IsOfPrinting (sym y.2) c.in_err-count.ensures.why) (fails_in names job known now old mid c.pieces.base bytes c.pieces.ended p new c.held-held.ensures.bytes c.in_err-count.ensures.err))
+    subst (Places names job s) (sym y.1) (unwritten names job s y.0 (subst IsOfPrinting (sym y.2) c.in_err-count.ensures.why) (fails_in names job old mid c.pieces.base p.came bytes c.pieces.ended p.shown new known now (standing names job known now old mid c.pieces.base bytes c.pieces.ended p) c.held-held.ensures.bytes c.in_err-count.ensures.err))
 
 pub returns-in-Fault : goal.returns-in-Fault
 returns-in-Fault g c = λ known h.
@@ -57,7 +61,7 @@ returns-in-Fault g c = λ known h.
     let p = subst (λ (b : List ℕ). Printing names job known now old mid c.pieces.base b c.pieces.ended) (sym c.held-held.ensures.are) (c.pieces.invariant known h) in
     let new = g.W.Write.contents c.print_messages.new.output in
     let told = subst (λ (r : Reached). SomeText (PrintsOn names job.task c.pieces.base bytes c.pieces.ended r) (Appends mid new)) c.in-Fault.is c.in_ok-count.ensures.ok in
-    faults names job known now old mid c.pieces.base bytes c.pieces.ended p new c.in-Fault.place told
+    faults names job old mid c.pieces.base p.came bytes c.pieces.ended p.shown new known now (standing names job known now old mid c.pieces.base bytes c.pieces.ended p) c.in-Fault.place told
 
 pub returns-then-ended : goal.returns-then-ended
 returns-then-ended g c = λ known h.
@@ -92,7 +96,11 @@ returns-in_err-ended g c = λ known h.
     let told = subst (λ (r : Reached). SomeText (PrintsOn names job.task c.pieces.base bytes c.pieces.ended r) (Appends mid new)) c.in-Behind.is c.in_ok-count.ensures.ok in
     let end = subst (EndsAt bytes c.pieces.ended) c.in-Behind.is c.in_ok-count.ensures.end in
     let front : (count ≤ length bytes) × (is_there (drop count bytes) ≡ false) = subst (λ (b : Bool). EndsAt bytes b (Behind count)) c.if-ended.false end in
-    let on = goes_further names job known now old mid c.pieces.base bytes c.pieces.ended p new c.held-held.ensures.bytes count c.if-ended.false front.0 told in
+    let on : Printing names job known now old new (c.pieces.base + count) (drop count bytes) false = record {
+      came = p.came;
+      shown = goes_further names job old mid c.pieces.base p.came bytes c.pieces.ended p.shown new c.held-held.ensures.bytes count c.if-ended.false front.0 told;
+      input = subst (RawInput job.encoding known now p.came) c.if-ended.false p.input;
+    } in
     subst (Places names job s) (sym y.1) (read_fails names job known now old new (c.pieces.base + count) (drop count bytes) false on (bytes_drop count bytes c.held-held.ensures.bytes) next y.0 (subst IsUnread (sym y.2) c.in_err-ended.ensures.why) front.1 c.in_err-ended.ensures.err refl)
 
 pub pieces-preserved : goal.pieces-preserved
@@ -112,7 +120,11 @@ pieces-preserved g c = λ known h.
     let told = subst (λ (r : Reached). SomeText (PrintsOn names job.task c.pieces.base bytes c.pieces.ended r) (Appends mid new)) c.in-Behind.is c.in_ok-count.ensures.ok in
     let end = subst (EndsAt bytes c.pieces.ended) c.in-Behind.is c.in_ok-count.ensures.end in
     let front : (count ≤ length bytes) × (is_there (drop count bytes) ≡ false) = subst (λ (b : Bool). EndsAt bytes b (Behind count)) c.if-ended.false end in
-    let on = goes_further names job known now old mid c.pieces.base bytes c.pieces.ended p new c.held-held.ensures.bytes count c.if-ended.false front.0 told in
+    let on : Printing names job known now old new (c.pieces.base + count) (drop count bytes) false = record {
+      came = p.came;
+      shown = goes_further names job old mid c.pieces.base p.came bytes c.pieces.ended p.shown new c.held-held.ensures.bytes count c.if-ended.false front.0 told;
+      input = subst (RawInput job.encoding known now p.came) c.if-ended.false p.input;
+    } in
     let comes = subst (λ (b : List ℕ). Comes now next b after) (c.let_go.ensures ∙ ap (drop count) (sym c.held-held.ensures.are)) c.in_ok-ended.ensures.ok.comes in
     let at_end : nat_eq came 0 ≡ true → IsAtEnd next = λ none. c.in_ok-ended.ensures.ok.ended (eqb-true came 0 none) in
     more_came names job known now old new (c.pieces.base + count) (drop count bytes) false on next after (nat_eq came 0) comes refl at_end

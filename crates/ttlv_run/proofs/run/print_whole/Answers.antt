@@ -1,4 +1,4 @@
-use Rattle.std.proofs.Common.{arith, inr, true, sym, subst}
+use Rattle.std.proofs.Common.{arith, true, sym, subst}
 use Rattle.std.specs.Io.KnownBytes.{Appends}
 use Rattle.std.proofs.lemmas.Result.{err_from_is_err_and}
 use Rattle.kmip_ttlv_util.specs.Pieces.{SomeText}
@@ -20,7 +20,7 @@ returns-in_err-print_messages g c = λ input stands.
     let old = g.W.Write.contents c.args.output.now in
     let new = g.W.Write.contents c.print_messages.new.output in
     let plain : AreBytes bytes = λ k lt. omega (arith, c.type_inv.bytes k) in
-    subst (PrintsInput names job input old new) (sym y.1) (inr (subst IsOfPrinting (sym y.2) c.in_err-print_messages.ensures.why, text_fails names job input bytes stands old new plain c.in_err-print_messages.ensures.err))
+    subst (PrintsInput names job input old new) (sym y.1) (subst IsOfPrinting (sym y.2) c.in_err-print_messages.ensures.why, text_fails names job input bytes stands old new plain c.in_err-print_messages.ensures.err)
 
 pub returns-in-Behind : goal.returns-in-Behind
 returns-in-Behind g c = λ input stands.

@@ -1,4 +1,4 @@
-use Rattle.std.proofs.Common.{◌≡◌, inr, Option, Ok, Some, sym, subst, string_bytes}
+use Rattle.std.proofs.Common.{inr, Option, Ok, sym, subst, string_bytes}
 use Rattle.std.proofs.lemmas.Result.{err_from_is_err_and}
 use Rattle.ttlv_run.specs.declared.messages.Place.{Place}
 use Rattle.ttlv_run.specs.Runs.{Streams, Faults, Fails, Places, Responds}

@@ -1,4 +1,4 @@
-use Rattle.std.proofs.Common.{◌≡◌, ◌<◌, ◌++◌, ◌∷◌, [], ℕ, List, length, get_or, ap, sym, arith}
+use Rattle.std.proofs.Common.{◌<◌, ◌++◌, ◌∷◌, [], ℕ, length, get_or, ap, sym, arith}
 use Rattle.hex.specs.Hex.{encode_upper}
 use Rattle.std.proofs.lemmas.Result.{IfOk-weaker}
 use Rattle.kmip_ttlv_util.specs.Diagnostics.{hostile}

@@ -1,0 +1,152 @@
+//! Prints the messages of a text of hexadecimal digits as they come.
+
+ghost use Rattle.std.specs.Prelude.{◌≡◌, ◌<◌, ◌≤◌, ◌+◌, ◌-◌, ◌^◌, ◌++◌, true, false, ℕ, List, [], Some, None, Ok, Option, OnOk, length};
+ghost use Rattle.std.specs.Io.KnownBytes.{Consumes, IsAtEnd};
+ghost use Rattle.ttlv_run.specs.Decoding.{characters, Reading, Grows, Puts, DecodesPiece, DecodesMore, is_last};
+ghost use Rattle.ttlv_run.specs.Fronts.{coming, front_size};
+ghost use Rattle.ttlv_run.specs.Guesses.{is_raw};
+ghost use Rattle.ttlv_run.specs.Runs.{Places};
+ghost use Rattle.ttlv_run.specs.Streaming.{held};
+ghost use Rattle.ttlv_run.specs.Texts.{names_of};
+
+use crate::coding::{Undecoded, misread, taken_as};
+use crate::decoder::{Decoder, Made};
+use crate::form::Form;
+use crate::guess::mark_length;
+use crate::job::{Job, Names};
+use crate::memory::Memory;
+use crate::messages::{Place, Reached};
+use crate::refusal::Refusal;
+use crate::run::print_messages;
+use crate::window::Window;
+use std::alloc::Allocator;
+use std::io::{Read, Write};
+
+// Puts what a character came to behind bytes; gives the error, if it is one.
+fn put<A: Allocator>(made: Made, bytes: &mut Window<A>) -> Result<Option<Undecoded>, Refusal>
+    ensures { Puts (held bytes.old) (held bytes.new) made result }
+{
+    match made {
+        Made::Nothing => Ok(None),
+        Made::Byte(byte) => {
+            bytes.add(byte)?;
+            Ok(None)
+        }
+        Made::Failed(why) => Ok(Some(why)),
+    }
+}
+
+// Puts the bytes of a text's next characters behind bytes, up to the first error, and gives that.
+fn decode_piece<A: Allocator>(
+    decoder: &mut Decoder,
+    piece: &[u8],
+    bytes: &mut Window<A>,
+) -> Result<Option<Undecoded>, Refusal>
+    requires { decoder.old.offset + length piece.now < 2 ^ 64 - 1 }
+    ensures made { Grows (held bytes.old) (held bytes.new) (λ came. (mark : ℕ) (s all : List ℕ) → Reading decoder.old mark s all
+        → DecodesPiece decoder.new mark s piece.now (all ++ came) result) }
+    ensures offset { decoder.new.offset ≤ decoder.old.offset + length piece.now }
+    ensures count { result ≡ Ok None → characters decoder.new ≡ characters decoder.old + length piece.now }
+    ensures form { decoder.new.form ≡ decoder.old.form }
+{
+    'characters: for b in piece {
+        if let Some(why) = put(decoder.push(*b), bytes)? {
+            return Ok(Some(why));
+        }
+    }
+    Ok(None)
+}
+
+// Puts the bytes of all characters that came behind bytes, and lets go of the characters; gives the first error.
+fn decode_more<A: Allocator>(
+    decoder: &mut Decoder,
+    text: &mut Window<A>,
+    ended: bool,
+    bytes: &mut Window<A>,
+) -> Result<Option<Undecoded>, Refusal>
+    ensures made { Grows (held bytes.old) (held bytes.new) (λ came. (mark : ℕ) (s all : List ℕ) → Reading decoder.old mark s all
+        → DecodesMore decoder.new mark s (held text.old) ended (all ++ came) result) }
+    ensures form { decoder.new.form ≡ decoder.old.form }
+    ensures left { OnOk result (held text.new ≡ []) }
+    ensures count { result ≡ Ok None → ended ≡ false
+        → (characters decoder.new ≡ characters decoder.old + length (held text.old)) × (characters decoder.new < 2 ^ 64) }
+{
+    let piece = text.held();
+    let count = piece.len();
+    if usize::MAX - decoder.offset() <= count {
+        return Err(Refusal::RefusedMemory);
+    }
+    if let Some(why) = decode_piece(decoder, piece, bytes)? {
+        text.let_go(count);
+        return Ok(Some(why));
+    }
+    text.let_go(count);
+    if ended {
+        return put(decoder.finish(), bytes);
+    }
+    Ok(None)
+}
+
+// Whether the bytes that came are the last: the text ended, without an error.
+fn is_last(ended: bool, wrong: Option<Undecoded>) -> bool
+    ensures { result ≡ is_last ended wrong }
+{
+    match wrong {
+        Some(_) => false,
+        None => ended,
+    }
+}
+
+/// Prints what a job asks for of a text's messages, each when the character behind its last digit is there, and gives the
+/// first fault.
+pub fn print_digits<A: Allocator + Copy, B: Allocator + Copy, R: Read, W: Write>(
+    memory: Memory<A, B>,
+    job: &Job<'_>,
+    names: &Names<'_, B>,
+    form: Form,
+    mut text: Window<A>,
+    mut ended: bool,
+    input: &mut R,
+    output: &mut W,
+) -> Result<Option<Place>, Refusal>
+    requires text { is_raw job.now.encoding (held text) ≡ false }
+    requires form { coming job.now.encoding (held text) ≡ Some form }
+    requires front { ended ≡ false → front_size job.now.encoding ≤ length (held text) }
+    requires at_end { ended ≡ true → IsAtEnd (R.remaining input.old) }
+    ensures { (known : Option (List ℕ)) → Consumes known (R.remaining input.old) (held text)
+        → Places (names_of names.now) job.now
+        (record {
+          input = known;
+          input_left = R.remaining input.new;
+          output = W.contents output.old;
+          output_now = W.contents output.new;
+        }) result }
+{
+    let mark = mark_length(text.held());
+    text.let_go(mark);
+    let mut decoder = Decoder::new(form, mark);
+    let mut bytes = Window::new(memory.input);
+    let mut base = 0;
+    'pieces: loop {
+        let wrong = decode_more(&mut decoder, &mut text, ended, &mut bytes)?;
+        let held = bytes.held();
+        if usize::MAX - base < held.len() {
+            return Err(Refusal::RefusedMemory);
+        }
+        let last = is_last(ended, wrong);
+        match print_messages(memory.rest, names, job.task, base, held, last, output)? {
+            Reached::Behind(count) => {
+                base += count;
+                bytes.let_go(count);
+            }
+            Reached::Fault(place) => return Ok(Some(place)),
+        }
+        if let Some(why) = wrong {
+            return Err(misread(job.encoding, taken_as(form), why));
+        }
+        if ended {
+            return Ok(None);
+        }
+        ended = text.read_more(input)? == 0;
+    }
+}
