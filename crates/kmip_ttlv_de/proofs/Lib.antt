@@ -1,4 +1,3 @@
-pub mod ChoiceLemmas
 pub mod FieldTagLemmas
 pub mod RowLemmas
 pub mod StepLemmas
