@@ -98,6 +98,7 @@ UndecodedIn (Some form) names task s input place =
     TakesSome s.input s.input_left input × TextFronts names task form input (drop place input) s.output s.output_now
 UndecodedIn None names task s input place = TakesAll s.input s.input_left input × Keeps s.output s.output_now
 
+-- for this reason the input stands for no bytes, and what is said above was printed
 pub record Undecoded (names : Names) (job : Job) (s : Streams) (m : Misread) : Type 0 where
   pub input : List ℕ
   pub misreads : Misreads job.encoding input m
@@ -110,6 +111,7 @@ TextFrontsIf (Some form) names task s output output_now =
     (rest : List ℕ) × (length rest ≤ 1) × TextFronts names task form s rest output output_now
 TextFrontsIf None names task s output output_now = Keeps output output_now
 
+-- how a text is decoded as it comes, if its front came
 abbrev pub form_told : Encoding → List ℕ → Option Form
 form_told e s = if nat_lt (length s) (front_size e) then None else coming e s
 
@@ -119,6 +121,7 @@ FrontsIf true names job bytes output output_now = Fronts names job.task bytes ou
 FrontsIf false names job bytes output output_now =
     TextFrontsIf (form_told job.encoding bytes) names job.task bytes output output_now
 
+-- these bytes came before reading failed, and what is said above was printed of them
 pub record Unread (names : Names) (job : Job) (s : Streams) : Type 0 where
   pub bytes : List ℕ
   pub taken : Consumes s.input s.input_left bytes
