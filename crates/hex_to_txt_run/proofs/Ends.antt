@@ -3,18 +3,18 @@ use Rattle.std.proofs.Common.{◌≡◌, ℕ, List, ◌++◌, Option, Some, None
 use Rattle.std.specs.Io.KnownBytes.{Appends, Keeps}
 use Rattle.kmip_ttlv.specs.Streams.{AppendsFront}
 use Rattle.hex_to_txt_run.specs.Inputs.{TakesAll}
-use Rattle.hex_to_txt_run.specs.Reasons.{Reason, unknown_words, unreadable_input, not_hexadecimal, not_utf8, refused_message, unwritable_output, refused_memory, line_of}
+use Rattle.hex_to_txt_run.specs.Reasons.{Reason, unknown_words, unreadable_input, not_hexadecimal, not_utf8, not_a_pair, unwritable_output, no_memory, line_of}
 use Rattle.hex_to_txt_run.specs.Tasks.{Task, pair_task, readable_task, diagnostic_task, read_back_task}
-use Rattle.hex_to_txt_run.specs.TaskTexts.{TaskPrints, TaskRefuses}
+use Rattle.hex_to_txt_run.specs.TaskTexts.{TaskPrints, TaskFails}
 use Rattle.hex_to_txt_run.specs.Runs.{Streams, Fails, Failed, HasNoText, Printed, Responds}
 
 -- whether the line was written in full or not, a beginning of it was
-told : {T E : Type 0} (a b : Option (List ℕ)) (bytes : List ℕ) (r : Result T E) → OnOk r (Appends a b bytes) → OnErr r (AppendsFront a b bytes) → AppendsFront a b bytes
-told a b bytes (Ok x) all front = record { count = length bytes; within = le_refl _; appends = subst (Appends a b) (sym (take_all (length bytes) bytes (le_refl _))) all }
-told a b bytes (Err e) all front = front
+reported : {T E : Type 0} (a b : Option (List ℕ)) (bytes : List ℕ) (r : Result T E) → OnOk r (Appends a b bytes) → OnErr r (AppendsFront a b bytes) → AppendsFront a b bytes
+reported a b bytes (Ok x) all front = record { count = length bytes; within = le_refl _; appends = subst (Appends a b) (sym (take_all (length bytes) bytes (le_refl _))) all }
+reported a b bytes (Err e) all front = front
 
 pub failed : {T E : Type 0} (task : Option Task) (s : Streams) (why : Reason) (a b : Option (List ℕ)) (bytes : List ℕ) (r : Result T E) → Fails task s why → bytes ≡ line_of why → OnOk r (Appends a b bytes) → OnErr r (AppendsFront a b bytes) → Failed task s a b
-failed task s why a b bytes r fails is all front = record { why = why; fails = fails; told = subst (AppendsFront a b) is (told a b bytes r all front) }
+failed task s why a b bytes r fails is all front = record { why = why; fails = fails; reported = subst (AppendsFront a b) is (reported a b bytes r all front) }
 
 -- the input that was read has a text
 no_text : (task : Task) (old new : Option (List ℕ)) (input text : List ℕ) → TakesAll old new input → TaskPrints task input text → HasNoText (Some task) old → ⊥
@@ -31,16 +31,16 @@ output_kept None s unknown_words fails none = fails.1
 output_kept None s unreadable_input fails none = absurd fails
 output_kept None s not_hexadecimal fails none = absurd fails
 output_kept None s not_utf8 fails none = absurd fails
-output_kept None s (refused_message line) fails none = absurd fails
+output_kept None s (not_a_pair line) fails none = absurd fails
 output_kept None s unwritable_output fails none = absurd fails
-output_kept None s refused_memory fails none = absurd fails
+output_kept None s no_memory fails none = absurd fails
 output_kept (Some task) s unknown_words fails none = absurd fails
 output_kept (Some task) s unreadable_input fails none = fails
 output_kept (Some task) s not_hexadecimal fails none = fails.1
 output_kept (Some task) s not_utf8 fails none = fails.1
-output_kept (Some task) s (refused_message line) fails none = fails.1
+output_kept (Some task) s (not_a_pair line) fails none = fails.1
 output_kept (Some task) s unwritable_output fails none = absurd (no_text task s.input s.input_left fails.input fails.text fails.taken fails.prints none)
-output_kept (Some task) s refused_memory fails none = fails
+output_kept (Some task) s no_memory fails none = fails
 
 -- if a text was printed, the input has a text
 pub printed_some : (task : Option Task) (s : Streams) → Printed task s → HasNoText task s.input → ⊥
@@ -48,29 +48,29 @@ printed_some None s printed none = printed.prints
 printed_some (Some task) s printed none = no_text task s.input s.input_left printed.input printed.text printed.taken printed.prints none
 
 -- the input that was read has no text, and the output is unchanged
-pub unprinted : (asked : Option Task) (task : Task) (s : Streams) (why : Reason) (input : List ℕ) → Some task ≡ asked → TakesAll s.input s.input_left input → TaskRefuses task input why → Keeps s.output s.output_now → Fails asked s why
-unprinted asked task s why input is taken refuses kept = subst (λ (a : Option Task). Fails a s why) is (by_reason task why refuses)
+pub unprinted : (asked : Option Task) (task : Task) (s : Streams) (why : Reason) (input : List ℕ) → Some task ≡ asked → TakesAll s.input s.input_left input → TaskFails task input why → Keeps s.output s.output_now → Fails asked s why
+unprinted asked task s why input is taken none kept = subst (λ (a : Option Task). Fails a s why) is (by_reason task why none)
   where
-    by_reason : (task : Task) (why : Reason) → TaskRefuses task input why → Fails (Some task) s why
-    by_reason task refused_memory refuses = kept
-    by_reason task not_hexadecimal refuses = (record { input = input; taken = taken; refuses = refuses }, kept)
-    by_reason task not_utf8 refuses = (record { input = input; taken = taken; refuses = refuses }, kept)
-    by_reason task (refused_message line) refuses = (record { input = input; taken = taken; refuses = refuses }, kept)
-    by_reason pair_task unknown_words refuses = absurd refuses
-    by_reason readable_task unknown_words refuses = absurd refuses
-    by_reason (diagnostic_task closed prefix) unknown_words refuses = absurd refuses
-    by_reason (read_back_task prefix) unknown_words refuses = absurd refuses
-    by_reason pair_task unreadable_input refuses = absurd refuses
-    by_reason readable_task unreadable_input refuses = absurd refuses
-    by_reason (diagnostic_task closed prefix) unreadable_input refuses = absurd refuses
-    by_reason (read_back_task prefix) unreadable_input refuses = absurd refuses
-    by_reason pair_task unwritable_output refuses = absurd refuses
-    by_reason readable_task unwritable_output refuses = absurd refuses
-    by_reason (diagnostic_task closed prefix) unwritable_output refuses = absurd refuses
-    by_reason (read_back_task prefix) unwritable_output refuses = absurd refuses
+    by_reason : (task : Task) (why : Reason) → TaskFails task input why → Fails (Some task) s why
+    by_reason task no_memory none = kept
+    by_reason task not_hexadecimal none = (record { input = input; taken = taken; fails = none }, kept)
+    by_reason task not_utf8 none = (record { input = input; taken = taken; fails = none }, kept)
+    by_reason task (not_a_pair line) none = (record { input = input; taken = taken; fails = none }, kept)
+    by_reason pair_task unknown_words none = absurd none
+    by_reason readable_task unknown_words none = absurd none
+    by_reason (diagnostic_task closed prefix) unknown_words none = absurd none
+    by_reason (read_back_task prefix) unknown_words none = absurd none
+    by_reason pair_task unreadable_input none = absurd none
+    by_reason readable_task unreadable_input none = absurd none
+    by_reason (diagnostic_task closed prefix) unreadable_input none = absurd none
+    by_reason (read_back_task prefix) unreadable_input none = absurd none
+    by_reason pair_task unwritable_output none = absurd none
+    by_reason readable_task unwritable_output none = absurd none
+    by_reason (diagnostic_task closed prefix) unwritable_output none = absurd none
+    by_reason (read_back_task prefix) unwritable_output none = absurd none
 
 -- the same, if this is the result
-pub answered : {T E : Type 0} (reason : E → Reason) (asked : Option Task) (task : Task) (s : Streams) (e y : E) (input : List ℕ) (r : Result T E) → r ≡ Err y → y ≡ e → Some task ≡ asked → TakesAll s.input s.input_left input → TaskRefuses task input (reason e) → Keeps s.output s.output_now → Responds reason asked s r
-answered {T} {E} reason asked task s e y input r is same task_is taken refuses kept =
-    let fails = unprinted asked task s (reason e) input task_is taken refuses kept in
+pub returned : {T E : Type 0} (reason : E → Reason) (asked : Option Task) (task : Task) (s : Streams) (e y : E) (input : List ℕ) (r : Result T E) → r ≡ Err y → y ≡ e → Some task ≡ asked → TakesAll s.input s.input_left input → TaskFails task input (reason e) → Keeps s.output s.output_now → Responds reason asked s r
+returned {T} {E} reason asked task s e y input r is same task_is taken none kept =
+    let fails = unprinted asked task s (reason e) input task_is taken none kept in
     subst (λ (q : Result T E). Responds reason asked s q) (sym is) (subst (λ (x : E). Fails asked s (reason x)) (sym same) fails)

@@ -1,6 +1,6 @@
 mod Pairs
 mod PairItems
-mod Refusals
+mod Failures
 mod Ends
 mod Cuts
 mod Printing

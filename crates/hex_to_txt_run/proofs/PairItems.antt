@@ -28,15 +28,15 @@ pair_fits : (a b : ℤ) → FitsAfter 0 (pair_tree a b ∷ [])
 unfolding leaf_bytes node_bytes
 pair_fits a b = record { each = ((lit< tt, (lit< tt, (lit< tt, tt))), tt); total = lit< tt }
 
-none_refused : (a b : ℤ) → Some (pair_tree a b ∷ []) ≡ None → ⊥
-none_refused a b same = cc
+none_is_missing : (a b : ℤ) → Some (pair_tree a b ∷ []) ≡ None → ⊥
+none_is_missing a b same = cc
 
 -- and fails only when out of memory
-pub pair_refused : (a b : ℤ) (kind : Kind) (location : Location) → IsRefusedAs (written_pair a b) origin kind location → kind ≡ out_of_memory
+pub pair_fails : (a b : ℤ) (kind : Kind) (location : Location) → IsRefusedAs (written_pair a b) origin kind location → kind ≡ out_of_memory
 unfolding take_tag tag_of number transparent_name some_item
-pair_refused a b out_of_memory l h = refl
-pair_refused a b length_overflow l h = absurd (h.1 (pair_fits a b))
-pair_refused a b (malformed e) l h = absurd (none_refused a b h.no_items)
-pair_refused a b (mismatch e) l h = absurd (none_refused a b h.no_items)
-pair_refused a b (io_error e) l h = absurd h
-pair_refused a b (exceeds_limit n) l h = absurd h
+pair_fails a b out_of_memory l h = refl
+pair_fails a b length_overflow l h = absurd (h.1 (pair_fits a b))
+pair_fails a b (malformed e) l h = absurd (none_is_missing a b h.no_items)
+pair_fails a b (mismatch e) l h = absurd (none_is_missing a b h.no_items)
+pair_fails a b (io_error e) l h = absurd h
+pair_fails a b (exceeds_limit n) l h = absurd h

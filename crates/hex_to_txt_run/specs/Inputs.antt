@@ -5,7 +5,7 @@ use Rattle.std.specs.List.{AllPass}
 use Rattle.std.specs.Str.{IsUtf8}
 use Rattle.std.specs.Io.KnownBytes.{Consumes, IsAtEnd}
 use Rattle.hex.specs.Hex.{decode_of}
-use Rattle.hex_to_txt_run.specs.Reasons.{Reason, unreadable_input, not_hexadecimal, refused_memory}
+use Rattle.hex_to_txt_run.specs.Reasons.{Reason, unreadable_input, not_hexadecimal, no_memory}
 use Rattle.hex.specs.declared.error.FromHexError.{FromHexError}
 
 -- all bytes that a reader had were read
@@ -24,13 +24,13 @@ decoded input = decode_of (filter is_kept input)
 -- why an input was not read
 abbrev pub IsUnread : Reason → Type 0
 IsUnread unreadable_input = Unit {0}
-IsUnread refused_memory = Unit {0}
+IsUnread no_memory = Unit {0}
 IsUnread _ = ⊥
 
 -- why an input can't be decoded
 abbrev pub IsUndecoded : List ℕ → Reason → Type 0
 IsUndecoded input not_hexadecimal = IsErr (decoded input)
-IsUndecoded input refused_memory = Unit {0}
+IsUndecoded input no_memory = Unit {0}
 IsUndecoded input _ = ⊥
 
 -- a line feed or a carriage return

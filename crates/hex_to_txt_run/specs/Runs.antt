@@ -3,10 +3,10 @@ use Rattle.std.specs.Prelude.{ℕ, List, Option, Some, None, Result, Ok, Err}
 use Rattle.std.specs.Io.KnownBytes.{Appends, Keeps}
 use Rattle.kmip_ttlv.specs.Streams.{AppendsFront}
 use Rattle.hex_to_txt_run.specs.Inputs.{TakesAll}
-use Rattle.hex_to_txt_run.specs.Reasons.{Reason, unknown_words, unreadable_input, unwritable_output, refused_memory}
+use Rattle.hex_to_txt_run.specs.Reasons.{Reason, unknown_words, unreadable_input, unwritable_output, no_memory}
 use Rattle.hex_to_txt_run.specs.Reasons.{line_of}
 use Rattle.hex_to_txt_run.specs.Tasks.{Task}
-use Rattle.hex_to_txt_run.specs.TaskTexts.{TaskPrints, TaskRefuses}
+use Rattle.hex_to_txt_run.specs.TaskTexts.{TaskPrints, TaskFails}
 
 -- what the input has and what the output holds, before and after a run, as far as they are known
 pub record Streams : Type 0 where
@@ -32,7 +32,7 @@ pub record Printed (task : Option Task) (s : Streams) : Type 0 where
 pub record Unprinted (task : Task) (s : Streams) (why : Reason) : Type 0 where
   pub input : List ℕ
   pub taken : TakesAll s.input s.input_left input
-  pub refuses : TaskRefuses task input why
+  pub fails : TaskFails task input why
 
 -- the whole input was read, and a beginning of its text was appended to the output
 pub record Unwritten (task : Task) (s : Streams) : Type 0 where
@@ -50,7 +50,7 @@ Fails None s _ = ⊥
 Fails (Some task) s unknown_words = ⊥
 Fails (Some task) s unreadable_input = Keeps s.output s.output_now
 Fails (Some task) s unwritable_output = Unwritten task s
-Fails (Some task) s refused_memory = Keeps s.output s.output_now
+Fails (Some task) s no_memory = Keeps s.output s.output_now
 Fails (Some task) s why = Unprinted task s why × Keeps s.output s.output_now
 
 -- the result for the arguments: the text is printed, or there is a reason why not
@@ -62,7 +62,7 @@ Responds reason task s (Err e) = Fails task s (reason e)
 pub record Failed (task : Option Task) (s : Streams) (errors errors_now : Option (List ℕ)) : Type 0 where
   pub why : Reason
   pub fails : Fails task s why
-  pub told : AppendsFront errors errors_now (line_of why)
+  pub reported : AppendsFront errors errors_now (line_of why)
 
 -- the input has no text
 abbrev pub HasNoText : Option Task → Option (List ℕ) → Type 0

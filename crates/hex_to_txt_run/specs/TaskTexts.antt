@@ -16,7 +16,7 @@ use Rattle.kmip_ttlv.specs.TagNames.{no_names}
 use Rattle.hex_to_txt_run.specs.Inputs.{decoded, CutText, CutNoText}
 use Rattle.hex_to_txt_run.specs.Pair.{pair_form, read_pair, pair_text}
 use Rattle.hex_to_txt_run.specs.Tasks.{Task, pair_task, readable_task, diagnostic_task, read_back_task}
-use Rattle.hex_to_txt_run.specs.Reasons.{Reason, not_hexadecimal, not_utf8, refused_message, refused_memory}
+use Rattle.hex_to_txt_run.specs.Reasons.{Reason, not_hexadecimal, not_utf8, not_a_pair, no_memory}
 
 -- the input's bytes begin with a pair, and this is its text
 pub record PrintsPair (input text : List ℕ) : Type 0 where
@@ -73,15 +73,15 @@ TaskPrints (diagnostic_task closed prefix) input text = PrintsDiagnostic closed 
 TaskPrints (read_back_task prefix) input text = PrintsReadBack prefix input text
 
 -- an error line for a message: some words after `refused: `
-pub record IsRefusalLine (line : List ℕ) : Type 0 where
+pub record IsErrorLine (line : List ℕ) : Type 0 where
   pub words : List ℕ
   pub is : line ≡ codes "refused: " ++ (words ++ codes "\n")
 
 -- a decoding error as a reason: out of memory, or a line for any other error
-abbrev pub MeansRefused : {A : Type 0} → Error A → Reason → Type 0
-MeansRefused e refused_memory = Unit {0}
-MeansRefused e (refused_message line) = IsRefusalLine line × (kind_of e ≢ OutOfMemory)
-MeansRefused e _ = ⊥
+abbrev pub IsReasonOf : {A : Type 0} → Error A → Reason → Type 0
+IsReasonOf e no_memory = Unit {0}
+IsReasonOf e (not_a_pair line) = IsErrorLine line × (kind_of e ≢ OutOfMemory)
+IsReasonOf e _ = ⊥
 
 -- the input's bytes begin with no pair
 pub record HasNoPair (input : List ℕ) : Type 0 where
@@ -90,15 +90,15 @@ pub record HasNoPair (input : List ℕ) : Type 0 where
   pub none : (v : Value) → Begins pair_form bytes v → ⊥
 
 -- why a task prints no text for an input
-abbrev pub TaskRefuses : Task → List ℕ → Reason → Type 0
-TaskRefuses task input refused_memory = Unit {0}
-TaskRefuses (read_back_task prefix) input not_utf8 = CutNoText input
-TaskRefuses (read_back_task prefix) input _ = ⊥
-TaskRefuses task input not_hexadecimal = IsErr (decoded input)
-TaskRefuses pair_task input (refused_message line) = HasNoPair input × IsRefusalLine line
-TaskRefuses task input _ = ⊥
+abbrev pub TaskFails : Task → List ℕ → Reason → Type 0
+TaskFails task input no_memory = Unit {0}
+TaskFails (read_back_task prefix) input not_utf8 = CutNoText input
+TaskFails (read_back_task prefix) input _ = ⊥
+TaskFails task input not_hexadecimal = IsErr (decoded input)
+TaskFails pair_task input (not_a_pair line) = HasNoPair input × IsErrorLine line
+TaskFails task input _ = ⊥
 
 -- the result for an input: its text, or why there is none
-abbrev pub TaskAnswers : {T E : Type 0} → (T → List ℕ) → (E → Reason) → Task → List ℕ → Result T E → Type 0
-TaskAnswers bytes reason task input (Ok text) = TaskPrints task input (bytes text)
-TaskAnswers bytes reason task input (Err e) = TaskRefuses task input (reason e)
+abbrev pub TaskReturns : {T E : Type 0} → (T → List ℕ) → (E → Reason) → Task → List ℕ → Result T E → Type 0
+TaskReturns bytes reason task input (Ok text) = TaskPrints task input (bytes text)
+TaskReturns bytes reason task input (Err e) = TaskFails task input (reason e)

@@ -8,22 +8,22 @@ ghost use Rattle.hex_to_txt_run.specs.Inputs.{TakesAll, is_kept, decoded, IsUnre
 ghost use Rattle.hex_to_txt_run.specs.Inputs.{CutText, CutNoText};
 ghost use Rattle.hex_to_txt_run.specs.Reasons.{reason_of};
 
-use crate::refusal::Refusal;
+use crate::failure::Failure;
 use hex::FromHexError;
 use std::alloc::{AllocError, Allocator};
 use std::io;
 use std::io::{ErrorKind, Read};
 
 /// Reads all bytes of a reader. Interrupted reads are retried.
-pub fn read_all<A: Allocator, R: Read>(alloc: A, input: &mut R) -> Result<Vec<u8, A>, Refusal<A>>
+pub fn read_all<A: Allocator, R: Read>(alloc: A, input: &mut R) -> Result<Vec<u8, A>, Failure<A>>
     ensures ok { IfOk result (λ all. TakesAll (R.remaining input.old) (R.remaining input.new) all.items) }
     ensures err { IfErr result (λ e. IsUnread (reason_of e)) }
 {
     let mut bytes = Vec::new(alloc);
     match input.read_to_end(&mut bytes) {
         Ok(_) => Ok(bytes),
-        Err(e) if e.kind() == ErrorKind::OutOfMemory => Err(Refusal::RefusedMemory),
-        Err(_) => Err(Refusal::UnreadableInput),
+        Err(e) if e.kind() == ErrorKind::OutOfMemory => Err(Failure::OutOfMemory),
+        Err(_) => Err(Failure::UnreadableInput),
     }
 }
 
@@ -41,15 +41,15 @@ fn kept_bytes<A: Allocator>(alloc: A, input: &[u8]) -> Result<Vec<u8, A>, AllocE
 
 /// Decodes hexadecimal input, with digits of either case; line feeds, carriage returns, spaces,
 /// double quotes and commas are ignored.
-pub fn decode<A: Allocator + Copy>(alloc: A, input: &[u8]) -> Result<Vec<u8, A>, Refusal<A>>
+pub fn decode<A: Allocator + Copy>(alloc: A, input: &[u8]) -> Result<Vec<u8, A>, Failure<A>>
     ensures ok { IfOk result (λ bytes. decoded input.now ≡ Ok bytes.items) }
     ensures err { IfErr result (λ e. IsUndecoded input.now (reason_of e)) }
 {
     let digits = kept_bytes(alloc, input)?;
     match hex::decode(alloc, digits.as_slice()) {
         Ok(bytes) => Ok(bytes),
-        Err(FromHexError::OutOfMemory) => Err(Refusal::RefusedMemory),
-        Err(_) => Err(Refusal::NotHexadecimal),
+        Err(FromHexError::OutOfMemory) => Err(Failure::OutOfMemory),
+        Err(_) => Err(Failure::NotHexadecimal),
     }
 }
 

@@ -7,8 +7,8 @@ ghost use Rattle.hex_to_txt_run.specs.Reasons.{reason_of, line_of};
 ghost use Rattle.hex_to_txt_run.specs.Tasks.{task_of};
 ghost use Rattle.hex_to_txt_run.specs.Runs.{Responds, Printed, Failed, HasNoText};
 
+use crate::failure::Failure;
 use crate::input::read_all;
-use crate::refusal::Refusal;
 use crate::task::task_of;
 use crate::texts::text_of;
 use kmip_ttlv::types::stream::Sink;
@@ -22,7 +22,7 @@ fn respond<A: Allocator + Copy, B: Allocator, R: Read, W: Write>(
     words: &[String<B>],
     input: &mut R,
     output: &mut W,
-) -> Result<(), Refusal<A>>
+) -> Result<(), Failure<A>>
     ensures { Responds reason_of (task_of (map string_bytes words.now))
         (record {
           input = R.remaining input.old;
@@ -32,13 +32,13 @@ fn respond<A: Allocator + Copy, B: Allocator, R: Read, W: Write>(
         }) result }
 {
     let Some(task) = task_of(words) else {
-        return Err(Refusal::UnknownWords);
+        return Err(Failure::UnknownWords);
     };
     let bytes = read_all(alloc, input)?;
     let text = text_of(alloc, task, bytes.as_slice())?;
     match output.send(text.as_bytes()) {
         Ok(()) => Ok(()),
-        Err(_) => Err(Refusal::UnwritableOutput),
+        Err(_) => Err(Failure::UnwritableOutput),
     }
 }
 
@@ -79,8 +79,8 @@ pub fn run<A: Allocator + Copy, B: Allocator, R: Read, W: Write, E: Write>(
 {
     match respond(alloc, words, input, output) {
         Ok(()) => 0,
-        Err(refusal) => {
-            let _ = errors.send(refusal.line().as_bytes());
+        Err(failure) => {
+            let _ = errors.send(failure.line().as_bytes());
             1
         }
     }

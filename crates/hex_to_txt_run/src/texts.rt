@@ -5,11 +5,11 @@ ghost use Rattle.kmip_ttlv.specs.Trees.{bytes};
 ghost use Rattle.hex_to_txt_run.specs.Pair.{pair_tree, pair_text};
 ghost use Rattle.hex_to_txt_run.specs.Reasons.{reason_of};
 ghost use Rattle.hex_to_txt_run.specs.Tasks.{pair_task, readable_task, diagnostic_task, read_back_task, seen_task};
-ghost use Rattle.hex_to_txt_run.specs.TaskTexts.{TaskAnswers, ended, is_line_feed};
+ghost use Rattle.hex_to_txt_run.specs.TaskTexts.{TaskReturns, ended, is_line_feed};
 
+use crate::failure::{Failure, failure_of};
 use crate::input::{decode, text_in};
 use crate::pair::Pair;
-use crate::refusal::{Refusal, refused};
 use crate::task::Task;
 use kmip_ttlv::error::ErrorKind;
 use kmip_ttlv::{PrettyPrinter, from_slice, to_vec};
@@ -40,13 +40,13 @@ fn pair_text<A: Allocator + Copy>(alloc: A, pair: &Pair) -> Result<String<A>, Al
 }
 
 // The text of the pair that the input's bytes begin with.
-fn flat_text<A: Allocator + Copy>(alloc: A, input: &[u8]) -> Result<String<A>, Refusal<A>>
-    ensures { TaskAnswers string_bytes reason_of pair_task input.now result }
+fn flat_text<A: Allocator + Copy>(alloc: A, input: &[u8]) -> Result<String<A>, Failure<A>>
+    ensures { TaskReturns string_bytes reason_of pair_task input.now result }
 {
     let bytes = decode(alloc, input)?;
     match from_slice::<Pair, A>(alloc, bytes.as_slice()) {
         Ok(pair) => Ok(pair_text(alloc, &pair)?),
-        Err(error) => Err(refused(alloc, &error)),
+        Err(error) => Err(failure_of(alloc, &error)),
     }
 }
 
@@ -78,8 +78,8 @@ fn ended<A: Allocator>(text: String<A>) -> Result<String<A>, AllocError>
 }
 
 // The readable text of the input's bytes.
-fn readable_text<A: Allocator + Copy>(alloc: A, input: &[u8]) -> Result<String<A>, Refusal<A>>
-    ensures { TaskAnswers string_bytes reason_of readable_task input.now result }
+fn readable_text<A: Allocator + Copy>(alloc: A, input: &[u8]) -> Result<String<A>, Failure<A>>
+    ensures { TaskReturns string_bytes reason_of readable_task input.now result }
 {
     let bytes = decode(alloc, input)?;
     let printer = PrettyPrinter::new(alloc);
@@ -93,8 +93,8 @@ fn diagnostic_text<A: Allocator + Copy>(
     closed: bool,
     prefix: &str,
     input: &[u8],
-) -> Result<String<A>, Refusal<A>>
-    ensures { TaskAnswers string_bytes reason_of (diagnostic_task closed prefix.now) input.now result }
+) -> Result<String<A>, Failure<A>>
+    ensures { TaskReturns string_bytes reason_of (diagnostic_task closed prefix.now) input.now result }
 {
     let bytes = decode(alloc, input)?;
     let mut printer = PrettyPrinter::new(alloc);
@@ -109,11 +109,11 @@ fn read_back_text<A: Allocator + Copy>(
     alloc: A,
     prefix: &str,
     input: &[u8],
-) -> Result<String<A>, Refusal<A>>
-    ensures { TaskAnswers string_bytes reason_of (read_back_task prefix.now) input.now result }
+) -> Result<String<A>, Failure<A>>
+    ensures { TaskReturns string_bytes reason_of (read_back_task prefix.now) input.now result }
 {
     let Some(diagnostic) = text_in(input) else {
-        return Err(Refusal::NotUtf8);
+        return Err(Failure::NotUtf8);
     };
     let mut printer = PrettyPrinter::new(alloc);
     printer.with_tag_prefix(String::from_str(alloc, prefix)?);
@@ -126,8 +126,8 @@ pub fn text_of<A: Allocator + Copy>(
     alloc: A,
     task: Task<'_>,
     input: &[u8],
-) -> Result<String<A>, Refusal<A>>
-    ensures { TaskAnswers string_bytes reason_of (seen_task task.entry) input.now result }
+) -> Result<String<A>, Failure<A>>
+    ensures { TaskReturns string_bytes reason_of (seen_task task.entry) input.now result }
 {
     match task {
         Task::Flat => flat_text(alloc, input),

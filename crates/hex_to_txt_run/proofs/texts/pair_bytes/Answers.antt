@@ -1,10 +1,10 @@
 use Rattle.std.proofs.Common.{◌∙◌}
-use Rattle.hex_to_txt_run.proofs.PairItems.{pair_written, pair_refused}
-use Rattle.hex_to_txt_run.proofs.Refusals.{is_memory}
+use Rattle.hex_to_txt_run.proofs.PairItems.{pair_written, pair_fails}
+use Rattle.hex_to_txt_run.proofs.Failures.{is_memory}
 use Rattle.hex_to_txt_run.proofs.texts.pair_bytes.Goals as goal
 
 pub returns-in-Ok : goal.returns-in-Ok
 returns-in-Ok g c = pair_written _ _ _ _ c.in-Ok.ensures
 
 pub unreachable-requires : goal.unreachable-requires
-unreachable-requires g c = c.in_default.not-OutOfMemory (c.kind.ensures ∙ is_memory _ (pair_refused _ _ _ _ c.in-Err.ensures))
+unreachable-requires g c = c.in_default.not-OutOfMemory (c.kind.ensures ∙ is_memory _ (pair_fails _ _ _ _ c.in-Err.ensures))

@@ -10,9 +10,9 @@ use Rattle.kmip_ttlv.specs.Reads.{Begins}
 use Rattle.kmip_ttlv.specs.ReadResults.{ErrorStands, NothingBegins, sort_of_kind}
 use Rattle.hex_to_txt_run.specs.Inputs.{decoded}
 use Rattle.hex_to_txt_run.specs.Pair.{pair_form}
-use Rattle.hex_to_txt_run.specs.Reasons.{Reason, unknown_words, unreadable_input, not_hexadecimal, not_utf8, refused_message, unwritable_output, refused_memory}
+use Rattle.hex_to_txt_run.specs.Reasons.{Reason, unknown_words, unreadable_input, not_hexadecimal, not_utf8, not_a_pair, unwritable_output, no_memory}
 use Rattle.hex_to_txt_run.specs.Tasks.{pair_task}
-use Rattle.hex_to_txt_run.specs.TaskTexts.{MeansRefused, TaskRefuses}
+use Rattle.hex_to_txt_run.specs.TaskTexts.{IsReasonOf, TaskFails}
 
 pub is_memory : {A : Type 0} (k : ErrorKind A) → view_of_kind k ≡ out_of_memory → k ≡ OutOfMemory
 is_memory OutOfMemory h = refl
@@ -36,11 +36,11 @@ none_begins (SerdeError e) s bytes other h v b = h [] v (on_no_more s bytes v b)
 none_begins LengthOverflow s bytes other h v b = h [] v (on_no_more s bytes v b)
 
 -- an error other than out of memory means that there is no pair
-pub no_pair : {A : Type 0} (e : Error A) (input bytes : List ℕ) (why : Reason) → decoded input ≡ Ok bytes → ErrorStands pair_form bytes e → MeansRefused e why → TaskRefuses pair_task input why
-no_pair e input bytes refused_memory decodes refuses means = tt
-no_pair e input bytes (refused_message line) decodes refuses means = (record { bytes = bytes; decodes = decodes; none = none_begins (kind_of e) pair_form bytes means.1 refuses }, means.0)
-no_pair e input bytes unknown_words decodes refuses means = absurd means
-no_pair e input bytes unreadable_input decodes refuses means = absurd means
-no_pair e input bytes not_hexadecimal decodes refuses means = absurd means
-no_pair e input bytes unwritable_output decodes refuses means = absurd means
-no_pair e input bytes not_utf8 decodes refuses means = absurd means
+pub no_pair : {A : Type 0} (e : Error A) (input bytes : List ℕ) (why : Reason) → decoded input ≡ Ok bytes → ErrorStands pair_form bytes e → IsReasonOf e why → TaskFails pair_task input why
+no_pair e input bytes no_memory decodes fails means = tt
+no_pair e input bytes (not_a_pair line) decodes fails means = (record { bytes = bytes; decodes = decodes; none = none_begins (kind_of e) pair_form bytes means.1 fails }, means.0)
+no_pair e input bytes unknown_words decodes fails means = absurd means
+no_pair e input bytes unreadable_input decodes fails means = absurd means
+no_pair e input bytes not_hexadecimal decodes fails means = absurd means
+no_pair e input bytes unwritable_output decodes fails means = absurd means
+no_pair e input bytes not_utf8 decodes fails means = absurd means
