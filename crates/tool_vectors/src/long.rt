@@ -111,33 +111,24 @@ fn growths(alloc: Global, encoding: Encoding, input: &str) -> Result<u64, AllocE
     Ok(100)
 }
 
-// Text is decoded in place: it takes as many allocations as raw bytes do.
-fn decodes_in_place(alloc: Global, encoding: Encoding, text: &str) -> Result<bool, AllocError> {
-    let input = repeated(alloc, text, 500)?;
-    let raw = growths(alloc, Encoding::Raw, input.as_str())?;
-    let decoded = growths(alloc, encoding, input.as_str())?;
-    Ok(0 < raw && raw < 100 && decoded == raw)
+// How many allocations a run makes for the input, which is a text so many times.
+fn buffers(alloc: Global, encoding: Encoding, text: &str, times: u64) -> Result<u64, AllocError> {
+    let text = repeated(alloc, text, times)?;
+    growths(alloc, encoding, text.as_str())
 }
 
+// A text takes a buffer for its characters and one for the bytes, however long it is.
 #[test]
-fn text_is_decoded_in_its_own_memory(rt: HostRuntime) {
-    assert_eq!(rt;
-        decodes_in_place(rt.alloc(), Encoding::Base64, ONE_NUMBER),
-        Ok(true)
-    );
-}
-
-// How many allocations a run makes for messages in hexadecimal, so many times.
-fn buffers(alloc: Global, times: u64) -> Result<u64, AllocError> {
-    let text = repeated(alloc, VERSION, times)?;
-    growths(alloc, Encoding::Hexadecimal, text.as_str())
-}
-
-// Hexadecimal takes a buffer for the text and one for the bytes, however long it is.
-#[test]
-fn text_that_is_printed_as_it_comes_takes_two_buffers(rt: HostRuntime) {
-    assert_eq!(rt; buffers(rt.alloc(), 1), Ok(2));
-    assert_eq!(rt; buffers(rt.alloc(), 2000), Ok(2));
+fn text_takes_two_buffers(rt: HostRuntime) {
+    for (encoding, text) in [
+        (Encoding::Hexadecimal, VERSION),
+        (Encoding::Base64, ONE_NUMBER),
+    ] {
+        for times in [1, 2000] {
+            let count = buffers(rt.alloc(), encoding, text, times);
+            assert_eq!(rt; count, Ok(2), "{encoding:?} {times}");
+        }
+    }
 }
 
 // The headers of nested structures, each in the one before.

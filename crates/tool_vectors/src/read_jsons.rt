@@ -1,9 +1,11 @@
 //! Messages read back from JSON: the forms that are taken, and what is wrong with others.
 
 use crate::jsons::{RESPONSE_JSON, TEXT, TEXT_JSON, TYPES, TYPES_JSON, VERSION_JSON};
+use crate::pieces::{Counted, Slow};
 use crate::runs::{CREATE_RESPONSE, Outcome, VERSION, run_with};
 use kmip_ttlv_json::{BadMember, JsonError, from_json};
 use std::alloc::{AllocError, Global};
+use std::cell::Cell;
 use ttlv_run::from_json::read_json;
 use ttlv_run::{Encoding, Hiding, JsonJob, Task};
 
@@ -258,8 +260,69 @@ fn json_comes_back(rt: HostRuntime) {
     }
 }
 
+// A run over pieces of so many bytes, and how much was written by the second read.
+fn lines_slow(alloc: Global, bytes: &[u8], most: usize, fails: bool) -> (Outcome, usize) {
+    let job = JsonJob {
+        name: "capture",
+        raw: false,
+    };
+    let written = Cell::new(0);
+    let by_second = Cell::new(0);
+    let mut input = Slow {
+        bytes,
+        most,
+        fails,
+        reads: 0,
+        written: &written,
+        by_second: &by_second,
+    };
+    let mut output = Vec::new(alloc);
+    let mut errors = Vec::new(alloc);
+    let mut counted = Counted {
+        taken: &mut output,
+        written: &written,
+    };
+    let status = read_json(alloc, &job, &mut input, &mut counted, &mut errors);
+    let outcome = Outcome {
+        status,
+        output,
+        errors,
+    };
+    (outcome, by_second.get())
+}
+
+#[test]
+fn lines_of_json_in_pieces(rt: HostRuntime) {
+    for (input, status, output, errors) in LINES {
+        for most in [1, 7, 51] {
+            let (outcome, _) = lines_slow(rt.alloc(), input.as_bytes(), most, false);
+            assert!(rt; outcome.is(status, output, errors), "{most} {input}");
+        }
+    }
+}
+
+const TWO: &str =
+    "{\"tag\":\"0x420069\",\"type\":\"Structure\",\"value\":[]}\n{\"tag\":\"0x420069\",\"type\":\"Structure\",\"value\":[]}";
+
+// The message of a line is printed before the next read, and stays if that fails.
+#[test]
+fn a_line_of_json_is_printed_at_once(rt: HostRuntime) {
+    let (outcome, by_second) = lines_slow(rt.alloc(), TWO.as_bytes(), EMPTY.len() + 1, true);
+    assert_eq!(rt; by_second, 17);
+    assert!(rt; outcome.is(2, "4200690100000000\n", "capture: it can't be read\n"));
+}
+
+// What comes behind a bad line isn't read.
+#[test]
+fn a_bad_line_of_json_is_the_last(rt: HostRuntime) {
+    let (outcome, _) = lines_slow(rt.alloc(), b"[1,2\n", 5, true);
+    assert!(rt; outcome.is(1, "", "capture: byte 0: not JSON, column 4\n"));
+}
+
 #[test]
 fn json_in_other_bytes(rt: HostRuntime) {
-    let outcome = lines_with(rt.alloc(), false, b"\xFF");
-    assert!(rt; outcome.is(2, "", "capture: it is not UTF-8\n"));
+    let line = "capture: it is not UTF-8\n";
+    assert!(rt; lines_with(rt.alloc(), false, b"\xFF").is(2, "", line));
+    let input = b"{\"tag\":\"0x420069\",\"type\":\"Structure\",\"value\":[]}\n\xFF\n{}\n";
+    assert!(rt; lines_with(rt.alloc(), false, input).is(2, "4200690100000000\n", line));
 }

@@ -1,11 +1,8 @@
 -- Lines of diagnostics that are read back, and the first that is not whole.
-use Rattle.std.proofs.Common.{◌≡◌, ◌≢◌, ℕ, ◌+◌, ◌-◌, ◌<◌, ◌≤◌, List, [], ◌∷◌, ◌++◌, Option, Some, None, length, drop, get_or, ap, sym, refl, subst, ◌∙◌, arith, length-append}
-use Rattle.std.specs.List.{position_or_len, before_first, after_first}
+use Rattle.std.proofs.Common.{◌≡◌, ◌≢◌, ℕ, ◌+◌, ◌-◌, List, [], ◌∷◌, ◌++◌, Option, Some, None, length, drop, ap, sym, refl, subst, ◌∙◌, arith}
 use Rattle.std.specs.Str.{trim_end}
 use Rattle.std.proofs.lemmas.List.{length-drop}
-use Rattle.std.proofs.lemmas.List.Sums.{split_at_first}
 use Rattle.std.proofs.Math.ListN.{drop_of_length-le}
-use Rattle.kmip_ttlv_names.specs.NameTables.{is_line_feed}
 use Rattle.kmip_ttlv_util.specs.Undiag.{undiag_lines}
 use Rattle.kmip_ttlv_util.specs.Lines.{bounded_part}
 use Rattle.kmip_ttlv_util.specs.ReadBack.{StandAll, EndsAt}
@@ -56,13 +53,3 @@ module _ (beginning : ℕ → ℕ → List ℕ) (prefix : List ℕ) where
   pub line_tries : (at : ℕ) (line t answer : List ℕ) (used deep offset left : ℕ) (o : Option BackFault) → t ≡ trim_end line → EndsAt beginning prefix t answer used deep → Stopped offset deep left o → offset ≡ at + used → left ≡ length t - used → Tries prefix at line o
   line_tries at line t answer used deep offset left o is reads stopped offset_is left_is =
       trimmed_tries at line answer used deep offset left o (subst (λ (s : List ℕ). EndsAt beginning prefix s answer used deep) is reads) stopped offset_is (left_is ∙ ap (λ (s : List ℕ). length s - used) is)
-
--- where the next line begins
-pub next_line : (rest line more : List ℕ) (c all : ℕ) → rest ≡ line ++ (c ∷ more) → length rest ≤ all → all - length more ≡ (all - length rest) + length line + 1
-next_line rest line more c all is le = omega (arith, le, ap length is, length-append line (c ∷ more))
-
--- a line, its end and the others
-pub parts : (rest line more : List ℕ) → position_or_len is_line_feed rest < length rest → line ≡ before_first is_line_feed rest → more ≡ after_first is_line_feed rest → rest ≡ line ++ (get_or rest (position_or_len is_line_feed rest) 0 ∷ more)
-parts rest line more lt l m =
-    let c = get_or rest (position_or_len is_line_feed rest) 0 in
-    split_at_first is_line_feed rest 0 lt ∙ ap (λ (s : List ℕ). s ++ (c ∷ after_first is_line_feed rest)) (sym l) ∙ ap (λ (s : List ℕ). line ++ (c ∷ s)) (sym m)

@@ -1,273 +1,364 @@
--- A decoder of hexadecimal digits: what it has read, character by character.
-use Rattle.std.proofs.Common.{◌≡◌, ◌≢◌, ℕ, ◌+◌, ◌<◌, Bool, true, false, not, ◌&&◌, ◌||◌, if◌then◌else◌, List, [], ◌∷◌, ◌++◌, length, take, drop, Option, Some, None, Result, Ok, Err, ap, sym, refl, subst, ◌∙◌, arith, append-nil, append_assoc, length-append}
-use Rattle.std.specs.Prelude.{slice_index, ◌==◌}
-use Rattle.std.proofs.lemmas.Grind.{take_at_read}
-use Rattle.std.proofs.lemmas.List.{take-append-drop}
-use Rattle.ttlv_run.specs.declared.coding.Alphabet.TheVariants.{HexadecimalDigits}
+-- A decoder of digits: what it knows of them, and what it has read, character by character.
+use Rattle.std.proofs.Common.{◌≡◌, ◌≢◌, ℕ, ◌+◌, ◌%◌, ◌<◌, ◌≤◌, true, List, [], ◌∷◌, ◌++◌, length, take, drop, Option, Some, None, Result, Ok, Err, ap, sym, refl, subst, ◌∙◌, arith, append-nil, append_assoc, length-append}
+use Rattle.std.specs.Prelude.{slice_index, slice_set}
+use Rattle.std.specs.Io.KnownBytes.{prepend_known}
+use Rattle.std.proofs.lemmas.Grind.{take_at_read, take-set_at}
+use Rattle.std.proofs.lemmas.List.{take-append-drop, take-append-le, length-set, length-take-le}
+use Rattle.std.proofs.Math.Seq.{take-append_seam}
+use Rattle.base64.specs.GeneralPurpose.{IsBytes}
 use Rattle.ttlv_run.specs.declared.form.Form.{Form}
-use Rattle.ttlv_run.specs.declared.form.Form.TheVariants.{HexadecimalText, Base64Text, Base64UrlText, ArmouredText, DumpText, PacketText}
 use Rattle.ttlv_run.specs.declared.form.LinePart.{LinePart}
-use Rattle.ttlv_run.specs.declared.form.LinePart.TheVariants.{Begin, Indent, Mark, Offset, Colon, Group, Gap, Between, Half, Whole, Aside, Free}
-use Rattle.ttlv_run.specs.declared.form.Step.{Step}
-use Rattle.ttlv_run.specs.declared.form.Step.TheVariants.{Counts, Skips, Wrong}
+use Rattle.ttlv_run.specs.declared.form.Step.TheVariants.{Counts, Skips}
 use Rattle.ttlv_run.specs.declared.refusal.Refusal.{Refusal}
-use Rattle.ttlv_run.specs.Columns.{is_hex_digit, is_blank, is_between, is_edge, is_mark, is_in_mark, is_in_indent, first_part, step, Reads, begins, counts, skips, between, in_dump, aside}
+use Rattle.ttlv_run.specs.Columns.{first_part, step, Reads, begins, counts, skips}
 use Rattle.ttlv_run.specs.declared.coding.Undecoded.{Undecoded}
 use Rattle.ttlv_run.specs.declared.decoder.Decoder.{Decoder}
 use Rattle.ttlv_run.specs.declared.decoder.Made.{Made}
-use Rattle.ttlv_run.specs.declared.decoder.Made.TheVariants.{Nothing, Byte, Failed}
-use Rattle.ttlv_run.specs.Decoding.{is_streamed, one_or_none, ReadsBytes, Counted, Takes, Reading, StuckAt, Stuck, Pushes, AllBytes, Finishes, ended, Grows, Puts, DecodesPiece, DecodesMore}
-use Rattle.ttlv_run.specs.Inputs.{decode_digits}
-use Rattle.ttlv_run.proofs.Groups.{pair_behind, pair_known, no_digits}
+use Rattle.ttlv_run.specs.declared.decoder.Made.TheVariants.{Nothing, Bytes, Failed}
+use Rattle.ttlv_run.specs.declared.decoder.Phase.{Phase}
+use Rattle.ttlv_run.specs.declared.decoder.Phase.TheVariants.{Groups, Padded, Spoilt}
+use Rattle.ttlv_run.specs.Decoding.{one_or_none, bytes_in, begun, GoesOn, IsOpen, IsPadded, IsSpoilt, Knows, Comes, Ends, Holds, Takes, Reading, Stuck, Pushes, AllBytes, Finishes, Grows, Puts, DecodesPiece, DecodesMore}
+use Rattle.ttlv_run.specs.Fronts.{ReadsBytes}
+use Rattle.ttlv_run.specs.Inputs.{decode_form, width, Makes}
+use Rattle.ttlv_run.proofs.Groups.{behind, group_of, behind_group, group_known, no_group, group_then, nothing, least_group, more_whole, some_width}
 
--- ---- a byte that counts is a hexadecimal digit
+-- ---- digits
 
-abbrev NoCount : Step → Type 0
-NoCount x = (next : LinePart) → x ≡ Counts next → ⊥
+prepended : (front x : List ℕ) (rest : Option (List ℕ)) → prepend_known front (prepend_known x rest) ≡ prepend_known (front ++ x) rest
+prepended front x None = refl
+prepended front x (Some rest) = ap Some (sym (append_assoc front x rest))
 
-skipped_none : (part : LinePart) → NoCount (Skips part)
-skipped_none part next e = cc e
+none_prepended : (front : List ℕ) (o : Option (List ℕ)) → o ≡ None → prepend_known front o ≡ None
+none_prepended front o is = ap (prepend_known front) is
 
-wrong_none : NoCount Wrong
-wrong_none next e = cc e
+module _ (form : Form) (front bytes : List ℕ) (goes : GoesOn form front bytes) where
+  -- digits that are bytes
+  on_some : (rest x : List ℕ) → decode_form form rest ≡ Some x → decode_form form (front ++ rest) ≡ Some (bytes ++ x)
+  on_some rest x is = goes.on rest ∙ ap (prepend_known bytes) is
 
-either_none : (c : Bool) (x y : Step) → NoCount x → NoCount y → NoCount (if c then x else y)
-either_none true x y p q = p
-either_none false x y p q = q
+  on_none : (rest : List ℕ) → decode_form form rest ≡ None → decode_form form (front ++ rest) ≡ None
+  on_none rest is = goes.on rest ∙ none_prepended bytes (decode_form form rest) is
 
--- what counts digits alone counts a digit
-abbrev CountsDigits : Bool → Step → Type 0
-CountsDigits d x = (next : LinePart) → x ≡ Counts next → d ≡ true
+  -- whole groups are bytes by themselves
+  goes_made : decode_form form front ≡ Some bytes
+  goes_made = ap (decode_form form) (sym (append-nil front)) ∙ on_some [] [] (nothing form) ∙ ap Some (append-nil bytes)
 
-first_test : (d : Bool) (x y : Step) → NoCount y → CountsDigits d (if d then x else y)
-first_test true x y none next e = refl
-first_test false x y none next e = absurd (none next e)
+  module _ (g : List ℕ) (long : length g ≡ width form) (plain : IsBytes g) where
+    more_groups : length (front ++ g) % width form ≡ 0
+    more_groups = subst (λ (n : ℕ). n % width form ≡ 0) (omega (arith, long, length-append front g)) (more_whole form (length front) goes.whole)
 
-later_test : (c d : Bool) (x y : Step) → NoCount x → CountsDigits d y → CountsDigits d (if c then x else y)
-later_test true d x y none only next e = absurd (none next e)
-later_test false d x y none only next e = only next e
+    -- a group more
+    goes_further : (x : List ℕ) → group_of form g ≡ Some x → GoesOn form (front ++ g) (bytes ++ x)
+    goes_further x is = record {
+      whole = more_groups;
+      on = λ rest. ap (decode_form form) (append_assoc front g rest) ∙ goes.on (g ++ rest) ∙ ap (prepend_known bytes) (group_then form g x long plain is rest)
+          ∙ prepended bytes x (decode_form form rest);
+    }
 
-never : (d : Bool) (x : Step) → NoCount x → CountsDigits d x
-never d x none next e = absurd (none next e)
+    -- or one behind which there are no more digits
+    ends_here : group_of form g ≡ None → (b : ℕ) (rest : List ℕ) → decode_form form ((front ++ g) ++ b ∷ rest) ≡ None
+    ends_here is b rest =
+        ap (decode_form form) (append_assoc front g (b ∷ rest))
+        ∙ on_none (g ++ b ∷ rest) (behind_group form g b rest long ∙ ap (λ (o : Option (List ℕ)). behind o (decode_form form (b ∷ rest))) is)
 
-in_byte_digit : (whole d : Bool) (b : ℕ) → is_hex_digit b ≡ d → CountsDigits d (if not whole && d then Counts Whole else if whole && not d then between b else Wrong)
-in_byte_digit true true b is next e = refl
-in_byte_digit true false b is next e = sym is ∙ between_digit b next e
-  where
-    between_digit : (c : ℕ) → CountsDigits (is_hex_digit c) (between c)
-    between_digit c = first_test (is_hex_digit c) _ _ (either_none (is_blank c) _ _ (skipped_none Between) (either_none (c == 10) _ _ (skipped_none Begin) (either_none (is_edge c) _ _ (skipped_none Aside) wrong_none)))
-in_byte_digit false true b is next e = refl
-in_byte_digit false false b is next e = cc e
+    pub group_padded : (x : List ℕ) → decode_form form g ≡ Some x → length x + 1 < width form → IsPadded form (front ++ g) (bytes ++ x)
+    group_padded x is few = record {
+      whole = more_groups;
+      made = on_some g x is;
+      last = ends_here (no_group form g long plain (λ y same. subst (λ (t : List ℕ). length t + 1 < width form) (some_bytes (sym is ∙ same)) few));
+    }
+      where
+        some_bytes : {u v : List ℕ} → ◌≡◌ {A = Option (List ℕ)} (Some u) (Some v) → u ≡ v
+        some_bytes e = cc e
 
-aside_none : (b : ℕ) → NoCount (aside b)
-aside_none b = either_none (b == 10) _ _ (skipped_none Begin) (skipped_none Aside)
+    -- or one that is no bytes
+    pub group_spoilt : decode_form form g ≡ None → IsSpoilt form (front ++ g) bytes
+    group_spoilt is = record {
+      front = front;
+      bad = g;
+      more = [];
+      are = ap (λ (t : List ℕ). front ++ t) (sym (append-nil g));
+      whole = goes.whole;
+      made = goes_made;
+      few = omega (arith, long);
+      none = none;
+    }
+      where
+        none : (rest : List ℕ) → decode_form form (front ++ (g ++ rest)) ≡ None
+        none [] = ap (λ (t : List ℕ). decode_form form (front ++ t)) (append-nil g) ∙ on_none g is
+        none (b ∷ rest) = ap (decode_form form) (sym (append_assoc front g (b ∷ rest))) ∙ ends_here (no_group form g long plain (λ y same. cc (sym is ∙ same))) b rest
 
-group_digit : (blank : LinePart) (b : ℕ) → CountsDigits (is_hex_digit b) (if is_hex_digit b then Counts Group else if is_blank b then Skips blank else if b == 10 then Skips Begin else Wrong)
-group_digit blank b = first_test (is_hex_digit b) _ _ (either_none (is_blank b) _ _ (skipped_none blank) (either_none (b == 10) _ _ (skipped_none Begin) wrong_none))
+module _ (form : Form) (digits left bytes : List ℕ) (o : IsOpen form digits left bytes) (b : ℕ) where
+  pub all_digits : digits ++ b ∷ [] ≡ o.front ++ (left ++ b ∷ [])
+  all_digits = ap (λ (t : List ℕ). t ++ b ∷ []) o.are ∙ append_assoc o.front left (b ∷ [])
 
-dump_digit : (part : LinePart) (b : ℕ) → CountsDigits (is_hex_digit b) (in_dump part b)
-dump_digit Begin b = never (is_hex_digit b) _ (either_none (is_hex_digit b) _ _ (skipped_none Offset) (either_none (b == 10 || is_blank b) _ _ (skipped_none Begin) wrong_none))
-dump_digit Offset b = never (is_hex_digit b) _ (either_none (is_hex_digit b) _ _ (skipped_none Offset) (either_none (b == 58) _ _ (skipped_none Colon) (either_none (is_blank b) _ _ (skipped_none Between) (either_none (b == 10) _ _ (skipped_none Begin) wrong_none))))
-dump_digit Colon b = group_digit Colon b
-dump_digit Group b = group_digit Gap b
-dump_digit Gap b = group_digit Aside b
-dump_digit Between b = first_test (is_hex_digit b) _ _ (either_none (is_blank b) _ _ (skipped_none Between) (either_none (b == 10) _ _ (skipped_none Begin) (either_none (is_edge b) _ _ (skipped_none Aside) wrong_none)))
-dump_digit Half b = in_byte_digit false (is_hex_digit b) b refl
-dump_digit Whole b = in_byte_digit true (is_hex_digit b) b refl
-dump_digit Aside b = never (is_hex_digit b) _ (aside_none b)
-dump_digit Indent b = never (is_hex_digit b) Wrong wrong_none
-dump_digit Mark b = never (is_hex_digit b) Wrong wrong_none
-dump_digit Free b = never (is_hex_digit b) Wrong wrong_none
+  -- a digit more, of a group that isn't whole yet
+  pub open_more : (then_ : List ℕ) → then_ ≡ left ++ b ∷ [] → length left + 1 < width form → IsOpen form (digits ++ b ∷ []) then_ bytes
+  open_more then_ is few = record {
+    front = o.front;
+    are = all_digits ∙ ap (λ (t : List ℕ). o.front ++ t) (sym is);
+    few = omega (arith, ap (λ (t : List ℕ). length t) is, length-append left (b ∷ []), few);
+    goes = o.goes;
+  }
 
-indent_digit : (part : LinePart) (b n : ℕ) → CountsDigits (is_hex_digit b) (if is_blank b then Skips Indent else if is_in_indent part && is_mark b n then Skips Mark else aside b)
-indent_digit part b n = never (is_hex_digit b) _ (either_none (is_blank b) _ _ (skipped_none Indent) (either_none (is_in_indent part && is_mark b n) _ _ (skipped_none Mark) (aside_none b)))
+  -- or of one that is
+  module _ (g : List ℕ) (is : g ≡ left ++ b ∷ []) (long : length g ≡ width form) (plain : IsBytes g) where
+    same : o.front ++ g ≡ digits ++ b ∷ []
+    same = ap (λ (t : List ℕ). o.front ++ t) is ∙ sym all_digits
 
-packet_digit : (part : LinePart) (b n : ℕ) → CountsDigits (is_hex_digit b) (step PacketText part b n)
-packet_digit Begin b n = indent_digit Begin b n
-packet_digit Indent b n = indent_digit Indent b n
-packet_digit Mark b n = never (is_hex_digit b) _ (skipped_none Offset)
-packet_digit Offset b n = dump_digit Offset b
-packet_digit Colon b n = dump_digit Colon b
-packet_digit Group b n = dump_digit Group b
-packet_digit Gap b n = dump_digit Gap b
-packet_digit Between b n = dump_digit Between b
-packet_digit Half b n = dump_digit Half b
-packet_digit Whole b n = dump_digit Whole b
-packet_digit Aside b n = dump_digit Aside b
-packet_digit Free b n = dump_digit Free b
+    pub open_made : (x : List ℕ) → decode_form form g ≡ Some x → decode_form form (digits ++ b ∷ []) ≡ Some (bytes ++ x)
+    open_made x some = ap (decode_form form) (sym same) ∙ on_some form o.front bytes o.goes g x some
 
-pub counted_digit : (form : Form) → is_streamed form ≡ true → (part : LinePart) (b n : ℕ) (next : LinePart) → step form part b n ≡ Counts next → is_hex_digit b ≡ true
-counted_digit HexadecimalText is part b n =
-    later_test (is_in_mark part) (is_hex_digit b) _ _ (skipped_none Free)
-    (later_test (is_mark b n) (is_hex_digit b) _ _ (skipped_none Mark)
-    (first_test (is_hex_digit b) _ _ (either_none (is_between b || b == 45) _ _ (skipped_none Free) wrong_none)))
-counted_digit Base64Text is part b n = cc is
-counted_digit Base64UrlText is part b n = cc is
-counted_digit ArmouredText is part b n = cc is
-counted_digit DumpText is part b n = dump_digit part b
-counted_digit PacketText is part b n = packet_digit part b n
+    pub open_whole : (x : List ℕ) → decode_form form g ≡ Some x → IsBytes x → width form ≤ length x + 1 → IsOpen form (digits ++ b ∷ []) [] (bytes ++ x)
+    open_whole x some are least = record {
+      front = o.front ++ g;
+      are = sym same ∙ sym (append-nil (o.front ++ g));
+      few = some_width form;
+      goes = goes_further form o.front bytes o.goes g long plain x (group_known form g x long plain are least some);
+    }
+
+    pub open_padded : (x : List ℕ) → decode_form form g ≡ Some x → length x + 1 < width form → IsPadded form (digits ++ b ∷ []) (bytes ++ x)
+    open_padded x some few = subst (λ (t : List ℕ). IsPadded form t (bytes ++ x)) same (group_padded form o.front bytes o.goes g long plain x some few)
+
+    pub open_spoilt : decode_form form g ≡ None → IsSpoilt form (digits ++ b ∷ []) bytes
+    open_spoilt none = subst (λ (t : List ℕ). IsSpoilt form t bytes) same (group_spoilt form o.front bytes o.goes g long plain none)
+
+-- a digit put behind those of a group makes it whole
+pub filled : (ds : List ℕ) (count w b : ℕ) → w ≡ count + 1 → w ≤ length ds → (take w (slice_set ds count b) ≡ take count ds ++ b ∷ []) × (length (take w (slice_set ds count b)) ≡ w)
+filled ds count w b is le = (take-set_at ds count w b is (omega (arith, is, le)), length-take-le w (slice_set ds count b) (omega (arith, le, length-set ds count b)))
+
+-- a digit behind padding
+pub padded_more : (form : Form) (digits bytes : List ℕ) (b : ℕ) → IsPadded form digits bytes → IsSpoilt form (digits ++ b ∷ []) bytes
+padded_more form digits bytes b p = record {
+  front = digits;
+  bad = b ∷ [];
+  more = [];
+  are = refl;
+  whole = p.whole;
+  made = p.made;
+  few = omega (arith, some_width form);
+  none = λ rest. p.last b rest;
+}
+
+-- or behind digits that are no bytes
+pub spoilt_more : (form : Form) (digits bytes : List ℕ) (b : ℕ) → IsSpoilt form digits bytes → IsSpoilt form (digits ++ b ∷ []) bytes
+spoilt_more form digits bytes b p = record {
+  front = p.front;
+  bad = p.bad;
+  more = p.more ++ b ∷ [];
+  are = ap (λ (t : List ℕ). t ++ b ∷ []) p.are ∙ append_assoc p.front (p.bad ++ p.more) (b ∷ []) ∙ ap (λ (t : List ℕ). p.front ++ t) (append_assoc p.bad p.more (b ∷ []));
+  whole = p.whole;
+  made = p.made;
+  few = p.few;
+  none = p.none;
+}
+
+-- groups that begin with what is spoilt
+begins_with : (bad more groups others : List ℕ) → bad ++ more ≡ groups ++ others → length bad ≤ length groups → groups ≡ bad ++ drop (length bad) groups
+begins_with bad more groups others is le =
+    let front : take (length bad) groups ≡ bad = sym (take-append-le (length bad) groups others le) ∙ ap (take (length bad)) (sym is) ∙ take-append_seam bad more in
+    sym (take-append-drop (length bad) groups) ∙ ap (λ (t : List ℕ). t ++ drop (length bad) groups) front
+
+-- whatever is known of digits, it says their bytes
+pub knows_makes : (phase : Phase) (form : Form) (digits left bytes : List ℕ) → Knows phase form digits left bytes → Makes form digits bytes
+knows_makes Groups form digits left bytes o = record {
+  front = o.front;
+  left = left;
+  are = o.are;
+  whole = o.goes.whole;
+  made = goes_made form o.front bytes o.goes;
+  most = λ groups more is some whole. absurd (omega (arith, least_group form (length groups) some whole, o.few, ap (λ (t : List ℕ). length t) is, length-append groups more));
+}
+knows_makes Padded form digits left bytes p = record {
+  front = digits;
+  left = [];
+  are = sym (append-nil digits);
+  whole = p.whole;
+  made = p.made;
+  most = λ groups more is some whole. absurd (omega (arith, some, ap (λ (t : List ℕ). length t) is, length-append groups more));
+}
+knows_makes Spoilt form digits left bytes p = record {
+  front = p.front;
+  left = p.bad ++ p.more;
+  are = p.are;
+  whole = p.whole;
+  made = p.made;
+  most = λ groups more is some whole.
+      let least = least_group form (length groups) some whole in
+      ap (λ (t : List ℕ). decode_form form (p.front ++ t)) (begins_with p.bad p.more groups more is (omega (arith, least, p.few))) ∙ p.none (drop (length p.bad) groups);
+}
+
+-- the digits of a text that ended are bytes
+pub open_ends : (form : Form) (digits left bytes x : List ℕ) → IsOpen form digits left bytes → decode_form form left ≡ Some x → decode_form form digits ≡ Some (bytes ++ x)
+open_ends form digits left bytes x o is = ap (decode_form form) o.are ∙ on_some form o.front bytes o.goes left x is
+
+-- or none
+pub open_fails : (form : Form) (digits left bytes : List ℕ) → IsOpen form digits left bytes → decode_form form left ≡ None → decode_form form digits ≡ None
+open_fails form digits left bytes o is = ap (decode_form form) o.are ∙ on_none form o.front bytes o.goes left is
+
+pub spoilt_fails : (form : Form) (digits bytes : List ℕ) → IsSpoilt form digits bytes → decode_form form digits ≡ None
+spoilt_fails form digits bytes p = ap (decode_form form) p.are ∙ p.none p.more
 
 -- ---- one character
 
-module _ (form : Form) (s bytes : List ℕ) (part then_ : LinePart) (b : ℕ) (rest : List ℕ) where
-  -- that doesn't count
-  pub one_skipped : (half : Option ℕ) → ReadsBytes form s bytes half part (b ∷ rest) → step form part b (slice_index rest 0) ≡ Skips then_ → ReadsBytes form s bytes half then_ rest
-  one_skipped half r is = record {
-    digits = r.digits;
-    reads = skips (r.digits ++ one_or_none half) part then_ b rest r.reads is;
-    are = r.are;
-    digit = r.digit;
-  }
-
-  -- the first digit of a byte
-  pub first_counted : ReadsBytes form s bytes None part (b ∷ rest) → step form part b (slice_index rest 0) ≡ Counts then_ → is_hex_digit b ≡ true → ReadsBytes form s bytes (Some b) then_ rest
-  first_counted r is digit = record {
-    digits = r.digits;
-    reads = counts (r.digits ++ []) (r.digits ++ b ∷ []) part then_ b rest r.reads is (ap (λ (d : List ℕ). d ++ b ∷ []) (sym (append-nil r.digits)));
-    are = r.are;
-    digit = digit;
-  }
-
-  -- the second one
-  pub second_counted : (h x : ℕ) → ReadsBytes form s bytes (Some h) part (b ∷ rest) → step form part b (slice_index rest 0) ≡ Counts then_ → decode_digits HexadecimalDigits (h ∷ b ∷ []) ≡ Some (x ∷ []) → ReadsBytes form s (bytes ++ x ∷ []) None then_ rest
-  second_counted h x r is byte = record {
-    digits = r.digits ++ h ∷ b ∷ [];
-    reads = counts (r.digits ++ h ∷ []) ((r.digits ++ h ∷ b ∷ []) ++ []) part then_ b rest r.reads is (append-nil (r.digits ++ h ∷ b ∷ []) ∙ sym (append_assoc r.digits (h ∷ []) (b ∷ [])));
-    are = pair_behind r.digits bytes h b x r.are byte;
-    digit = tt;
-  }
-
-  -- is always the second one of a byte
-  pub second_known : (h : ℕ) → ReadsBytes form s bytes (Some h) part (b ∷ rest) → is_hex_digit b ≡ true → decode_digits HexadecimalDigits (h ∷ b ∷ []) ≡ None → ⊥
-  second_known h r digit none = pair_known h b r.digit digit none
-
--- what a digit comes to
-abbrev Comes : Form → List ℕ → List ℕ → Option ℕ → LinePart → List ℕ → Made → Type 0
-Comes form s bytes half part rest Nothing = ReadsBytes form s bytes half part rest
-Comes form s bytes half part rest (Byte x) = ReadsBytes form s (bytes ++ x ∷ []) None part rest × (half ≡ None)
-Comes form s bytes half part rest (Failed why) = ⊥
-
-module _ (form : Form) (streamed : is_streamed form ≡ true) (s bytes : List ℕ) (part then_ : LinePart) (b : ℕ) (rest : List ℕ) (is : step form part b (slice_index rest 0) ≡ Counts then_) where
-  digit : is_hex_digit b ≡ true
-  digit = counted_digit form streamed part b (slice_index rest 0) then_ is
-
-  counted_by : (half new : Option ℕ) (made : Made) → ReadsBytes form s bytes half part (b ∷ rest) → Counted half new b made → Comes form s bytes new then_ rest made
-  counted_by None new Nothing r h = subst (λ (n : Option ℕ). ReadsBytes form s bytes n then_ rest) (sym h) (first_counted form s bytes part then_ b rest r is digit)
-  counted_by None new (Byte x) r h = absurd h
-  counted_by None new (Failed why) r h = absurd h
-  counted_by (Some k) new Nothing r h = absurd h
-  counted_by (Some k) new (Byte x) r h = (second_counted form s bytes part then_ b rest k x r is h.1, h.0)
-  counted_by (Some k) new (Failed why) r h = absurd (second_known form s bytes part then_ b rest k r digit h)
-
--- a decoder takes a character that counts
+-- a decoder takes one that counts
 pub counted_takes :
     (old new : Decoder) (s bytes : List ℕ) (b : ℕ) (rest : List ℕ) (then_ : LinePart) (made : Made)
-    → is_streamed old.form ≡ true
-    → ReadsBytes old.form s bytes old.half old.part (b ∷ rest)
+    → (h : Holds old s bytes (b ∷ rest))
     → step old.form old.part b (slice_index rest 0) ≡ Counts then_
-    → Counted old.half new.half b made
+    → ((digits all : List ℕ) → Knows old.phase old.form digits (begun old) all → Comes new (digits ++ b ∷ []) all made)
+    → new.form ≡ old.form
     → new.part ≡ then_
     → Takes old new s bytes b rest made
-counted_takes old new s bytes b rest then_ made streamed r is counted part = by made (counted_by old.form streamed s bytes old.part then_ b rest is old.half new.half made r counted)
+counted_takes old new s bytes b rest then_ made h is comes form part = by made (comes h.digits bytes h.knows)
   where
-    by : (m : Made) → Comes old.form s bytes new.half then_ rest m → Takes old new s bytes b rest m
-    by Nothing h = subst (λ (p : LinePart). ReadsBytes old.form s bytes new.half p rest) (sym part) h
-    by (Byte x) h = (subst (λ (p : LinePart). ReadsBytes old.form s (bytes ++ x ∷ []) None p rest) (sym part) h.0, h.1)
-    by (Failed why) h = absurd h
+    reads : Reads new.form (first_part new.form) s (h.digits ++ b ∷ []) new.part rest
+    reads = subst (λ (f : Form). Reads f (first_part f) s (h.digits ++ b ∷ []) new.part rest) (sym form)
+        (subst (λ (p : LinePart). Reads old.form (first_part old.form) s (h.digits ++ b ∷ []) p rest) (sym part) (counts h.digits (h.digits ++ b ∷ []) old.part then_ b rest h.reads is refl))
+
+    by : (m : Made) → Comes new (h.digits ++ b ∷ []) bytes m → Takes old new s bytes b rest m
+    by Nothing c = record { digits = h.digits ++ b ∷ []; reads = reads; knows = c }
+    by (Bytes g) c = (record { digits = h.digits ++ b ∷ []; reads = reads; knows = c.0 }, c.1)
+    by (Failed why) c = absurd c
+
+-- a decoder that knows what another does, but for the character that waits
+pub record Same (new old : Decoder) : Type 0 where
+  pub form : new.form ≡ old.form
+  pub part : new.part ≡ old.part
+  pub phase : new.phase ≡ old.phase
+  pub begun : begun new ≡ begun old
+
+same_holds : (new old : Decoder) → Same new old → (s bytes rest : List ℕ) → Holds old s bytes rest → Holds new s bytes rest
+same_holds new old same s bytes rest h = record {
+  digits = h.digits;
+  reads = subst (λ (f : Form). Reads f (first_part f) s h.digits new.part rest) (sym same.form) (subst (λ (p : LinePart). Reads old.form (first_part old.form) s h.digits p rest) (sym same.part) h.reads);
+  knows = subst (λ (p : Phase). Knows p new.form h.digits (begun new) bytes) (sym same.phase) (subst (λ (f : Form). Knows old.phase f h.digits (begun new) bytes) (sym same.form)
+      (subst (λ (g : List ℕ). Knows old.phase old.form h.digits g bytes) (sym same.begun) h.knows));
+}
+
+-- or one that doesn't
+pub skipped_takes :
+    (old new : Decoder) (s bytes : List ℕ) (b : ℕ) (rest : List ℕ) (then_ : LinePart)
+    → Holds old s bytes (b ∷ rest)
+    → step old.form old.part b (slice_index rest 0) ≡ Skips then_
+    → new.form ≡ old.form
+    → new.part ≡ then_
+    → new.phase ≡ old.phase
+    → begun new ≡ begun old
+    → Holds new s bytes rest
+skipped_takes old new s bytes b rest then_ h is form part phase begun_is = record {
+  digits = h.digits;
+  reads = subst (λ (f : Form). Reads f (first_part f) s h.digits new.part rest) (sym form) (subst (λ (p : LinePart). Reads old.form (first_part old.form) s h.digits p rest) (sym part) (skips h.digits old.part then_ b rest h.reads is));
+  knows = subst (λ (p : Phase). Knows p new.form h.digits (begun new) bytes) (sym phase) (subst (λ (f : Form). Knows old.phase f h.digits (begun new) bytes) (sym form)
+      (subst (λ (g : List ℕ). Knows old.phase old.form h.digits g bytes) (sym begun_is) h.knows));
+}
+
+-- what a decoder has read
+abbrev pub holds_bytes : (d : Decoder) (s bytes rest : List ℕ) → Holds d s bytes rest → ReadsBytes d.form s bytes rest
+holds_bytes d s bytes rest h = record { digits = h.digits; part = d.part; reads = h.reads; makes = knows_makes d.phase d.form h.digits (begun d) bytes h.knows }
 
 -- ---- a decoder
 
+no_digits : (form : Form) → IsOpen form [] [] []
+no_digits form = record {
+  front = [];
+  are = refl;
+  few = some_width form;
+  goes = record { whole = by_zero; on = λ rest. none_in_front (decode_form form rest) };
+}
+  where
+    by_zero : 0 % width form ≡ 0
+    by_zero = omega arith
+
+    none_in_front : (o : Option (List ℕ)) → o ≡ prepend_known [] o
+    none_in_front None = refl
+    none_in_front (Some x) = refl
+
 -- in front of a text
-pub starts_reading : (form : Form) (part : LinePart) (mark : ℕ) → is_streamed form ≡ true → part ≡ first_part form → Reading (record { form = form; part = part; half = None; waiting = None; offset = mark }) mark [] []
-starts_reading form part mark streamed is = record {
-  streamed = streamed;
+pub starts_reading : (d : Decoder) (mark : ℕ) → d.part ≡ first_part d.form → d.phase ≡ Groups → d.count ≡ 0 → d.waiting ≡ None → d.offset ≡ mark → Reading d mark [] []
+starts_reading d mark part phase count waiting offset = record {
   reads = λ more. record {
     digits = [];
-    reads = subst (λ (p : LinePart). Reads form (first_part form) more [] p more) (sym is) begins;
-    are = no_digits;
-    digit = tt;
+    reads = subst (λ (w : Option ℕ). Reads d.form (first_part d.form) more [] d.part (one_or_none w ++ more)) (sym waiting) (subst (λ (p : LinePart). Reads d.form (first_part d.form) more [] p more) (sym part) begins);
+    knows = subst (λ (p : Phase). Knows p d.form [] (begun d) []) (sym phase) (subst (λ (n : ℕ). IsOpen d.form [] (take n d.digits) []) (sym count) (no_digits d.form));
   };
-  start = λ e. refl;
-  at = refl;
+  start = λ e. (refl, refl);
+  at = omega (arith, offset, ap (λ (w : Option ℕ). length (one_or_none w)) waiting);
 }
 
 -- what a decoder has left to read, by what waits
 module _ (d : Decoder) (mark : ℕ) (s bytes : List ℕ) (b : ℕ) (r : Reading d mark s bytes) where
   -- the first character waits
-  pub first_waits : (new : Decoder) → d.waiting ≡ None → new ≡ record d { waiting = Some b } → Reading new mark (s ++ b ∷ []) bytes
-  first_waits new none is = subst (λ (n : Decoder). Reading n mark (s ++ b ∷ []) bytes) (sym is) (record {
-    streamed = r.streamed;
-    reads = λ more. subst (λ (t : List ℕ). ReadsBytes d.form t bytes d.half d.part (b ∷ more)) (sym (append_assoc s (b ∷ []) more))
-        (subst (λ (w : Option ℕ). ReadsBytes d.form (s ++ b ∷ more) bytes d.half d.part (one_or_none w ++ b ∷ more)) none (r.reads (b ∷ more)));
-    start = λ e. cc e;
-    at = omega (arith, r.at, ap (λ (w : Option ℕ). length (one_or_none w)) none, length-append s (b ∷ []));
-  })
+  pub first_waits : (new : Decoder) → d.waiting ≡ None → Same new d → new.waiting ≡ Some b → new.offset ≡ d.offset → Reading new mark (s ++ b ∷ []) bytes
+  first_waits new none same waits offset = record {
+    reads = λ more. same_holds new d same ((s ++ b ∷ []) ++ more) bytes (one_or_none new.waiting ++ more)
+        (subst (λ (w : Option ℕ). Holds d ((s ++ b ∷ []) ++ more) bytes (one_or_none w ++ more)) (sym waits)
+        (subst (λ (t : List ℕ). Holds d t bytes (b ∷ more)) (sym (append_assoc s (b ∷ []) more))
+        (subst (λ (w : Option ℕ). Holds d (s ++ b ∷ more) bytes (one_or_none w ++ b ∷ more)) none (r.reads (b ∷ more)))));
+    start = λ e. cc (sym e ∙ waits);
+    at = omega (arith, r.at, offset, ap (λ (w : Option ℕ). length (one_or_none w)) none, ap (λ (w : Option ℕ). length (one_or_none w)) waits, length-append s (b ∷ []));
+  }
 
   -- what waits, in front of the character that came
-  pub waits : (w : ℕ) → d.waiting ≡ Some w → (more : List ℕ) → ReadsBytes d.form (s ++ b ∷ more) bytes d.half d.part (w ∷ b ∷ more)
-  waits w is more = subst (λ (o : Option ℕ). ReadsBytes d.form (s ++ b ∷ more) bytes d.half d.part (one_or_none o ++ b ∷ more)) is (r.reads (b ∷ more))
+  pub waits : (w : ℕ) → d.waiting ≡ Some w → (more : List ℕ) → Holds d (s ++ b ∷ more) bytes (w ∷ b ∷ more)
+  waits w is more = subst (λ (o : Option ℕ). Holds d (s ++ b ∷ more) bytes (one_or_none o ++ b ∷ more)) is (r.reads (b ∷ more))
 
   -- was taken
-  pub took : (w : ℕ) (made : List ℕ) (mid new : Decoder) → d.waiting ≡ Some w → mid.form ≡ d.form → mid.offset ≡ d.offset → new ≡ record mid { waiting = Some b; offset = mid.offset + 1 }
-      → ((more : List ℕ) → ReadsBytes d.form (s ++ b ∷ more) (bytes ++ made) mid.half mid.part (b ∷ more))
-      → Reading new mark (s ++ b ∷ []) (bytes ++ made)
-  took w made mid new is form offset new_is reads = subst (λ (n : Decoder). Reading n mark (s ++ b ∷ []) (bytes ++ made)) (sym new_is) (record {
-    streamed = ap is_streamed form ∙ r.streamed;
-    reads = λ more. subst (λ (t : List ℕ). ReadsBytes mid.form t (bytes ++ made) mid.half mid.part (b ∷ more)) (sym (append_assoc s (b ∷ []) more))
-        (subst (λ (f : Form). ReadsBytes f (s ++ b ∷ more) (bytes ++ made) mid.half mid.part (b ∷ more)) (sym form) (reads more));
-    start = λ e. cc e;
-    at = omega (arith, r.at, offset, ap (λ (o : Option ℕ). length (one_or_none o)) is, length-append s (b ∷ []));
-  })
-
--- a character can't stand where it does
-pub stuck_at : (d : Decoder) (mark : ℕ) (s bytes t : List ℕ) (w : ℕ) (rest : List ℕ) → ReadsBytes d.form t bytes d.half d.part (w ∷ rest) → step d.form d.part w (slice_index rest 0) ≡ Wrong → d.offset + length (w ∷ rest) ≡ mark + length t → StuckAt d.form mark t bytes d.offset w
-stuck_at d mark s bytes t w rest reads wrong at = record { half = d.half; part = d.part; rest = rest; reads = reads; wrong = wrong; at = at }
+  pub took : (w : ℕ) (all : List ℕ) (mid new : Decoder) → d.waiting ≡ Some w → mid.offset ≡ d.offset → Same new mid → new.waiting ≡ Some b → new.offset ≡ mid.offset + 1
+      → ((more : List ℕ) → Holds mid (s ++ b ∷ more) all (b ∷ more))
+      → Reading new mark (s ++ b ∷ []) all
+  took w all mid new is offset same waits further holds = record {
+    reads = λ more. same_holds new mid same ((s ++ b ∷ []) ++ more) all (one_or_none new.waiting ++ more)
+        (subst (λ (o : Option ℕ). Holds mid ((s ++ b ∷ []) ++ more) all (one_or_none o ++ more)) (sym waits)
+        (subst (λ (t : List ℕ). Holds mid t all (b ∷ more)) (sym (append_assoc s (b ∷ []) more)) (holds more)));
+    start = λ e. cc (sym e ∙ waits);
+    at = omega (arith, r.at, offset, further, ap (λ (o : Option ℕ). length (one_or_none o)) is, ap (λ (o : Option ℕ). length (one_or_none o)) waits, length-append s (b ∷ []));
+  }
 
 module _ (d mid : Decoder) (mark : ℕ) (s bytes : List ℕ) (b w : ℕ) (r : Reading d mark s bytes) (is : d.waiting ≡ Some w) where
-  here : (t rest : List ℕ) → ReadsBytes d.form t bytes d.half d.part (w ∷ rest) → length t ≡ length s + length rest → (why : Undecoded) → Takes d mid t bytes w rest (Failed why) → Stuck d.form mark t bytes why
-  here t rest reads len why h =
+  -- a character can't stand where it does
+  here : (t rest : List ℕ) → Holds d t bytes (w ∷ rest) → length t ≡ length s + length rest → (why : Undecoded) → Takes d mid t bytes w rest (Failed why) → Stuck d.form mark t bytes why
+  here t rest h len why wrong =
       let at : d.offset + length (w ∷ rest) ≡ mark + length t = omega (arith, r.at, ap (λ (o : Option ℕ). length (one_or_none o)) is, len) in
-      subst (Stuck d.form mark t bytes) (sym h.1) (stuck_at d mark s bytes t w rest reads h.0 at)
+      subst (Stuck d.form mark t bytes) (sym wrong.1) (record { rest = rest; reads = holds_bytes d t bytes (w ∷ rest) h; wrong = wrong.0; at = at })
 
   -- the character that waits was taken in front of the next one
-  pub pushes : (new : Decoder) (made : Made) → mid.form ≡ d.form → mid.offset ≡ d.offset → new ≡ record mid { waiting = Some b; offset = mid.offset + 1 }
+  pub pushes : (new : Decoder) (made : Made) → mid.offset ≡ d.offset → Same new mid → new.waiting ≡ Some b → new.offset ≡ mid.offset + 1
       → ((more : List ℕ) → Takes d mid (s ++ b ∷ more) bytes w (b ∷ more) made)
       → Pushes d new mark s b bytes made
-  pushes new Nothing form offset new_is takes =
-      subst (Reading new mark (s ++ b ∷ [])) (append-nil bytes)
-      (took d mark s bytes b r w [] mid new is form offset new_is (λ more. subst (λ (t : List ℕ). ReadsBytes d.form (s ++ b ∷ more) t mid.half mid.part (b ∷ more)) (sym (append-nil bytes)) (takes more)))
-  pushes new (Byte x) form offset new_is takes =
-      took d mark s bytes b r w (x ∷ []) mid new is form offset new_is (λ more. subst (λ (h : Option ℕ). ReadsBytes d.form (s ++ b ∷ more) (bytes ++ x ∷ []) h mid.part (b ∷ more)) (sym (takes more).1) (takes more).0)
-  pushes new (Failed why) form offset new_is takes = λ more.
+  pushes new Nothing offset kept waiting further takes = took d mark s bytes b r w bytes mid new is offset kept waiting further takes
+  pushes new (Bytes g) offset kept waiting further takes = took d mark s bytes b r w (bytes ++ bytes_in g) mid new is offset kept waiting further (λ more. (takes more).0)
+  pushes new (Failed why) offset kept waiting further takes = λ more.
       here (s ++ b ∷ more) (b ∷ more) (waits d mark s bytes b r w is more) (length-append s (b ∷ more)) why (takes more)
 
   -- or at the end
-  last_reads : ReadsBytes d.form (s ++ []) bytes d.half d.part (w ∷ [])
-  last_reads = subst (λ (o : Option ℕ). ReadsBytes d.form (s ++ []) bytes d.half d.part (one_or_none o ++ [])) is (r.reads [])
+  last_reads : Holds d (s ++ []) bytes (w ∷ [])
+  last_reads = subst (λ (o : Option ℕ). Holds d (s ++ []) bytes (one_or_none o ++ [])) is (r.reads [])
 
-  pub last_taken : ReadsBytes d.form s bytes d.half d.part (w ∷ [])
-  last_taken = subst (λ (t : List ℕ). ReadsBytes d.form t bytes d.half d.part (w ∷ [])) (append-nil s) last_reads
+  pub last_taken : Holds d s bytes (w ∷ [])
+  last_taken = subst (λ (t : List ℕ). Holds d t bytes (w ∷ [])) (append-nil s) last_reads
 
-  pub finishes_with : (made : Made) → made ≢ Nothing → Takes d mid s bytes w [] made → Finishes d.form mark s bytes made
-  finishes_with Nothing other takes = absurd (other refl)
-  finishes_with (Byte x) other takes = record { part = mid.part; reads = takes.0 }
-  finishes_with (Failed why) other takes = here s [] last_taken (omega arith) why takes
+  module _ (form : mid.form ≡ d.form) where
+    pub finishes_with : (made : Made) → made ≢ Nothing → Takes d mid s bytes w [] made → Finishes d.form mark s bytes made
+    finishes_with Nothing other takes = absurd (other refl)
+    finishes_with (Bytes g) other takes = subst (λ (f : Form). AllBytes f s (bytes ++ bytes_in g)) form (record { digits = takes.0.digits; part = mid.part; reads = takes.0.reads; are = takes.1 })
+    finishes_with (Failed why) other takes = here s [] last_taken (omega arith) why takes
 
-  pub finishes : (made : Made) → mid.offset ≡ d.offset → made ≡ ended mid.half mid.offset → Takes d mid s bytes w [] Nothing → Finishes d.form mark s bytes made
-  finishes made offset made_is takes = subst (Finishes d.form mark s bytes) (sym made_is) (by mid.half takes)
-    where
-      by : (h : Option ℕ) → ReadsBytes d.form s bytes h mid.part [] → Finishes d.form mark s bytes (ended h mid.offset)
-      by None reads = record { part = mid.part; reads = reads }
-      by (Some h) reads = record { half = h; part = mid.part; reads = reads; at = omega (arith, r.at, offset, ap (λ (o : Option ℕ). length (one_or_none o)) is) }
+    pub finishes : (made : Made) → mid.offset ≡ d.offset → (h : Holds mid s bytes []) → Ends mid h.digits bytes made → Finishes d.form mark s bytes made
+    finishes made offset h ends = subst (λ (f : Form). Finishes f mark s bytes made) form (by made ends)
+      where
+        by : (m : Made) → Ends mid h.digits bytes m → Finishes mid.form mark s bytes m
+        by Nothing e = record { digits = h.digits; part = mid.part; reads = h.reads; are = e }
+        by (Bytes g) e = record { digits = h.digits; part = mid.part; reads = h.reads; are = e }
+        by (Failed why) e = subst (Stuck mid.form mark s bytes) (sym e.1)
+            (record { reads = holds_bytes mid s bytes [] h; none = e.0; at = omega (arith, r.at, offset, ap (λ (o : Option ℕ). length (one_or_none o)) is) })
 
 -- a text without a character
 pub none_finishes : (d : Decoder) (mark : ℕ) (s bytes : List ℕ) → Reading d mark s bytes → d.waiting ≡ None → AllBytes d.form s bytes
-none_finishes d mark s bytes r none = record {
-  part = d.part;
-  reads = subst (λ (t : List ℕ). ReadsBytes d.form t bytes None d.part []) (append-nil s)
-      (subst (λ (h : Option ℕ). ReadsBytes d.form (s ++ []) bytes h d.part []) (r.start none)
-      (subst (λ (o : Option ℕ). ReadsBytes d.form (s ++ []) bytes d.half d.part (one_or_none o ++ [])) none (r.reads [])));
-}
+none_finishes d mark s bytes r none =
+    let start = r.start none in
+    subst (λ (t : List ℕ). AllBytes d.form t bytes) (sym start.0) (subst (AllBytes d.form []) (sym start.1)
+    (record { digits = []; part = first_part d.form; reads = begins; are = nothing d.form }))
 
 -- ---- characters one by one
 
@@ -305,12 +396,12 @@ module _
           are = put.1 ∙ g.are;
           holds = λ mark s all r. subst (λ (t : List ℕ). Reading d2 mark t (all ++ g.came)) (joined s) (push mark (s ++ take i piece) (all ++ g.came) (g.holds mark s all r));
         }
-        by (Byte x) push put = record {
-          came = g.came ++ x ∷ [];
-          are = put.1 ∙ ap (λ (t : List ℕ). t ++ x ∷ []) g.are ∙ append_assoc h0 g.came (x ∷ []);
+        by (Bytes x) push put = record {
+          came = g.came ++ bytes_in x;
+          are = put.1 ∙ ap (λ (t : List ℕ). t ++ bytes_in x) g.are ∙ append_assoc h0 g.came (bytes_in x);
           holds = λ mark s all r.
-              subst (Reading d2 mark (s ++ take (i + 1) piece)) (append_assoc all g.came (x ∷ []))
-              (subst (λ (t : List ℕ). Reading d2 mark t ((all ++ g.came) ++ x ∷ [])) (joined s) (push mark (s ++ take i piece) (all ++ g.came) (g.holds mark s all r)));
+              subst (Reading d2 mark (s ++ take (i + 1) piece)) (append_assoc all g.came (bytes_in x))
+              (subst (λ (t : List ℕ). Reading d2 mark t ((all ++ g.came) ++ bytes_in x)) (joined s) (push mark (s ++ take i piece) (all ++ g.came) (g.holds mark s all r)));
         }
         by (Failed why) push put = cc put.0
 
@@ -320,7 +411,7 @@ module _
       where
         by : (m : Made) → ((mark : ℕ) (s bytes : List ℕ) → Reading d1 mark s bytes → Pushes d1 d2 mark s b bytes m) → Puts h1 h2 m (Ok (Some why)) → Grows h0 h2 (λ came. (mark : ℕ) (s all : List ℕ) → Reading d0 mark s all → DecodesPiece d2 mark s piece (all ++ came) (Ok (Some why)))
         by Nothing push put = cc put.0
-        by (Byte x) push put = cc put.0
+        by (Bytes x) push put = cc put.0
         by (Failed other) push put = record {
           came = g.came;
           are = put.1 ∙ g.are;
@@ -337,7 +428,7 @@ module _
       where
         by : (m : Made) → Puts h1 h2 m (Err why) → Grows h0 h2 (λ came. (mark : ℕ) (s all : List ℕ) → Reading d0 mark s all → DecodesPiece d mark s piece (all ++ came) (Err why))
         by Nothing put = record { came = g.came; are = put.1 ∙ g.are; holds = λ mark s all r. put.0 }
-        by (Byte x) put = record { came = g.came; are = put.1 ∙ g.are; holds = λ mark s all r. put.0 }
+        by (Bytes x) put = record { came = g.came; are = put.1 ∙ g.are; holds = λ mark s all r. put.0 }
         by (Failed other) put = record { came = g.came; are = put.1 ∙ g.are; holds = λ mark s all r. put.0 }
 
 -- what came of all characters, up to the end
@@ -360,12 +451,12 @@ module _
         → Ended d0 d2 h0 h2 piece r
     more_ended Nothing (Ok None) end h = record { came = g.came; are = h.1 ∙ g.are; holds = λ mark s all q. all_there (s ++ piece) (all ++ g.came) (end mark (s ++ piece) (all ++ g.came) (g.holds mark s all q)) }
     more_ended Nothing (Ok (Some why)) end h = cc h.0
-    more_ended (Byte x) (Ok None) end h = record {
-      came = g.came ++ x ∷ [];
-      are = h.1 ∙ ap (λ (t : List ℕ). t ++ x ∷ []) g.are ∙ append_assoc h0 g.came (x ∷ []);
-      holds = λ mark s all q. subst (AllBytes d2.form (s ++ piece)) (append_assoc all g.came (x ∷ [])) (all_there (s ++ piece) ((all ++ g.came) ++ x ∷ []) (end mark (s ++ piece) (all ++ g.came) (g.holds mark s all q)));
+    more_ended (Bytes x) (Ok None) end h = record {
+      came = g.came ++ bytes_in x;
+      are = h.1 ∙ ap (λ (t : List ℕ). t ++ bytes_in x) g.are ∙ append_assoc h0 g.came (bytes_in x);
+      holds = λ mark s all q. subst (AllBytes d2.form (s ++ piece)) (append_assoc all g.came (bytes_in x)) (all_there (s ++ piece) ((all ++ g.came) ++ bytes_in x) (end mark (s ++ piece) (all ++ g.came) (g.holds mark s all q)));
     }
-    more_ended (Byte x) (Ok (Some why)) end h = cc h.0
+    more_ended (Bytes x) (Ok (Some why)) end h = cc h.0
     more_ended (Failed other) (Ok None) end h = cc h.0
     more_ended (Failed other) (Ok (Some why)) end h = record {
       came = g.came;
@@ -377,5 +468,5 @@ module _
           subst (λ (t : List ℕ). Stuck d2.form mark t (all ++ g.came) why) (sym same) (subst (Stuck d2.form mark (s ++ piece) (all ++ g.came)) (some_same (sym h.0)) now);
     }
     more_ended Nothing (Err why) end h = record { came = g.came; are = h.1 ∙ g.are; holds = λ mark s all q. h.0 }
-    more_ended (Byte x) (Err why) end h = record { came = g.came; are = h.1 ∙ g.are; holds = λ mark s all q. h.0 }
+    more_ended (Bytes x) (Err why) end h = record { came = g.came; are = h.1 ∙ g.are; holds = λ mark s all q. h.0 }
     more_ended (Failed other) (Err why) end h = record { came = g.came; are = h.1 ∙ g.are; holds = λ mark s all q. h.0 }

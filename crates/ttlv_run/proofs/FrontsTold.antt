@@ -1,39 +1,85 @@
 -- What the front of an input tells, it tells whatever follows.
-use Rattle.std.proofs.Common.{◌≡◌, ◌⊎◌, inl, inr, ℕ, ◌<◌, ◌≤◌, Bool, true, false, if◌then◌else◌, List, [], ◌++◌, length, drop, Some, None, Option, ap, sym, refl, ◌∙◌, arith, append-nil}
-use Rattle.std.specs.Prelude.{slice_index, ◌==◌, ◌&&◌}
+use Rattle.std.proofs.Common.{◌≡◌, ◌⊎◌, inl, inr, ℕ, ◌<◌, ◌≤◌, Bool, true, false, if◌then◌else◌, List, [], ◌++◌, length, take, drop, Some, None, Option, ap, sym, refl, ◌∙◌, arith, append-nil, length-append}
+use Rattle.std.specs.Prelude.{slice_index, nat_lt, not, ◌==◌, ◌&&◌, ◌||◌}
+use Rattle.std.proofs.lemmas.Bool.{le-ltb}
 use Rattle.std.proofs.lemmas.List.{take-append-le, drop-append-le, get_or_append_left}
 use Rattle.ttlv_run.specs.declared.form.Form.{Form}
-use Rattle.ttlv_run.specs.declared.form.Form.TheVariants.{HexadecimalText, DumpText, PacketText}
 use Rattle.ttlv_run.specs.declared.job.Encoding.{Encoding}
 use Rattle.ttlv_run.specs.declared.job.Encoding.TheVariants.{Detected, Raw, Hexadecimal, Base64, Base64Url, Armoured, Dump, Packets}
 use Rattle.ttlv_run.specs.Columns.{mark_length, body}
-use Rattle.ttlv_run.specs.Decoding.{is_streamed}
-use Rattle.ttlv_run.specs.Fronts.{coming, if_streamed, form_if, front_size, taken_as}
-use Rattle.ttlv_run.specs.Guesses.{front_of, front_found, text_found, is_raw}
-use Rattle.ttlv_run.specs.Inputs.{form_of, encoding_of}
+use Rattle.ttlv_run.specs.Fronts.{is_some, front_size, taken_as}
+use Rattle.ttlv_run.specs.Guesses.{has_control, looks_raw, front_of, front_found, text_found}
+use Rattle.ttlv_run.specs.Inputs.{form_of, is_detected, encoding_of}
 
 -- it has four bytes at least
-pub four_least : (e : Encoding) → 4 ≤ front_size e
-four_least Detected = omega arith
-four_least Raw = omega arith
-four_least Hexadecimal = omega arith
-four_least Base64 = omega arith
-four_least Base64Url = omega arith
-four_least Armoured = omega arith
-four_least Dump = omega arith
-four_least Packets = omega arith
+four_by : (c b : Bool) → 4 ≤ (if c then 4 else if b then 64 else 1024)
+four_by true b = omega arith
+four_by false true = omega arith
+four_by false false = omega arith
 
--- how digits stand in an input
-pub coming_on : (e : Encoding) (s more : List ℕ) → (front_size e ≤ length s) ⊎ (more ≡ []) → coming e (s ++ more) ≡ coming e s
-coming_on e s more (inr none) = ap (λ (m : List ℕ). coming e (s ++ m)) none ∙ ap (coming e) (append-nil s)
-coming_on Detected s more (inl long) = ap (λ (t : List ℕ). if_streamed (form_if (front_found (body t)))) (take-append-le 64 s more long)
-coming_on Raw s more (inl long) = refl
-coming_on Hexadecimal s more (inl long) = refl
-coming_on Base64 s more (inl long) = refl
-coming_on Base64Url s more (inl long) = refl
-coming_on Armoured s more (inl long) = refl
-coming_on Dump s more (inl long) = refl
-coming_on Packets s more (inl long) = refl
+pub four_least : (e : Encoding) (s : List ℕ) → 4 ≤ front_size e s
+four_least e s = four_by (not (is_detected e) || (nat_lt (length s) 4 || looks_raw s)) (nat_lt (length s) 64 || is_some (front_of s))
+
+-- and 1,024 at most
+most_by : (c b : Bool) → (if c then 4 else if b then 64 else 1024) ≤ 1024
+most_by true b = omega arith
+most_by false true = omega arith
+most_by false false = omega arith
+
+pub size_most : (e : Encoding) (s : List ℕ) → front_size e s ≤ 1024
+size_most e s = most_by (not (is_detected e) || (nat_lt (length s) 4 || looks_raw s)) (nat_lt (length s) 64 || is_some (front_of s))
+
+-- what an input tells is that of its front
+pub record Told (e : Encoding) (s more : List ℕ) : Type 0 where
+  pub size : front_size e (s ++ more) ≡ front_size e s
+  pub encoding : encoding_of e (s ++ more) ≡ encoding_of e s
+
+some_least : (b : Bool) → 64 ≤ (if b then 64 else 1024)
+some_least true = omega arith
+some_least false = omega arith
+
+module _ (s more : List ℕ) (long : front_size Detected s ≤ length s) where
+  four : 4 ≤ length s
+  four = omega (arith, long, four_least Detected s)
+
+  few : nat_lt (length s) 4 ≡ false
+  few = le-ltb (length s) 4 four
+
+  few_on : nat_lt (length (s ++ more)) 4 ≡ false
+  few_on = le-ltb (length (s ++ more)) 4 (omega (arith, four, length-append s more))
+
+  raw : looks_raw (s ++ more) ≡ looks_raw s
+  raw = ap has_control (take-append-le 4 s more four)
+
+  told_by : (r : Bool) → looks_raw s ≡ r → (o : Option Encoding) → front_of s ≡ o → Told Detected s more
+  told_by true is o of = record { size = rw (few_on, few, raw, is) refl; encoding = rw (raw, is) refl }
+  told_by false is o of =
+      let least : (if nat_lt (length s) 64 || is_some (front_of s) then 64 else 1024) ≤ length s = rw (few, is) at long in
+      let sixty : 64 ≤ length s = omega (arith, least, some_least (nat_lt (length s) 64 || is_some (front_of s))) in
+      let no = le-ltb (length s) 64 sixty in
+      let no_on = le-ltb (length (s ++ more)) 64 (omega (arith, sixty, length-append s more)) in
+      let front : front_of (s ++ more) ≡ front_of s = ap (λ (t : List ℕ). front_found (body t)) (take-append-le 64 s more sixty) in
+      record { size = rw (few_on, few, raw, is, no_on, no, front) refl; encoding = rw (raw, is, front) (by o of (rw no at least)) }
+    where
+      by : (o : Option Encoding) → front_of s ≡ o → (if is_some (front_of s) then 64 else 1024) ≤ length s → text_found (front_of s) (body (take 1024 (s ++ more))) ≡ text_found (front_of s) (body (take 1024 s))
+      by (Some e) of least = rw of refl
+      by None of least =
+          let long_front : 1024 ≤ length s = rw of at least in
+          ap (λ (t : List ℕ). text_found (front_of s) (body t)) (take-append-le 1024 s more long_front)
+
+pub told_on : (e : Encoding) (s more : List ℕ) → (front_size e s ≤ length s) ⊎ (more ≡ []) → Told e s more
+told_on e s more (inr none) = record { size = ap (front_size e) same; encoding = ap (encoding_of e) same }
+  where
+    same : s ++ more ≡ s
+    same = ap (λ (m : List ℕ). s ++ m) none ∙ append-nil s
+told_on Detected s more (inl long) = told_by s more long (looks_raw s) refl (front_of s) refl
+told_on Raw s more (inl long) = record { size = refl; encoding = refl }
+told_on Hexadecimal s more (inl long) = record { size = refl; encoding = refl }
+told_on Base64 s more (inl long) = record { size = refl; encoding = refl }
+told_on Base64Url s more (inl long) = record { size = refl; encoding = refl }
+told_on Armoured s more (inl long) = record { size = refl; encoding = refl }
+told_on Dump s more (inl long) = record { size = refl; encoding = refl }
+told_on Packets s more (inl long) = record { size = refl; encoding = refl }
 
 -- and how long its mark is
 mark_on : (s more : List ℕ) → 4 ≤ length s → mark_length (s ++ more) ≡ mark_length s
@@ -52,34 +98,6 @@ body_on s more (inr none) = ap (λ (m : List ℕ). body (s ++ m)) none ∙ ap bo
 body_on s more (inl long) =
     ap (λ (n : ℕ). drop n (s ++ more)) (mark_on s more long)
     ∙ drop-append-le (mark_length s) s more (omega (arith, long, three_most (slice_index s 0 == 239 && (slice_index s 1 == 187 && slice_index s 2 == 191))))
-
--- the form of a text that is decoded as it comes
-if_some : (b : Bool) (f form : Form) → (if b then Some f else None) ≡ Some form → (b ≡ true) × (f ≡ form)
-if_some true f form e = (refl, cc e)
-if_some false f form e = cc e
-
-streamed_is : (o : Option Form) (form : Form) → if_streamed o ≡ Some form → (o ≡ Some form) × (is_streamed form ≡ true)
-streamed_is None form e = cc e
-streamed_is (Some f) form e =
-    let p = if_some (is_streamed f) f form e in
-    (ap (λ (g : Form). Some g) p.1, sym (ap is_streamed p.1) ∙ p.0)
-
-by_front : (o : Option Encoding) (t : List ℕ) (form : Form) → form_if o ≡ Some form → form_of (text_found o t) ≡ Some form
-by_front None t form e = cc e
-by_front (Some x) t form e = e
-
--- is that of its encoding
-pub coming_form : (e : Encoding) (s : List ℕ) (form : Form) → is_raw e s ≡ false → coming e s ≡ Some form → (form_of (encoding_of e s) ≡ Some form) × (is_streamed form ≡ true)
-coming_form Detected s form text is =
-    let p = streamed_is (form_if (front_of s)) form is in
-    (ap (λ (b : Bool). form_of (if b then Raw else text_found (front_of s) (body s))) text ∙ by_front (front_of s) (body s) form p.0, p.1)
-coming_form Raw s form text is = cc is
-coming_form Hexadecimal s form text is = streamed_is (Some HexadecimalText) form is
-coming_form Base64 s form text is = cc is
-coming_form Base64Url s form text is = cc is
-coming_form Armoured s form text is = cc is
-coming_form Dump s form text is = streamed_is (Some DumpText) form is
-coming_form Packets s form text is = streamed_is (Some PacketText) form is
 
 -- the encoding of a form
 known_as : Option Form → Encoding

@@ -1,14 +1,12 @@
 -- Digits decode group by group: the bytes of a whole group, and then those of the rest.
-use Rattle.std.proofs.Common.{◌≡◌, ℕ, zero, suc, ◌+◌, ◌-◌, ◌*◌, ◌/◌, ◌%◌, ◌<◌, ◌≤◌, nat_lt, true, false, Bool, if◌then◌else◌, List, [], ◌∷◌, ◌++◌, length, take, drop, slice_index, Option, None, Some, Result, Ok, Err, refl, sym, ap, subst, append_assoc, ◌∙◌, arith, inl, inr}
+use Rattle.std.proofs.Common.{◌≡◌, ℕ, zero, suc, ◌+◌, ◌-◌, ◌*◌, ◌/◌, ◌%◌, ◌<◌, ◌≤◌, true, false, Bool, if◌then◌else◌, List, [], ◌∷◌, ◌++◌, length, take, drop, slice_index, Option, None, Some, Result, Ok, Err, refl, sym, ap, subst, ◌∙◌, arith, ◌⊎◌, inl, inr}
 use Rattle.std.specs.Io.KnownBytes.{prepend_known}
-use Rattle.std.proofs.lemmas.List.{append-nil, length-append, take_all, take-append-drop, drop-drop, get_or-drop, length-drop, length-take-le}
-use Rattle.std.proofs.lemmas.Bool.Decides.{nat_tests}
-use Rattle.std.proofs.lemmas.Bool.{ltb-true, ltb-false, lt-ltb, le-ltb}
-use Rattle.std.proofs.Math.Seq.{take-append_seam, drop-append_seam}
-use Rattle.std.specs.Prelude.{replicate, IfOk, IfSome}
+use Rattle.std.proofs.lemmas.List.{append-nil, append_assoc, length-append, take_all, take-append-drop, get_or-append_right, length-drop, length-take-le}
+use Rattle.std.proofs.lemmas.Bool.{lt-ltb}
+use Rattle.std.specs.Prelude.{replicate, ◌==◌, ◌&&◌, IfOk, IfSome}
 use Rattle.std.specs.Result.{result_ok}
 use Rattle.hex.specs.Hex as hex
-use Rattle.hex.specs.Hex.{hex_digit_value, digit_or_error, decode_pairs, pair_value, ◌>>=◌}
+use Rattle.hex.specs.Hex.{hex_digit_value, digit_or_error, decode_pairs, ◌>>=◌}
 use Rattle.hex.specs.declared.error.FromHexError.{FromHexError}
 use Rattle.hex.proofs.HexLemmas.{decode_of-even}
 use Rattle.base64.specs.declared.decode.DecodeError.{DecodeError}
@@ -19,15 +17,18 @@ use Rattle.base64.specs.Tables.{is_inverse}
 use Rattle.base64.specs.GeneralPurpose.{decode_of, decoded_of, encode_of, IsBytes, IsDecodedInto, IsStrict, IsConsistent}
 use Rattle.base64.specs.Rfc4648.{encode_symbols, padding_len}
 use Rattle.base64.proofs.Canonical.{take_groups}
-use Rattle.base64.proofs.EngineFacts.{decode_of-encode_of, decode_of_strict}
+use Rattle.base64.proofs.EngineFacts.{decode_of-encode_of, decode_of_strict, front_bytes}
 use Rattle.base64.proofs.RoundTrip.{groups_encoded, length-encode_symbols}
-use Rattle.base64.proofs.Streams.{decoded_of-groups}
+use Rattle.base64.proofs.Streams.{decoded_of-groups, decoded_of-nil}
 use Rattle.base64.proofs.Tables.{encode-decode_table, are_tables_inverse}
-use Rattle.ttlv_run.proofs.InPlace.{same_further}
-use Rattle.ttlv_run.specs.Columns as Columns
-use Rattle.ttlv_run.specs.Inputs.{answer_of, decode_digits, width}
-use Rattle.ttlv_run.specs.declared.coding.Alphabet.{Alphabet}
-use Rattle.ttlv_run.specs.declared.coding.Alphabet.TheVariants.{HexadecimalDigits, Base64Digits, UrlDigits, BareUrlDigits}
+use Rattle.ttlv_run.specs.Inputs.{answer_of, has_padding, url_alphabet, decode_digits, decode_form, width}
+use Rattle.ttlv_run.specs.declared.form.Form.{Form}
+use Rattle.ttlv_run.specs.declared.form.Form.TheVariants.{HexadecimalText, Base64Text, Base64UrlText, ArmouredText, DumpText, PacketText}
+
+-- the bytes of a group in front of those of a rest, where both are known
+abbrev pub behind : Option (List ℕ) → Option (List ℕ) → Option (List ℕ)
+behind None rest = None
+behind (Some x) rest = prepend_known x rest
 
 -- ---- hexadecimal
 
@@ -43,7 +44,7 @@ in_front (Some b) None = None
 in_front (Some b) (Some bytes) = Some (b ∷ bytes)
 
 -- the bytes of pairs, wherever these begin
-unfoldable pairs : List ℕ → Option (List ℕ)
+unfoldable pub pairs : List ℕ → Option (List ℕ)
 pairs [] = Some []
 pairs (digit ∷ []) = None
 pairs (high ∷ low ∷ rest) = in_front (both (hex_digit_value high) (hex_digit_value low)) (pairs rest)
@@ -85,19 +86,25 @@ hex_by_length s (suc (suc n)) odd small = absurd (omega (arith, small))
 hex_pairs : (s : List ℕ) → answer_of (hex.decode_of s) ≡ pairs s
 hex_pairs s = hex_by_length s (length s % 2) refl (omega arith)
 
--- what a group in front makes of the rest: nothing, where it is no bytes or too few, or else its bytes in front
-abbrev pub with_group : ℕ → Option (List ℕ) → Option (List ℕ) → Option (List ℕ)
-with_group w None rest = None
-with_group w (Some x) rest = if nat_lt (length x + 1) w then None else prepend_known x rest
-
-pair_in_front : (b : Option ℕ) (rest : Option (List ℕ)) → in_front b rest ≡ with_group 2 (in_front b (Some [])) rest
+pair_in_front : (b : Option ℕ) (rest : Option (List ℕ)) → in_front b rest ≡ behind (in_front b (Some [])) rest
 pair_in_front None rest = refl
 pair_in_front (Some b) None = refl
 pair_in_front (Some b) (Some bytes) = refl
 
-hex_group : (high low : ℕ) (rest : List ℕ) → pairs (high ∷ low ∷ rest) ≡ with_group 2 (pairs (high ∷ low ∷ [])) (pairs rest)
+hex_group : (high low : ℕ) (rest : List ℕ) → pairs (high ∷ low ∷ rest) ≡ behind (pairs (high ∷ low ∷ [])) (pairs rest)
 unfolding pairs
 hex_group high low rest = pair_in_front (both (hex_digit_value high) (hex_digit_value low)) (pairs rest)
+
+some_same : {x y : List ℕ} → ◌≡◌ {A = Option (List ℕ)} (Some x) (Some y) → x ≡ y
+some_same same = cc same
+
+one_byte : (b : Option ℕ) (x : List ℕ) → in_front b (Some []) ≡ Some x → length x ≡ 1
+one_byte None x is = cc is
+one_byte (Some b) x is = sym (ap (λ (t : List ℕ). length t) (some_same is))
+
+pair_long : (high low : ℕ) (x : List ℕ) → pairs (high ∷ low ∷ []) ≡ Some x → length x ≡ 1
+unfolding pairs
+pair_long high low x is = one_byte (both (hex_digit_value high) (hex_digit_value low)) x is
 
 -- ---- base64
 
@@ -154,14 +161,20 @@ answered : {T E : Type 0} (r : Result T E) → answer_of r ≡ result_ok r
 answered (Ok x) = refl
 answered (Err e) = refl
 
-same_ok : {T E : Type 0} {x y : T} → ◌≡◌ {A = Result T E} (Ok x) (Ok y) → x ≡ y
-same_ok same = cc same
+error_none : {T E : Type 0} (r : Result T E) (x : T) → answer_of r ≡ Some x → r ≡ Ok x
+error_none (Ok y) x is = cc is
+error_none (Err f) x is = cc is
 
-module _ (e : GeneralPurpose) (strict : IsStrict e) (consistent : IsConsistent e) where
-  abbrev enc : List ℕ
+-- the bytes of a whole group, unless it has an error
+abbrev pub found : Option DecodeError → List ℕ → Option (List ℕ)
+found None x = Some x
+found (Some f) x = None
+
+module _ (e : GeneralPurpose) where
+  abbrev pub enc : List ℕ
   enc = e.encode_table
 
-  abbrev dec : List ℕ
+  abbrev pub dec : List ℕ
   dec = e.decode_table
 
   abbrev pads : List ℕ → List ℕ
@@ -170,283 +183,302 @@ module _ (e : GeneralPurpose) (strict : IsStrict e) (consistent : IsConsistent e
   inverse : is_inverse enc dec ≡ true
   inverse = are_tables_inverse enc dec e.padding.value e.tables
 
-  unpadded : (x : List ℕ) → length x ≡ 3 → encode_symbols enc x ≡ encode_of e x
-  unpadded x three =
-      sym (append-nil (encode_symbols enc x))
-      ∙ ap (λ (t : List ℕ). encode_symbols enc x ++ t) (sym (no_padding e.config.encode_padding (padding_len (length x)) e.padding.value (rw three refl)))
+  -- what a group of four digits is where more digits follow
+  abbrev pub whole_group : List ℕ → Option (List ℕ)
+  whole_group g = found (groups_error dec g 1) (groups_bytes dec g 1)
 
-  -- what is decoded and has a rest begins with a group that is three bytes
-  group_of_whole : (g rest b : List ℕ) → length g ≡ 4 → 0 < length rest → IsBytes (g ++ rest) → decode_of e (g ++ rest) ≡ Ok b
-      → (x : List ℕ) × (length x ≡ 3) × (decode_of e g ≡ Ok x)
-  group_of_whole g rest b four some bytes ok =
-      let s : List ℕ = g ++ rest in
-      let len : length s ≡ 4 + length rest = omega (arith, length-append g rest, four) in
-      let none = outcome_none _ _ b ok in
-      let groups : groups_error dec s (groups_before_last (length s)) ≡ None = or_front _ _ (or_behind (lone_error dec e.padding.value s) _ none) in
-      let count : groups_before_last (length s) ≡ suc ((length rest - 1) / 4) = omega (arith, len, some) in
-      let one = first_group dec s ((length rest - 1) / 4) (subst (λ (n : ℕ). groups_error dec s n ≡ None) count groups) in
-      let three = first_is_bytes enc dec s inverse bytes one in
-      let x : List ℕ = groups_bytes dec s 1 in
-      let front : take (4 * 1) s ≡ encode_symbols enc x = take_groups enc dec s 1 inverse bytes (omega (arith, len)) one in
-      let seam : take (4 * 1) s ≡ g = ap (λ (n : ℕ). take n s) (sym four) ∙ take-append_seam g rest in
-      let is : g ≡ encode_of e x = sym seam ∙ front ∙ unpadded x three.1 in
-      (x, three.1, subst (λ (t : List ℕ). decode_of e t ≡ Ok x) (sym is) (decode_of-encode_of e x consistent three.0))
-
-  -- a group of three bytes in front of a rest
-  group_in_front : (g rest x : List ℕ) → length g ≡ 4 → 0 < length rest → IsBytes g → IsBytes x → 3 ≤ length x → decode_of e g ≡ Ok x
-      → decoded_of e (g ++ rest) ≡ prepend_known x (decoded_of e rest)
-  group_in_front g rest x four some bytes are least ok =
-      let is : g ≡ encode_symbols enc x ++ pads x = decode_of_strict e g x strict bytes ok in
-      let three : length x ≡ 3 = omega (arith, four, ap length is, length-append (encode_symbols enc x) (pads x), length-encode_symbols enc x, least) in
-      let all : g ++ rest ≡ encode_symbols enc x ++ (pads x ++ rest) = ap (λ (t : List ℕ). t ++ rest) is ∙ append_assoc (encode_symbols enc x) (pads x) rest in
-      let groups = groups_encoded enc dec x (pads x ++ rest) e.padding.value 1 e.tables are (omega (arith, three)) in
-      let none : groups_error dec (g ++ rest) 1 ≡ None = ap (λ (t : List ℕ). groups_error dec t 1) all ∙ groups.0 in
-      let made : groups_bytes dec (g ++ rest) 1 ≡ x = ap (λ (t : List ℕ). groups_bytes dec t 1) all ∙ groups.1 ∙ take_all (3 * 1) x (omega (arith, three)) in
-      let inside : 4 * 1 < length (g ++ rest) = omega (arith, length-append g rest, four, some) in
-      let step = decoded_of-groups e (g ++ rest) [] 1 inside none in
-      let left : drop (4 * 1) (g ++ rest) ++ [] ≡ rest = append-nil (drop (4 * 1) (g ++ rest)) ∙ ap (λ (n : ℕ). drop n (g ++ rest)) (sym four) ∙ drop-append_seam g rest in
-      ap (decoded_of e) (sym (append-nil (g ++ rest))) ∙ step ∙ ap (λ (t : List ℕ). prepend_known t (decoded_of e (drop (4 * 1) (g ++ rest) ++ []))) made
-      ∙ ap (λ (t : List ℕ). prepend_known x (decoded_of e t)) left
-
-  of_is : (s : List ℕ) → decoded_of e s ≡ result_ok (decode_of e s)
+  of_is : (s : List ℕ) → decoded_of e s ≡ answer_of (decode_of e s)
   unfolding decoded_of
-  of_is s = refl
+  of_is s = sym (answered (decode_of e s))
 
-  no_whole : (g rest : List ℕ) (r : Result (List ℕ) DecodeError) → length g ≡ 4 → 0 < length rest → IsBytes (g ++ rest) → decode_of e (g ++ rest) ≡ r
-      → ((x : List ℕ) → length x ≡ 3 → decode_of e g ≡ Ok x → ⊥) → answer_of r ≡ None
-  no_whole g rest (Err f) four some bytes is none = refl
-  no_whole g rest (Ok b) four some bytes is none =
-      let x = group_of_whole g rest b four some bytes is in
-      absurd (none x.0 x.1 x.2)
+  -- a group without an error, in front of a digit
+  group_in_front : (a b c d x : ℕ) (rest : List ℕ) → groups_error dec (a ∷ b ∷ c ∷ d ∷ []) 1 ≡ None
+      → answer_of (decode_of e (a ∷ b ∷ c ∷ d ∷ x ∷ rest)) ≡ prepend_known (groups_bytes dec (a ∷ b ∷ c ∷ d ∷ []) 1) (answer_of (decode_of e (x ∷ rest)))
+  unfolding groups_error groups_bytes
+  group_in_front a b c d x rest none =
+      let s : List ℕ = a ∷ b ∷ c ∷ d ∷ x ∷ rest in
+      let step = decoded_of-groups e s [] 1 (omega arith) none in
+      sym (of_is s) ∙ ap (decoded_of e) (sym (append-nil s)) ∙ step
+      ∙ ap (λ (t : List ℕ). prepend_known (groups_bytes dec (a ∷ b ∷ c ∷ d ∷ []) 1) (decoded_of e t)) (append-nil (x ∷ rest))
+      ∙ ap (prepend_known (groups_bytes dec (a ∷ b ∷ c ∷ d ∷ []) 1)) (of_is (x ∷ rest))
 
-  by_count : (g rest x : List ℕ) (short : Bool) → (nat_lt (length x + 1) 4) ≡ short → length g ≡ 4 → 0 < length rest → IsBytes g → IsBytes (g ++ rest) → IsBytes x
-      → decode_of e g ≡ Ok x → answer_of (decode_of e (g ++ rest)) ≡ (if short then None else prepend_known x (answer_of (decode_of e rest)))
-  by_count g rest x true is four some part bytes are ok =
-      let few = ltb-true (length x + 1) 4 is in
-      no_whole g rest (decode_of e (g ++ rest)) four some bytes refl
-      (λ y three yes. absurd (omega (arith, few, three, ap length (same_ok (sym ok ∙ yes)))))
-  by_count g rest x false is four some part bytes are ok =
-      answered (decode_of e (g ++ rest)) ∙ sym (of_is (g ++ rest))
-      ∙ group_in_front g rest x four some part are (omega (arith, ltb-false (length x + 1) 4 is)) ok
-      ∙ ap (prepend_known x) (of_is rest ∙ sym (answered (decode_of e rest)))
+  same_group : (a b c d x : ℕ) (rest : List ℕ) → groups_error dec (a ∷ b ∷ c ∷ d ∷ []) 1 ≡ groups_error dec (a ∷ b ∷ c ∷ d ∷ x ∷ rest) 1
+  unfolding groups_error
+  same_group a b c d x rest = refl
 
-  by_group : (g rest : List ℕ) (r : Result (List ℕ) DecodeError) → decode_of e g ≡ r → length g ≡ 4 → 0 < length rest → IsBytes g → IsBytes (g ++ rest)
-      → ((x : List ℕ) → r ≡ Ok x → IsBytes x)
-      → answer_of (decode_of e (g ++ rest)) ≡ with_group 4 (answer_of r) (answer_of (decode_of e rest))
-  by_group g rest (Err f) is four some part bytes are =
-      no_whole g rest (decode_of e (g ++ rest)) four some bytes refl (λ x three yes. cc (sym is ∙ yes))
-  by_group g rest (Ok x) is four some part bytes are =
-      by_count g rest x (nat_lt (length x + 1) 4) refl four some part bytes (are x refl) is
+  -- and one with an error
+  group_wrong : (a b c d x : ℕ) (rest : List ℕ) (f : DecodeError) → groups_error dec (a ∷ b ∷ c ∷ d ∷ []) 1 ≡ Some f
+      → (r : Result (List ℕ) DecodeError) → decode_of e (a ∷ b ∷ c ∷ d ∷ x ∷ rest) ≡ r → answer_of r ≡ None
+  group_wrong a b c d x rest f wrong (Err g) is = refl
+  group_wrong a b c d x rest f wrong (Ok bytes) is =
+      let s : List ℕ = a ∷ b ∷ c ∷ d ∷ x ∷ rest in
+      let none = outcome_none _ _ bytes is in
+      let groups : groups_error dec s (groups_before_last (length s)) ≡ None = or_front _ _ (or_behind (lone_error dec e.padding.value s) _ none) in
+      let count : groups_before_last (length s) ≡ suc (length rest / 4) = omega arith in
+      let one : groups_error dec s 1 ≡ None = first_group dec s (length rest / 4) (subst (λ (n : ℕ). groups_error dec s n ≡ None) count groups) in
+      cc (sym wrong ∙ same_group a b c d x rest ∙ one)
 
-  known_ok : (r : Result (List ℕ) DecodeError) (x : List ℕ) → answer_of r ≡ Some x → r ≡ Ok x
-  known_ok (Ok y) x is = cc is
-  known_ok (Err f) x is = cc is
+  behind_four : (a b c d x : ℕ) (rest : List ℕ) (r : Option DecodeError) → groups_error dec (a ∷ b ∷ c ∷ d ∷ []) 1 ≡ r
+      → answer_of (decode_of e (a ∷ b ∷ c ∷ d ∷ x ∷ rest)) ≡ behind (found r (groups_bytes dec (a ∷ b ∷ c ∷ d ∷ []) 1)) (answer_of (decode_of e (x ∷ rest)))
+  behind_four a b c d x rest None is = group_in_front a b c d x rest is
+  behind_four a b c d x rest (Some f) is = group_wrong a b c d x rest f is (decode_of e (a ∷ b ∷ c ∷ d ∷ x ∷ rest)) refl
 
-  no_more_bytes : (g x : List ℕ) → IsBytes g → answer_of (decode_of e g) ≡ Some x → length x ≤ length g
-  no_more_bytes g x bytes is =
-      let of : g ≡ encode_symbols enc x ++ pads x = decode_of_strict e g x strict bytes (known_ok (decode_of e g) x is) in
-      omega (arith, ap length of, length-append (encode_symbols enc x) (pads x), length-encode_symbols enc x)
+  module _ (strict : IsStrict e) (consistent : IsConsistent e) (g : List ℕ) (four : length g ≡ 4) (bytes : IsBytes g) where
+    -- a whole group is these bytes by itself
+    four_whole : (r : Option DecodeError) (x : List ℕ) → groups_error dec g 1 ≡ r → found r (groups_bytes dec g 1) ≡ Some x → (decode_of e g ≡ Ok x) × (length x ≡ 3)
+    four_whole (Some f) x is found = cc found
+    four_whole None x is found =
+        let made : groups_bytes dec g 1 ≡ x = some_same found in
+        let three = first_is_bytes enc dec g inverse bytes is in
+        let front : take (4 * 1) g ≡ encode_symbols enc (groups_bytes dec g 1) = take_groups enc dec g 1 inverse bytes (omega (arith, four)) is in
+        let none : pads (groups_bytes dec g 1) ≡ [] = no_padding e.config.encode_padding (padding_len (length (groups_bytes dec g 1))) e.padding.value (rw three.1 refl) in
+        let all : g ≡ encode_of e (groups_bytes dec g 1) =
+        sym (take_all (4 * 1) g (omega (arith, four))) ∙ front ∙ sym (append-nil (encode_symbols enc (groups_bytes dec g 1))) ∙ ap (λ (t : List ℕ). encode_symbols enc (groups_bytes dec g 1) ++ t) (sym none) in
+        (ap (decode_of e) all ∙ decode_of-encode_of e (groups_bytes dec g 1) consistent three.0 ∙ ap (λ (t : List ℕ). Ok t) made, sym (ap (λ (t : List ℕ). length t) made) ∙ three.1)
+
+    -- where it is three bytes, it is a whole group
+    four_known : (x : List ℕ) → IsBytes x → 3 ≤ length x → decode_of e g ≡ Ok x → whole_group g ≡ Some x
+    four_known x are least ok =
+        let is : g ≡ encode_symbols enc x ++ pads x = decode_of_strict e g x strict bytes ok in
+        let three : length x ≡ 3 = omega (arith, four, ap (λ (t : List ℕ). length t) is, length-append (encode_symbols enc x) (pads x), length-encode_symbols enc x, least) in
+        let groups = groups_encoded enc dec x (pads x) e.padding.value 1 e.tables are (omega (arith, three)) in
+        ap whole_group is ∙ ap (λ (r : Option DecodeError). found r (groups_bytes dec (encode_symbols enc x ++ pads x) 1)) groups.0
+        ∙ ap (λ (t : List ℕ). Some t) (groups.1 ∙ take_all (3 * 1) x (omega (arith, three)))
 
 -- ---- either
 
-hex_splits : (g rest : List ℕ) → length g ≡ 2 → answer_of (hex.decode_of (g ++ rest)) ≡ with_group 2 (answer_of (hex.decode_of g)) (answer_of (hex.decode_of rest))
-hex_splits [] rest two = absurd (omega (arith, two))
-hex_splits (a ∷ []) rest two = absurd (omega (arith, two))
-hex_splits (high ∷ low ∷ []) rest two =
-    hex_pairs (high ∷ low ∷ rest) ∙ hex_group high low rest
-    ∙ ap (λ (o : Option (List ℕ)). with_group 2 o (pairs rest)) (sym (hex_pairs (high ∷ low ∷ [])))
-    ∙ ap (with_group 2 (answer_of (hex.decode_of (high ∷ low ∷ [])))) (sym (hex_pairs rest))
-hex_splits (a ∷ b ∷ c ∷ more) rest two = absurd (omega (arith, two))
+-- what a whole group of digits is where more digits follow
+abbrev pub group_of : Form → List ℕ → Option (List ℕ)
+group_of HexadecimalText g = pairs g
+group_of Base64Text g = whole_group standard g
+group_of Base64UrlText g = whole_group url_safe g
+group_of ArmouredText g = whole_group standard g
+group_of DumpText g = pairs g
+group_of PacketText g = pairs g
 
--- digits that have more than a group decode as the group, and then the rest
-pub splits :
-    (a : Alphabet) (g rest : List ℕ)
-    → length g ≡ width a
-    → 0 < length rest
+hex_behind : (g rest : List ℕ) → length g ≡ 2 → answer_of (hex.decode_of (g ++ rest)) ≡ behind (pairs g) (answer_of (hex.decode_of rest))
+hex_behind [] rest two = absurd (omega (arith, two))
+hex_behind (a ∷ []) rest two = absurd (omega (arith, two))
+hex_behind (high ∷ low ∷ []) rest two =
+    hex_pairs (high ∷ low ∷ rest) ∙ hex_group high low rest ∙ ap (behind (pairs (high ∷ low ∷ []))) (sym (hex_pairs rest))
+hex_behind (a ∷ b ∷ c ∷ more) rest two = absurd (omega (arith, two))
+
+-- four digits
+record Four (g : List ℕ) : Type 0 where
+  a : ℕ
+  b : ℕ
+  c : ℕ
+  d : ℕ
+  are : g ≡ a ∷ b ∷ c ∷ d ∷ []
+
+four_of : (g : List ℕ) → length g ≡ 4 → Four g
+four_of [] four = absurd (omega (arith, four))
+four_of (a ∷ []) four = absurd (omega (arith, four))
+four_of (a ∷ b ∷ []) four = absurd (omega (arith, four))
+four_of (a ∷ b ∷ c ∷ []) four = absurd (omega (arith, four))
+four_of (a ∷ b ∷ c ∷ d ∷ []) four = record { a = a; b = b; c = c; d = d; are = refl }
+four_of (a ∷ b ∷ c ∷ d ∷ e ∷ more) four = absurd (omega (arith, four))
+
+base64_behind : (e : GeneralPurpose) (g : List ℕ) (x : ℕ) (rest : List ℕ) → length g ≡ 4 → answer_of (decode_of e (g ++ x ∷ rest)) ≡ behind (whole_group e g) (answer_of (decode_of e (x ∷ rest)))
+base64_behind e g x rest four =
+    let f = four_of g four in
+    subst (λ (t : List ℕ). answer_of (decode_of e (t ++ x ∷ rest)) ≡ behind (whole_group e t) (answer_of (decode_of e (x ∷ rest)))) (sym f.are)
+    (behind_four e f.a f.b f.c f.d x rest (groups_error e.decode_table (f.a ∷ f.b ∷ f.c ∷ f.d ∷ []) 1) refl)
+
+-- with padding at the end or without
+padding_behind : (g : List ℕ) (x : ℕ) (rest : List ℕ) → has_padding (g ++ x ∷ rest) ≡ has_padding (x ∷ rest)
+padding_behind g x rest =
+    let last : length (g ++ x ∷ rest) - 1 ≡ length g + length rest = omega (arith, length-append g (x ∷ rest)) in
+    let some : 0 < length (g ++ x ∷ rest) = omega (arith, length-append g (x ∷ rest)) in
+    let same : length g + length rest - length g ≡ length (x ∷ rest) - 1 = omega arith in
+    ap (λ (b : Bool). b && slice_index (g ++ x ∷ rest) (length (g ++ x ∷ rest) - 1) == 61) (lt-ltb 0 (length (g ++ x ∷ rest)) some)
+    ∙ ap (λ (n : ℕ). slice_index (g ++ x ∷ rest) n == 61) last
+    ∙ ap (λ (n : ℕ). n == 61) (get_or-append_right g (x ∷ rest) (length g) (length g + length rest) 0 refl (omega arith) ∙ ap (slice_index (x ∷ rest)) same)
+    ∙ sym (ap (λ (b : Bool). b && slice_index (x ∷ rest) (length (x ∷ rest) - 1) == 61) (lt-ltb 0 (length (x ∷ rest)) (omega arith)))
+
+url_behind : (g : List ℕ) (x : ℕ) (rest : List ℕ) → length g ≡ 4 → decode_form Base64UrlText (g ++ x ∷ rest) ≡ behind (whole_group url_safe g) (decode_form Base64UrlText (x ∷ rest))
+url_behind g x rest four = ap (λ (p : Bool). decode_digits (url_alphabet p) (g ++ x ∷ rest)) (padding_behind g x rest) ∙ by (has_padding (x ∷ rest))
+  where
+    by : (p : Bool) → decode_digits (url_alphabet p) (g ++ x ∷ rest) ≡ behind (whole_group url_safe g) (decode_digits (url_alphabet p) (x ∷ rest))
+    by true = base64_behind url_safe g x rest four
+    by false = base64_behind url_safe_no_pad g x rest four
+
+-- digits of a group, in front of one more
+pub behind_group : (form : Form) (g : List ℕ) (x : ℕ) (rest : List ℕ) → length g ≡ width form → decode_form form (g ++ x ∷ rest) ≡ behind (group_of form g) (decode_form form (x ∷ rest))
+behind_group HexadecimalText g x rest two = hex_behind g (x ∷ rest) two
+behind_group Base64Text g x rest four = base64_behind standard g x rest four
+behind_group Base64UrlText g x rest four = url_behind g x rest four
+behind_group ArmouredText g x rest four = base64_behind standard g x rest four
+behind_group DumpText g x rest two = hex_behind g (x ∷ rest) two
+behind_group PacketText g x rest two = hex_behind g (x ∷ rest) two
+
+-- what digits of a group are, with more behind them, they are by themselves
+hex_whole : (g x : List ℕ) → length g ≡ 2 → pairs g ≡ Some x → (answer_of (hex.decode_of g) ≡ Some x) × (length x + 1 ≡ 2)
+hex_whole [] x two is = absurd (omega (arith, two))
+hex_whole (a ∷ []) x two is = absurd (omega (arith, two))
+hex_whole (high ∷ low ∷ []) x two is = (hex_pairs (high ∷ low ∷ []) ∙ is, omega (arith, pair_long high low x is))
+hex_whole (a ∷ b ∷ c ∷ more) x two is = absurd (omega (arith, two))
+
+base64_whole : (e : GeneralPurpose) → IsStrict e → IsConsistent e → (g x : List ℕ) → length g ≡ 4 → IsBytes g → whole_group e g ≡ Some x → (answer_of (decode_of e g) ≡ Some x) × (length x + 1 ≡ 4)
+base64_whole e strict consistent g x four bytes is =
+    let w = four_whole e strict consistent g four bytes (groups_error e.decode_table g 1) x refl is in
+    (ap answer_of w.0, omega (arith, w.1))
+
+url_whole : (p : Bool) (g x : List ℕ) → length g ≡ 4 → IsBytes g → whole_group url_safe g ≡ Some x → (decode_digits (url_alphabet p) g ≡ Some x) × (length x + 1 ≡ 4)
+url_whole true g x four bytes is = base64_whole url_safe (refl, refl) refl g x four bytes is
+url_whole false g x four bytes is = base64_whole url_safe_no_pad (refl, refl) refl g x four bytes is
+
+pub whole_decodes : (form : Form) (g x : List ℕ) → length g ≡ width form → IsBytes g → group_of form g ≡ Some x → (decode_form form g ≡ Some x) × (length x + 1 ≡ width form)
+whole_decodes HexadecimalText g x two bytes is = hex_whole g x two is
+whole_decodes Base64Text g x four bytes is = base64_whole standard (refl, refl) refl g x four bytes is
+whole_decodes Base64UrlText g x four bytes is = url_whole (has_padding g) g x four bytes is
+whole_decodes ArmouredText g x four bytes is = base64_whole standard (refl, refl) refl g x four bytes is
+whole_decodes DumpText g x two bytes is = hex_whole g x two is
+whole_decodes PacketText g x two bytes is = hex_whole g x two is
+
+-- so are the other way round as many bytes as a group can be
+base64_known : (e : GeneralPurpose) → IsStrict e → IsConsistent e → (g x : List ℕ) → length g ≡ 4 → IsBytes g → IsBytes x → 4 ≤ length x + 1 → answer_of (decode_of e g) ≡ Some x → whole_group e g ≡ Some x
+base64_known e strict consistent g x four bytes are least is = four_known e strict consistent g four bytes x are (omega (arith, least)) (error_none (decode_of e g) x is)
+
+url_known : (p : Bool) (g x : List ℕ) → length g ≡ 4 → IsBytes g → IsBytes x → 4 ≤ length x + 1 → decode_digits (url_alphabet p) g ≡ Some x → whole_group url_safe g ≡ Some x
+url_known true g x four bytes are least is = base64_known url_safe (refl, refl) refl g x four bytes are least is
+url_known false g x four bytes are least is = base64_known url_safe_no_pad (refl, refl) refl g x four bytes are least is
+
+pub group_known : (form : Form) (g x : List ℕ) → length g ≡ width form → IsBytes g → IsBytes x → width form ≤ length x + 1 → decode_form form g ≡ Some x → group_of form g ≡ Some x
+group_known HexadecimalText g x two bytes are least is = sym (hex_pairs g) ∙ is
+group_known Base64Text g x four bytes are least is = base64_known standard (refl, refl) refl g x four bytes are least is
+group_known Base64UrlText g x four bytes are least is = url_known (has_padding g) g x four bytes are least is
+group_known ArmouredText g x four bytes are least is = base64_known standard (refl, refl) refl g x four bytes are least is
+group_known DumpText g x two bytes are least is = sym (hex_pairs g) ∙ is
+group_known PacketText g x two bytes are least is = sym (hex_pairs g) ∙ is
+
+-- and less is none
+pub no_group : (form : Form) (g : List ℕ) → length g ≡ width form → IsBytes g → ((x : List ℕ) → decode_form form g ≡ Some x → length x + 1 < width form) → group_of form g ≡ None
+no_group form g long bytes less = by (group_of form g) refl
+  where
+    by : (o : Option (List ℕ)) → group_of form g ≡ o → o ≡ None
+    by None is = refl
+    by (Some x) is =
+        let w = whole_decodes form g x long bytes is in
+        absurd (omega (arith, less x w.0, w.1))
+
+-- no digits are no bytes
+base64_nothing : (e : GeneralPurpose) → answer_of (decode_of e []) ≡ Some []
+base64_nothing e = sym (of_is e []) ∙ decoded_of-nil e
+
+pub nothing : (form : Form) → decode_form form [] ≡ Some []
+unfolding pairs
+nothing HexadecimalText = hex_pairs []
+nothing Base64Text = base64_nothing standard
+nothing Base64UrlText = base64_nothing url_safe_no_pad
+nothing ArmouredText = base64_nothing standard
+nothing DumpText = hex_pairs []
+nothing PacketText = hex_pairs []
+
+-- a whole group in front of any digits
+pub group_then : (form : Form) (g x : List ℕ) → length g ≡ width form → IsBytes g → group_of form g ≡ Some x → (rest : List ℕ) → decode_form form (g ++ rest) ≡ prepend_known x (decode_form form rest)
+group_then form g x long bytes is [] =
+    ap (decode_form form) (append-nil g) ∙ (whole_decodes form g x long bytes is).0 ∙ ap (λ (t : List ℕ). Some t) (sym (append-nil x)) ∙ ap (prepend_known x) (sym (nothing form))
+group_then form g x long bytes is (b ∷ rest) = behind_group form g b rest long ∙ ap (λ (o : Option (List ℕ)). behind o (decode_form form (b ∷ rest))) is
+
+-- ---- whole groups
+
+two_or_four : (form : Form) → (width form ≡ 2) ⊎ (width form ≡ 4)
+two_or_four HexadecimalText = inl refl
+two_or_four Base64Text = inr refl
+two_or_four Base64UrlText = inr refl
+two_or_four ArmouredText = inr refl
+two_or_four DumpText = inl refl
+two_or_four PacketText = inl refl
+
+by_width : (form : Form) (P : ℕ → Type 0) → P 2 → P 4 → P (width form)
+by_width form P two four = elim (two_or_four form) [
+  | inl is ↦ subst P (sym is) two
+  | inr is ↦ subst P (sym is) four
+]
+
+pub least_group : (form : Form) (n : ℕ) → 0 < n → n % width form ≡ 0 → width form ≤ n
+least_group form n = by_width form (λ (w : ℕ). 0 < n → n % w ≡ 0 → w ≤ n) (λ some whole. omega (arith, some, whole)) (λ some whole. omega (arith, some, whole))
+
+pub more_whole : (form : Form) (n : ℕ) → n % width form ≡ 0 → (n + width form) % width form ≡ 0
+more_whole form n = by_width form (λ (w : ℕ). n % w ≡ 0 → (n + w) % w ≡ 0) (λ whole. omega (arith, whole)) (λ whole. omega (arith, whole))
+
+less_whole : (form : Form) (n : ℕ) → width form ≤ n → n % width form ≡ 0 → (n - width form) % width form ≡ 0
+less_whole form n = by_width form (λ (w : ℕ). w ≤ n → n % w ≡ 0 → (n - w) % w ≡ 0) (λ le whole. omega (arith, le, whole)) (λ le whole. omega (arith, le, whole))
+
+pub some_width : (form : Form) → 0 < width form
+some_width form = by_width form (λ (w : ℕ). 0 < w) (omega arith) (omega arith)
+
+-- the bytes of whole groups in front of digits are in front of the bytes of all
+prepend_parts : (x all : List ℕ) (o : Option (List ℕ)) → prepend_known x o ≡ Some all → (xs : List ℕ) × (o ≡ Some xs) × (all ≡ x ++ xs)
+prepend_parts x all None e = cc e
+prepend_parts x all (Some xs) e = (xs, refl, sym (some_same e))
+
+behind_parts : (o r : Option (List ℕ)) (all : List ℕ) → behind o r ≡ Some all → (x : List ℕ) × (o ≡ Some x)
+behind_parts None r all e = cc e
+behind_parts (Some x) r all e = (x, refl)
+
+-- a group in front of a digit, where all are bytes
+first_known : (form : Form) (g s all : List ℕ) → length g ≡ width form → 0 < length s → decode_form form (g ++ s) ≡ Some all → (x : List ℕ) × (group_of form g ≡ Some x)
+first_known form g [] all long some is = absurd (omega (arith, some))
+first_known form g (b ∷ rest) all long some is = behind_parts (group_of form g) (decode_form form (b ∷ rest)) all (sym (behind_group form g b rest long) ∙ is)
+
+back_bytes : (a b : List ℕ) → IsBytes (a ++ b) → IsBytes b
+back_bytes [] b bytes = bytes
+back_bytes (x ∷ a) b bytes = back_bytes a b (λ i. bytes (suc i))
+
+-- a group more in front
+front_step :
+    (form : Form) (g r t front all x : List ℕ)
+    → length g ≡ width form
     → IsBytes g
-    → IsBytes (g ++ rest)
-    → ((x : List ℕ) → decode_digits a g ≡ Some x → IsBytes x)
-    → decode_digits a (g ++ rest) ≡ with_group (width a) (decode_digits a g) (decode_digits a rest)
-splits HexadecimalDigits g rest two some part bytes are = hex_splits g rest two
-splits Base64Digits g rest four some part bytes are =
-    by_group standard (refl, refl) refl g rest (decode_of standard g) refl four some part bytes (λ x ok. are x (ap answer_of ok))
-splits UrlDigits g rest four some part bytes are =
-    by_group url_safe (refl, refl) refl g rest (decode_of url_safe g) refl four some part bytes (λ x ok. are x (ap answer_of ok))
-splits BareUrlDigits g rest four some part bytes are =
-    by_group url_safe_no_pad (refl, refl) refl g rest (decode_of url_safe_no_pad g) refl four some part bytes (λ x ok. are x (ap answer_of ok))
+    → group_of form g ≡ Some x
+    → decode_form form (g ++ r) ≡ Some front
+    → decode_form form (g ++ (r ++ t)) ≡ Some all
+    → ((fs xs : List ℕ) → decode_form form r ≡ Some fs → decode_form form (r ++ t) ≡ Some xs → (more : List ℕ) × (xs ≡ fs ++ more))
+    → (more : List ℕ) × (all ≡ front ++ more)
+front_step form g r t front all x long bytes is whole of_all on =
+    let here = prepend_parts x front (decode_form form r) (sym (group_then form g x long bytes is r) ∙ whole) in
+    let there = prepend_parts x all (decode_form form (r ++ t)) (sym (group_then form g x long bytes is (r ++ t)) ∙ of_all) in
+    let more = on here.0 there.0 here.1 there.1 in
+    (more.0, there.2 ∙ ap (λ (u : List ℕ). x ++ u) more.1 ∙ sym (append_assoc x here.0 more.0) ∙ ap (λ (u : List ℕ). u ++ more.0) (sym here.2))
 
--- a call of base64 decodes a group to three bytes at most, and to no more than its digits are
-module _ (e : GeneralPurpose) (strict : IsStrict e) (consistent : IsConsistent e) where
-  pub decoded_within :
-      (g old new : List ℕ) (r : Result ℕ DecodeError)
-      → IsBytes g
-      → length old ≡ 3
-      → length new ≡ length old
-      → IfOk r (λ n. IsDecodedInto e g n old new)
-      → IfSome (result_ok r) (λ n. (n ≤ 3) × (n ≤ length g))
-  decoded_within g old new (Err f) bytes three same ok = tt
-  decoded_within g old new (Ok n) bytes three same ok =
-      let most = no_more_bytes e strict consistent g (take n new) bytes (ap answer_of ok.0) in
-      (omega (arith, three, ok.2), omega (arith, most, length-take-le n new (omega (arith, same, ok.2))))
+-- the digits of a text in groups: the first, and the rest
+record Split (form : Form) (s : List ℕ) : Type 0 where
+  g : List ℕ
+  r : List ℕ
+  are : s ≡ g ++ r
+  long : length g ≡ width form
+  whole : length r % width form ≡ 0
+  less : length r < length s
 
--- ---- in place
+split_of : (form : Form) (s : List ℕ) → 0 < length s → length s % width form ≡ 0 → Split form s
+split_of form s some whole =
+    let least = least_group form (length s) some whole in
+    let left = length-drop (width form) s in
+    record {
+      g = take (width form) s;
+      r = drop (width form) s;
+      are = sym (take-append-drop (width form) s);
+      long = length-take-le (width form) s least;
+      whole = subst (λ (k : ℕ). k % width form ≡ 0) (sym left) (less_whole form (length s) least whole);
+      less = omega (arith, left, least, some_width form);
+    }
 
-pub take_bytes : (n : ℕ) (s : List ℕ) → IsBytes s → IsBytes (take n s)
-take_bytes zero s bytes i = omega arith
-take_bytes (suc n) [] bytes i = omega arith
-take_bytes (suc n) (b ∷ s) bytes zero = bytes 0
-take_bytes (suc n) (b ∷ s) bytes (suc i) = take_bytes n s (λ k. bytes (suc k)) i
+pub digits_behind : (form : Form) (n : ℕ) (s t front all : List ℕ) → length s ≤ n → length s % width form ≡ 0 → IsBytes s → decode_form form s ≡ Some front → decode_form form (s ++ t) ≡ Some all
+    → (more : List ℕ) × (all ≡ front ++ more)
+digits_behind form n s [] front all le whole bytes is of_all = ([], some_same (sym of_all ∙ ap (decode_form form) (append-nil s) ∙ is) ∙ sym (append-nil front))
+digits_behind form n [] (b ∷ t) front all le whole bytes is of_all = (all, ap (λ (x : List ℕ). x ++ all) (some_same (sym (nothing form) ∙ is)))
+digits_behind form zero (c ∷ s) (b ∷ t) front all le whole bytes is of_all = absurd (omega (arith, le))
+digits_behind form (suc n) (c ∷ s) (b ∷ t) front all le whole bytes is of_all =
+    let p = split_of form (c ∷ s) (omega arith) whole in
+    let parts : IsBytes (p.g ++ p.r) = subst IsBytes p.are bytes in
+    let over : decode_form form (p.g ++ (p.r ++ b ∷ t)) ≡ Some all = sym (ap (λ (u : List ℕ). decode_form form (u ++ b ∷ t)) p.are ∙ ap (decode_form form) (append_assoc p.g p.r (b ∷ t))) ∙ of_all in
+    let first = first_known form p.g (p.r ++ b ∷ t) all p.long (omega (arith, length-append p.r (b ∷ t))) over in
+    front_step form p.g p.r (b ∷ t) front all first.0 p.long (front_bytes p.g p.r parts) first.1 (sym (ap (decode_form form) p.are) ∙ is) over
+    (λ fs xs here there. digits_behind form n p.r (b ∷ t) fs xs (omega (arith, p.less, le)) p.whole (back_bytes p.g p.r parts) here there)
 
-drop_bytes : (n : ℕ) (s : List ℕ) → IsBytes s → IsBytes (drop n s)
-drop_bytes n s bytes i = omega (arith, bytes (n + i), get_or-drop n s i 0)
-
--- what the digits in front of a place stand for lies in front, and those behind it are as they were
-abbrev pub Makes : Alphabet → List ℕ → List ℕ → ℕ → ℕ → Type 0
-Makes a old s at made =
-    (at ≤ length s) × (made ≤ at) × (length s ≡ length old) × (drop at s ≡ drop at old)
-    × (decode_digits a old ≡ prepend_known (take made s) (decode_digits a (drop at old)))
-
-some_same : {x y : List ℕ} → ◌≡◌ {A = Option (List ℕ)} (Some x) (Some y) → x ≡ y
-some_same same = cc same
-
-prepended : (front x : List ℕ) (rest : Option (List ℕ)) → prepend_known front (prepend_known x rest) ≡ prepend_known (front ++ x) rest
-prepended front x None = refl
-prepended front x (Some rest) = ap Some (sym (append_assoc front x rest))
-
--- the next group
-next_group :
-    (a : Alphabet) (old s : List ℕ) (at made n : ℕ) (r : Option (List ℕ))
-    → Makes a old s at made
-    → n ≡ width a
-    → at + n < length s
-    → IsBytes old
-    → decode_digits a (take n (drop at s)) ≡ r
-    → ((x : List ℕ) → r ≡ Some x → IsBytes x)
-    → decode_digits a old ≡ prepend_known (take made s) (with_group (width a) r (decode_digits a (drop (at + n) old)))
-next_group a old s at made n r m wide more bytes is are =
-    let g : List ℕ = take n (drop at s) in
-    let behind : drop n (drop at s) ≡ drop (at + n) s = drop-drop n at s in
-    let all : drop at s ≡ g ++ drop (at + n) s = sym (take-append-drop n (drop at s)) ∙ ap (λ (t : List ℕ). g ++ t) behind in
-    let len : length g ≡ n = length-take-le n (drop at s) (omega (arith, length-drop at s, more)) in
-    let left : drop (at + n) s ≡ drop (at + n) old = same_further s old at (at + n) (omega arith) m.3 in
-    let some : 0 < length (drop (at + n) s) = omega (arith, length-drop (at + n) s, more) in
-    let there : IsBytes (drop at s) = subst IsBytes (sym m.3) (drop_bytes at old bytes) in
-    let whole : IsBytes (g ++ drop (at + n) s) = subst IsBytes all there in
-    let one = splits a g (drop (at + n) s) (len ∙ wide) some (take_bytes n (drop at s) there) whole (λ x yes. are x (sym is ∙ yes)) in
-    m.4 ∙ ap (λ (t : List ℕ). prepend_known (take made s) (decode_digits a t)) (sym m.3 ∙ all)
-    ∙ ap (prepend_known (take made s)) (one ∙ ap (λ (o : Option (List ℕ)). with_group (width a) o (decode_digits a (drop (at + n) s))) is
-    ∙ ap (λ (t : List ℕ). with_group (width a) r (decode_digits a t)) left)
-
--- is none
-pub no_group :
-    (a : Alphabet) (old s : List ℕ) (at made n : ℕ)
-    → Makes a old s at made
-    → n ≡ width a
-    → at + n < length s
-    → IsBytes old
-    → decode_digits a (take n (drop at s)) ≡ None
-    → decode_digits a old ≡ None
-no_group a old s at made n m wide more bytes none = next_group a old s at made n None m wide more bytes none (λ x yes. cc yes)
-
--- is too short
-pub short_group :
-    (a : Alphabet) (old s x : List ℕ) (at made n : ℕ)
-    → Makes a old s at made
-    → n ≡ width a
-    → at + n < length s
-    → IsBytes old
-    → decode_digits a (take n (drop at s)) ≡ Some x
-    → IsBytes x
-    → length x + 1 < n
-    → decode_digits a old ≡ None
-short_group a old s x at made n m wide more bytes is are short =
-    next_group a old s at made n (Some x) m wide more bytes is (λ y yes. subst IsBytes (some_same yes) are)
-    ∙ ap (λ (b : Bool). prepend_known (take made s) (if b then None else prepend_known x (decode_digits a (drop (at + n) old)))) (lt-ltb (length x + 1) (width a) (omega (arith, short, wide)))
-
--- or is put behind what was made
-pub one_group :
-    (a : Alphabet) (old s new x : List ℕ) (at made n : ℕ)
-    → Makes a old s at made
-    → n ≡ width a
-    → at + n < length s
-    → IsBytes old
-    → decode_digits a (take n (drop at s)) ≡ Some x
-    → IsBytes x
-    → n ≤ length x + 1
-    → length x ≤ n
-    → take (made + length x) new ≡ take made s ++ x
-    → drop (made + length x) new ≡ drop (made + length x) s
-    → length new ≡ length s
-    → Makes a old new (at + n) (made + length x)
-one_group a old s new x at made n m wide more bytes is are least most front behind len =
-    let step = next_group a old s at made n (Some x) m wide more bytes is (λ y yes. subst IsBytes (some_same yes) are) in
-    let full = ap (λ (b : Bool). prepend_known (take made s) (if b then None else prepend_known x (decode_digits a (drop (at + n) old)))) (le-ltb (length x + 1) (width a) (omega (arith, least, wide))) in (
-      omega (arith, more, len),
-      omega (arith, m.1, most),
-      len ∙ m.2,
-      same_further new s (made + length x) (at + n) (omega (arith, m.1, most)) behind ∙ same_further s old at (at + n) (omega arith) m.3,
-      step ∙ full ∙ prepended (take made s) x (decode_digits a (drop (at + n) old)) ∙ ap (λ (t : List ℕ). prepend_known t (decode_digits a (drop (at + n) old))) (sym front),
-    )
-
--- ---- pairs of hexadecimal digits, one behind the other
-
-in_front_parts : (b : Option ℕ) (r : Option (List ℕ)) (bytes : List ℕ) → in_front b r ≡ Some bytes → (x : ℕ) × (xs : List ℕ) × (b ≡ Some x) × (r ≡ Some xs) × (bytes ≡ x ∷ xs)
-in_front_parts None r bytes is = cc is
-in_front_parts (Some b) None bytes is = cc is
-in_front_parts (Some b) (Some xs) bytes is = (b, xs, refl, refl, sym (some_same is))
-
-in_front_of : (x : ℕ) (xs : List ℕ) (o : Option (List ℕ)) → in_front (Some x) (prepend_known xs o) ≡ prepend_known (x ∷ xs) o
-in_front_of x xs None = refl
-in_front_of x xs (Some ys) = refl
-
-nothing_in_front : (o : Option (List ℕ)) → o ≡ prepend_known [] o
-nothing_in_front None = refl
-nothing_in_front (Some xs) = refl
-
-pairs_behind : (s t bytes : List ℕ) → pairs s ≡ Some bytes → pairs (s ++ t) ≡ prepend_known bytes (pairs t)
-unfolding pairs
-pairs_behind [] t bytes is = nothing_in_front (pairs t) ∙ ap (λ (b : List ℕ). prepend_known b (pairs t)) (some_same is)
-pairs_behind (digit ∷ []) t bytes is = cc is
-pairs_behind (high ∷ low ∷ rest) t bytes is =
-    let p = in_front_parts (both (hex_digit_value high) (hex_digit_value low)) (pairs rest) bytes is in
-    ap (λ (o : Option ℕ). in_front o (pairs (rest ++ t))) p.2
-    ∙ ap (in_front (Some p.0)) (pairs_behind rest t p.1 p.3)
-    ∙ in_front_of p.0 p.1 (pairs t)
-    ∙ ap (λ (b : List ℕ). prepend_known b (pairs t)) (sym p.4)
-
--- one more
-pub pair_behind : (s bytes : List ℕ) (h l x : ℕ) → decode_digits HexadecimalDigits s ≡ Some bytes → decode_digits HexadecimalDigits (h ∷ l ∷ []) ≡ Some (x ∷ []) → decode_digits HexadecimalDigits (s ++ h ∷ l ∷ []) ≡ Some (bytes ++ x ∷ [])
-pair_behind s bytes h l x is one =
-    hex_pairs (s ++ h ∷ l ∷ []) ∙ pairs_behind s (h ∷ l ∷ []) bytes (sym (hex_pairs s) ∙ is)
-    ∙ ap (prepend_known bytes) (sym (hex_pairs (h ∷ l ∷ [])) ∙ one)
-
--- or half of one
-pub odd_behind : (s bytes : List ℕ) (h : ℕ) → decode_digits HexadecimalDigits s ≡ Some bytes → decode_digits HexadecimalDigits (s ++ h ∷ []) ≡ None
-unfolding pairs
-odd_behind s bytes h is = hex_pairs (s ++ h ∷ []) ∙ pairs_behind s (h ∷ []) bytes (sym (hex_pairs s) ∙ is)
-
--- two digits are a byte
-digit_known : (b : ℕ) → Columns.is_hex_digit b ≡ true → hex_digit_value b ≡ None → ⊥
-digit_known b digit none = grind (arith, nat_tests)
-
-pair_both : (h l : Option ℕ) → (h ≡ None → ⊥) → (l ≡ None → ⊥) → in_front (both h l) (Some []) ≡ None → ⊥
-pair_both None l p q none = p refl
-pair_both (Some a) None p q none = q refl
-pair_both (Some a) (Some b) p q none = cc none
-
-pub pair_known : (h l : ℕ) → Columns.is_hex_digit h ≡ true → Columns.is_hex_digit l ≡ true → decode_digits HexadecimalDigits (h ∷ l ∷ []) ≡ None → ⊥
-unfolding pairs
-pair_known h l high low none = pair_both (hex_digit_value h) (hex_digit_value l) (digit_known h high) (digit_known l low) (sym (hex_pairs (h ∷ l ∷ [])) ∙ none)
-
-pub no_digits : decode_digits HexadecimalDigits [] ≡ Some []
-unfolding pairs
-no_digits = hex_pairs []
-
--- the bytes of a front of digits are a front of all bytes
-some_front : (front all : List ℕ) (o : Option (List ℕ)) → prepend_known front o ≡ Some all → (more : List ℕ) × (all ≡ front ++ more)
-some_front front all None e = cc e
-some_front front all (Some more) e = (more, sym (some_same e))
-
-pub digits_behind : (s t front all : List ℕ) → decode_digits HexadecimalDigits s ≡ Some front → decode_digits HexadecimalDigits (s ++ t) ≡ Some all → (more : List ℕ) × (all ≡ front ++ more)
-digits_behind s t front all is whole =
-    some_front front all (pairs t) (sym (hex_pairs (s ++ t) ∙ pairs_behind s t front (sym (hex_pairs s) ∙ is)) ∙ whole)
+-- a call of base64 decodes a group to three bytes at most
+pub decoded_within : (e : GeneralPurpose) (g old new : List ℕ) (r : Result ℕ DecodeError) → length old ≡ 3 → IfOk r (λ n. IsDecodedInto e g n old new) → IfSome (result_ok r) (λ n. n ≤ 3)
+decoded_within e g old new (Err f) three ok = tt
+decoded_within e g old new (Ok n) three ok = omega (arith, three, ok.2)

@@ -1,58 +1,289 @@
--- Lines of JSON, printed one after the other.
-use Rattle.std.proofs.Common.{◌≡◌, ◌∙◌, inl, inr, ℕ, ◌+◌, List, [], ◌∷◌, ◌++◌, length, Option, None, refl, ap, sym, subst, append_assoc, append-nil}
-use Rattle.std.proofs.KnownBytes.{Appends-trans}
-use Rattle.std.specs.Io.KnownBytes.{Appends}
-use Rattle.std.specs.Prelude.{Bool}
-use Rattle.kmip_ttlv_types.specs.Streams.{AppendsFront}
-use Rattle.kmip_ttlv_util.specs.Pieces.{SomeText}
+-- Lines of JSON that come piece by piece, printed one after the other.
+use Rattle.std.proofs.Common.{arith, ◌≡◌, ◌∙◌, inl, inr, ℕ, ◌+◌, ◌≤◌, Bool, true, false, List, [], ◌∷◌, ◌++◌, length, take, drop, Option, Some, None, Ok, refl, ap, sym, subst, append_assoc, append-nil, length-append, take-append-drop}
+use Rattle.std.specs.Io.KnownBytes.{Appends, Consumes, IsAtEnd}
+use Rattle.std.specs.Prelude.{slice_index}
+use Rattle.std.specs.Str.{IsUtf8}
+use Rattle.std.proofs.KnownBytes.{Appends-trans, Appends-nil, Consumes-trans}
+use Rattle.std.proofs.lemmas.List.{drop-drop, length-drop, take-append-le, drop-append-le, get_or-drop}
+use Rattle.std.proofs.lemmas.Str.{IsUtf8-append, IsUtf8-nil}
+use Rattle.kmip_ttlv_names.specs.NameTables.{lines_of}
 use Rattle.kmip_ttlv_json.specs.declared.failure.JsonError.{JsonError}
-use Rattle.ttlv_run.specs.JsonLines.{Gives, IsBad, Spoils, AllGive, no_line, one_more, GivesFront, FirstBad, PrintsLines}
+use Rattle.ttlv_run.specs.declared.job.JsonJob.{JsonJob}
+use Rattle.ttlv_run.specs.declared.refusal.Refusal.{Refusal}
+use Rattle.ttlv_run.specs.declared.refusal.Refusal.TheVariants.{UnopenedInput, UnreadableInput, MisreadInput, NotUtf8, UnwritableOutput, ClosedPipe, RefusedMemory}
+use Rattle.ttlv_run.specs.Backs.{IsOneLine, IsLineAt}
+use Rattle.ttlv_run.specs.Inputs.{IsUnread}
+use Rattle.ttlv_run.specs.JsonLines.{Gives, Spoils, PrintsBytes, FailsAt, no_line, one_more, GivesLines, NextLine, PrintedJson, FaultsJson, NoTextJson, UnwrittenJson, FailsJson, RespondsJson, fault_at}
+use Rattle.ttlv_run.specs.Reasons.{IsOfPrinting}
+use Rattle.ttlv_run.specs.Runs.{Streams}
+use Rattle.ttlv_run.specs.Streaming.{Comes}
 use Rattle.ttlv_run.proofs.Appending.{all_front}
+use Rattle.ttlv_run.proofs.BackLines.{with_feed, first_of_lines, only_line, line_text, through_line, behind_line, within_line}
 use Rattle.ttlv_run.proofs.Told.{front_more}
+use Rattle.ttlv_run.proofs.Windows.{Left, left_of}
 
--- of all lines some are left, and this is printed of those before them
-pub record Reaches (raw : Bool) (all rest : List (List ℕ)) (text : List ℕ) (at : ℕ) : Type 0 where
-  pub front : List (List ℕ)
-  pub there : all ≡ front ++ rest
-  pub give : AllGive raw front text at
+-- ---- lines that were printed
 
-pub at_first : (raw : Bool) (all : List (List ℕ)) (at : ℕ) → at ≡ 0 → Reaches raw all all [] at
-at_first raw all at is = record { front = []; there = refl; give = subst (AllGive raw [] []) (sym is) no_line }
+pub gives_none : (raw : Bool) (bytes : List ℕ) → GivesLines raw bytes 0 []
+gives_none raw bytes = record { within = omega arith; lines = []; are = λ more. refl; is_text = IsUtf8-nil; give = no_line }
 
--- a line more
-pub reaches_more : (raw : Bool) (all rest more : List (List ℕ)) (line text part : List ℕ) (at next : ℕ) → rest ≡ line ∷ more → next ≡ at + length line + 1 → Gives raw line part → Reaches raw all rest text at → Reaches raw all more (text ++ part) next
-reaches_more raw all rest more line text part at next lines is gives r = record {
-  front = r.front ++ line ∷ [];
-  there = r.there ∙ ap (λ (ls : List (List ℕ)). r.front ++ ls) lines ∙ sym (append_assoc r.front (line ∷ []) more);
-  give = one_more r.front (r.front ++ line ∷ []) line text part (text ++ part) at next r.give gives refl refl is;
-}
+module _ (raw : Bool) (bytes : List ℕ) (place : ℕ) (text : List ℕ) (g : GivesLines raw bytes place text) where
+  -- they stay the same, whatever comes behind them
+  gives_longer : (more : List ℕ) → GivesLines raw (bytes ++ more) place text
+  gives_longer more =
+      let same = take-append-le place bytes more g.within in
+      record {
+        within = omega (arith, g.within, length-append bytes more);
+        lines = g.lines;
+        are = λ others. ap (λ (t : List ℕ). lines_of (t ++ others)) same ∙ g.are others;
+        is_text = subst IsUtf8 (sym same) g.is_text;
+        give = g.give;
+      }
 
--- it is bad
-pub reaches_bad : (raw : Bool) (all rest more : List (List ℕ)) (line text : List ℕ) (at : ℕ) (error : JsonError) → rest ≡ line ∷ more → IsBad line error → Reaches raw all rest text at → FirstBad raw all text (record { offset = at; error = error })
-reaches_bad raw all rest more line text at error lines bad r = record {
-  front = r.front;
-  line = line;
-  rest = more;
-  there = r.there ∙ ap (λ (ls : List (List ℕ)). r.front ++ ls) lines;
-  give = r.give;
-  bad = bad;
-}
+  rest_behind : (left : List ℕ) → drop place (bytes ++ left) ≡ drop place bytes ++ left
+  rest_behind left = drop-append-le place bytes left g.within
 
--- nothing is left
-pub reaches_end : (raw : Bool) (all : List (List ℕ)) (text : List ℕ) (at : ℕ) → Reaches raw all [] text at → PrintsLines raw all text None
-reaches_end raw all text at r = (at, subst (λ (ls : List (List ℕ)). AllGive raw ls text at) (sym (append-nil r.front) ∙ sym r.there) r.give)
+  -- all lines
+  all_lines : (left : List ℕ) → lines_of (bytes ++ left) ≡ g.lines ++ lines_of (drop place bytes ++ left)
+  all_lines left =
+      ap (λ (t : List ℕ). lines_of (t ++ left)) (sym (take-append-drop place bytes)) ∙ ap lines_of (append_assoc (take place bytes) (drop place bytes) left) ∙ g.are (drop place bytes ++ left)
 
--- printing failed at a line
-pub reaches_spoiled : (raw : Bool) (all rest more : List (List ℕ)) (line text : List ℕ) (at : ℕ) (old mid new : Option (List ℕ)) → rest ≡ line ∷ more → Reaches raw all rest text at → Appends old mid text → Spoils raw line mid new → SomeText (GivesFront raw all) (AppendsFront old new)
-reaches_spoiled raw all rest more line text at old mid new lines r done (inl h) =
-    let next = reaches_more raw all rest more line text h.0 at (at + length line + 1) lines refl h.1 r in
-    record {
-      text = text ++ h.0;
-      is = record { front = next.front; rest = more; there = next.there; end = at + length line + 1; give = next.give };
-      holds = front_more old mid new text h.0 done h.2;
-    }
-reaches_spoiled raw all rest more line text at old mid new lines r done (inr none) = record {
-  text = text;
-  is = record { front = r.front; rest = rest; there = r.there; end = at; give = r.give };
-  holds = subst (AppendsFront old new) (append-nil text) (all_front old new (text ++ []) (Appends-trans old mid new text [] done none));
-}
+  -- the next one, with its line feed
+  module _ (line : List ℕ) (l : IsLineAt bytes place line) where
+    gives_line : (part : List ℕ) → IsUtf8 line → Gives raw line part → GivesLines raw bytes (place + (length line + 1)) (text ++ part)
+    gives_line part u gives =
+        let whole = through_line bytes place line l in
+        record {
+          within = within_line bytes place line l;
+          lines = g.lines ++ line ∷ [];
+          are = λ more.
+              ap (λ (t : List ℕ). lines_of (t ++ more)) whole ∙ ap lines_of (append_assoc (take place bytes) (with_feed line) more) ∙ g.are (with_feed line ++ more)
+              ∙ ap (λ (ls : List (List ℕ)). g.lines ++ ls) (first_of_lines line more l.one_line) ∙ sym (append_assoc g.lines (line ∷ []) (lines_of more));
+          is_text = subst IsUtf8 (sym whole) (IsUtf8-append (take place bytes) (with_feed line) g.is_text (line_text line u));
+          give = one_more g.lines (g.lines ++ line ∷ []) line text part (text ++ part) place (place + (length line + 1)) g.give gives refl refl (omega arith);
+        }
+
+    next_feed : (left : List ℕ) → NextLine (bytes ++ left) place line
+    next_feed left =
+        let more = drop (place + (length line + 1)) bytes in
+        record {
+          others = lines_of (more ++ left);
+          first = ap lines_of (rest_behind left) ∙ ap (λ (t : List ℕ). lines_of (t ++ left)) (behind_line bytes place line l) ∙ ap lines_of (append_assoc (with_feed line) more left) ∙ first_of_lines line (more ++ left) l.one_line;
+        }
+
+  -- or without
+  next_last : (left : List ℕ) → left ≡ [] → IsOneLine (drop place bytes) → NextLine (bytes ++ left) place (drop place bytes)
+  next_last left none one = record {
+    others = [];
+    first = ap lines_of (rest_behind left ∙ ap (λ (t : List ℕ). drop place bytes ++ t) none ∙ append-nil (drop place bytes)) ∙ only_line (drop place bytes) one;
+  }
+
+-- ---- an input whose lines are printed as they come
+
+pub record JsonReading (job : JsonJob) (known now output output_now : Option (List ℕ)) (base at : ℕ) (bytes : List ℕ) : Type 0 where
+  pub taken : List ℕ
+  pub text : List ℕ
+  pub consumed : Consumes known now taken
+  pub are : drop base taken ≡ bytes
+  pub gives : GivesLines job.raw taken (base + at) text
+  pub appended : Appends output output_now text
+
+module _ (job : JsonJob) (known output : Option (List ℕ)) where
+  pub json_starts : Consumes known known [] → JsonReading job known known output output 0 0 []
+  json_starts consumed = record { taken = []; text = []; consumed = consumed; are = refl; gives = gives_none job.raw []; appended = Appends-nil output }
+
+  module _ (now mid : Option (List ℕ)) (base at : ℕ) (bytes : List ℕ) (p : JsonReading job known now output mid base at bytes) where
+    long : length bytes + base ≡ length p.taken
+    long = omega (arith, p.gives.within, ap (λ (t : List ℕ). length t) p.are, length-drop base p.taken)
+
+    pub json_within : at ≤ length bytes
+    json_within = omega (arith, long, p.gives.within)
+
+    place_is : drop (base + at) p.taken ≡ drop at bytes
+    place_is = sym (drop-drop at base p.taken) ∙ ap (drop at) p.are
+
+    line_here : (line : List ℕ) → IsLineAt bytes at line → IsLineAt p.taken (base + at) line
+    line_here line l =
+        let same : base + (at + length line) ≡ base + at + length line = omega arith in
+        record {
+          within = omega (arith, l.within, long);
+          is = l.is ∙ ap (take (length line)) (sym place_is);
+          one_line = l.one_line;
+          ends = ap (slice_index p.taken) (sym same) ∙ sym (get_or-drop base p.taken (at + length line) 0) ∙ ap (λ (t : List ℕ). slice_index t (at + length line)) p.are ∙ l.ends;
+        }
+
+    module _ (new : Option (List ℕ)) where
+      abbrev streams : Streams
+      streams = record { input = known; input_left = now; output = output; output_now = new }
+
+      -- a line more
+      pub json_line : (line : List ℕ) → IsLineAt bytes at line → PrintsBytes job.raw line mid new None → JsonReading job known now output new base (at + (length line + 1)) bytes
+      json_line line l told =
+          let here : base + at + (length line + 1) ≡ base + (at + (length line + 1)) = omega arith in
+          record {
+            taken = p.taken;
+            text = p.text ++ told.1.0;
+            consumed = p.consumed;
+            are = p.are;
+            gives = subst (λ (n : ℕ). GivesLines job.raw p.taken n (p.text ++ told.1.0)) here (gives_line job.raw p.taken (base + at) p.text p.gives line (line_here line l) told.1.0 told.0 told.1.1);
+            appended = Appends-trans output mid new p.text told.1.0 p.appended told.1.2;
+          }
+
+      -- that is the last
+      pub json_printed : IsAtEnd now → (line : List ℕ) → line ≡ drop at bytes → IsOneLine (drop at bytes) → PrintsBytes job.raw line mid new None → PrintedJson job streams
+      json_printed end line is one told =
+          let rest : line ≡ drop (base + at) p.taken = is ∙ sym place_is in
+          let one_rest : IsOneLine (drop (base + at) p.taken) = subst IsOneLine (sym place_is) one in
+          let all : lines_of p.taken ≡ p.gives.lines ++ line ∷ [] =
+          ap lines_of (sym (append-nil p.taken)) ∙ all_lines job.raw p.taken (base + at) p.text p.gives [] ∙ ap (λ (t : List ℕ). p.gives.lines ++ lines_of t) (append-nil (drop (base + at) p.taken))
+          ∙ ap (λ (ls : List (List ℕ)). p.gives.lines ++ ls) (only_line (drop (base + at) p.taken) one_rest) ∙ ap (λ (t : List ℕ). p.gives.lines ++ t ∷ []) (sym rest) in
+          record {
+            input = p.taken;
+            text = p.text ++ told.1.0;
+            place = base + at + length line + 1;
+            taken = record { taken = p.consumed; ended = end };
+            is_text = subst IsUtf8 (take-append-drop (base + at) p.taken) (IsUtf8-append (take (base + at) p.taken) (drop (base + at) p.taken) p.gives.is_text (subst IsUtf8 rest told.0));
+            give = one_more p.gives.lines (lines_of p.taken) line p.text told.1.0 (p.text ++ told.1.0) (base + at) (base + at + length line + 1) p.gives.give told.1.1 all refl refl;
+            appended = Appends-trans output mid new p.text told.1.0 p.appended told.1.2;
+          }
+
+      same_text : Appends mid new [] → Appends output new p.text
+      same_text none = subst (Appends output new) (append-nil p.text) (Appends-trans output mid new p.text [] p.appended none)
+
+      -- or that is bad, or no text, or fails
+      module _ (last : Bool) (l : Left now last) (line : List ℕ) (next : NextLine (p.taken ++ l.left) (base + at) line) where
+        pub json_bad : (error : JsonError) → PrintsBytes job.raw line mid new (Some error) → FaultsJson job streams (record { offset = base + at; error = error })
+        json_bad error told = record {
+          input = p.taken ++ l.left;
+          text = p.text;
+          line = line;
+          taken = record { front = p.taken; left = l.left; are = refl; taken = p.consumed; rest = l.are };
+          gives = gives_longer job.raw p.taken (base + at) p.text p.gives l.left;
+          next = next;
+          is_text = told.0;
+          bad = told.1.0;
+          appended = same_text told.1.1;
+        }
+
+        no_text : FailsAt job.raw line mid new NotUtf8 → NoTextJson job streams
+        no_text told = record {
+          input = p.taken ++ l.left;
+          place = base + at;
+          text = p.text;
+          line = line;
+          taken = record { front = p.taken; left = l.left; are = refl; taken = p.consumed; rest = l.are };
+          gives = gives_longer job.raw p.taken (base + at) p.text p.gives l.left;
+          next = next;
+          no_text = told.0;
+          appended = same_text told.1;
+        }
+
+        whole : lines_of (p.taken ++ l.left) ≡ p.gives.lines ++ line ∷ next.others
+        whole = all_lines job.raw p.taken (base + at) p.text p.gives l.left ∙ ap (λ (t : List ℕ). p.gives.lines ++ lines_of t) (sym (rest_behind job.raw p.taken (base + at) p.text p.gives l.left)) ∙ ap (λ (ls : List (List ℕ)). p.gives.lines ++ ls) next.first
+
+        spoiled : Spoils job.raw line mid new → UnwrittenJson job streams
+        spoiled (inl h) = record {
+          input = p.taken ++ l.left;
+          front = p.gives.lines ++ line ∷ [];
+          rest = next.others;
+          text = p.text ++ h.0;
+          place = base + at + length line + 1;
+          taken = record { front = p.taken; left = l.left; are = refl; taken = p.consumed; rest = l.are };
+          there = whole ∙ sym (append_assoc p.gives.lines (line ∷ []) next.others);
+          give = one_more p.gives.lines (p.gives.lines ++ line ∷ []) line p.text h.0 (p.text ++ h.0) (base + at) (base + at + length line + 1) p.gives.give h.1 refl refl refl;
+          appended = front_more output mid new p.text h.0 p.appended h.2;
+        }
+        spoiled (inr none) = record {
+          input = p.taken ++ l.left;
+          front = p.gives.lines;
+          rest = line ∷ next.others;
+          text = p.text;
+          place = base + at;
+          taken = record { front = p.taken; left = l.left; are = refl; taken = p.consumed; rest = l.are };
+          there = whole;
+          give = p.gives.give;
+          appended = all_front output new p.text (same_text none);
+        }
+
+        pub json_fails : (why : Refusal) → FailsAt job.raw line mid new why → FailsJson job streams why
+        json_fails NotUtf8 told = no_text told
+        json_fails UnwritableOutput told = spoiled told.1
+        json_fails ClosedPipe told = spoiled told.1
+        json_fails RefusedMemory told = spoiled told.1
+        json_fails UnreadableInput told = absurd (none_such told.0)
+          where
+            none_such : IsOfPrinting UnreadableInput → ⊥
+            none_such (inl e) = cc e
+            none_such (inr (inl e)) = cc e
+            none_such (inr (inr e)) = cc e
+        json_fails UnopenedInput told = absurd (none_such told.0)
+          where
+            none_such : IsOfPrinting UnopenedInput → ⊥
+            none_such (inl e) = cc e
+            none_such (inr (inl e)) = cc e
+            none_such (inr (inr e)) = cc e
+        json_fails (MisreadInput m) told = absurd (none_such told.0)
+          where
+            none_such : IsOfPrinting (MisreadInput m) → ⊥
+            none_such (inl e) = cc e
+            none_such (inr (inl e)) = cc e
+            none_such (inr (inr e)) = cc e
+
+    -- a line with its line feed is the next one, and what is left at the end is
+    pub json_next : (line : List ℕ) → IsLineAt bytes at line → (left : List ℕ) → NextLine (p.taken ++ left) (base + at) line
+    json_next line l left = next_feed job.raw p.taken (base + at) p.text p.gives line (line_here line l) left
+
+    pub json_rest : (line : List ℕ) → line ≡ drop at bytes → IsOneLine (drop at bytes) → (left : List ℕ) → left ≡ [] → NextLine (p.taken ++ left) (base + at) line
+    json_rest line is one left none =
+        subst (NextLine (p.taken ++ left) (base + at)) (place_is ∙ sym is) (next_last job.raw p.taken (base + at) p.text p.gives left none (subst IsOneLine (sym place_is) one))
+
+    -- the input ended behind a line
+    pub json_ended :
+        (new : Option (List ℕ)) (end : IsAtEnd now) (line : List ℕ) (error : Option JsonError)
+        → line ≡ drop at bytes
+        → IsOneLine (drop at bytes)
+        → PrintsBytes job.raw line mid new error
+        → RespondsJson job (record { input = known; input_left = now; output = output; output_now = new }) (Ok (fault_at (base + at) error))
+    json_ended new end line None is one told = json_printed new end line is one told
+    json_ended new end line (Some error) is one told =
+        let l = left_of now true (λ _. end) in
+        json_bad new true l line (json_rest line is one l.left (l.none refl)) error told
+
+    -- more bytes came
+    pub json_came : (next : Option (List ℕ)) (after : List ℕ) → Comes now next (drop at bytes) after → JsonReading job known next output mid (base + at) 0 after
+    json_came next after comes =
+        let here : base + at ≡ base + at + 0 = omega arith in
+        record {
+          taken = p.taken ++ comes.came;
+          text = p.text;
+          consumed = Consumes-trans known now next p.taken comes.came p.consumed comes.consumed;
+          are = rest_behind job.raw p.taken (base + at) p.text p.gives comes.came ∙ ap (λ (t : List ℕ). t ++ comes.came) place_is ∙ sym comes.are;
+          gives = subst (λ (n : ℕ). GivesLines job.raw (p.taken ++ comes.came) n p.text) here (gives_longer job.raw p.taken (base + at) p.text p.gives comes.came);
+          appended = p.appended;
+        }
+
+    -- nothing more was printed
+    pub json_no_memory : UnwrittenJson job (record { input = known; input_left = now; output = output; output_now = mid })
+    json_no_memory =
+        let l = left_of now false (λ e. cc e) in
+        record {
+          input = p.taken ++ l.left;
+          front = p.gives.lines;
+          rest = lines_of (drop (base + at) p.taken ++ l.left);
+          text = p.text;
+          place = base + at;
+          taken = record { front = p.taken; left = l.left; are = refl; taken = p.consumed; rest = l.are };
+          there = all_lines job.raw p.taken (base + at) p.text p.gives l.left;
+          give = p.gives.give;
+          appended = all_front output mid p.text p.appended;
+        }
+
+    -- reading failed, or memory ran out for it
+    pub json_read_fails : IsOneLine (drop at bytes) → (why : Refusal) → IsUnread why → FailsJson job (record { input = known; input_left = now; output = output; output_now = mid }) why
+    json_read_fails one UnreadableInput h = record { bytes = p.taken; place = base + at; text = p.text; taken = p.consumed; gives = p.gives; one_line = subst IsOneLine (sym place_is) one; appended = p.appended }
+    json_read_fails one RefusedMemory h = json_no_memory
+    json_read_fails one UnopenedInput h = absurd h
+    json_read_fails one (MisreadInput m) h = absurd h
+    json_read_fails one NotUtf8 h = absurd h
+    json_read_fails one UnwritableOutput h = absurd h
+    json_read_fails one ClosedPipe h = absurd h

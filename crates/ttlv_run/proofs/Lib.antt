@@ -6,12 +6,12 @@ pub mod BackStreams
 pub mod Bits
 pub mod Calendar
 pub mod Completion
+pub mod Counting
 pub mod Decoders
 pub mod DumpLines
 pub mod FrontsTold
 pub mod Good
 pub mod Groups
-pub mod InPlace
 pub mod Inputs
 pub mod Packets
 pub mod Parts

@@ -3,8 +3,6 @@ use Rattle.std.proofs.Common.{◌≡◌, ℕ, zero, suc, ◌+◌, Bool, true, fa
 use Rattle.std.specs.Prelude.{slice_index}
 use Rattle.std.proofs.Math.Seq.{drop-append_seam}
 use Rattle.kmip_ttlv_items.specs.ItemWalks.{AreBytes}
-use Rattle.ttlv_run.specs.declared.coding.Alphabet.{Alphabet}
-use Rattle.ttlv_run.specs.declared.coding.Alphabet.TheVariants.{HexadecimalDigits}
 use Rattle.ttlv_run.specs.declared.form.Form.{Form}
 use Rattle.ttlv_run.specs.declared.form.LinePart.{LinePart}
 use Rattle.ttlv_run.specs.declared.form.Step.{Step}
@@ -13,14 +11,15 @@ use Rattle.ttlv_run.specs.declared.job.Encoding.{Encoding}
 use Rattle.ttlv_run.specs.declared.job.Job.{Job}
 use Rattle.ttlv_run.specs.declared.messages.Place.{Place as FaultPlace}
 use Rattle.ttlv_run.specs.Columns.{first_part, step, body, Reads, begins, counts, skips}
-use Rattle.ttlv_run.specs.Decoding.{is_streamed, one_or_none}
-use Rattle.ttlv_run.specs.Fronts.{DecodesTo, DecodesFront, StandsFrontIn, StandsFront, StandsUpTo}
-use Rattle.ttlv_run.specs.Inputs.{Decodes, has_padding, decode_digits, decode_form, form_of, encoding_of, StandsIn, Stands}
+use Rattle.ttlv_run.specs.Fronts.{DecodesTo, StandsFrontIn, StandsFront, StandsUpTo}
+use Rattle.ttlv_run.specs.Inputs.{Decodes, decode_form, form_of, encoding_of, StandsIn, Stands}
 use Rattle.ttlv_run.specs.Messages.{Breaks, GoesOn}
 use Rattle.ttlv_run.specs.Runs.{Streams, HasText, Faults, Unwritten}
 use Rattle.ttlv_run.specs.Texts.{Names}
+use Rattle.base64.specs.GeneralPurpose.{IsBytes}
+use Rattle.base64.proofs.EngineFacts.{front_bytes}
+use Rattle.ttlv_run.proofs.Counting.{read_bytes}
 use Rattle.ttlv_run.proofs.Groups.{digits_behind}
-use Rattle.ttlv_run.proofs.TextStreams.{alphabet_is}
 use Rattle.ttlv_run.proofs.Windows.{bytes_drop}
 
 -- where the reading of a text stands: its digits so far, the part of a line, and what is left
@@ -117,28 +116,17 @@ digits_same form first s d1 d2 p1 p2 r1 r2 =
     let same : w1.count ≡ w2.count = omega (arith, w1.long, w2.long) in
     ap (λ (x : Place). x.digits) (some_is (sym w1.walked ∙ ap (walk form start) same ∙ w2.walked))
 
-module _ (form : Form) (s front all : List ℕ) where
-  streamed_front : is_streamed form ≡ true → (rest : List ℕ) → DecodesTo form s front rest → Decodes form s all → (more : List ℕ) × (all ≡ front ++ more)
-  streamed_front streamed rest d w =
-      let r = d.reads in
-      let read : List ℕ = r.digits ++ one_or_none d.half in
-      let m = digits_more form (first_part form) (body s) read w.digits d.part w.kept.last rest r.reads w.kept.reads in
-      let split : w.digits ≡ r.digits ++ (one_or_none d.half ++ m.0) = m.1 ∙ append_assoc r.digits (one_or_none d.half) m.0 in
-      let decoded : decode_digits HexadecimalDigits w.digits ≡ Some all = sym (ap (λ (a : Alphabet). decode_digits a w.digits) (alphabet_is form (has_padding w.digits) streamed)) ∙ w.are in
-      digits_behind r.digits (one_or_none d.half ++ m.0) front all r.are (sym (ap (decode_digits HexadecimalDigits) split) ∙ decoded)
-
-  other_front : Decodes form s front → Decodes form s all → (more : List ℕ) × (all ≡ front ++ more)
-  other_front v w =
-      let same = digits_same form (first_part form) (body s) v.digits w.digits v.kept.last w.kept.last v.kept.reads w.kept.reads in
-      ([], some_is (sym w.are ∙ ap (decode_form form) (sym same) ∙ v.are) ∙ sym (append-nil front))
-
-  front_by : (b : Bool) → is_streamed form ≡ b → DecodesFront b form s front → Decodes form s all → (more : List ℕ) × (all ≡ front ++ more)
-  front_by true is d w = streamed_front is d.0 d.1 w
-  front_by false is d w = other_front d w
+text_front : (form : Form) (s front rest all : List ℕ) → DecodesTo form s front rest → Decodes form s all → (more : List ℕ) × (all ≡ front ++ more)
+text_front form s front rest all d w =
+    let m = digits_more form (first_part form) (body s) d.digits w.digits d.part w.kept.last rest d.reads w.kept.reads in
+    let k = d.makes in
+    let split : w.digits ≡ k.front ++ (k.left ++ m.0) = m.1 ∙ ap (λ (t : List ℕ). t ++ m.0) k.are ∙ append_assoc k.front k.left m.0 in
+    let plain : IsBytes k.front = front_bytes k.front (k.left ++ m.0) (subst IsBytes split (read_bytes form (first_part form) (body s) w.digits w.kept.last [] w.kept.reads)) in
+    digits_behind form (length k.front) k.front (k.left ++ m.0) front all (omega arith) k.whole plain k.made (sym (ap (decode_form form) split) ∙ w.are)
 
 front_in : (f : Option Form) (s front all : List ℕ) → StandsFrontIn f s front → StandsIn f s all → (more : List ℕ) × (all ≡ front ++ more)
 front_in None s front all d w = (d.0, w ∙ d.1)
-front_in (Some form) s front all d w = front_by form s front all (is_streamed form) refl d w
+front_in (Some form) s front all d w = text_front form s front d.0 all d.1 w
 
 -- whatever its encoding is
 pub front_of_all : (e : Encoding) (s front all : List ℕ) → StandsFront e s front → Stands e s all → (more : List ℕ) × (all ≡ front ++ more)

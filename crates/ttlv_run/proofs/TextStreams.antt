@@ -1,5 +1,5 @@
--- A text of hexadecimal digits that is decoded and printed as it comes.
-use Rattle.std.proofs.Common.{◌≡◌, ◌⊎◌, inl, inr, ℕ, ◌+◌, ◌≤◌, Bool, true, false, if◌then◌else◌, List, [], ◌∷◌, ◌++◌, length, take, drop, Some, None, Option, Ok, ap, sym, refl, subst, ◌∙◌, arith, append-nil, append_assoc, length-append}
+-- A text of digits that is decoded and printed as it comes.
+use Rattle.std.proofs.Common.{◌≡◌, ◌⊎◌, inl, inr, ℕ, ◌+◌, ◌≤◌, Bool, true, false, List, [], ◌∷◌, ◌++◌, length, take, drop, Some, None, Option, Ok, ap, sym, refl, subst, ◌∙◌, arith, append-nil, append_assoc, length-append}
 use Rattle.std.specs.Io.KnownBytes.{Appends, Consumes, IsAtEnd, Keeps}
 use Rattle.std.proofs.KnownBytes.{Appends-trans, Consumes-trans, Consumes-kept}
 use Rattle.std.proofs.lemmas.Bool.{le-ltb}
@@ -7,12 +7,9 @@ use Rattle.std.proofs.lemmas.List.{take-append-drop}
 use Rattle.std.proofs.Math.Seq.{drop-append_seam}
 use Rattle.kmip_ttlv_items.specs.ItemWalks.{AreBytes}
 use Rattle.kmip_ttlv_util.specs.Pieces.{SomeText}
-use Rattle.ttlv_run.specs.declared.coding.Alphabet.{Alphabet}
-use Rattle.ttlv_run.specs.declared.coding.Alphabet.TheVariants.{HexadecimalDigits}
 use Rattle.ttlv_run.specs.declared.coding.Undecoded.{Undecoded}
 use Rattle.ttlv_run.specs.declared.decoder.Decoder.{Decoder}
 use Rattle.ttlv_run.specs.declared.form.Form.{Form}
-use Rattle.ttlv_run.specs.declared.form.Form.TheVariants.{HexadecimalText, Base64Text, Base64UrlText, ArmouredText, DumpText, PacketText}
 use Rattle.ttlv_run.specs.declared.form.LinePart.{LinePart}
 use Rattle.ttlv_run.specs.declared.job.Encoding.{Encoding}
 use Rattle.ttlv_run.specs.declared.job.Job.{Job}
@@ -23,17 +20,16 @@ use Rattle.ttlv_run.specs.declared.misread.MisreadKind.TheVariants.{NoDigit, Wro
 use Rattle.ttlv_run.specs.declared.refusal.Refusal.{Refusal}
 use Rattle.ttlv_run.specs.declared.refusal.Refusal.TheVariants.{UnopenedInput, UnreadableInput, MisreadInput, NotUtf8, UnwritableOutput, ClosedPipe, RefusedMemory}
 use Rattle.ttlv_run.specs.Columns.{first_part, mark_length, body, Reads, begins, counts, skips}
-use Rattle.ttlv_run.specs.Decoding.{is_streamed, one_or_none, ReadsBytes, Reading, StuckBy, Stuck, AllBytes, Grows, DecodesLast, DecodesMore, is_last}
-use Rattle.ttlv_run.specs.Fronts.{coming, front_size, taken_as, DecodesTo, DecodesFront, StandsFrontIn, StandsFront}
-use Rattle.ttlv_run.specs.Guesses.{is_raw}
-use Rattle.ttlv_run.specs.Inputs.{TakesSome, IsUnread, has_padding, alphabet_of, decode_digits, IsMisread, form_of, is_detected, encoding_of, StandsIn, Stands, IsMisreadIn}
+use Rattle.ttlv_run.specs.Decoding.{one_or_none, Reading, StuckBy, Stuck, AllBytes, Grows, DecodesLast, DecodesMore, is_last}
+use Rattle.ttlv_run.specs.Fronts.{front_size, taken_as, ReadsBytes, DecodesTo, StandsFrontIn, StandsFront}
+use Rattle.ttlv_run.specs.Inputs.{TakesSome, IsUnread, IsMisread, form_of, is_detected, encoding_of, StandsIn, Stands}
 use Rattle.ttlv_run.specs.Messages.{is_there}
-use Rattle.ttlv_run.specs.Runs.{Streams, Printed, UndecodedIn, Undecoded as IsUndecodedInput, TextFrontsIf, FrontsIf, form_told, Fails}
+use Rattle.ttlv_run.specs.Runs.{Streams, Printed, Undecoded as IsUndecodedInput, FrontsIn, FrontsIf, Fails}
 use Rattle.ttlv_run.specs.Streaming.{PrintsOn, Comes}
 use Rattle.ttlv_run.specs.Texts.{Names}
-use Rattle.ttlv_run.proofs.FrontsTold.{four_least, coming_on, body_on, coming_form, taken_is}
-use Rattle.ttlv_run.proofs.Groups.{odd_behind}
-use Rattle.ttlv_run.proofs.Windows.{raw_on, Left, left_of, Shown, Standing, more_shown, whole_shown, fronts, no_memory}
+use Rattle.ttlv_run.proofs.Decoders.{holds_bytes}
+use Rattle.ttlv_run.proofs.FrontsTold.{Told, told_on, four_least, body_on, taken_is}
+use Rattle.ttlv_run.proofs.Windows.{Left, left_of, Shown, Standing, more_shown, whole_shown, fronts, no_memory}
 
 true_is_false : true ≡ false → ⊥
 true_is_false e = cc
@@ -53,79 +49,53 @@ at_place m s front rest place mark is long at =
     let here : place ≡ length (m ++ front) = omega (arith, at, long, ap (λ (t : List ℕ). length t) is, length-append front rest, length-append m front) in
     ap (λ (t : List ℕ). drop place (m ++ t)) is ∙ ap (drop place) (sym (append_assoc m front rest)) ∙ ap (λ (n : ℕ). drop n ((m ++ front) ++ rest)) here ∙ drop-append_seam (m ++ front) rest
 
--- its digits are hexadecimal
-pub alphabet_is : (form : Form) (p : Bool) → is_streamed form ≡ true → alphabet_of form p ≡ HexadecimalDigits
-alphabet_is HexadecimalText p is = refl
-alphabet_is Base64Text p is = cc is
-alphabet_is Base64UrlText p is = cc is
-alphabet_is ArmouredText p is = cc is
-alphabet_is DumpText p is = refl
-alphabet_is PacketText p is = refl
-
 -- what is known of the characters of a text that came, a mark and others
 pub record TextInput (e : Encoding) (form : Form) (known now : Option (List ℕ)) (m s : List ℕ) (ended : Bool) : Type 0 where
   pub consumed : Consumes known now (m ++ s)
   pub at_end : ended ≡ true → IsAtEnd now
-  pub enough : ended ≡ false → front_size e ≤ length (m ++ s)
-  pub text : is_raw e (m ++ s) ≡ false
-  pub told : coming e (m ++ s) ≡ Some form
+  pub enough : ended ≡ false → front_size e (m ++ s) ≤ length (m ++ s)
+  pub told : form_of (encoding_of e (m ++ s)) ≡ Some form
   pub body_is : body (m ++ s) ≡ s
 
 module _ (e : Encoding) (form : Form) (known now : Option (List ℕ)) (m s : List ℕ) (ended : Bool) (i : TextInput e form known now m s ended) where
   module _ (more : List ℕ) (none : ended ≡ true → more ≡ []) where
-    -- the whole input
-    abbrev pub whole_input : List ℕ
-    whole_input = m ++ (s ++ more)
-
     same : (m ++ s) ++ more ≡ m ++ (s ++ more)
     same = append_assoc m s more
 
-    long : (front_size e ≤ length (m ++ s)) ⊎ (more ≡ [])
+    long : (front_size e (m ++ s) ≤ length (m ++ s)) ⊎ (more ≡ [])
     long = by ended refl
       where
-        by : (b : Bool) → ended ≡ b → (front_size e ≤ length (m ++ s)) ⊎ (more ≡ [])
+        by : (b : Bool) → ended ≡ b → (front_size e (m ++ s) ≤ length (m ++ s)) ⊎ (more ≡ [])
         by true is = inr (none is)
         by false is = inl (i.enough is)
 
     four : (4 ≤ length (m ++ s)) ⊎ (more ≡ [])
     four = by long
       where
-        by : (front_size e ≤ length (m ++ s)) ⊎ (more ≡ []) → (4 ≤ length (m ++ s)) ⊎ (more ≡ [])
-        by (inl le) = inl (omega (arith, le, four_least e))
+        by : (front_size e (m ++ s) ≤ length (m ++ s)) ⊎ (more ≡ []) → (4 ≤ length (m ++ s)) ⊎ (more ≡ [])
+        by (inl le) = inl (omega (arith, le, four_least e (m ++ s)))
         by (inr is) = inr is
 
-    pub text_still : is_raw e (m ++ (s ++ more)) ≡ false
-    text_still = ap (is_raw e) (sym same) ∙ raw_on e (m ++ s) more four ∙ i.text
+    still : Told e (m ++ s) more
+    still = told_on e (m ++ s) more long
 
-    pub told_still : coming e (m ++ (s ++ more)) ≡ Some form
-    told_still = ap (coming e) (sym same) ∙ coming_on e (m ++ s) more long ∙ i.told
+    pub told_still : form_of (encoding_of e (m ++ (s ++ more))) ≡ Some form
+    told_still = ap (λ (t : List ℕ). form_of (encoding_of e t)) (sym same) ∙ ap form_of still.encoding ∙ i.told
 
     pub body_still : body (m ++ (s ++ more)) ≡ s ++ more
     body_still = ap body (sym same) ∙ body_on (m ++ s) more four ∙ ap (λ (t : List ℕ). t ++ more) i.body_is
 
-    pub form_is : (form_of (encoding_of e (m ++ (s ++ more))) ≡ Some form) × (is_streamed form ≡ true)
-    form_is = coming_form e (m ++ (s ++ more)) form text_still told_still
-
     -- stands for what was read of it
-    pub decodes : (bytes : List ℕ) (half : Option ℕ) (part : LinePart) (rest : List ℕ) → ReadsBytes form (s ++ more) bytes half part rest → DecodesTo form (m ++ (s ++ more)) bytes rest
-    decodes bytes half part rest r = record { half = half; part = part; reads = subst (λ (t : List ℕ). ReadsBytes form t bytes half part rest) (sym body_still) r }
-
-    pub stands_front : (bytes : List ℕ) (half : Option ℕ) (part : LinePart) (rest : List ℕ) → ReadsBytes form (s ++ more) bytes half part rest → StandsFront e (m ++ (s ++ more)) bytes
-    stands_front bytes half part rest r =
-        let front : DecodesFront (is_streamed form) form (m ++ (s ++ more)) bytes = subst (λ (b : Bool). DecodesFront b form (m ++ (s ++ more)) bytes) (sym form_is.1) (rest, decodes bytes half part rest r) in
-        subst (λ (f : Option Form). StandsFrontIn f (m ++ (s ++ more)) bytes) (sym form_is.0) front
+    pub stands_front : (bytes rest : List ℕ) → ReadsBytes form (s ++ more) bytes rest → StandsFront e (m ++ (s ++ more)) bytes
+    stands_front bytes rest r =
+        subst (λ (f : Option Form). StandsFrontIn f (m ++ (s ++ more)) bytes) (sym told_still) (rest, subst (λ (t : List ℕ). ReadsBytes form t bytes rest) (sym body_still) r)
 
     pub stands_all : (bytes : List ℕ) → AllBytes form (s ++ more) bytes → Stands e (m ++ (s ++ more)) bytes
-    stands_all bytes all =
-        let r = all.reads in
-        subst (λ (f : Option Form). StandsIn f (m ++ (s ++ more)) bytes) (sym form_is.0) (record {
-          digits = r.digits;
-          kept = record {
-            last = all.part;
-            reads = subst (λ (t : List ℕ). Reads form (first_part form) t r.digits all.part []) (sym body_still) (subst (λ (d : List ℕ). Reads form (first_part form) (s ++ more) d all.part []) (append-nil r.digits) r.reads);
-          };
-          are = ap (λ (a : Alphabet). decode_digits a r.digits) (alphabet_is form (has_padding r.digits) form_is.1) ∙ r.are;
-        })
+    stands_all bytes all = subst (λ (f : Option Form). StandsIn f (m ++ (s ++ more)) bytes) (sym told_still) (record {
+      digits = all.digits;
+      kept = record { last = all.part; reads = subst (λ (t : List ℕ). Reads form (first_part form) t all.digits all.part []) (sym body_still) all.reads };
+      are = all.are;
+    })
 
   -- more characters came
   pub more_text : (next : Option (List ℕ)) (others : List ℕ) (then_ : Bool) → Consumes now next others → ended ≡ false → (then_ ≡ true → IsAtEnd next) → TextInput e form known next m (s ++ others) then_
@@ -134,8 +104,7 @@ module _ (e : Encoding) (form : Form) (known now : Option (List ℕ)) (m s : Lis
       record {
         consumed = subst (Consumes known next) (append_assoc m s others) (Consumes-trans known now next (m ++ s) others i.consumed consumed);
         at_end = at_end;
-        enough = λ _. omega (arith, i.enough unended, length-append m (s ++ others), length-append m s, length-append s others);
-        text = text_still others none;
+        enough = λ _. omega (arith, i.enough unended, (still others none).size, ap (front_size e) (same others none), length-append m (s ++ others), length-append m s, length-append s others);
         told = told_still others none;
         body_is = body_still others none;
       }
@@ -148,11 +117,11 @@ module _ (e : Encoding) (form : Form) (known now : Option (List ℕ)) (m s : Lis
   takes_some = record { front = m ++ s; left = left_here.left; are = sym (append_assoc m s left_here.left); taken = i.consumed; rest = left_here.are }
 
   -- bytes of a front
-  pub front_standing : (bytes : List ℕ) (half : Option ℕ) (part : LinePart) (rest : List ℕ) → ReadsBytes form (s ++ left_here.left) bytes half part rest → Standing e known now bytes false
-  front_standing bytes half part rest r = record {
+  pub front_standing : (bytes rest : List ℕ) → ReadsBytes form (s ++ left_here.left) bytes rest → Standing e known now bytes false
+  front_standing bytes rest r = record {
     input = m ++ (s ++ left_here.left);
     taken = takes_some;
-    stands = stands_front left_here.left left_here.none bytes half part rest r;
+    stands = stands_front left_here.left left_here.none bytes rest r;
   }
 
   -- all bytes
@@ -164,8 +133,9 @@ module _ (e : Encoding) (form : Form) (known now : Option (List ℕ)) (m s : Lis
   }
 
 -- a decoder of this form has read a text
-pub reads_on : (d : Decoder) (form : Form) (mark : ℕ) (s bytes : List ℕ) → d.form ≡ form → Reading d mark s bytes → (more : List ℕ) → ReadsBytes form (s ++ more) bytes d.half d.part (one_or_none d.waiting ++ more)
-reads_on d form mark s bytes is r more = subst (λ (f : Form). ReadsBytes f (s ++ more) bytes d.half d.part (one_or_none d.waiting ++ more)) is (r.reads more)
+pub reads_on : (d : Decoder) (form : Form) (mark : ℕ) (s bytes : List ℕ) → d.form ≡ form → Reading d mark s bytes → (more : List ℕ) → ReadsBytes form (s ++ more) bytes (one_or_none d.waiting ++ more)
+reads_on d form mark s bytes is r more =
+    subst (λ (f : Form). ReadsBytes f (s ++ more) bytes (one_or_none d.waiting ++ more)) is (holds_bytes d (s ++ more) bytes (one_or_none d.waiting ++ more) (r.reads more))
 
 -- what a decoder has read of all that came: up to the first error, if there is one, or to the end, if the text ended
 abbrev pub State : Decoder → ℕ → List ℕ → Bool → List ℕ → Option Undecoded → Type 0
@@ -173,51 +143,38 @@ State d mark s ended all None = DecodesLast d mark s ended all
 State d mark s ended all (Some why) = (more : List ℕ) → (ended ≡ true → more ≡ []) → Stuck d.form mark (s ++ more) all why
 
 -- what was read in front of an error
-pub record StuckBehind (form : Form) (s bytes : List ℕ) : Type 0 where
-  pub half : Option ℕ
-  pub part : LinePart
-  pub rest : List ℕ
-  pub reads : ReadsBytes form s bytes half part rest
-
-stuck_behind : (form : Form) (mark : ℕ) (s bytes : List ℕ) (place : ℕ) (kind : MisreadKind) → StuckBy form mark s bytes place kind → StuckBehind form s bytes
-stuck_behind form mark s bytes place (NoDigit b) h = record { half = h.half; part = h.part; rest = b ∷ h.rest; reads = h.reads }
-stuck_behind form mark s bytes place WrongCount h = record { half = Some h.half; part = h.part; rest = []; reads = h.reads }
+stuck_behind : (form : Form) (mark : ℕ) (s bytes : List ℕ) (place : ℕ) (kind : MisreadKind) → StuckBy form mark s bytes place kind → (rest : List ℕ) × ReadsBytes form s bytes rest
+stuck_behind form mark s bytes place (NoDigit b) h = (b ∷ h.rest, h.reads)
+stuck_behind form mark s bytes place WrongCount h = ([], h.reads)
 
 -- why a text stands for no bytes
-misread_at : (form : Form) (mark : ℕ) (m s bytes : List ℕ) (place : ℕ) (kind : MisreadKind) → is_streamed form ≡ true → length m ≡ mark → body (m ++ s) ≡ s → StuckBy form mark s bytes place kind
+misread_at : (form : Form) (mark : ℕ) (m s bytes : List ℕ) (place : ℕ) (kind : MisreadKind) → length m ≡ mark → body (m ++ s) ≡ s → StuckBy form mark s bytes place kind
     → IsMisread form (m ++ s) place kind × DecodesTo form (m ++ s) bytes (drop place (m ++ s))
-misread_at form mark m s bytes place (NoDigit b) streamed long body_is h =
-    let p = rest_behind form (first_part form) s (h.reads.digits ++ one_or_none h.half) h.part (b ∷ h.rest) h.reads.reads in
+misread_at form mark m s bytes place (NoDigit b) long body_is h =
+    let r = h.reads in
+    let p = rest_behind form (first_part form) s r.digits r.part (b ∷ h.rest) r.reads in
     let here : drop place (m ++ s) ≡ b ∷ h.rest = at_place m s p.0 (b ∷ h.rest) place mark p.1 long h.at in (
       record {
-        digits = h.reads.digits ++ one_or_none h.half;
-        part = h.part;
+        digits = r.digits;
+        part = r.part;
         rest = h.rest;
-        reads = subst (λ (t : List ℕ). Reads form (first_part form) t (h.reads.digits ++ one_or_none h.half) h.part (b ∷ h.rest)) (sym body_is) h.reads.reads;
+        reads = subst (λ (t : List ℕ). Reads form (first_part form) t r.digits r.part (b ∷ h.rest)) (sym body_is) r.reads;
         is = sym here;
         wrong = h.wrong;
       },
-      record {
-        half = h.half;
-        part = h.part;
-        reads = subst (λ (t : List ℕ). ReadsBytes form t bytes h.half h.part (drop place (m ++ s))) (sym body_is) (subst (λ (r : List ℕ). ReadsBytes form s bytes h.half h.part r) (sym here) h.reads);
-      },
+      subst (λ (t : List ℕ). ReadsBytes form t bytes (drop place (m ++ s))) (sym body_is) (subst (ReadsBytes form s bytes) (sym here) r),
     )
-misread_at form mark m s bytes place WrongCount streamed long body_is h =
-    let digits : List ℕ = h.reads.digits ++ h.half ∷ [] in
+misread_at form mark m s bytes place WrongCount long body_is h =
+    let r = h.reads in
     let end : place ≡ length (m ++ s) = omega (arith, h.at, long, length-append m s) in
     let here : drop place (m ++ s) ≡ [] = at_place m s s [] place mark (sym (append-nil s)) long (omega (arith, h.at)) in (
       record {
-        digits = digits;
-        kept = record { last = h.part; reads = subst (λ (t : List ℕ). Reads form (first_part form) t digits h.part []) (sym body_is) h.reads.reads };
+        digits = r.digits;
+        kept = record { last = r.part; reads = subst (λ (t : List ℕ). Reads form (first_part form) t r.digits r.part []) (sym body_is) r.reads };
         at_end = end;
-        none = ap (λ (a : Alphabet). decode_digits a digits) (alphabet_is form (has_padding digits) streamed) ∙ odd_behind h.reads.digits bytes h.half h.reads.are;
+        none = h.none;
       },
-      record {
-        half = Some h.half;
-        part = h.part;
-        reads = subst (λ (t : List ℕ). ReadsBytes form t bytes (Some h.half) h.part (drop place (m ++ s))) (sym body_is) (subst (λ (r : List ℕ). ReadsBytes form s bytes (Some h.half) h.part r) (sym here) h.reads);
-      },
+      subst (λ (t : List ℕ). ReadsBytes form t bytes (drop place (m ++ s))) (sym body_is) (subst (ReadsBytes form s bytes) (sym here) r),
     )
 
 -- a text, whose mark is apart
@@ -226,19 +183,17 @@ pub text_starts :
     → mark ≡ mark_length t
     → piece ≡ drop mark t
     → Consumes known now t
-    → is_raw e t ≡ false
-    → coming e t ≡ Some form
-    → (ended ≡ false → front_size e ≤ length t)
+    → form_of (encoding_of e t) ≡ Some form
+    → (ended ≡ false → front_size e t ≤ length t)
     → (ended ≡ true → IsAtEnd now)
     → TextInput e form known now (take mark t) piece ended
-text_starts e form known now t piece mark ended mark_is piece_is consumed text told enough at_end =
+text_starts e form known now t piece mark ended mark_is piece_is consumed told enough at_end =
     let same : take mark t ++ piece ≡ t = ap (λ (p : List ℕ). take mark t ++ p) piece_is ∙ take-append-drop mark t in
     record {
       consumed = subst (Consumes known now) (sym same) consumed;
       at_end = at_end;
-      enough = λ end. omega (arith, enough end, ap (λ (p : List ℕ). length p) same);
-      text = ap (is_raw e) same ∙ text;
-      told = ap (coming e) same ∙ told;
+      enough = λ end. subst (λ (p : List ℕ). front_size e p ≤ length p) (sym same) (enough end);
+      told = ap (λ (p : List ℕ). form_of (encoding_of e p)) same ∙ told;
       body_is = ap body same ∙ ap (λ (n : ℕ). drop n t) (sym mark_is) ∙ sym piece_is;
     }
 
@@ -271,9 +226,9 @@ module _ (names : Names) (job : Job) (form : Form) (known now output mid : Optio
   memory_before =
       let left = left_here job.encoding form known now p.m (p.s ++ piece) ended p.input in
       let reads = reads_on d form mark p.s p.all p.form_is p.reading (piece ++ left.left) in
-      let there = subst (λ (t : List ℕ). ReadsBytes form t p.all d.half d.part (one_or_none d.waiting ++ (piece ++ left.left))) (sym (append_assoc p.s piece left.left)) reads in
+      let there = subst (λ (t : List ℕ). ReadsBytes form t p.all (one_or_none d.waiting ++ (piece ++ left.left))) (sym (append_assoc p.s piece left.left)) reads in
       inr (no_memory names job output mid base p.all bytes false p.shown p.plain known now
-      (front_standing job.encoding form known now p.m (p.s ++ piece) ended p.input p.all d.half d.part (one_or_none d.waiting ++ (piece ++ left.left)) there))
+      (front_standing job.encoding form known now p.m (p.s ++ piece) ended p.input p.all (one_or_none d.waiting ++ (piece ++ left.left)) there))
 
   pub ready :
       (then_ : Decoder) (after : List ℕ) (wrong : Option Undecoded)
@@ -295,14 +250,6 @@ module _ (names : Names) (job : Job) (form : Form) (known now output mid : Optio
       by None h = h
       by (Some why) h = h
 
-form_known : (form : Form) → form_of (taken_as form) ≡ Some form
-form_known HexadecimalText = refl
-form_known Base64Text = refl
-form_known Base64UrlText = refl
-form_known ArmouredText = refl
-form_known DumpText = refl
-form_known PacketText = refl
-
 module _ (names : Names) (job : Job) (form : Form) (known now output mid : Option (List ℕ)) (base : ℕ) (d : Decoder) (mark : ℕ) (bytes : List ℕ) (ended : Bool) (wrong : Option Undecoded) (r : TextReady names job form known now output mid base d mark bytes ended wrong) where
   -- the input, and what it stands for
   abbrev left : Left now ended
@@ -314,7 +261,7 @@ module _ (names : Names) (job : Job) (form : Form) (known now output mid : Optio
   stuck_standing : (why : Undecoded) → ((more : List ℕ) → (ended ≡ true → more ≡ []) → Stuck d.form mark (r.s ++ more) r.all why) → Standing job.encoding known now r.all false
   stuck_standing why stuck =
       let behind = stuck_behind form mark (r.s ++ left.left) r.all why.offset why.kind (subst (λ (f : Form). StuckBy f mark (r.s ++ left.left) r.all why.offset why.kind) r.form_is (stuck left.left left.none)) in
-      front_standing job.encoding form known now r.m r.s ended r.input r.all behind.half behind.part behind.rest behind.reads
+      front_standing job.encoding form known now r.m r.s ended r.input r.all behind.0 behind.1
 
   pub ready_standing : Standing job.encoding known now r.all (is_last ended wrong)
   ready_standing = by wrong ended refl r.state
@@ -322,7 +269,7 @@ module _ (names : Names) (job : Job) (form : Form) (known now output mid : Optio
       by : (w : Option Undecoded) (b : Bool) → b ≡ ended → State d mark r.s b r.all w → Standing job.encoding known now r.all (is_last b w)
       by (Some why) b is stuck = stuck_standing why (λ more none. stuck more (λ yes. none (sym is ∙ yes)))
       by None true is all = all_standing job.encoding form known now r.m r.s ended r.input r.all (sym is) (subst (λ (f : Form). AllBytes f r.s r.all) r.form_is all)
-      by None false is reading = front_standing job.encoding form known now r.m r.s ended r.input r.all d.half d.part (one_or_none d.waiting ++ left.left) (reads_on d form mark r.s r.all r.form_is reading left.left)
+      by None false is reading = front_standing job.encoding form known now r.m r.s ended r.input r.all (one_or_none d.waiting ++ left.left) (reads_on d form mark r.s r.all r.form_is reading left.left)
 
   module _ (new : Option (List ℕ)) (count : ℕ) (rest : List ℕ) (shown : Shown names job.task output new count r.all rest) where
     abbrev streams : Streams
@@ -331,19 +278,15 @@ module _ (names : Names) (job : Job) (form : Form) (known now output mid : Optio
     -- an error, behind whole messages
     pub wrong_there : (why : Undecoded) (m : Misread) → wrong ≡ Some why → m ≡ record { taken = taken_as form; guessed = is_detected job.encoding; offset = why.offset; kind = why.kind } → is_there rest ≡ false → Fails names job streams (MisreadInput m)
     wrong_there why m is m_is none =
-        let is_form = form_is job.encoding form known now r.m r.s ended r.input left.left left.none in
+        let is_form = told_still job.encoding form known now r.m r.s ended r.input left.left left.none in
         let stuck : (more : List ℕ) → (ended ≡ true → more ≡ []) → Stuck d.form mark (r.s ++ more) r.all why = subst (State d mark r.s ended r.all) is r.state in
         let here = subst (λ (f : Form). StuckBy f mark (r.s ++ left.left) r.all why.offset why.kind) r.form_is (stuck left.left left.none) in
-        let at = misread_at form mark r.m (r.s ++ left.left) r.all why.offset why.kind is_form.1 r.long (body_still job.encoding form known now r.m r.s ended r.input left.left left.none) here in
+        let at = misread_at form mark r.m (r.s ++ left.left) r.all why.offset why.kind r.long (body_still job.encoding form known now r.m r.s ended r.input left.left left.none) here in
         let undecoded : IsUndecodedInput names job streams (record { taken = taken_as form; guessed = is_detected job.encoding; offset = why.offset; kind = why.kind }) = record {
           input = input;
-          misreads = record {
-            taken = taken_is (encoding_of job.encoding input) form is_form.0;
-            guessed = refl;
-            misread = subst (λ (f : Option Form). IsMisreadIn f input (record { taken = taken_as form; guessed = is_detected job.encoding; offset = why.offset; kind = why.kind })) (sym (form_known form)) at.0;
-          };
-          printed = subst (λ (f : Option Form). UndecodedIn f names job.task streams input why.offset) (sym (told_still job.encoding form known now r.m r.s ended r.input left.left left.none))
-              (takes_some job.encoding form known now r.m r.s ended r.input, record { bytes = r.all; decodes = at.1; fronts = fronts names job output new count r.all rest false shown none });
+          misreads = record { form = form; is = is_form; taken = taken_is (encoding_of job.encoding input) form is_form; guessed = refl; misread = at.0 };
+          taken = takes_some job.encoding form known now r.m r.s ended r.input;
+          fronts = record { bytes = r.all; decodes = at.1; fronts = fronts names job output new count r.all rest false shown none };
         } in
         subst (IsUndecodedInput names job streams) (sym m_is) undecoded
 
@@ -362,7 +305,6 @@ module _ (names : Names) (job : Job) (form : Form) (known now output mid : Optio
           consumed = Consumes-kept known now next chars r.input.consumed keeps;
           at_end = λ end. absurd (true_is_false (sym end));
           enough = λ _. r.input.enough unended;
-          text = r.input.text;
           told = r.input.told;
           body_is = r.input.body_is;
         }
@@ -374,30 +316,28 @@ module _ (names : Names) (job : Job) (form : Form) (known now output mid : Optio
         one None = omega arith
         one (Some b) = omega arith
 
-        all_but_one : TextFrontsIf (Some form) names job.task chars output new
+        all_but_one : FrontsIn (Some form) names job.task chars output new
         all_but_one = (
           waiting ++ [],
           one d.waiting,
           record {
             bytes = r.all;
-            decodes = record { half = d.half; part = d.part; reads = subst (λ (t : List ℕ). ReadsBytes form t r.all d.half d.part (waiting ++ [])) (append-nil r.s ∙ sym r.input.body_is) (reads_on d form mark r.s r.all r.form_is reading []) };
+            decodes = subst (λ (t : List ℕ). ReadsBytes form t r.all (waiting ++ [])) (append-nil r.s ∙ sym r.input.body_is) (reads_on d form mark r.s r.all r.form_is reading []);
             fronts = fronts names job output new count r.all rest false shown none;
           },
         )
-
-        told : form_told job.encoding chars ≡ Some form
-        told = ap (λ (b : Bool). if b then None else coming job.encoding chars) (le-ltb (length chars) (front_size job.encoding) (r.input.enough unended)) ∙ r.input.told
 
         by : (why : Refusal) → IsUnread why → Fails names job (record { input = known; input_left = next; output = output; output_now = new }) why
         by UnreadableInput u = record {
           bytes = chars;
           taken = kept.consumed;
-          fronts = subst (λ (b : Bool). FrontsIf b names job chars output new) (sym r.input.text) (subst (λ (f : Option Form). TextFrontsIf f names job.task chars output new) (sym told) all_but_one);
+          fronts = subst (λ (b : Bool). FrontsIf b names job chars output new) (sym (le-ltb (length chars) (front_size job.encoding chars) (r.input.enough unended)))
+              (subst (λ (f : Option Form). FrontsIn f names job.task chars output new) (sym r.input.told) all_but_one);
         }
         by RefusedMemory u =
             let l = left_here job.encoding form known next r.m r.s false kept in
             inr (no_memory names job output new count r.all rest false shown plain known next
-            (front_standing job.encoding form known next r.m r.s false kept r.all d.half d.part (waiting ++ l.left) (reads_on d form mark r.s r.all r.form_is reading l.left)))
+            (front_standing job.encoding form known next r.m r.s false kept r.all (waiting ++ l.left) (reads_on d form mark r.s r.all r.form_is reading l.left)))
         by UnopenedInput u = absurd u
         by (MisreadInput m) u = absurd u
         by NotUtf8 u = absurd u

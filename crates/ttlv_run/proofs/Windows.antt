@@ -4,7 +4,7 @@ use Rattle.std.specs.Prelude.{◌||◌, nat_le, nat_lt}
 use Rattle.std.specs.Int.{w32, from_be_bytes}
 use Rattle.std.specs.Io.KnownBytes.{Appends, Consumes, IsAtEnd, Keeps}
 use Rattle.std.proofs.KnownBytes.{Appends-nil, Appends-trans, Consumes-trans, Consumes-kept}
-use Rattle.std.proofs.lemmas.Bool.{cases_lt, leb-true, le-leb, ltb-true, lt-ltb, and_parts}
+use Rattle.std.proofs.lemmas.Bool.{cases_lt, leb-true, le-leb, ltb-true, lt-ltb, le-ltb, and_parts}
 use Rattle.std.proofs.lemmas.List.{take-append-drop, get_or-take, get_or-drop, get_or_past, get_or_append_left, get_or-append_right, take-append-le, drop-append-le, length-append, length-drop, length-take-le, drop_all, drop-drop}
 use Rattle.kmip_ttlv_types.specs.Places.{length_at}
 use Rattle.kmip_ttlv_types.specs.Streams.{AppendsFront}
@@ -14,7 +14,6 @@ use Rattle.kmip_ttlv_items.specs.ItemWalks.{AreBytes}
 use Rattle.kmip_ttlv_util.specs.Pieces.{SomeText}
 use Rattle.ttlv_run.specs.declared.form.Form.{Form}
 use Rattle.ttlv_run.specs.declared.job.Encoding.{Encoding}
-use Rattle.ttlv_run.specs.declared.job.Encoding.TheVariants.{Detected, Raw, Hexadecimal, Base64, Base64Url, Armoured, Dump, Packets}
 use Rattle.ttlv_run.specs.declared.job.Job.{Job}
 use Rattle.ttlv_run.specs.declared.job.Task.{Task}
 use Rattle.ttlv_run.specs.declared.messages.Place.{Place}
@@ -22,16 +21,15 @@ use Rattle.ttlv_run.specs.declared.messages.Reached.{Reached}
 use Rattle.ttlv_run.specs.declared.messages.Reached.TheVariants.{Behind, Fault as AtFault}
 use Rattle.ttlv_run.specs.declared.refusal.Refusal.{Refusal}
 use Rattle.ttlv_run.specs.declared.refusal.Refusal.TheVariants.{UnopenedInput, UnreadableInput, MisreadInput, NotUtf8, UnwritableOutput, ClosedPipe, RefusedMemory}
-use Rattle.ttlv_run.specs.Columns.{body}
-use Rattle.ttlv_run.specs.Fronts.{StandsFrontIn, StandsUpTo}
-use Rattle.ttlv_run.specs.Guesses.{has_control, text_found, front_of, is_raw}
+use Rattle.ttlv_run.specs.Fronts.{front_size, StandsFrontIn, StandsUpTo}
 use Rattle.ttlv_run.specs.Inputs.{TakesSome, IsUnread, form_of, encoding_of, StandsIn, Stands}
 use Rattle.ttlv_run.specs.Messages.{is_there, first_size, message_at, is_taken, Whole, whole_none, whole_more, IsWrong, Breaks, GoesOn}
-use Rattle.ttlv_run.specs.Runs.{Streams, Printed, Faults, Unwritten, Fronts, FrontsIf, Fails}
+use Rattle.ttlv_run.specs.Runs.{Streams, Printed, Faults, Unwritten, Fronts, FrontsIn, FrontsIf, Fails}
 use Rattle.ttlv_run.specs.Streaming.{is_due, StandsAt, EndsAt, PrintsOn, GoesOnBehind, Comes, ComesBy}
 use Rattle.ttlv_run.specs.Texts.{Names, IsMessageText}
 use Rattle.ttlv_run.proofs.Appending.{all_front}
 use Rattle.ttlv_run.proofs.Completion.{whole_goes, goes_behind}
+use Rattle.ttlv_run.proofs.FrontsTold.{Told, told_on}
 
 true_is_false : true ≡ false → ⊥
 true_is_false e = cc
@@ -191,28 +189,9 @@ bytes_take n s le h k lt =
 pub bytes_drop : (n : ℕ) (s : List ℕ) → AreBytes s → AreBytes (drop n s)
 bytes_drop n s h k lt = omega (arith, get_or-drop n s k 0, h (n + k) (omega (arith, lt, length-drop n s)))
 
--- whether an input is raw is known by four bytes, or by all
-pub raw_on : (e : Encoding) (s more : List ℕ) → (4 ≤ length s) ⊎ (more ≡ []) → is_raw e (s ++ more) ≡ is_raw e s
-raw_on e s more (inr none) = ap (λ (m : List ℕ). is_raw e (s ++ m)) none ∙ ap (is_raw e) (append-nil s)
-raw_on Raw s more (inl four) = refl
-raw_on Detected s more (inl four) = ap has_control (take-append-le 4 s more four)
-raw_on Hexadecimal s more (inl four) = refl
-raw_on Base64 s more (inl four) = refl
-raw_on Base64Url s more (inl four) = refl
-raw_on Armoured s more (inl four) = refl
-raw_on Dump s more (inl four) = refl
-raw_on Packets s more (inl four) = refl
-
 -- raw bytes stand for themselves
-pub raw_stands : (e : Encoding) (s : List ℕ) → is_raw e s ≡ true → Stands e s s
-raw_stands Raw s h = refl
-raw_stands Hexadecimal s h = absurd (true_is_false (sym h))
-raw_stands Base64 s h = absurd (true_is_false (sym h))
-raw_stands Base64Url s h = absurd (true_is_false (sym h))
-raw_stands Armoured s h = absurd (true_is_false (sym h))
-raw_stands Dump s h = absurd (true_is_false (sym h))
-raw_stands Packets s h = absurd (true_is_false (sym h))
-raw_stands Detected s h = subst (λ (f : Option Form). StandsIn f s s) (sym (ap (λ (b : Bool). form_of (if b then Raw else text_found (front_of s) (body s))) h)) refl
+pub raw_stands : (e : Encoding) (s : List ℕ) → form_of (encoding_of e s) ≡ None → Stands e s s
+raw_stands e s raw = subst (λ (f : Option Form). StandsIn f s s) (sym raw) refl
 
 -- the bytes that were taken and those that are left: none where an input ended, and no one knows which where no one says so
 pub record Left (known : Option (List ℕ)) (ended : Bool) : Type 0 where
@@ -377,28 +356,20 @@ module _ (names : Names) (job : Job) (output mid : Option (List ℕ)) (base : �
 -- what is known of raw bytes that came: they stand for themselves, whatever follows
 pub record RawInput (e : Encoding) (known now : Option (List ℕ)) (came : List ℕ) (ended : Bool) : Type 0 where
   pub consumed : Consumes known now came
-  pub raw : is_raw e came ≡ true
-  pub four : ended ≡ false → 4 ≤ length came
+  pub raw : form_of (encoding_of e came) ≡ None
+  pub enough : ended ≡ false → front_size e came ≤ length came
   pub at_end : ended ≡ true → IsAtEnd now
 
--- digits of no form stand in raw bytes
-raw_form : (e : Encoding) (s : List ℕ) → is_raw e s ≡ true → form_of (encoding_of e s) ≡ None
-raw_form Raw s h = refl
-raw_form Hexadecimal s h = absurd (true_is_false (sym h))
-raw_form Base64 s h = absurd (true_is_false (sym h))
-raw_form Base64Url s h = absurd (true_is_false (sym h))
-raw_form Armoured s h = absurd (true_is_false (sym h))
-raw_form Dump s h = absurd (true_is_false (sym h))
-raw_form Packets s h = absurd (true_is_false (sym h))
-raw_form Detected s h = ap (λ (b : Bool). form_of (if b then Raw else text_found (front_of s) (body s))) h
-
 module _ (e : Encoding) (known now : Option (List ℕ)) (came : List ℕ) (ended : Bool) (r : RawInput e known now came ended) where
-  still_raw : (more : List ℕ) → (ended ≡ true → more ≡ []) → is_raw e (came ++ more) ≡ true
-  still_raw more none = raw_on e came more (by ended refl) ∙ r.raw
+  still_told : (more : List ℕ) → (ended ≡ true → more ≡ []) → Told e came more
+  still_told more none = told_on e came more (by ended refl)
     where
-      by : (b : Bool) → ended ≡ b → (4 ≤ length came) ⊎ (more ≡ [])
+      by : (b : Bool) → ended ≡ b → (front_size e came ≤ length came) ⊎ (more ≡ [])
       by true is = inr (none is)
-      by false is = inl (r.four is)
+      by false is = inl (r.enough is)
+
+  still_raw : (more : List ℕ) → (ended ≡ true → more ≡ []) → form_of (encoding_of e (came ++ more)) ≡ None
+  still_raw more none = ap form_of (still_told more none).encoding ∙ r.raw
 
   pub raw_standing : Standing e known now came ended
   raw_standing = record {
@@ -412,14 +383,14 @@ module _ (e : Encoding) (known now : Option (List ℕ)) (came : List ℕ) (ended
 
       by : (b : Bool) → ended ≡ b → StandsUpTo e (came ++ l.left) came b
       by true is = subst (Stands e (came ++ l.left)) (ap (λ (t : List ℕ). came ++ t) (l.none is) ∙ append-nil came) (raw_stands e (came ++ l.left) (still_raw l.left l.none))
-      by false is = subst (λ (f : Option Form). StandsFrontIn f (came ++ l.left) came) (sym (raw_form e (came ++ l.left) (still_raw l.left l.none))) (l.left, refl)
+      by false is = subst (λ (f : Option Form). StandsFrontIn f (came ++ l.left) came) (sym (still_raw l.left l.none)) (l.left, refl)
 
   -- more bytes came
   pub more_raw : (next : Option (List ℕ)) (others : List ℕ) (then_ : Bool) → Consumes now next others → ended ≡ false → (then_ ≡ true → IsAtEnd next) → RawInput e known next (came ++ others) then_
   more_raw next others then_ consumed unended at_end = record {
     consumed = Consumes-trans known now next came others r.consumed consumed;
-    raw = raw_on e came others (inl (r.four unended)) ∙ r.raw;
-    four = λ _. omega (arith, r.four unended, length-append came others);
+    raw = still_raw others (λ end. absurd (true_is_false (sym end ∙ unended)));
+    enough = λ _. omega (arith, r.enough unended, (still_told others (λ end. absurd (true_is_false (sym end ∙ unended)))).size, length-append came others);
     at_end = at_end;
   }
 
@@ -458,13 +429,14 @@ module _ (names : Names) (job : Job) (known now output mid : Option (List ℕ)) 
       record {
         bytes = p.came;
         taken = Consumes-kept known now next p.came p.input.consumed keeps;
-        fronts = subst (λ (b : Bool). FrontsIf b names job p.came output mid) (sym p.input.raw) (fronts names job output mid base p.came bytes ended p.shown none);
+        fronts = subst (λ (b : Bool). FrontsIf b names job p.came output mid) (sym (le-ltb (length p.came) (front_size job.encoding p.came) (p.input.enough unended)))
+            (subst (λ (f : Option Form). FrontsIn f names job.task p.came output mid) (sym p.input.raw) (fronts names job output mid base p.came bytes ended p.shown none));
       }
   read_fails plain next RefusedMemory h none keeps unended =
       let still : RawInput job.encoding known next p.came false = record {
         consumed = Consumes-kept known now next p.came p.input.consumed keeps;
         raw = p.input.raw;
-        four = λ _. p.input.four unended;
+        enough = λ _. p.input.enough unended;
         at_end = λ end. absurd (true_is_false (sym end));
       } in
       inr (no_memory names job output mid base p.came bytes false p.shown plain known next (raw_standing job.encoding known next p.came false still))

@@ -1,55 +1,97 @@
--- What the front of a text of hexadecimal digits stands for, and a decoder that has read it.
-use Rattle.std.specs.Prelude.{◌≡◌, ℕ, ◌+◌, Bool, true, false, List, [], ◌∷◌, ◌++◌, length, slice_index, Option, Some, None, IfSome, Result, Ok, Err}
-use Rattle.ttlv_run.specs.declared.coding.Alphabet.TheVariants.{HexadecimalDigits}
+-- What the front of a text of digits stands for, and a decoder that has read it.
+use Rattle.std.specs.Prelude.{◌≡◌, ℕ, ◌+◌, ◌%◌, ◌<◌, ◌≤◌, Bool, true, false, List, [], ◌∷◌, ◌++◌, length, take, slice_index, Option, Some, None, Result, Ok, Err}
+use Rattle.std.specs.Io.KnownBytes.{prepend_known}
 use Rattle.ttlv_run.specs.declared.coding.Undecoded.{Undecoded}
 use Rattle.ttlv_run.specs.declared.decoder.Decoder.{Decoder}
+use Rattle.ttlv_run.specs.declared.decoder.Group.{Group}
 use Rattle.ttlv_run.specs.declared.decoder.Made.{Made}
-use Rattle.ttlv_run.specs.declared.decoder.Made.TheVariants.{Nothing, Byte, Failed}
+use Rattle.ttlv_run.specs.declared.decoder.Made.TheVariants.{Nothing, Bytes, Failed}
+use Rattle.ttlv_run.specs.declared.decoder.Phase.{Phase}
+use Rattle.ttlv_run.specs.declared.decoder.Phase.TheVariants.{Groups, Padded, Spoilt}
 use Rattle.ttlv_run.specs.declared.form.Form.{Form}
-use Rattle.ttlv_run.specs.declared.form.Form.TheVariants.{HexadecimalText, Base64Text, Base64UrlText, ArmouredText, DumpText, PacketText}
 use Rattle.ttlv_run.specs.declared.form.LinePart.{LinePart}
 use Rattle.ttlv_run.specs.declared.form.Step.TheVariants.{Wrong}
 use Rattle.ttlv_run.specs.declared.misread.MisreadKind.{MisreadKind}
 use Rattle.ttlv_run.specs.declared.misread.MisreadKind.TheVariants.{NoDigit, WrongCount}
 use Rattle.ttlv_run.specs.declared.refusal.Refusal.{Refusal}
 use Rattle.ttlv_run.specs.declared.refusal.Refusal.TheVariants.{RefusedMemory}
-use Rattle.ttlv_run.specs.Columns.{is_hex_digit, first_part, step, Reads}
-use Rattle.ttlv_run.specs.Inputs.{decode_digits}
-
--- the digits of a text are hexadecimal, two to a byte: it is decoded as it comes
-abbrev pub is_streamed : Form → Bool
-is_streamed HexadecimalText = true
-is_streamed Base64Text = false
-is_streamed Base64UrlText = false
-is_streamed ArmouredText = false
-is_streamed DumpText = true
-is_streamed PacketText = true
+use Rattle.ttlv_run.specs.Columns.{first_part, step, Reads}
+use Rattle.ttlv_run.specs.Fronts.{ReadsBytes}
+use Rattle.ttlv_run.specs.Inputs.{decode_form, width}
 
 -- a character, where there is one
 abbrev pub one_or_none : Option ℕ → List ℕ
 one_or_none None = []
 one_or_none (Some b) = b ∷ []
 
--- a text behind its mark is read up to a rest: its digits are those of these bytes, and maybe the first digit of one more
-pub record ReadsBytes (form : Form) (s bytes : List ℕ) (half : Option ℕ) (part : LinePart) (rest : List ℕ) : Type 0 where
+-- the bytes of a group
+abbrev pub bytes_in : Group → List ℕ
+bytes_in g = take g.count g.bytes
+
+-- the digits of a group that isn't whole yet
+abbrev pub begun : Decoder → List ℕ
+begun d = take d.count d.digits
+
+-- digits of whole groups are these bytes, and so they are with more digits behind them
+pub record GoesOn (form : Form) (front bytes : List ℕ) : Type 0 where
+  pub whole : length front % width form ≡ 0
+  pub on : (rest : List ℕ) → decode_form form (front ++ rest) ≡ prepend_known bytes (decode_form form rest)
+
+-- digits are whole groups, which are bytes, and less than a group
+pub record IsOpen (form : Form) (digits left bytes : List ℕ) : Type 0 where
+  pub front : List ℕ
+  pub are : digits ≡ front ++ left
+  pub few : length left < width form
+  pub goes : GoesOn form front bytes
+
+-- digits are bytes, and with one more they are none, whatever follows
+pub record IsPadded (form : Form) (digits bytes : List ℕ) : Type 0 where
+  pub whole : length digits % width form ≡ 0
+  pub made : decode_form form digits ≡ Some bytes
+  pub last : (b : ℕ) (rest : List ℕ) → decode_form form (digits ++ b ∷ rest) ≡ None
+
+-- digits of whole groups are bytes, and with a group at most behind them they are none, whatever follows
+pub record IsSpoilt (form : Form) (digits bytes : List ℕ) : Type 0 where
+  pub front : List ℕ
+  pub bad : List ℕ
+  pub more : List ℕ
+  pub are : digits ≡ front ++ (bad ++ more)
+  pub whole : length front % width form ≡ 0
+  pub made : decode_form form front ≡ Some bytes
+  pub few : length bad ≤ width form
+  pub none : (rest : List ℕ) → decode_form form (front ++ (bad ++ rest)) ≡ None
+
+-- what a decoder knows of digits: those of the group that isn't whole yet, and the bytes of those in front
+abbrev pub Knows : Phase → Form → List ℕ → List ℕ → List ℕ → Type 0
+Knows Groups form digits left bytes = IsOpen form digits left bytes
+Knows Padded form digits left bytes = IsPadded form digits bytes
+Knows Spoilt form digits left bytes = IsSpoilt form digits bytes
+
+-- a digit came
+abbrev pub Comes : Decoder → List ℕ → List ℕ → Made → Type 0
+Comes new digits bytes Nothing = Knows new.phase new.form digits (begun new) bytes
+Comes new digits bytes (Bytes g) =
+    Knows new.phase new.form digits (begun new) (bytes ++ bytes_in g) × (decode_form new.form digits ≡ Some (bytes ++ bytes_in g))
+Comes new digits bytes (Failed why) = ⊥
+
+-- a text ended behind digits: they are bytes, or none
+abbrev pub Ends : Decoder → List ℕ → List ℕ → Made → Type 0
+Ends d digits bytes Nothing = decode_form d.form digits ≡ Some bytes
+Ends d digits bytes (Bytes g) = decode_form d.form digits ≡ Some (bytes ++ bytes_in g)
+Ends d digits bytes (Failed why) =
+    (decode_form d.form digits ≡ None) × (why ≡ record { offset = d.offset + 1; kind = WrongCount })
+
+-- a decoder has read a text up to a rest
+pub record Holds (d : Decoder) (s bytes rest : List ℕ) : Type 0 where
   pub digits : List ℕ
-  pub reads : Reads form (first_part form) s (digits ++ one_or_none half) part rest
-  pub are : decode_digits HexadecimalDigits digits ≡ Some bytes
-  pub digit : IfSome half (λ h. is_hex_digit h ≡ true)
+  pub reads : Reads d.form (first_part d.form) s digits d.part rest
+  pub knows : Knows d.phase d.form digits (begun d) bytes
 
--- what counting a digit comes to: the first one of a byte waits for the second
-abbrev pub Counted : Option ℕ → Option ℕ → ℕ → Made → Type 0
-Counted None new b Nothing = new ≡ Some b
-Counted None new b (Byte x) = ⊥
-Counted None new b (Failed why) = ⊥
-Counted (Some h) new b Nothing = ⊥
-Counted (Some h) new b (Byte x) = (new ≡ None) × (decode_digits HexadecimalDigits (h ∷ b ∷ []) ≡ Some (x ∷ []))
-Counted (Some h) new b (Failed why) = decode_digits HexadecimalDigits (h ∷ b ∷ []) ≡ None
-
--- what taking a character comes to: no byte, so far; a byte; or an error, since it can't stand there
+-- what taking a character comes to: no bytes, so far; bytes of all digits; or an error, since it can't stand there
 abbrev pub Takes : Decoder → Decoder → List ℕ → List ℕ → ℕ → List ℕ → Made → Type 0
-Takes old new s bytes b rest Nothing = ReadsBytes old.form s bytes new.half new.part rest
-Takes old new s bytes b rest (Byte x) = ReadsBytes old.form s (bytes ++ x ∷ []) None new.part rest × (new.half ≡ None)
+Takes old new s bytes b rest Nothing = Holds new s bytes rest
+Takes old new s bytes b rest (Bytes g) =
+    (h : Holds new s (bytes ++ bytes_in g) rest) × (decode_form new.form h.digits ≡ Some (bytes ++ bytes_in g))
 Takes old new s bytes b rest (Failed why) =
     (step old.form old.part b (slice_index rest 0) ≡ Wrong) × (why ≡ record { offset = old.offset; kind = NoDigit b })
 
@@ -60,31 +102,27 @@ characters d = d.offset + length (one_or_none d.waiting)
 -- a decoder has read a text behind a mark of so many bytes, whatever follows: all but its last character, which waits for the
 -- next one
 pub record Reading (d : Decoder) (mark : ℕ) (s bytes : List ℕ) : Type 0 where
-  pub streamed : is_streamed d.form ≡ true
-  pub reads : (more : List ℕ) → ReadsBytes d.form (s ++ more) bytes d.half d.part (one_or_none d.waiting ++ more)
-  pub start : d.waiting ≡ None → d.half ≡ None
+  pub reads : (more : List ℕ) → Holds d (s ++ more) bytes (one_or_none d.waiting ++ more)
+  pub start : d.waiting ≡ None → (s ≡ []) × (bytes ≡ [])
   pub at : characters d ≡ mark + length s
 
 -- behind these bytes stands a character that can't stand there
 pub record StuckAt (form : Form) (mark : ℕ) (s bytes : List ℕ) (place b : ℕ) : Type 0 where
-  pub half : Option ℕ
-  pub part : LinePart
   pub rest : List ℕ
-  pub reads : ReadsBytes form s bytes half part (b ∷ rest)
-  pub wrong : step form part b (slice_index rest 0) ≡ Wrong
+  pub reads : ReadsBytes form s bytes (b ∷ rest)
+  pub wrong : step form reads.part b (slice_index rest 0) ≡ Wrong
   pub at : place + length (b ∷ rest) ≡ mark + length s
 
--- behind these bytes, at the end, stands the first digit of a byte without the second
-pub record EndsHalf (form : Form) (mark : ℕ) (s bytes : List ℕ) (place : ℕ) : Type 0 where
-  pub half : ℕ
-  pub part : LinePart
-  pub reads : ReadsBytes form s bytes (Some half) part []
+-- behind these bytes, at the end, all digits are no bytes
+pub record EndsWrong (form : Form) (mark : ℕ) (s bytes : List ℕ) (place : ℕ) : Type 0 where
+  pub reads : ReadsBytes form s bytes []
+  pub none : decode_form form reads.digits ≡ None
   pub at : place ≡ mark + length s
 
 -- why decoding ended behind these bytes
 abbrev pub StuckBy : Form → ℕ → List ℕ → List ℕ → ℕ → MisreadKind → Type 0
 StuckBy form mark s bytes place (NoDigit b) = StuckAt form mark s bytes place b
-StuckBy form mark s bytes place WrongCount = EndsHalf form mark s bytes place
+StuckBy form mark s bytes place WrongCount = EndsWrong form mark s bytes place
 
 abbrev pub Stuck : Form → ℕ → List ℕ → List ℕ → Undecoded → Type 0
 Stuck form mark s bytes why = StuckBy form mark s bytes why.offset why.kind
@@ -92,30 +130,27 @@ Stuck form mark s bytes why = StuckBy form mark s bytes why.offset why.kind
 -- a character came
 abbrev pub Pushes : Decoder → Decoder → ℕ → List ℕ → ℕ → List ℕ → Made → Type 0
 Pushes old new mark s b bytes Nothing = Reading new mark (s ++ b ∷ []) bytes
-Pushes old new mark s b bytes (Byte x) = Reading new mark (s ++ b ∷ []) (bytes ++ x ∷ [])
+Pushes old new mark s b bytes (Bytes g) = Reading new mark (s ++ b ∷ []) (bytes ++ bytes_in g)
 Pushes old new mark s b bytes (Failed why) = (more : List ℕ) → Stuck old.form mark (s ++ b ∷ more) bytes why
 
 -- all of a text is digits of these bytes, and what stands around them
 pub record AllBytes (form : Form) (s bytes : List ℕ) : Type 0 where
+  pub digits : List ℕ
   pub part : LinePart
-  pub reads : ReadsBytes form s bytes None part []
-
--- what a text's end comes to: nothing, or an error where the second digit of a byte is missing
-abbrev pub ended : Option ℕ → ℕ → Made
-ended None offset = Nothing
-ended (Some h) offset = Failed (record { offset = offset + 1; kind = WrongCount })
+  pub reads : Reads form (first_part form) s digits part []
+  pub are : decode_form form digits ≡ Some bytes
 
 -- the text ended
 abbrev pub Finishes : Form → ℕ → List ℕ → List ℕ → Made → Type 0
 Finishes form mark s bytes Nothing = AllBytes form s bytes
-Finishes form mark s bytes (Byte x) = AllBytes form s (bytes ++ x ∷ [])
+Finishes form mark s bytes (Bytes g) = AllBytes form s (bytes ++ bytes_in g)
 Finishes form mark s bytes (Failed why) = Stuck form mark s bytes why
 
 -- what a character came to was put behind bytes, unless memory ran out
 abbrev pub Puts : List ℕ → List ℕ → Made → Result (Option Undecoded) Refusal → Type 0
 Puts old new made (Err why) = (why ≡ RefusedMemory) × (new ≡ old)
 Puts old new Nothing (Ok wrong) = (wrong ≡ None) × (new ≡ old)
-Puts old new (Byte x) (Ok wrong) = (wrong ≡ None) × (new ≡ old ++ x ∷ [])
+Puts old new (Bytes g) (Ok wrong) = (wrong ≡ None) × (new ≡ old ++ bytes_in g)
 Puts old new (Failed why) (Ok wrong) = (wrong ≡ Some why) × (new ≡ old)
 
 -- bytes came behind others, of which this holds

@@ -35,7 +35,7 @@ pub record BackDone
 -- the same of JSON that is read back
 pub record JsonDone (job : JsonJob) (s : Streams) (errors errors_now : Option (List ℕ)) (status : ℕ) : Type 0 where
   pub known : status ≤ 3
-  pub printed : status ≡ 0 → PrintedJson job s None × Keeps errors errors_now
+  pub printed : status ≡ 0 → PrintedJson job s × Keeps errors errors_now
   pub malformed : status ≡ 1 → MalformedJson job s errors errors_now
   pub refused : (status ≡ 2) ⊎ (status ≡ 3) → RefusedJson job s status errors errors_now
 

@@ -2,7 +2,7 @@
 use Rattle.std.specs.Prelude.{ℕ, ◌+◌, Bool, true, false, ◌==◌, ◌||◌, ◌&&◌, List, [], ◌∷◌, take, slice_index, nat_lt}
 use Rattle.std.specs.Prelude.{Option, Some, None, if◌then◌else◌}
 use Rattle.ttlv_run.specs.declared.job.Encoding.{Encoding}
-use Rattle.ttlv_run.specs.declared.job.Encoding.TheVariants.{Detected, Raw, Hexadecimal, Base64, Base64Url, Armoured, Dump, Packets}
+use Rattle.ttlv_run.specs.declared.job.Encoding.TheVariants.{Raw, Hexadecimal, Base64, Base64Url, Armoured, Dump, Packets}
 use Rattle.ttlv_run.specs.Columns.{is_between, is_hex_digit, body}
 
 -- a byte that stands in no text
@@ -78,9 +78,12 @@ abbrev pub starts_digit : Option ℕ → Bool
 starts_digit None = false
 starts_digit (Some b) = is_hex_digit b || b == 92
 
--- how many bytes of a text are its front, which alone tells some encodings
+-- how many bytes of a text are its front, which tells hexadecimal digits and dumps; and how many tell any other text
 abbrev pub front_length : ℕ
 front_length = 64
+
+abbrev pub long_front : ℕ
+long_front = 1024
 
 -- what the front of a text tells: a dump of packets, another dump, or hexadecimal digits; or none of these
 abbrev pub front_found : List ℕ → Option Encoding
@@ -90,10 +93,10 @@ front_found s =
     else if starts_digit (first_byte s) && is_hexadecimal s then Some Hexadecimal
     else None
 
--- what a text looks like: what its front tells, or else what all of it does
+-- what a text looks like: what its front tells, or else what a longer one does
 abbrev pub text_found : Option Encoding → List ℕ → Encoding
 text_found (Some e) s = e
-text_found None s = if has_packet s then Packets else if starts_dump s then Dump else by_first s (first_byte s)
+text_found None s = if has_packet s then Packets else by_first s (first_byte s)
 
 -- what the front of an input that isn't raw tells
 abbrev pub front_of : List ℕ → Option Encoding
@@ -101,10 +104,4 @@ front_of s = front_found (body (take front_length s))
 
 -- what an input looks like
 abbrev pub encoding_found : List ℕ → Encoding
-encoding_found s = if looks_raw s then Raw else text_found (front_of s) (body s)
-
--- an input is taken as raw messages
-abbrev pub is_raw : Encoding → List ℕ → Bool
-is_raw Raw s = true
-is_raw Detected s = looks_raw s
-is_raw _ s = false
+encoding_found s = if looks_raw s then Raw else text_found (front_of s) (body (take long_front s))

@@ -1,5 +1,5 @@
 -- What was taken from a reader, and the bytes of messages that an input stands for.
-use Rattle.std.specs.Prelude.{◌≡◌, ℕ, ◌-◌, Bool, true, false, ◌==◌, ◌&&◌, List, [], ◌++◌, length}
+use Rattle.std.specs.Prelude.{◌≡◌, ℕ, ◌-◌, ◌%◌, ◌<◌, Bool, true, false, ◌==◌, ◌&&◌, List, [], ◌++◌, length}
 use Rattle.std.specs.Prelude.{slice_index, nat_lt, Option, Some, None, IfSome, Result, Ok, Err, if◌then◌else◌}
 use Rattle.std.specs.Io.KnownBytes.{Consumes, IsAtEnd}
 use Rattle.hex.specs.Hex as hex
@@ -9,7 +9,6 @@ use Rattle.ttlv_run.specs.declared.job.Encoding.{Encoding}
 use Rattle.ttlv_run.specs.declared.job.Encoding.TheVariants.{Detected, Raw, Hexadecimal, Base64, Base64Url, Armoured, Dump, Packets}
 use Rattle.ttlv_run.specs.declared.coding.Alphabet.{Alphabet}
 use Rattle.ttlv_run.specs.declared.coding.Alphabet.TheVariants.{HexadecimalDigits, Base64Digits, UrlDigits, BareUrlDigits}
-use Rattle.ttlv_run.specs.declared.coding.Undecoded.{Undecoded}
 use Rattle.ttlv_run.specs.declared.form.Form.{Form}
 use Rattle.ttlv_run.specs.declared.form.Form.TheVariants.{HexadecimalText, Base64Text, Base64UrlText, ArmouredText, DumpText, PacketText}
 use Rattle.ttlv_run.specs.declared.form.LinePart.{LinePart}
@@ -17,7 +16,7 @@ use Rattle.ttlv_run.specs.declared.misread.Misread.{Misread}
 use Rattle.ttlv_run.specs.declared.misread.MisreadKind.{MisreadKind}
 use Rattle.ttlv_run.specs.declared.misread.MisreadKind.TheVariants.{NoDigit, WrongCount}
 use Rattle.ttlv_run.specs.declared.refusal.Refusal.{Refusal}
-use Rattle.ttlv_run.specs.declared.refusal.Refusal.TheVariants.{UnreadableInput, MisreadInput, RefusedMemory}
+use Rattle.ttlv_run.specs.declared.refusal.Refusal.TheVariants.{UnreadableInput, RefusedMemory}
 use Rattle.ttlv_run.specs.Columns.{ReadsText, Stops}
 use Rattle.ttlv_run.specs.Guesses.{encoding_found}
 
@@ -45,14 +44,6 @@ pub record Kept (form : Form) (s digits : List ℕ) : Type 0 where
   pub last : LinePart
   pub reads : ReadsText form s digits last []
 
--- why digits were not kept
-abbrev pub IsNoDigit : Form → List ℕ → ℕ → MisreadKind → Type 0
-IsNoDigit form s place (NoDigit b) = Stops form s place b
-IsNoDigit form s place WrongCount = ⊥
-
-abbrev pub IsUnkept : Form → List ℕ → Undecoded → Type 0
-IsUnkept form s why = IsNoDigit form s why.offset why.kind
-
 -- the answer without its error
 abbrev pub answer_of : {T E : Type 0} → Result T E → Option T
 answer_of (Ok x) = Some x
@@ -75,13 +66,6 @@ alphabet_of ArmouredText padded = Base64Digits
 alphabet_of DumpText padded = HexadecimalDigits
 alphabet_of PacketText padded = HexadecimalDigits
 
--- how many digits are a group
-abbrev pub width : Alphabet → ℕ
-width HexadecimalDigits = 2
-width Base64Digits = 4
-width UrlDigits = 4
-width BareUrlDigits = 4
-
 -- the bytes that digits are, if they are any
 abbrev pub decode_digits : Alphabet → List ℕ → Option (List ℕ)
 decode_digits HexadecimalDigits ds = answer_of (hex.decode_of ds)
@@ -92,6 +76,26 @@ decode_digits BareUrlDigits ds = answer_of (base64.decode_of url_safe_no_pad ds)
 -- the bytes that digits of a text are
 abbrev pub decode_form : Form → List ℕ → Option (List ℕ)
 decode_form form ds = decode_digits (alphabet_of form (has_padding ds)) ds
+
+-- how many digits are a group
+abbrev pub width : Form → ℕ
+width HexadecimalText = 2
+width Base64Text = 4
+width Base64UrlText = 4
+width ArmouredText = 4
+width DumpText = 2
+width PacketText = 2
+
+-- the bytes of some digits: those of whole groups in front, of as many as are bytes
+pub record Makes (form : Form) (digits bytes : List ℕ) : Type 0 where
+  pub front : List ℕ
+  pub left : List ℕ
+  pub are : digits ≡ front ++ left
+  pub whole : length front % width form ≡ 0
+  pub made : decode_form form front ≡ Some bytes
+  pub most :
+      (groups more : List ℕ) → left ≡ groups ++ more → 0 < length groups → length groups % width form ≡ 0
+      → decode_form form (front ++ groups) ≡ None
 
 -- the bytes that a text is
 pub record Decodes (form : Form) (s bytes : List ℕ) : Type 0 where
@@ -110,9 +114,6 @@ pub record Miscounted (form : Form) (s : List ℕ) (place : ℕ) : Type 0 where
 abbrev pub IsMisread : Form → List ℕ → ℕ → MisreadKind → Type 0
 IsMisread form s place (NoDigit b) = Stops form s place b
 IsMisread form s place WrongCount = Miscounted form s place
-
-abbrev pub IsUndecodable : Form → List ℕ → Undecoded → Type 0
-IsUndecodable form s why = IsMisread form s why.offset why.kind
 
 -- how digits stand in an input of an encoding
 abbrev pub form_of : Encoding → Option Form
@@ -142,17 +143,10 @@ StandsIn (Some form) s bytes = Decodes form s bytes
 abbrev pub Stands : Encoding → List ℕ → List ℕ → Type 0
 Stands e s bytes = StandsIn (form_of (encoding_of e s)) s bytes
 
--- where and why it stands for none
-abbrev pub IsMisreadIn : Option Form → List ℕ → Misread → Type 0
-IsMisreadIn None s m = ⊥
-IsMisreadIn (Some form) s m = IsMisread form s m.offset m.kind
-
--- and as what it was taken
+-- where and why it stands for none, and as what it was taken
 pub record Misreads (e : Encoding) (s : List ℕ) (m : Misread) : Type 0 where
+  pub form : Form
+  pub is : form_of (encoding_of e s) ≡ Some form
   pub taken : m.taken ≡ encoding_of e s
   pub guessed : m.guessed ≡ is_detected e
-  pub misread : IsMisreadIn (form_of m.taken) s m
-
-abbrev pub IsUndecoded : Encoding → List ℕ → Refusal → Type 0
-IsUndecoded e s (MisreadInput m) = Misreads e s m
-IsUndecoded e s _ = ⊥
+  pub misread : IsMisread form s m.offset m.kind

@@ -1,7 +1,7 @@
 -- Lines of JSON that are read back as messages.
-use Rattle.std.specs.Prelude.{◌≡◌, ◌≢◌, ◌⊎◌, ℕ, ◌+◌, Bool, true, false, List, [], ◌∷◌, ◌++◌, length, Option, Some, None, Result, Ok, Err, codes}
+use Rattle.std.specs.Prelude.{◌≡◌, ◌≢◌, ◌⊎◌, ℕ, ◌+◌, ◌≤◌, Bool, true, false, List, [], ◌∷◌, ◌++◌, length, take, drop, Option, Some, None, Result, Ok, Err, codes}
 use Rattle.std.specs.Fmt.{decimal}
-use Rattle.std.specs.Io.KnownBytes.{Appends, Keeps}
+use Rattle.std.specs.Io.KnownBytes.{Appends, Consumes}
 use Rattle.std.specs.Str.{IsUtf8, trim_end}
 use Rattle.hex.specs.Hex.{encode_upper}
 use Rattle.kmip_ttlv_types.specs.Streams.{AppendsFront}
@@ -14,8 +14,9 @@ use Rattle.ttlv_run.specs.declared.from_json.LineFault.{LineFault}
 use Rattle.ttlv_run.specs.declared.refusal.Refusal.{Refusal}
 use Rattle.ttlv_run.specs.declared.refusal.Refusal.TheVariants.{UnreadableInput, NotUtf8}
 use Rattle.ttlv_run.specs.declared.refusal.Refusal.TheVariants.{UnwritableOutput, ClosedPipe, RefusedMemory}
-use Rattle.ttlv_run.specs.Inputs.{TakesAll}
-use Rattle.ttlv_run.specs.Reasons.{place_told, status_of, refusal_line}
+use Rattle.ttlv_run.specs.Backs.{IsOneLine}
+use Rattle.ttlv_run.specs.Inputs.{TakesAll, TakesSome}
+use Rattle.ttlv_run.specs.Reasons.{IsOfPrinting, place_told, status_of, refusal_line}
 use Rattle.ttlv_run.specs.Runs.{Streams}
 
 -- what is printed of a message: its bytes, or these in hexadecimal and a line feed
@@ -57,27 +58,32 @@ pub data AllGive (raw : Bool) : List (List ℕ) → List ℕ → ℕ → Type 0 
       → next ≡ at + length line + 1
       → AllGive raw more all next
 
--- this is printed of a front of some lines, none of which is bad
-pub record GivesFront (raw : Bool) (lines : List (List ℕ)) (text : List ℕ) : Type 0 where
-  pub front : List (List ℕ)
-  pub rest : List (List ℕ)
-  pub there : lines ≡ front ++ rest
-  pub end : ℕ
-  pub give : AllGive raw front text end
+-- the bytes of a line are text, and what is said above was appended
+abbrev pub PrintsBytes : Bool → List ℕ → Option (List ℕ) → Option (List ℕ) → Option JsonError → Type 0
+PrintsBytes raw line old new error = IsUtf8 line × Prints raw line old new error
 
--- this is printed of the lines before the first that is bad, and what is wrong with that
-pub record FirstBad (raw : Bool) (lines : List (List ℕ)) (text : List ℕ) (fault : LineFault) : Type 0 where
-  pub front : List (List ℕ)
-  pub line : List ℕ
-  pub rest : List (List ℕ)
-  pub there : lines ≡ front ++ (line ∷ rest)
-  pub give : AllGive raw front text fault.offset
-  pub bad : IsBad line fault.error
+-- or they aren't, or printing failed
+abbrev pub FailsAt : Bool → List ℕ → Option (List ℕ) → Option (List ℕ) → Refusal → Type 0
+FailsAt raw line old new NotUtf8 = (IsUtf8 line → ⊥) × Appends old new []
+FailsAt raw line old new why = IsOfPrinting why × Spoils raw line old new
 
--- what is printed of some lines: of all, or of those before the first that is bad
-abbrev pub PrintsLines : Bool → List (List ℕ) → List ℕ → Option LineFault → Type 0
-PrintsLines raw lines text None = (end : ℕ) × AllGive raw lines text end
-PrintsLines raw lines text (Some fault) = FirstBad raw lines text fault
+-- where a line begins, and what is wrong with it, if anything is
+abbrev pub fault_at : ℕ → Option JsonError → Option LineFault
+fault_at offset None = None
+fault_at offset (Some error) = Some (record { offset = offset; error = error })
+
+-- the bytes up to a place are lines of text, each with its line feed, and this is printed of them
+pub record GivesLines (raw : Bool) (bytes : List ℕ) (place : ℕ) (text : List ℕ) : Type 0 where
+  pub within : place ≤ length bytes
+  pub lines : List (List ℕ)
+  pub are : (more : List ℕ) → lines_of (take place bytes ++ more) ≡ lines ++ lines_of more
+  pub is_text : IsUtf8 (take place bytes)
+  pub give : AllGive raw lines text place
+
+-- and this line stands behind them
+pub record NextLine (bytes : List ℕ) (place : ℕ) (line : List ℕ) : Type 0 where
+  pub others : List (List ℕ)
+  pub first : lines_of (drop place bytes) ≡ line ∷ others
 
 -- where the parser stopped
 abbrev pub column_told : JsonError → List ℕ
@@ -89,52 +95,81 @@ abbrev pub bad_line : List ℕ → LineFault → List ℕ
 bad_line name fault =
     place_told name (Some fault.offset) ++ codes ": " ++ error_words fault.error ++ column_told fault.error ++ codes "\n"
 
--- the whole input was taken, and these are its lines
-pub record HasLines (s : Streams) (lines : List (List ℕ)) : Type 0 where
+-- the whole input was taken, each of its lines is the JSON of a message or empty, and exactly what is printed of them was appended
+-- to the output
+pub record PrintedJson (job : JsonJob) (s : Streams) : Type 0 where
   pub input : List ℕ
+  pub text : List ℕ
+  pub place : ℕ
   pub taken : TakesAll s.input s.input_left input
   pub is_text : IsUtf8 input
-  pub are : lines ≡ lines_of input
-
--- exactly what is printed of its lines was appended to the output
-pub record PrintedJson (job : JsonJob) (s : Streams) (fault : Option LineFault) : Type 0 where
-  pub lines : List (List ℕ)
-  pub has : HasLines s lines
-  pub text : List ℕ
-  pub prints : PrintsLines job.raw lines text fault
+  pub give : AllGive job.raw (lines_of input) text place
   pub appended : Appends s.output s.output_now text
 
--- a line is bad, and a beginning of the line that says so was appended to the errors
+-- a line of the input is bad, and exactly what is printed of the lines before it was appended
+pub record FaultsJson (job : JsonJob) (s : Streams) (fault : LineFault) : Type 0 where
+  pub input : List ℕ
+  pub text : List ℕ
+  pub line : List ℕ
+  pub taken : TakesSome s.input s.input_left input
+  pub gives : GivesLines job.raw input fault.offset text
+  pub next : NextLine input fault.offset line
+  pub is_text : IsUtf8 line
+  pub bad : IsBad line fault.error
+  pub appended : Appends s.output s.output_now text
+
+-- and a beginning of the line that says so was appended to the errors
 pub record MalformedJson (job : JsonJob) (s : Streams) (errors errors_now : Option (List ℕ)) : Type 0 where
   pub fault : LineFault
-  pub printed : PrintedJson job s (Some fault)
+  pub faults : FaultsJson job s fault
   pub told : AppendsFront errors errors_now (bad_line job.name.now fault)
 
--- a beginning of what is printed of a front of its lines was appended to the output
-pub record UnwrittenJson (job : JsonJob) (s : Streams) : Type 0 where
-  pub lines : List (List ℕ)
-  pub has : HasLines s lines
+-- exactly what is printed of the lines that came before reading failed was appended
+pub record UnreadJson (job : JsonJob) (s : Streams) : Type 0 where
+  pub bytes : List ℕ
+  pub place : ℕ
   pub text : List ℕ
-  pub front : GivesFront job.raw lines text
+  pub taken : Consumes s.input s.input_left bytes
+  pub gives : GivesLines job.raw bytes place text
+  pub one_line : IsOneLine (drop place bytes)
+  pub appended : Appends s.output s.output_now text
+
+-- a line of the input is no text, and exactly what is printed of the lines before it was appended
+pub record NoTextJson (job : JsonJob) (s : Streams) : Type 0 where
+  pub input : List ℕ
+  pub place : ℕ
+  pub text : List ℕ
+  pub line : List ℕ
+  pub taken : TakesSome s.input s.input_left input
+  pub gives : GivesLines job.raw input place text
+  pub next : NextLine input place line
+  pub no_text : IsUtf8 line → ⊥
+  pub appended : Appends s.output s.output_now text
+
+-- a beginning of what is printed of a front of the input's lines was appended
+pub record UnwrittenJson (job : JsonJob) (s : Streams) : Type 0 where
+  pub input : List ℕ
+  pub front : List (List ℕ)
+  pub rest : List (List ℕ)
+  pub text : List ℕ
+  pub place : ℕ
+  pub taken : TakesSome s.input s.input_left input
+  pub there : lines_of input ≡ front ++ rest
+  pub give : AllGive job.raw front text place
   pub appended : AppendsFront s.output s.output_now text
 
--- the whole input was taken, and it is no text
-pub record NoTextJson (s : Streams) : Type 0 where
-  pub input : List ℕ
-  pub taken : TakesAll s.input s.input_left input
-  pub no_text : IsUtf8 input → ⊥
-
--- why lines were not printed, and what was done by then
+-- why not all lines were printed, and what was done by then
 abbrev pub FailsJson : JsonJob → Streams → Refusal → Type 0
-FailsJson job s UnreadableInput = Keeps s.output s.output_now
-FailsJson job s NotUtf8 = NoTextJson s × Keeps s.output s.output_now
+FailsJson job s UnreadableInput = UnreadJson job s
+FailsJson job s NotUtf8 = NoTextJson job s
 FailsJson job s UnwritableOutput = UnwrittenJson job s
 FailsJson job s ClosedPipe = UnwrittenJson job s
-FailsJson job s RefusedMemory = Keeps s.output s.output_now ⊎ UnwrittenJson job s
+FailsJson job s RefusedMemory = UnwrittenJson job s
 FailsJson job s _ = ⊥
 
 abbrev pub RespondsJson : JsonJob → Streams → Result (Option LineFault) Refusal → Type 0
-RespondsJson job s (Ok fault) = PrintedJson job s fault
+RespondsJson job s (Ok None) = PrintedJson job s
+RespondsJson job s (Ok (Some fault)) = FaultsJson job s fault
 RespondsJson job s (Err why) = FailsJson job s why
 
 -- there is a reason for the status, and a beginning of its line was appended to the errors

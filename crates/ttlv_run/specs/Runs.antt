@@ -1,11 +1,10 @@
 -- What a run takes, prints and says.
-use Rattle.std.specs.Prelude.{◌≡◌, ◌⊎◌, ℕ, Bool, true, false, List, [], ◌∷◌, ◌++◌, ◌≤◌, length, drop, nat_lt, if◌then◌else◌, Option, Some, None, Result, Ok, Err}
+use Rattle.std.specs.Prelude.{◌≡◌, ◌⊎◌, ℕ, Bool, true, false, List, [], ◌∷◌, ◌++◌, ◌≤◌, length, drop, nat_lt, Option, Some, None, Result, Ok, Err}
 use Rattle.std.specs.Io.KnownBytes.{Appends, Consumes, Keeps}
 use Rattle.kmip_ttlv_items.specs.ItemWalks.{AreBytes}
 use Rattle.kmip_ttlv_types.specs.Streams.{AppendsFront}
 use Rattle.std.specs.Str.{IsUtf8}
 use Rattle.ttlv_run.specs.declared.form.Form.{Form}
-use Rattle.ttlv_run.specs.declared.job.Encoding.{Encoding}
 use Rattle.ttlv_run.specs.declared.job.Job.{Job}
 use Rattle.ttlv_run.specs.declared.job.BackJob.{BackJob}
 use Rattle.ttlv_run.specs.declared.job.Task.{Task}
@@ -15,14 +14,12 @@ use Rattle.ttlv_run.specs.declared.refusal.Refusal.{Refusal}
 use Rattle.ttlv_run.specs.declared.refusal.Refusal.TheVariants.{UnopenedInput, UnreadableInput, MisreadInput, NotUtf8}
 use Rattle.ttlv_run.specs.declared.refusal.Refusal.TheVariants.{UnwritableOutput, ClosedPipe, RefusedMemory}
 use Rattle.kmip_ttlv_names.specs.NameTables.{lines_of}
-use Rattle.kmip_ttlv_util.specs.Pieces.{SomeText}
 use Rattle.ttlv_run.specs.declared.back.BackFault.{BackFault}
 use Rattle.ttlv_run.specs.Backs.{FirstBreak, IsOneLine, AreLines, ReadsLines, back_line}
-use Rattle.ttlv_run.specs.Fronts.{coming, front_size, DecodesTo, StandsUpTo}
-use Rattle.ttlv_run.specs.Guesses.{is_raw}
-use Rattle.ttlv_run.specs.Inputs.{TakesAll, TakesSome, Stands, Misreads}
+use Rattle.ttlv_run.specs.Fronts.{front_size, DecodesTo, StandsUpTo}
+use Rattle.ttlv_run.specs.Inputs.{TakesAll, TakesSome, form_of, encoding_of, Stands, Misreads}
 use Rattle.ttlv_run.specs.Messages.{is_there, Whole, Prints, GoesOn, Breaks as MessageBreaks, fault_line}
-use Rattle.ttlv_run.specs.Reasons.{IsOfPrinting, status_of, refusal_line}
+use Rattle.ttlv_run.specs.Reasons.{status_of, refusal_line}
 use Rattle.ttlv_run.specs.Texts.{Names, text_back}
 
 -- what the input has and what the output holds, before and after a run, as far as that is known
@@ -91,41 +88,32 @@ pub record TextFronts
   pub decodes : DecodesTo form s bytes rest
   pub fronts : Fronts names task bytes output output_now
 
--- the input stands for no bytes, and this is why; of a text that is decoded as it comes, what is printed of the messages that
--- are whole in front of the error was appended; any other was taken to its end, and nothing was appended
-abbrev pub UndecodedIn : Option Form → Names → Task → Streams → List ℕ → ℕ → Type 0
-UndecodedIn (Some form) names task s input place =
-    TakesSome s.input s.input_left input × TextFronts names task form input (drop place input) s.output s.output_now
-UndecodedIn None names task s input place = TakesAll s.input s.input_left input × Keeps s.output s.output_now
-
--- for this reason the input stands for no bytes, and what is said above was printed
+-- for this reason the input stands for no bytes, and exactly what is printed of the messages that are whole in front of the error
+-- was appended
 pub record Undecoded (names : Names) (job : Job) (s : Streams) (m : Misread) : Type 0 where
   pub input : List ℕ
   pub misreads : Misreads job.encoding input m
-  pub printed : UndecodedIn (coming job.encoding input) names job.task s input m.offset
+  pub taken : TakesSome s.input s.input_left input
+  pub fronts : TextFronts names job.task misreads.form input (drop m.offset input) s.output s.output_now
 
--- these bytes of a text came before reading failed. If it is decoded as it comes, and its front came, what is printed of the
--- messages that are whole in front of the last character or behind it was appended; or else nothing
-abbrev pub TextFrontsIf : Option Form → Names → Task → List ℕ → Option (List ℕ) → Option (List ℕ) → Type 0
-TextFrontsIf (Some form) names task s output output_now =
+-- these bytes came before reading failed, raw or a text, and exactly what is printed of the messages that are whole was appended:
+-- of a text those in front of the last character or behind it
+abbrev pub FrontsIn : Option Form → Names → Task → List ℕ → Option (List ℕ) → Option (List ℕ) → Type 0
+FrontsIn None names task s output output_now = Fronts names task s output output_now
+FrontsIn (Some form) names task s output output_now =
     (rest : List ℕ) × (length rest ≤ 1) × TextFronts names task form s rest output output_now
-TextFrontsIf None names task s output output_now = Keeps output output_now
 
--- how a text is decoded as it comes, if its front came
-abbrev pub form_told : Encoding → List ℕ → Option Form
-form_told e s = if nat_lt (length s) (front_size e) then None else coming e s
-
--- these bytes came before reading failed: raw, or a text
+-- or nothing, where they don't tell the encoding
 abbrev pub FrontsIf : Bool → Names → Job → List ℕ → Option (List ℕ) → Option (List ℕ) → Type 0
-FrontsIf true names job bytes output output_now = Fronts names job.task bytes output output_now
+FrontsIf true names job bytes output output_now = Keeps output output_now
 FrontsIf false names job bytes output output_now =
-    TextFrontsIf (form_told job.encoding bytes) names job.task bytes output output_now
+    FrontsIn (form_of (encoding_of job.encoding bytes)) names job.task bytes output output_now
 
 -- these bytes came before reading failed, and what is said above was printed of them
 pub record Unread (names : Names) (job : Job) (s : Streams) : Type 0 where
   pub bytes : List ℕ
   pub taken : Consumes s.input s.input_left bytes
-  pub fronts : FrontsIf (is_raw job.encoding bytes) names job bytes s.output s.output_now
+  pub fronts : FrontsIf (nat_lt (length bytes) (front_size job.encoding bytes)) names job bytes s.output s.output_now
 
 -- why a run ends with status 2 or 3, and what it did by then
 abbrev pub Fails : Names → Job → Streams → Refusal → Type 0
@@ -142,15 +130,6 @@ abbrev pub Places : Names → Job → Streams → Result (Option Place) Refusal 
 Places names job s (Ok None) = Printed names job s
 Places names job s (Ok (Some place)) = Faults names job s place
 Places names job s (Err why) = Fails names job s why
-
--- the same of an input that was taken as a whole
-abbrev pub PrintsInput :
-    Names → Job → List ℕ → Option (List ℕ) → Option (List ℕ) → Result (Option Place) Refusal → Type 0
-PrintsInput names job input output output_now (Ok place) =
-    SomeText (λ text. HasText names job input text place) (Appends output output_now)
-PrintsInput names job input output output_now (Err why) =
-    IsOfPrinting why
-    × SomeText (λ text. (place : Option Place) × HasText names job input text place) (AppendsFront output output_now)
 
 -- what is done for a job
 abbrev pub Responds : {T : Type 0} → (T → List ℕ) → Names → Job → Streams → Result (Option T) Refusal → Type 0

@@ -71,26 +71,3 @@ pub record ComesLines (old new : Option (List ℕ)) (before after : List ℕ) (e
 pub record LinesFail (old new : Option (List ℕ)) (before after : List ℕ) : Type 0 where
   pub comes : Comes old new before after
   pub one_line : IsOneLine before → IsOneLine after
-
--- all of them
-pub record ComesAll (old new : Option (List ℕ)) (before after : List ℕ) : Type 0 where
-  pub comes : Comes old new before after
-  pub ended : IsAtEnd new
-
--- some came, and reading failed, where the input had not ended
-pub record RestFails (old new : Option (List ℕ)) (ended : Bool) : Type 0 where
-  pub came : List ℕ
-  pub consumed : Consumes old new came
-  pub before : ended ≡ false
-
--- bytes came behind those that were there, and now so many are there at least, or all
-pub record Begins (old new : Option (List ℕ)) (before after : List ℕ) (least : ℕ) (ended : Bool) : Type 0 where
-  pub comes : Comes old new before after
-  pub enough : ended ≡ false → least ≤ length after
-  pub at_end : ended ≡ true → IsAtEnd new
-
--- reading failed, and fewer came
-pub record BeginFails (old new : Option (List ℕ)) (before : List ℕ) (least : ℕ) : Type 0 where
-  pub after : List ℕ
-  pub comes : Comes old new before after
-  pub few : length after < least

@@ -104,16 +104,16 @@ pub fn line_end(bytes: &[u8]) -> usize
     bytes.len()
 }
 
-// The bytes from a place on.
-fn behind(bytes: &[u8], at: usize) -> &[u8]
+/// The bytes from a place on.
+pub fn behind(bytes: &[u8], at: usize) -> &[u8]
     requires { at ≤ length bytes.now }
     ensures { result.now ≡ drop at bytes.now }
 {
     &bytes[at..]
 }
 
-// The line that begins at a place, without its line feed; nothing if that isn't there.
-fn line_at(bytes: &[u8], at: usize) -> Option<&[u8]>
+/// The line that begins at a place, without its line feed; nothing if that isn't there.
+pub fn line_at(bytes: &[u8], at: usize) -> Option<&[u8]>
     requires { at ≤ length bytes.now }
     ensures { MatchOption result (IsOneLine (drop at bytes.now)) (λ line. IsLineAt bytes.now at line.now) }
 {

@@ -1,15 +1,13 @@
-//! The bytes of messages that an input stands for: as they are, or decoded from a text in the memory of that text.
+//! The bytes that digits stand for, a group at a time, and what the encoding of an input says of its digits.
 
-ghost use Rattle.std.specs.Prelude.{◌≡◌, ◌<◌, ◌≤◌, ◌+◌, ◌++◌, true, length, take, drop, Some, None, IfOk, IfErr, IfSome, IfNone};
+ghost use Rattle.std.specs.Prelude.{◌≡◌, ◌<◌, ◌≤◌, ◌+◌, ℕ, List, length, take, Some, None, IfOk, IfErr, IfSome, IfNone};
 ghost use Rattle.base64.specs.GeneralPurpose.{IsBytes};
 ghost use Rattle.ttlv_run.specs.declared.refusal.Refusal.TheVariants.{MisreadInput as AMisread};
-ghost use Rattle.ttlv_run.specs.Fronts.{front_size, form_if, if_streamed, coming, taken_as};
-ghost use Rattle.ttlv_run.specs.Inputs.{TakesAll, IsUnread, Kept, IsUnkept, has_padding, url_alphabet, alphabet_of, width, decode_digits};
-ghost use Rattle.ttlv_run.specs.Inputs.{Decodes, IsUndecodable, form_of, encoding_of, is_detected, Stands, IsUndecoded};
+ghost use Rattle.ttlv_run.specs.Fronts.{front_size, taken_as};
+ghost use Rattle.ttlv_run.specs.Inputs.{TakesAll, IsUnread, has_padding, url_alphabet, alphabet_of, width, decode_form, form_of, encoding_of, is_detected};
 
-use crate::decoder::is_streamed;
-use crate::form::{Form, Step, first_part, step_of};
-use crate::guess::{FRONT, byte_at, encoding_found, front_of, mark_length};
+use crate::form::Form;
+use crate::guess::{FRONT, LONG_FRONT, encoding_found, front_of, looks_raw};
 use crate::job::Encoding;
 use crate::misread::{Misread, MisreadKind};
 use crate::refusal::Refusal;
@@ -46,36 +44,6 @@ pub struct Undecoded {
     pub kind: MisreadKind,
 }
 
-// Keeps the digits of a text, without what stands between them, in its front, and gives how many they are.
-fn keep_digits(form: Form, text: &mut [u8]) -> Result<usize, Undecoded>
-    ensures within { IfOk result (λ n. n ≤ length text.new) }
-    ensures ok { IfOk result (λ n. Kept form text.old (take n text.new)) }
-    ensures err { IfErr result (IsUnkept form text.old) }
-{
-    let mut at = mark_length(text);
-    let mut kept = 0;
-    let mut part = first_part(form);
-    'characters: while at < text.len() {
-        let b = text[at];
-        match step_of(form, part, b, byte_at(text, at + 1)) {
-            Step::Counts(next) => {
-                text[kept] = b;
-                kept += 1;
-                part = next;
-            }
-            Step::Skips(next) => part = next,
-            Step::Wrong => {
-                return Err(Undecoded {
-                    offset: at,
-                    kind: MisreadKind::NoDigit(b),
-                });
-            }
-        }
-        at += 1;
-    }
-    Ok(kept)
-}
-
 // Whether digits end with padding.
 fn has_padding(digits: &[u8]) -> bool
     ensures { result ≡ has_padding digits.now }
@@ -103,27 +71,28 @@ fn alphabet_of(form: Form, padded: bool) -> Alphabet
     }
 }
 
-// How many digits are a group.
-fn width(alphabet: Alphabet) -> usize
-    ensures { result ≡ width alphabet }
+/// How many digits are a group.
+pub fn width(form: Form) -> usize
+    ensures is { result ≡ width form }
+    ensures most { result ≤ 4 }
 {
-    match alphabet {
-        Alphabet::HexadecimalDigits => 2,
-        Alphabet::Base64Digits | Alphabet::UrlDigits | Alphabet::BareUrlDigits => 4,
+    match form {
+        Form::HexadecimalText | Form::DumpText | Form::PacketText => 2,
+        Form::Base64Text | Form::ArmouredText | Form::Base64UrlText => 4,
     }
 }
 
-// Decodes a group of digits, or less, and gives how many bytes they stand for.
-fn decode_group(alphabet: Alphabet, group: &[u8], bytes: &mut [u8]) -> Option<usize>
-    requires few { length group.now ≤ width alphabet }
+/// Decodes a group of digits, or less, and gives how many bytes they stand for.
+pub fn decode_group(form: Form, group: &[u8], bytes: &mut [u8]) -> Option<usize>
+    requires few { length group.now ≤ 4 }
     requires room { length bytes.old ≡ 3 }
-    ensures within { IfSome result (λ n. (n ≤ 3) × (n ≤ length group.now)) }
-    ensures some { IfSome result (λ n. decode_digits alphabet group.now ≡ Some (take n bytes.new)) }
-    ensures none { IfNone result (decode_digits alphabet group.now ≡ None) }
+    ensures within { IfSome result (λ n. n ≤ 3) }
+    ensures some { IfSome result (λ n. decode_form form group.now ≡ Some (take n bytes.new)) }
+    ensures none { IfNone result (decode_form form group.now ≡ None) }
     ensures bytes { IsBytes bytes.new }
     ensures len { length bytes.new ≡ 3 }
 {
-    match alphabet {
+    match alphabet_of(form, has_padding(group)) {
         Alphabet::HexadecimalDigits => {
             let count = group.len() / 2;
             hex::decode_to_slice(group, &mut bytes[..count]).ok()?;
@@ -135,69 +104,8 @@ fn decode_group(alphabet: Alphabet, group: &[u8], bytes: &mut [u8]) -> Option<us
     }
 }
 
-// Puts bytes at a place.
-fn put(digits: &mut [u8], at: usize, bytes: &[u8])
-    requires { at + length bytes.now ≤ length digits.old }
-    ensures front { take (at + length bytes.now) digits.new ≡ take at digits.old ++ bytes.now }
-    ensures behind { drop (at + length bytes.now) digits.new ≡ drop (at + length bytes.now) digits.old }
-    ensures len { length digits.new ≡ length digits.old }
-{
-    digits[at..at + bytes.len()].copy_from_slice(bytes);
-}
-
-// Decodes digits into their own front, and gives how many bytes they stand for.
-fn decode_digits(alphabet: Alphabet, digits: &mut [u8]) -> Option<usize>
-    ensures within { IfSome result (λ n. n ≤ length digits.new) }
-    ensures some { IfSome result (λ n. decode_digits alphabet digits.old ≡ Some (take n digits.new)) }
-    ensures none { IfNone result (decode_digits alphabet digits.old ≡ None) }
-{
-    let width = width(alphabet);
-    let mut bytes = [0; 3];
-    let mut at = 0;
-    let mut made = 0;
-    'groups: while digits.len() - at > width {
-        let count = decode_group(alphabet, &digits[at..at + width], &mut bytes)?;
-        if count + 1 < width {
-            return None;
-        }
-        put(digits, made, &bytes[..count]);
-        at += width;
-        made += count;
-    }
-    let count = decode_group(alphabet, &digits[at..], &mut bytes)?;
-    put(digits, made, &bytes[..count]);
-    Some(made + count)
-}
-
-// Puts the bytes that a text stands for into its front, and gives how many they are.
-fn decode_text(form: Form, text: &mut [u8]) -> Result<usize, Undecoded>
-    ensures within { IfOk result (λ n. n ≤ length text.new) }
-    ensures ok { IfOk result (λ n. Decodes form text.old (take n text.new)) }
-    ensures err { IfErr result (IsUndecodable form text.old) }
-{
-    let kept = keep_digits(form, text)?;
-    let alphabet = alphabet_of(form, has_padding(&text[..kept]));
-    match decode_digits(alphabet, &mut text[..kept]) {
-        Some(count) => Ok(count),
-        None => Err(Undecoded {
-            offset: text.len(),
-            kind: MisreadKind::WrongCount,
-        }),
-    }
-}
-
-// The bytes that a text stands for, in the memory of the text.
-fn decode<A: Allocator>(form: Form, mut text: Vec<u8, A>) -> Result<Vec<u8, A>, Undecoded>
-    ensures ok { IfOk result (λ bytes. Decodes form text.items bytes.items) }
-    ensures err { IfErr result (IsUndecodable form text.items) }
-{
-    let count = decode_text(form, text.as_mut_slice())?;
-    text.truncate(count);
-    Ok(text)
-}
-
-// How digits stand in an input of an encoding; none where there are no digits.
-fn form_of(encoding: Encoding) -> Option<Form>
+/// How digits stand in an input of an encoding; none where there are no digits.
+pub fn form_of(encoding: Encoding) -> Option<Form>
     ensures { result ≡ form_of encoding }
 {
     match encoding {
@@ -226,14 +134,27 @@ fn is_detected(encoding: Encoding) -> bool
     }
 }
 
-// The encoding of an input: the one that was named, or else what the input looks like.
-fn encoding_of(encoding: Encoding, input: &[u8]) -> Encoding
+/// The encoding of an input: the one that was named, or else what the input looks like.
+pub fn encoding_of(encoding: Encoding, input: &[u8]) -> Encoding
     ensures { result ≡ encoding_of encoding input.now }
 {
     if is_detected(encoding) {
         return encoding_found(input);
     }
     encoding
+}
+
+/// How many bytes of an input tell its encoding, or all of a shorter one, where these bytes of it are there.
+pub fn front_size(encoding: Encoding, input: &[u8]) -> usize
+    ensures { result ≡ front_size encoding input.now }
+{
+    if !is_detected(encoding) || input.len() < 4 || looks_raw(input) {
+        return 4;
+    }
+    if input.len() < FRONT || front_of(input).is_some() {
+        return FRONT;
+    }
+    LONG_FRONT
 }
 
 /// The error of an input that was taken as an encoding and stands for no bytes.
@@ -253,42 +174,6 @@ pub fn misread(encoding: Encoding, taken: Encoding, why: Undecoded) -> Refusal
     })
 }
 
-/// How many bytes of an input tell whether it is decoded as it comes, if it is as long.
-pub fn front_size(encoding: Encoding) -> usize
-    ensures { result ≡ front_size encoding }
-{
-    if is_detected(encoding) { FRONT } else { 4 }
-}
-
-// How digits stand in an input of an encoding, if that is known.
-fn form_if(encoding: Option<Encoding>) -> Option<Form>
-    ensures { result ≡ form_if encoding }
-{
-    form_of(encoding?)
-}
-
-// How digits stand in a text, if that is decoded as it comes.
-fn if_streamed(form: Option<Form>) -> Option<Form>
-    ensures { result ≡ if_streamed form }
-{
-    match form {
-        Some(form) if is_streamed(form) => Some(form),
-        _ => None,
-    }
-}
-
-/// How digits stand in an input that is decoded as it comes, of which the front is there or all.
-pub fn coming(encoding: Encoding, front: &[u8]) -> Option<Form>
-    ensures { result ≡ coming encoding front.now }
-{
-    let told = if is_detected(encoding) {
-        front_of(front)
-    } else {
-        Some(encoding)
-    };
-    if_streamed(form_if(told))
-}
-
 /// The encoding of a text.
 pub fn taken_as(form: Form) -> Encoding
     ensures { result ≡ taken_as form }
@@ -300,20 +185,5 @@ pub fn taken_as(form: Form) -> Encoding
         Form::ArmouredText => Encoding::Armoured,
         Form::DumpText => Encoding::Dump,
         Form::PacketText => Encoding::Packets,
-    }
-}
-
-/// The bytes of messages that an input stands for, in the memory of the input.
-pub fn bytes_of<A: Allocator>(encoding: Encoding, input: Vec<u8, A>) -> Result<Vec<u8, A>, Refusal>
-    ensures ok { IfOk result (λ bytes. Stands encoding input.items bytes.items) }
-    ensures err { IfErr result (IsUndecoded encoding input.items) }
-{
-    let taken = encoding_of(encoding, input.as_slice());
-    let Some(form) = form_of(taken) else {
-        return Ok(input);
-    };
-    match decode(form, input) {
-        Ok(bytes) => Ok(bytes),
-        Err(why) => Err(misread(encoding, taken, why)),
     }
 }

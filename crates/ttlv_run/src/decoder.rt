@@ -1,71 +1,102 @@
-//! Decodes a text of hexadecimal digits as it comes: each byte when the character behind its second digit is there.
+//! Decodes a text of digits as it comes: each group of digits when the character behind its last one is there.
 
-ghost use Rattle.std.specs.Prelude.{◌≡◌, ◌<◌, ◌≤◌, ◌+◌, ◌-◌, ◌^◌, ◌∷◌, true, ℕ, List, [], slice_index, Some, None, IfSome, IfNone};
-ghost use Rattle.ttlv_run.specs.declared.coding.Alphabet.TheVariants.{HexadecimalDigits};
-ghost use Rattle.ttlv_run.specs.declared.decoder.Made.TheVariants.{Failed as AnError};
-ghost use Rattle.ttlv_run.specs.declared.misread.MisreadKind.TheVariants.{NoDigit as IsNoDigit};
-ghost use Rattle.ttlv_run.specs.Decoding.{is_streamed, characters, ReadsBytes, Counted, Takes, Reading, Pushes, Finishes, ended};
-ghost use Rattle.ttlv_run.specs.Inputs.{decode_digits};
+ghost use Rattle.std.specs.Prelude.{◌≡◌, ◌<◌, ◌≤◌, ◌+◌, ◌-◌, ◌^◌, ◌∷◌, ◌++◌, ℕ, List, [], length, slice_index, Some, None, IfSome, IfNone};
+ghost use Rattle.base64.specs.GeneralPurpose.{IsBytes};
+ghost use Rattle.ttlv_run.specs.declared.misread.MisreadKind.TheVariants.{NoDigit as IsNoDigit, WrongCount as IsWrongCount};
+ghost use Rattle.ttlv_run.specs.Inputs.{width, decode_form};
 
-use crate::coding::Undecoded;
+use crate::coding::{Undecoded, decode_group, width};
 use crate::form::{Form, LinePart, Step, first_part, step_of};
 use crate::misread::MisreadKind;
 
+/// The bytes of a group of digits: three at most.
+#[derive(Clone, Copy)]
+pub struct Group {
+    bytes: [u8; 3],
+    count: usize,
+    ghost fits: { count ≤ 3 },
+}
+
+impl Group {
+    ghost use Rattle.ttlv_run.specs.Decoding.{bytes_in};
+
+    // The bytes of digits, four at most.
+    fn of(form: Form, digits: &[u8]) -> Option<Group>
+        requires { length digits.now ≤ 4 }
+        ensures some { IfSome result (λ g. decode_form form digits.now ≡ Some (bytes_in g)) }
+        ensures none { IfNone result (decode_form form digits.now ≡ None) }
+        ensures bytes { IfSome result (λ g. IsBytes (bytes_in g)) }
+        ensures digits { IsBytes digits.now }
+    {
+        let mut bytes = [0; 3];
+        let count = decode_group(form, digits, &mut bytes)?;
+        Some(Group { bytes, count })
+    }
+
+    /// The bytes.
+    pub fn as_slice(&self) -> &[u8]
+        ensures are { result.now ≡ bytes_in self.now }
+        ensures few { length result.now ≤ 3 }
+    {
+        &self.bytes[..self.count]
+    }
+}
+
 /// What a character comes to.
-#[derive(Clone, Copy, PartialEq, Eq)]
+#[derive(Clone, Copy)]
 pub enum Made {
-    /// No byte so far.
+    /// No bytes so far.
     Nothing,
-    /// A byte.
-    Byte(u8),
+    /// Those of a group of digits.
+    Bytes(Group),
     /// An error: the text stands for no more bytes.
     Failed(Undecoded),
 }
 
-/// Whether a text is decoded as it comes: its digits are hexadecimal.
-pub fn is_streamed(form: Form) -> bool
-    ensures { result ≡ is_streamed form }
-{
-    match form {
-        Form::HexadecimalText | Form::DumpText | Form::PacketText => true,
-        Form::Base64Text | Form::Base64UrlText | Form::ArmouredText => false,
-    }
+/// What may follow the digits that were read.
+#[derive(Clone, Copy, PartialEq, Eq)]
+pub enum Phase {
+    /// More digits.
+    Groups,
+    /// No digit: there was padding.
+    Padded,
+    /// Whatever follows, the digits are those of no bytes.
+    Spoilt,
 }
 
-// The byte that two digits are.
-fn byte_of(high: u8, low: u8) -> Option<u8>
-    ensures some { IfSome result (λ b. decode_digits HexadecimalDigits (high ∷ low ∷ []) ≡ Some (b ∷ [])) }
-    ensures none { IfNone result (decode_digits HexadecimalDigits (high ∷ low ∷ []) ≡ None) }
-{
-    let mut bytes = [0; 1];
-    hex::decode_to_slice(&[high, low], &mut bytes).ok()?;
-    Some(bytes[0])
-}
-
-/// A text of hexadecimal digits whose front was read.
+/// A text whose front was read.
 #[derive(Clone, Copy)]
 pub struct Decoder {
     form: Form,
     // The part of a line in which the character that waits stands.
     part: LinePart,
-    // The first digit of a byte whose second has not come.
-    half: Option<u8>,
+    phase: Phase,
+    // The digits of a group that isn't whole yet, in front of room for more.
+    digits: [u8; 4],
+    count: usize,
     // The last character, which only the next one tells: both may be `0x` or `\x`.
     waiting: Option<u8>,
     // How many characters stand in front of it.
     offset: usize,
+    ghost fits: { count < width form },
 }
 
 impl Decoder {
+    ghost use Rattle.ttlv_run.specs.declared.decoder.Made.TheVariants.{Failed as AnError};
+    ghost use Rattle.ttlv_run.specs.declared.decoder.Phase.TheVariants.{Groups};
+    ghost use Rattle.ttlv_run.specs.Decoding.{begun, characters, IsOpen, Knows, Holds, Comes, Takes, Reading, Pushes, Finishes, Ends};
+
     /// A decoder in front of a text behind its mark, which has so many bytes.
     pub fn new(form: Form, mark: usize) -> Decoder
-        ensures reading { is_streamed form ≡ true → Reading result mark [] [] }
+        ensures reading { Reading result mark [] [] }
         ensures form { result.form ≡ form }
     {
         Decoder {
             form,
             part: first_part(form),
-            half: None,
+            phase: Phase::Groups,
+            digits: [0; 4],
+            count: 0,
             waiting: None,
             offset: mark,
         }
@@ -78,22 +109,48 @@ impl Decoder {
         self.offset
     }
 
-    // Counts a digit.
-    fn count(&mut self, b: u8) -> Made
-        ensures made { Counted self.old.half self.new.half b result }
+    // Puts a digit into the open group, and decodes that if it is whole.
+    fn put(&mut self, b: u8) -> Made
+        requires { self.old.phase ≡ Groups }
+        ensures made { (digits bytes : List ℕ) → IsOpen self.old.form digits (begun self.old) bytes
+            → Comes self.new (digits ++ b ∷ []) bytes result }
         ensures form { self.new.form ≡ self.old.form }
         ensures part { self.new.part ≡ self.old.part }
         ensures waiting { self.new.waiting ≡ self.old.waiting }
         ensures offset { self.new.offset ≡ self.old.offset }
     {
-        let Some(high) = self.half else {
-            self.half = Some(b);
+        let width = width(self.form);
+        self.digits[self.count] = b;
+        if self.count + 1 < width {
+            self.count += 1;
+            return Made::Nothing;
+        }
+        self.count = 0;
+        let Some(group) = Group::of(self.form, &self.digits[..width]) else {
+            self.phase = Phase::Spoilt;
             return Made::Nothing;
         };
-        self.half = None;
-        match byte_of(high, b) {
-            Some(byte) => Made::Byte(byte),
-            None => self.failed(b),
+        if group.count + 1 < width {
+            self.phase = Phase::Padded;
+        }
+        Made::Bytes(group)
+    }
+
+    // Counts a digit.
+    fn count(&mut self, b: u8) -> Made
+        ensures made { (digits bytes : List ℕ) → Knows self.old.phase self.old.form digits (begun self.old) bytes
+            → Comes self.new (digits ++ b ∷ []) bytes result }
+        ensures form { self.new.form ≡ self.old.form }
+        ensures part { self.new.part ≡ self.old.part }
+        ensures waiting { self.new.waiting ≡ self.old.waiting }
+        ensures offset { self.new.offset ≡ self.old.offset }
+    {
+        match self.phase {
+            Phase::Groups => self.put(b),
+            Phase::Padded | Phase::Spoilt => {
+                self.phase = Phase::Spoilt;
+                Made::Nothing
+            }
         }
     }
 
@@ -107,10 +164,20 @@ impl Decoder {
         })
     }
 
+    // The error of a text, behind the character that waited, whose digits are those of no bytes.
+    fn miscounted(&self) -> Made
+        requires { self.now.offset < 2 ^ 64 - 1 }
+        ensures { result ≡ AnError (record { offset = self.now.offset + 1; kind = IsWrongCount }) }
+    {
+        Made::Failed(Undecoded {
+            offset: self.offset + 1,
+            kind: MisreadKind::WrongCount,
+        })
+    }
+
     // Takes a character, in front of the next one (0 at the end).
     fn take(&mut self, b: u8, next: u8) -> Made
-        ensures made { (s bytes rest : List ℕ) → is_streamed self.old.form ≡ true → next ≡ slice_index rest 0
-            → ReadsBytes self.old.form s bytes self.old.half self.old.part (b ∷ rest)
+        ensures made { (s bytes rest : List ℕ) → next ≡ slice_index rest 0 → Holds self.old s bytes (b ∷ rest)
             → Takes self.old self.new s bytes b rest result }
         ensures form { self.new.form ≡ self.old.form }
         ensures waiting { self.new.waiting ≡ self.old.waiting }
@@ -129,17 +196,19 @@ impl Decoder {
         }
     }
 
-    // What is left at the end, behind the character that waited: nothing, or a digit without its second one.
+    // What is left at the end, behind the character that waited: the bytes of the open group, or an error.
     fn ended(&self) -> Made
         requires { self.now.offset < 2 ^ 64 - 1 }
-        ensures { result ≡ ended self.now.half self.now.offset }
+        ensures { (digits bytes : List ℕ) → Knows self.now.phase self.now.form digits (begun self.now) bytes
+            → Ends self.now digits bytes result }
     {
-        match self.half {
-            Some(_) => Made::Failed(Undecoded {
-                offset: self.offset + 1,
-                kind: MisreadKind::WrongCount,
-            }),
-            None => Made::Nothing,
+        match self.phase {
+            Phase::Groups => match Group::of(self.form, &self.digits[..self.count]) {
+                Some(group) => Made::Bytes(group),
+                None => self.miscounted(),
+            },
+            Phase::Padded => Made::Nothing,
+            Phase::Spoilt => self.miscounted(),
         }
     }
 

@@ -1,10 +1,10 @@
-//! Prints the messages of a text of hexadecimal digits as they come.
+//! Prints the messages of a text of digits as they come.
 
 ghost use Rattle.std.specs.Prelude.{◌≡◌, ◌<◌, ◌≤◌, ◌+◌, ◌-◌, ◌^◌, ◌++◌, true, false, ℕ, List, [], Some, None, Ok, Option, OnOk, length};
 ghost use Rattle.std.specs.Io.KnownBytes.{Consumes, IsAtEnd};
 ghost use Rattle.ttlv_run.specs.Decoding.{characters, Reading, Grows, Puts, DecodesPiece, DecodesMore, is_last};
-ghost use Rattle.ttlv_run.specs.Fronts.{coming, front_size};
-ghost use Rattle.ttlv_run.specs.Guesses.{is_raw};
+ghost use Rattle.ttlv_run.specs.Fronts.{front_size};
+ghost use Rattle.ttlv_run.specs.Inputs.{form_of, encoding_of};
 ghost use Rattle.ttlv_run.specs.Runs.{Places};
 ghost use Rattle.ttlv_run.specs.Streaming.{held};
 ghost use Rattle.ttlv_run.specs.Texts.{names_of};
@@ -28,8 +28,8 @@ fn put<A: Allocator>(made: Made, bytes: &mut Window<A>) -> Result<Option<Undecod
 {
     match made {
         Made::Nothing => Ok(None),
-        Made::Byte(byte) => {
-            bytes.add(byte)?;
+        Made::Bytes(group) => {
+            bytes.add(group.as_slice())?;
             Ok(None)
         }
         Made::Failed(why) => Ok(Some(why)),
@@ -109,9 +109,8 @@ pub fn print_digits<A: Allocator + Copy, B: Allocator + Copy, R: Read, W: Write>
     input: &mut R,
     output: &mut W,
 ) -> Result<Option<Place>, Refusal>
-    requires text { is_raw job.now.encoding (held text) ≡ false }
-    requires form { coming job.now.encoding (held text) ≡ Some form }
-    requires front { ended ≡ false → front_size job.now.encoding ≤ length (held text) }
+    requires form { form_of (encoding_of job.now.encoding (held text)) ≡ Some form }
+    requires front { ended ≡ false → front_size job.now.encoding (held text) ≤ length (held text) }
     requires at_end { ended ≡ true → IsAtEnd (R.remaining input.old) }
     ensures { (known : Option (List ℕ)) → Consumes known (R.remaining input.old) (held text)
         → Places (names_of names.now) job.now

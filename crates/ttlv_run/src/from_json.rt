@@ -2,16 +2,15 @@
 
 ghost use Rattle.std.specs.Prelude.{◌≡◌, ◌≤◌, ◌++◌, ◌⊎◌, ℕ, List, Option, None, IfOk, IfErr, OnOk, OnErr, codes};
 ghost use Rattle.std.specs.Io.KnownBytes.{Appends, Keeps};
-ghost use Rattle.kmip_ttlv_names.specs.NameTables.{lines_of};
 ghost use Rattle.kmip_ttlv_types.specs.Streams.{AppendsFront};
-ghost use Rattle.kmip_ttlv_util.specs.Pieces.{SomeText};
 ghost use Rattle.ttlv_run.specs.Reasons.{IsOfPrinting, Tells};
-ghost use Rattle.ttlv_run.specs.JsonLines.{shown, Prints, Spoils, PrintsLines, GivesFront, bad_line, column_told, RespondsJson, PrintedJson, MalformedJson, RefusedJson};
+ghost use Rattle.ttlv_run.specs.JsonLines.{shown, Prints, Spoils, PrintsBytes, FailsAt, fault_at, bad_line, column_told, RespondsJson, PrintedJson, MalformedJson, RefusedJson};
 
-use crate::coding::read_all;
+use crate::back::{behind, line_at};
 use crate::job::JsonJob;
 use crate::refusal::Refusal;
 use crate::run::{refusal_of, tell, tell_place, tell_refusal};
+use crate::window::Window;
 use itoa::Buffer;
 use kmip_ttlv_json::{JsonError, from_json};
 use kmip_ttlv_types::stream::Sink;
@@ -84,35 +83,33 @@ fn print_line<W: Write>(
     }
 }
 
-// Prints the messages that lines are, up to the first line that is none, and gives that.
-fn print_lines<W: Write>(
+// Prints the message that the bytes of a line are, and gives why they are none.
+fn print_bytes<W: Write>(
     heap: Global,
     raw: bool,
-    text: &str,
+    line: &[u8],
     output: &mut W,
-) -> Result<Option<LineFault>, Refusal>
-    ensures ok { IfOk result (λ fault. SomeText (λ t. PrintsLines raw (lines_of text.now) t fault)
-        (Appends (W.contents output.old) (W.contents output.new))) }
-    ensures why { IfErr result IsOfPrinting }
-    ensures err { OnErr result (SomeText (GivesFront raw (lines_of text.now))
-        (AppendsFront (W.contents output.old) (W.contents output.new))) }
+) -> Result<Option<JsonError>, Refusal>
+    ensures ok { IfOk result (PrintsBytes raw line.now (W.contents output.old) (W.contents output.new)) }
+    ensures err { IfErr result (FailsAt raw line.now (W.contents output.old) (W.contents output.new)) }
 {
-    let mut rest = text;
-    'lines: while let Some((line, more)) = rest.split_once('\n') {
-        let offset = text.len() - rest.len();
-        if let Some(error) = print_line(heap, raw, line, output)? {
-            return Ok(Some(LineFault { offset, error }));
-        }
-        rest = more;
-    }
-    let offset = text.len() - rest.len();
-    match print_line(heap, raw, rest, output)? {
-        Some(error) => Ok(Some(LineFault { offset, error })),
-        None => Ok(None),
+    let Ok(text) = str::from_utf8(line) else {
+        return Err(Refusal::NotUtf8);
+    };
+    print_line(heap, raw, text, output)
+}
+
+// The fault of a line that begins at an offset, if it has one.
+fn fault_at(offset: usize, error: Option<JsonError>) -> Option<LineFault>
+    ensures { result ≡ fault_at offset error }
+{
+    match error {
+        Some(error) => Some(LineFault { offset, error }),
+        None => None,
     }
 }
 
-// Reads an input to its end and prints the messages that its lines are.
+// Prints the messages that the lines of an input are, each when it is there, and gives the first line that is none.
 fn respond<R: Read, W: Write>(
     heap: Global,
     job: &JsonJob<'_>,
@@ -127,11 +124,34 @@ fn respond<R: Read, W: Write>(
           output_now = W.contents output.new;
         }) result }
 {
-    let taken = read_all(heap, input)?;
-    let Ok(text) = str::from_utf8(taken.as_slice()) else {
-        return Err(Refusal::NotUtf8);
-    };
-    print_lines(heap, job.raw, text, output)
+    let mut window = Window::new(heap);
+    let mut base = 0;
+    let mut at = 0;
+    let mut ended = false;
+    'lines: loop {
+        let held = window.held();
+        if usize::MAX - base < held.len() {
+            return Err(Refusal::RefusedMemory);
+        }
+        if let Some(line) = line_at(held, at) {
+            if let Some(error) = print_bytes(heap, job.raw, line, output)? {
+                return Ok(Some(LineFault {
+                    offset: base + at,
+                    error,
+                }));
+            }
+            at += line.len() + 1;
+            continue;
+        }
+        if ended {
+            let error = print_bytes(heap, job.raw, behind(held, at), output)?;
+            return Ok(fault_at(base + at, error));
+        }
+        window.let_go(at);
+        base += at;
+        at = 0;
+        ended = window.read_lines(input)?;
+    }
 }
 
 // Writes where the parser stopped, if the line isn't JSON.
@@ -159,12 +179,14 @@ fn tell_fault<E: Write>(errors: &mut E, name: &str, fault: LineFault)
     tell(errors, goes, "\n");
 }
 
-/// Reads `input` to its end and prints to `output` the messages that its lines are the JSON of, in hexadecimal, each in a
-/// line of its own, or as raw bytes. It returns the exit status: 0 if each line is a message or empty, 1 if a line is none, 2
-/// if the input can't be read or is not UTF-8, 3 when out of memory or if the output can't be written.
+/// Reads `input` and prints to `output` the messages that its lines are the JSON of, in hexadecimal, each in a line of its own, or
+/// as raw bytes. It returns the exit status: 0 if each line is a message or empty, 1 if a line is none, 2 if the input can't be
+/// read or is not UTF-8, 3 when out of memory or if the output can't be written.
 ///
-/// With status 1 the messages before the first line that is none are printed, and `errors` says why that is none. Statuses 2
-/// and 3 are told there as [`run`](crate::run::run) tells them; with status 3 the output has a beginning of what is printed.
+/// A message is printed before the next read if all of its line is there. With status 1 the messages before the first line that is
+/// none are printed, nothing more is read, and `errors` says why that is none. With status 2 those of the lines before are printed:
+/// that came before reading failed, or are in front of the one that is not UTF-8. Statuses 2 and 3 are told there as
+/// [`run`](crate::run::run) tells them; with status 3 the output has a beginning of what is printed.
 pub fn read_json<R: Read, W: Write, E: Write>(
     heap: Global,
     job: &JsonJob<'_>,
@@ -180,9 +202,10 @@ pub fn read_json<R: Read, W: Write, E: Write>(
           input_left = R.remaining input.new;
           output = W.contents output.old;
           output_now = W.contents output.new;
-        }) None
+        })
         × Keeps (E.contents errors.old) (E.contents errors.new) }
-    // With status 1 a line is bad: what is printed of the lines before it was appended, and the errors have its line.
+    // With status 1 a line is bad: what is printed of the lines before it was appended, and the errors have its line. A front of
+    // the input was read.
     ensures malformed { result ≡ 1 → MalformedJson job.now
         (record {
           input = R.remaining input.old;

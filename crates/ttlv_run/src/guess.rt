@@ -1,15 +1,18 @@
 //! What an input is taken as, where its encoding isn't named: raw messages, or one of the texts that stand for some.
 
 ghost use Rattle.std.specs.Prelude.{◌≡◌, ◌<◌, ◌≤◌, length, slice_index, take};
-ghost use Rattle.ttlv_run.specs.Columns.{mark_length};
+ghost use Rattle.ttlv_run.specs.Columns.{mark_length, body};
 ghost use Rattle.ttlv_run.specs.Guesses.{is_control, has_control, looks_raw, first_byte, zeros, ends_offset, starts_dump};
-ghost use Rattle.ttlv_run.specs.Guesses.{starts_packet, has_packet, has_url_digit, by_first_byte, is_in_hexadecimal, is_hexadecimal, starts_digit, front_length, front_found, text_found, front_of, encoding_found, is_raw};
+ghost use Rattle.ttlv_run.specs.Guesses.{starts_packet, has_packet, has_url_digit, by_first_byte, is_in_hexadecimal, is_hexadecimal, starts_digit, front_found, text_found, front_of, encoding_found};
 
 use crate::form::{is_between, is_hex_digit};
 use crate::job::Encoding;
 
-/// How many bytes of a text are its front.
+/// How many bytes of a text are its front, which tells hexadecimal digits and dumps.
 pub const FRONT: usize = 64;
+
+/// How many tell the encoding of any other text.
+pub const LONG_FRONT: usize = 1024;
 
 fn is_control(b: u8) -> bool
     ensures { result ≡ is_control b }
@@ -28,8 +31,8 @@ fn has_control(bytes: &[u8]) -> bool
     false
 }
 
-// Whether an input is raw: its first four bytes hold one that stands in no text.
-fn looks_raw(input: &[u8]) -> bool
+/// Whether an input is raw: its first four bytes hold one that stands in no text.
+pub fn looks_raw(input: &[u8]) -> bool
     ensures { result ≡ looks_raw input.now }
 {
     has_control(&input[..input.len().min(4)])
@@ -184,7 +187,7 @@ fn front_found(text: &[u8]) -> Option<Encoding>
     None
 }
 
-// What a text looks like, by what its front tells or else by all of it.
+// What a text looks like: what its front tells, or else what a longer one does.
 fn text_found(front: Option<Encoding>, text: &[u8]) -> Encoding
     ensures { result ≡ text_found front text.now }
 {
@@ -193,9 +196,6 @@ fn text_found(front: Option<Encoding>, text: &[u8]) -> Encoding
     }
     if has_packet(text) {
         return Encoding::Packets;
-    }
-    if starts_dump(text) {
-        return Encoding::Dump;
     }
     match first_byte(text) {
         Some(first) => by_first_byte(text, first),
@@ -214,22 +214,29 @@ pub fn mark_length(input: &[u8]) -> usize
     0
 }
 
-// The front of an input.
-fn front(input: &[u8]) -> &[u8]
-    ensures { result.now ≡ take front_length input.now }
+// The first bytes of an input.
+fn first(input: &[u8], count: usize) -> &[u8]
+    ensures { result.now ≡ take count input.now }
 {
-    if input.len() < FRONT {
+    if input.len() < count {
         return input;
     }
-    &input[..FRONT]
+    &input[..count]
 }
 
-/// What the front of an input that isn't raw tells: what it is, if that is decoded as it comes.
+// The first bytes of a text behind its mark.
+fn first_text(input: &[u8], count: usize) -> &[u8]
+    ensures { result.now ≡ body (take count input.now) }
+{
+    let text = first(input, count);
+    &text[mark_length(text)..]
+}
+
+/// What the front of an input that isn't raw tells: hexadecimal digits, or a dump.
 pub fn front_of(input: &[u8]) -> Option<Encoding>
     ensures { result ≡ front_of input.now }
 {
-    let text = front(input);
-    front_found(&text[mark_length(text)..])
+    front_found(first_text(input, FRONT))
 }
 
 /// What an input looks like.
@@ -239,21 +246,5 @@ pub fn encoding_found(input: &[u8]) -> Encoding
     if looks_raw(input) {
         return Encoding::Raw;
     }
-    text_found(front_of(input), &input[mark_length(input)..])
-}
-
-/// Whether an input is raw messages, of which the first four bytes are there or all.
-pub fn is_raw(encoding: Encoding, front: &[u8]) -> bool
-    ensures { result ≡ is_raw encoding front.now }
-{
-    match encoding {
-        Encoding::Raw => true,
-        Encoding::Detected => looks_raw(front),
-        Encoding::Hexadecimal
-        | Encoding::Base64
-        | Encoding::Base64Url
-        | Encoding::Armoured
-        | Encoding::Dump
-        | Encoding::Packets => false,
-    }
+    text_found(front_of(input), first_text(input, LONG_FRONT))
 }

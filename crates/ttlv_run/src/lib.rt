@@ -3,13 +3,12 @@
 //! diagnostics, as JSON or in hexadecimal, or checks them; or it reads diagnostics or JSON back.
 //!
 //! `files` is the entry, for several inputs, and `run` for one. `job` says what is to be done, `window` holds what was
-//! read and not printed yet, `coding` takes the bytes out of a text, `digits` those of hexadecimal digits as these come,
-//! one by one by `decoder`, `guess` finds its encoding, `form` says which bytes
-//! of it are digits, `misread` why it stands for no bytes, `messages` goes from message to message, `texts`, `lines`,
-//! `values`, `dates`, `masks`, `colors` and `escape` print one to any sink of texts, `back` reads diagnostics back, `from_json` JSON, and
-//! `refusal` has the reasons for statuses 2 and 3. `table` reads a file of names, `progress` tells how far the reading
-//! is, and `memory` says where a run takes its memory from. Items, faults, diagnostics and JSON are those of
-//! kmip_ttlv_items, kmip_ttlv_util and kmip_ttlv_json.
+//! read and not printed yet, `guess` finds the encoding, `digits` prints a text as it comes, which `decoder` decodes group by group,
+//! `coding` says what the digits of a group stand for, `form` which bytes of a text are digits, and `misread` why it stands for no
+//! bytes. `messages` goes from message to message, `texts`, `lines`, `values`, `dates`, `masks`, `colors` and `escape` print one to any
+//! sink of texts, `back` reads diagnostics back, `from_json` JSON, and `refusal` has the reasons for statuses 2 and 3. `table` reads a
+//! file of names, `progress` tells how far the reading is, and `memory` says where a run takes its memory from. Items, faults,
+//! diagnostics and JSON are those of kmip_ttlv_items, kmip_ttlv_util and kmip_ttlv_json.
 #![tactic(auto)]
 
 mod back;

@@ -6,17 +6,16 @@ ghost use Rattle.kmip_ttlv_types.specs.Streams.{AppendsFront};
 ghost use Rattle.kmip_ttlv_util.specs.Pieces.{SomeText};
 ghost use Rattle.ttlv_run.specs.Backs.{ReadsBack, ReadsFront, back_line};
 ghost use Rattle.ttlv_run.specs.Reasons.{IsOfPrinting, Tells, place_told, refusal_line};
-ghost use Rattle.ttlv_run.specs.Guesses.{is_raw};
-ghost use Rattle.ttlv_run.specs.Inputs.{Stands};
+ghost use Rattle.ttlv_run.specs.Fronts.{front_size, Begins, BeginFails};
+ghost use Rattle.ttlv_run.specs.Inputs.{IsUnread, form_of, encoding_of};
 ghost use Rattle.ttlv_run.specs.Streaming.{held, EndsAt, PrintsOn, GoesOnBehind};
-ghost use Rattle.ttlv_run.specs.Runs.{Places, PrintsInput, Responds, Printed, Malformed, Refused, RespondsBack, PrintedBack, MalformedBack, RefusedBack};
+ghost use Rattle.ttlv_run.specs.Runs.{Places, Responds, Printed, Malformed, Refused, RespondsBack, PrintedBack, MalformedBack, RefusedBack};
 ghost use Rattle.ttlv_run.specs.Texts.{names_of};
 
 use crate::back::{BackFault, BackReached, print_back};
-use crate::coding::{bytes_of, coming, front_size};
+use crate::coding::{encoding_of, form_of, front_size};
 use crate::digits::print_digits;
-use crate::guess::is_raw;
-use crate::job::{BackJob, Job, Names, Task};
+use crate::job::{BackJob, Encoding, Job, Names, Task};
 use crate::memory::Memory;
 use crate::messages::{Place, Reached, fault_line, print_all};
 use crate::misread::tell_misread;
@@ -68,23 +67,6 @@ pub(crate) fn print_messages<A: Allocator + Copy, W: Write>(
     }
 }
 
-// Prints what a job asks for of the messages that a whole input stands for, and gives the first fault.
-fn print_whole<B: Allocator + Copy, W: Write>(
-    alloc: B,
-    job: &Job<'_>,
-    names: &Names<'_, B>,
-    bytes: &[u8],
-    output: &mut W,
-) -> Result<Option<Place>, Refusal>
-    ensures { (input : List ℕ) → Stands job.now.encoding input bytes.now
-        → PrintsInput (names_of names.now) job.now input (W.contents output.old) (W.contents output.new) result }
-{
-    match print_messages(alloc, names, job.task, 0, bytes, true, output)? {
-        Reached::Behind(_) => Ok(None),
-        Reached::Fault(place) => Ok(Some(place)),
-    }
-}
-
 // Prints what a job asks for of raw messages as they come, each when it is there as a whole, and gives the first fault.
 fn print_raw<A: Allocator, B: Allocator + Copy, R: Read, W: Write>(
     alloc: B,
@@ -95,8 +77,8 @@ fn print_raw<A: Allocator, B: Allocator + Copy, R: Read, W: Write>(
     input: &mut R,
     output: &mut W,
 ) -> Result<Option<Place>, Refusal>
-    requires raw { is_raw job.now.encoding (held window) ≡ true }
-    requires four { ended ≡ false → 4 ≤ length (held window) }
+    requires raw { form_of (encoding_of job.now.encoding (held window)) ≡ None }
+    requires front { ended ≡ false → front_size job.now.encoding (held window) ≤ length (held window) }
     requires at_end { ended ≡ true → IsAtEnd (R.remaining input.old) }
     ensures { (known : Option (List ℕ)) → Consumes known (R.remaining input.old) (held window)
         → Places (names_of names.now) job.now
@@ -127,36 +109,22 @@ fn print_raw<A: Allocator, B: Allocator + Copy, R: Read, W: Write>(
     }
 }
 
-// Prints what a job asks for of a text, of which the first bytes are there, and gives the first fault: as it comes if its
-// front tells how, or else when all of it is there.
-fn print_text<A: Allocator + Copy, B: Allocator + Copy, R: Read, W: Write>(
-    memory: Memory<A, B>,
-    job: &Job<'_>,
-    names: &Names<'_, B>,
-    mut window: Window<A>,
-    ended: bool,
+// Reads until the bytes that are there tell the encoding, or the input ended; returns whether it did.
+fn read_front<A: Allocator, R: Read>(
+    encoding: Encoding,
+    window: &mut Window<A>,
     input: &mut R,
-    output: &mut W,
-) -> Result<Option<Place>, Refusal>
-    requires text { is_raw job.now.encoding (held window) ≡ false }
-    requires four { ended ≡ false → 4 ≤ length (held window) }
-    requires at_end { ended ≡ true → IsAtEnd (R.remaining input.old) }
-    ensures { (known : Option (List ℕ)) → Consumes known (R.remaining input.old) (held window)
-        → Places (names_of names.now) job.now
-        (record {
-          input = known;
-          input_left = R.remaining input.new;
-          output = W.contents output.old;
-          output_now = W.contents output.new;
-        }) result }
+) -> Result<bool, Refusal>
+    ensures ok { IfOk result (Begins encoding (R.remaining input.old) (R.remaining input.new) (held window.old) (held window.new)) }
+    ensures why { IfErr result IsUnread }
+    ensures err { OnErr result (BeginFails encoding (R.remaining input.old) (R.remaining input.new) (held window.old) (held window.new)) }
 {
-    let ended = window.begin(front_size(job.encoding), ended, input)?;
-    if let Some(form) = coming(job.encoding, window.held()) {
-        return print_digits(memory, job, names, form, window, ended, input, output);
+    'pieces: while window.held().len() < front_size(encoding, window.held()) {
+        if window.read_more(input)? == 0 {
+            return Ok(true);
+        }
     }
-    let taken = window.read_rest(ended, input)?;
-    let bytes = bytes_of(job.encoding, taken)?;
-    print_whole(memory.rest, job, names, bytes.as_slice(), output)
+    Ok(false)
 }
 
 // Prints what a job asks for, message by message, and gives the first fault.
@@ -176,11 +144,11 @@ fn print_input<A: Allocator + Copy, B: Allocator + Copy, R: Read, W: Write>(
         }) result }
 {
     let mut window = Window::new(memory.input);
-    let ended = window.begin(4, false, input)?;
-    if is_raw(job.encoding, window.held()) {
-        return print_raw(memory.rest, job, names, window, ended, input, output);
+    let ended = read_front(job.encoding, &mut window, input)?;
+    match form_of(encoding_of(job.encoding, window.held())) {
+        Some(form) => print_digits(memory, job, names, form, window, ended, input, output),
+        None => print_raw(memory.rest, job, names, window, ended, input, output),
     }
-    print_text(memory, job, names, window, ended, input, output)
 }
 
 // Prints what a job asks for, and gives the line that says what is malformed, if anything is.
@@ -335,14 +303,14 @@ fn tell_back_fault<E: Write>(errors: &mut E, name: &str, fault: BackFault)
 /// whole, 1 if one is malformed, 2 if the input can't be read or decoded, 3 when out of memory or if the output
 /// can't be written.
 ///
-/// Raw messages, and those in hexadecimal digits or a dump, if that was named or the first 64 bytes tell it, are printed
-/// as they come, each before the next read if all of it is there, of a text with one character more; other texts are
-/// read to their end first. Output is sent in pieces of 8,192 bytes, and never held as a whole. With status 1 the output
-/// has what is printed up to the fault, and nothing more is read. If reading fails or a digit is bad, it has what is
-/// printed of the messages that were whole, or nothing of a text that is read to its end first. With status 3 it has a
-/// beginning of what is printed, or nothing. With statuses 1 to 3 one line on `errors` says why, except for a closed
-/// pipe. Interrupted reads and writes are tried again, as often as a 64-bit count allows. If `errors` can't be written,
-/// the status is the same.
+/// Messages are printed as they come, each before the next read if all of it is there, of a text with one character more.
+/// Where no encoding was named, that is from when the input's first bytes tell it: four that it is raw, 64 that it is
+/// hexadecimal or a dump, 1,024 anything else. Output is sent in pieces of 8,192 bytes, and never held as a whole. With
+/// status 1 the output has what is printed up to the fault, and nothing more is read. If reading fails or the digits of a
+/// text are those of no bytes, it has what is printed of the messages that were whole. With status 3 it has a beginning
+/// of what is printed, or nothing. With statuses 1 to 3 one line on `errors` says why, except for a closed pipe.
+/// Interrupted reads and writes are tried again, as often as a 64-bit count allows. If `errors` can't be written, the
+/// status is the same.
 pub fn run<A: Allocator + Copy, B: Allocator + Copy, R: Read, W: Write, E: Write>(
     memory: Memory<A, B>,
     job: &Job<'_>,

@@ -1,6 +1,6 @@
 //! The bytes of an input that were read and that nothing was printed of yet.
 
-ghost use Rattle.std.specs.Prelude.{◌≡◌, ◌<◌, ◌≤◌, ◌+◌, true, false, [], ◌∷◌, ◌++◌, length, take, drop, IfOk, IfErr, OnOk, OnErr, vec_len};
+ghost use Rattle.std.specs.Prelude.{◌≡◌, ◌<◌, ◌≤◌, ◌+◌, true, false, [], ◌++◌, length, take, drop, IfOk, IfErr, OnOk, OnErr, vec_len};
 ghost use Rattle.std.specs.Io.KnownBytes.{Consumes, IsAtEnd, Keeps};
 ghost use Rattle.kmip_ttlv_items.specs.ItemWalks.{AreBytes};
 ghost use Rattle.ttlv_run.specs.Inputs.{IsUnread};
@@ -12,7 +12,7 @@ use crate::refusal::Refusal;
 use kmip_ttlv_types::stream::{PIECE, read_some};
 use std::alloc::{AllocError, Allocator};
 use std::io;
-use std::io::{ErrorKind, Read};
+use std::io::Read;
 
 // The first bytes of some.
 fn front(bytes: &[u8], count: usize) -> &[u8]
@@ -30,6 +30,14 @@ fn grow<A: Allocator>(bytes: &mut Vec<u8, A>, more: usize) -> Result<(), AllocEr
 {
     bytes.reserve_exact(more)?;
     bytes.resize(bytes.len() + more, 0)
+}
+
+// Puts bytes at a place.
+fn put(all: &mut [u8], at: usize, bytes: &[u8])
+    requires { at + length bytes.now ≤ length all.old }
+    ensures { all.new ≡ take at all.old ++ (bytes.now ++ drop (at + length bytes.now) all.old) }
+{
+    all[at..at + bytes.len()].copy_from_slice(bytes);
 }
 
 // Whether a line feed stands behind a place.
@@ -63,7 +71,7 @@ pub struct Window<A: Allocator> {
 }
 
 impl<A: Allocator> Window<A> {
-    ghost use Rattle.ttlv_run.specs.Streaming.{held, ComesBy, ComesLines, LinesFail, ComesAll, Begins, BeginFails, RestFails};
+    ghost use Rattle.ttlv_run.specs.Streaming.{held, ComesBy, ComesLines, LinesFail};
 
     /// No bytes. Takes no memory.
     pub fn new(alloc: A) -> Window<A>
@@ -85,7 +93,7 @@ impl<A: Allocator> Window<A> {
 
     // For how many bytes room is made: a piece, or as many as are there, but no more than the first message wants.
     fn room_to_ask(&self) -> usize
-        ensures { 0 < result }
+        ensures { 3 ≤ result }
     {
         let due = match size_stated(self.held()) {
             Some(stated) => stated.saturating_sub(self.count),
@@ -94,14 +102,14 @@ impl<A: Allocator> Window<A> {
         self.count.min(due).max(PIECE)
     }
 
-    // Makes room for so many bytes where there is none.
-    fn make_room(&mut self, more: usize) -> Result<(), AllocError>
-        requires { 0 < more }
+    // Makes room for so many bytes where there is none for a few.
+    fn make_room(&mut self, few: usize, more: usize) -> Result<(), AllocError>
+        requires { few ≤ more }
         ensures held { held self.new ≡ held self.old }
         ensures count { self.new.count ≡ self.old.count }
-        ensures room { OnOk result (self.new.count < vec_len self.new.bytes) }
+        ensures room { OnOk result (self.new.count + few ≤ vec_len self.new.bytes) }
     {
-        if self.count < self.bytes.len() {
+        if few <= self.bytes.len() - self.count {
             return Ok(());
         }
         grow(&mut self.bytes, more)
@@ -115,7 +123,7 @@ impl<A: Allocator> Window<A> {
         ensures err { OnErr result (Keeps (R.remaining input.old) (R.remaining input.new)) }
         ensures same { OnErr result (held self.new ≡ held self.old) }
     {
-        self.make_room(room)?;
+        self.make_room(1, room)?;
         match read_at(input, self.bytes.as_mut_slice(), self.count) {
             Ok(n) => {
                 self.count += n;
@@ -154,60 +162,16 @@ impl<A: Allocator> Window<A> {
         }
     }
 
-    /// Reads until so many bytes are there or the input ended, if it had not; returns whether it ended.
-    pub fn begin<R: Read>(
-        &mut self,
-        least: usize,
-        ended: bool,
-        input: &mut R,
-    ) -> Result<bool, Refusal>
-        requires { ended ≡ true → IsAtEnd (R.remaining input.old) }
-        ensures ok { IfOk result (Begins (R.remaining input.old) (R.remaining input.new) (held self.old) (held self.new) least) }
-        ensures why { IfErr result IsUnread }
-        ensures err { OnErr result (BeginFails (R.remaining input.old) (R.remaining input.new) (held self.old) least) }
-        ensures unended { OnErr result (ended ≡ false) }
-        ensures same { ended ≡ true → held self.new ≡ held self.old }
-    {
-        if ended {
-            return Ok(true);
-        }
-        'pieces: while self.held().len() < least {
-            if self.read_more(input)? == 0 {
-                return Ok(true);
-            }
-        }
-        Ok(false)
-    }
-
-    /// All bytes of the input, of which the front is here.
-    pub fn read_rest<R: Read>(self, ended: bool, input: &mut R) -> Result<Vec<u8, A>, Refusal>
-        requires { ended ≡ true → IsAtEnd (R.remaining input.old) }
-        ensures ok { IfOk result (λ all. ComesAll (R.remaining input.old) (R.remaining input.new) (held self) all.items) }
-        ensures same { IfOk result (λ all. ended ≡ true → all.items ≡ held self) }
-        ensures why { IfErr result IsUnread }
-        ensures err { OnErr result (RestFails (R.remaining input.old) (R.remaining input.new) ended) }
-    {
-        let mut bytes = self.bytes;
-        bytes.truncate(self.count);
-        if ended {
-            return Ok(bytes);
-        }
-        match input.read_to_end(&mut bytes) {
-            Ok(_) => Ok(bytes),
-            Err(e) if e.kind() == ErrorKind::OutOfMemory => Err(Refusal::RefusedMemory),
-            Err(_) => Err(Refusal::UnreadableInput),
-        }
-    }
-
-    /// Adds a byte behind those that are there.
-    pub fn add(&mut self, byte: u8) -> Result<(), AllocError>
-        ensures ok { OnOk result (held self.new ≡ held self.old ++ byte ∷ []) }
+    /// Adds a few bytes behind those that are there.
+    pub fn add(&mut self, bytes: &[u8]) -> Result<(), AllocError>
+        requires { length bytes.now ≤ 3 }
+        ensures ok { OnOk result (held self.new ≡ held self.old ++ bytes.now) }
         ensures err { OnErr result (held self.new ≡ held self.old) }
     {
         let room = self.room_to_ask();
-        self.make_room(room)?;
-        self.bytes[self.count] = byte;
-        self.count += 1;
+        self.make_room(bytes.len(), room)?;
+        put(self.bytes.as_mut_slice(), self.count, bytes);
+        self.count += bytes.len();
         Ok(())
     }
 

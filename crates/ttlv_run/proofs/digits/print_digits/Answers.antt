@@ -20,7 +20,6 @@ use Rattle.ttlv_run.specs.Reasons.{IsOfPrinting}
 use Rattle.ttlv_run.specs.Runs.{Streams, Fails, Places}
 use Rattle.ttlv_run.specs.Streaming.{held, EndsAt, PrintsOn, GoesOnBehind, Comes}
 use Rattle.ttlv_run.specs.Texts.{names_of}
-use Rattle.ttlv_run.proofs.FrontsTold.{coming_form}
 use Rattle.ttlv_run.proofs.TextStreams.{TextPrinting, TextReady, text_starts, memory_before, ready, ready_standing, wrong_there, text_read_fails, more_characters, text_printed}
 use Rattle.ttlv_run.proofs.Told.{unwritten}
 use Rattle.ttlv_run.proofs.Windows.{Shown, shown_none, no_bytes, bytes_drop, faults, fails_in, goes_further, no_memory}
@@ -39,8 +38,8 @@ pieces-init g c = λ known h.
       all = [];
       long = length-take-le mark t within;
       form_is = c.new-decoder.ensures.form;
-      reading = c.new-decoder.ensures.reading (coming_form job.encoding t c.args.form c.requires.text c.requires.form).1;
-      input = text_starts job.encoding c.args.form known (g.R.Read.remaining c.args.input.now) t (held c.let_go.new.self) mark c.args.ended mark_is c.let_go.ensures h c.requires.text c.requires.form c.requires.front c.requires.at_end;
+      reading = c.new-decoder.ensures.reading;
+      input = text_starts job.encoding c.args.form known (g.R.Read.remaining c.args.input.now) t (held c.let_go.new.self) mark c.args.ended mark_is c.let_go.ensures h c.requires.form c.requires.front c.requires.at_end;
       plain = subst AreBytes (sym c.new-bytes.ensures) no_bytes;
       shown = subst (λ (b : List ℕ). Shown (names_of c.args.names.now) job.task (g.W.Write.contents c.args.output.now) (g.W.Write.contents c.args.output.now) 0 [] b) (sym c.new-bytes.ensures) (shown_none (names_of c.args.names.now) job.task (g.W.Write.contents c.args.output.now) []);
     }

@@ -20,7 +20,7 @@ pieces-init g c = λ known h.
     record {
       came = held c.args.window;
       shown = shown_none (names_of c.args.names.now) c.args.job.now.task (g.W.Write.contents c.args.output.now) (held c.args.window);
-      input = record { consumed = h; raw = c.requires.raw; four = c.requires.four; at_end = c.requires.at_end };
+      input = record { consumed = h; raw = c.requires.raw; enough = c.requires.front; at_end = c.requires.at_end };
     }
 
 -- offsets end

@@ -11,13 +11,13 @@ returns-in-Nothing-clause-made c = λ mark s bytes r.
     let d = c.args.self.now in
     let mid = c.take.new.self in
     let w = c.in-Some.last in
-    let takes = c.take.ensures.made s bytes [] r.streamed refl (last_taken d mid mark s bytes w w r c.in-Some.is) in
-    finishes d mid mark s bytes w w r c.in-Some.is c.ended.result c.take.ensures.offset c.ended.ensures (subst (Takes d mid s bytes w []) c.in-Nothing.is takes)
+    let takes = subst (Takes d mid s bytes w []) c.in-Nothing.is (c.take.ensures.made s bytes [] refl (last_taken d mid mark s bytes w w r c.in-Some.is)) in
+    finishes d mid mark s bytes w w r c.in-Some.is c.take.ensures.form c.ended.result c.take.ensures.offset takes (c.ended.ensures takes.digits bytes takes.knows)
 
 pub returns-in_default-take-clause-made : goal.returns-in_default-take-clause-made
 returns-in_default-take-clause-made c = λ mark s bytes r.
     let d = c.args.self.now in
     let mid = c.take.new.self in
     let w = c.in-Some.last in
-    let takes = c.take.ensures.made s bytes [] r.streamed refl (last_taken d mid mark s bytes w w r c.in-Some.is) in
-    finishes_with d mid mark s bytes w w r c.in-Some.is c.take.result c.in_default-take.not-Nothing takes
+    let takes = c.take.ensures.made s bytes [] refl (last_taken d mid mark s bytes w w r c.in-Some.is) in
+    finishes_with d mid mark s bytes w w r c.in-Some.is c.take.ensures.form c.take.result c.in_default-take.not-Nothing takes
