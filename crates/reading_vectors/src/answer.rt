@@ -39,9 +39,8 @@ pub fn text_of<P: Part>(alloc: Global, found: Result<Reading<P>, Error>) -> Resu
 }
 
 /// Fails unless what was found of a message is what is wanted.
-pub fn compare(found: Result<String, Fail>, message: &str, wanted: &str) -> Result<(), Fail> {
-    let found = found?;
-    if found.as_str() == wanted {
+pub fn compare(found: &str, message: &str, wanted: &str) -> Result<(), Fail> {
+    if found == wanted {
         return Ok(());
     }
     Err(Fail::new(format_args!("{message}: {found}")))
@@ -49,7 +48,8 @@ pub fn compare(found: Result<String, Fail>, message: &str, wanted: &str) -> Resu
 
 /// Fails unless the message is answered as is wanted.
 pub fn check<P: Part>(alloc: Global, message: &str, wanted: &str) -> Result<(), Fail> {
-    compare(answer::<P>(alloc, message), message, wanted)
+    let found = answer::<P>(alloc, message)?;
+    compare(found.as_str(), message, wanted)
 }
 
 /// Fails unless the message is refused at this place, for another cause, which is said in words of

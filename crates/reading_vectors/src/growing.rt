@@ -1,4 +1,4 @@
-//! Each growth refused in turn: reading answers OutOfMemory or what it answers with ample memory.
+//! Each growth fails in turn: reading returns `OutOfMemory`, or what it returns with ample memory.
 
 use crate::answer::{Single, answer};
 use crate::reading::Reading;
@@ -6,10 +6,10 @@ use crate::response::{RESPONSE, Response};
 use kmip_ttlv::error::{Error, ErrorKind};
 use kmip_ttlv::from_slice;
 use kmip_ttlv_memory::BoundedAllocator;
-use std::alloc::{Allocator, Global};
+use std::alloc::{AllocError, Allocator, Global};
 use std::test::Fail;
 
-// Whether an error is want of memory, at no place.
+// Whether an error is out of memory, at no place.
 fn is_memory<A: Allocator>(error: &Error<A>) -> bool {
     if !error.location().is_unknown() {
         return false;
@@ -20,7 +20,7 @@ fn is_memory<A: Allocator>(error: &Error<A>) -> bool {
     }
 }
 
-// Whether reading answered this text, and whether it answered want of memory.
+// Whether this text was read, and whether memory ran out.
 fn outcome<P, A: Allocator>(read: Result<Reading<P, A>, Error<A>>, text: &str) -> (bool, bool) {
     match read {
         Ok(found) => (found.text.as_str() == text, false),
@@ -28,37 +28,53 @@ fn outcome<P, A: Allocator>(read: Result<Reading<P, A>, Error<A>>, text: &str) -
     }
 }
 
+// What comes of the response if the growth after so many fails: whether it is read as this text, whether memory ran out, and
+// whether a growth failed.
+fn response_after(alloc: Global, bytes: &[u8], text: &str, before: u64) -> (bool, bool, bool) {
+    let heap = BoundedAllocator::failing_after(alloc, before);
+    let (is_whole, is_short) = outcome(from_slice::<Reading<Response, _>, _>(&heap, bytes), text);
+    (is_whole, is_short, heap.has_failed())
+}
+
 #[test]
 fn a_response_that_is_read_grows(rt: HostRuntime) -> Result<(), Fail> {
     let ample = answer::<Response>(rt.alloc(), RESPONSE)?;
     let bytes = hex::decode(rt.alloc(), RESPONSE)?;
     for before in 0..1000u64 {
-        let heap = BoundedAllocator::failing_after(rt.alloc(), before);
-        let read = from_slice::<Reading<Response, _>, _>(&heap, bytes.as_slice());
-        let (is_whole, is_short) = outcome(read, ample.as_str());
-        if !heap.has_failed() {
-            assert!(rt; is_whole, "at {before}");
+        let (is_whole, is_short, has_failed) = response_after(
+            rt.alloc(),
+            bytes.as_slice(),
+            ample.as_str(),
+            before,
+        );
+        assert!(rt; is_whole || has_failed && is_short, "at {before}");
+        if !has_failed {
             return Ok(());
         }
-        assert!(rt; is_whole || is_short, "at {before}");
     }
     Err(Fail::new("it grows without end"))
 }
 
-// The growths whose refusal is answered as want of memory, in reading a structure of one number.
-fn refused_growths(alloc: Global, bytes: &[u8]) -> Result<Vec<u64>, Fail> {
-    let mut refused = Vec::new(alloc);
+// Whether memory runs out for a structure of one number if the growth after so many fails, and whether a growth failed.
+fn number_after(alloc: Global, bytes: &[u8], before: u64) -> (bool, bool) {
+    let heap = BoundedAllocator::failing_after(alloc, before);
+    let (_, is_short) = outcome(from_slice::<Reading<Single, _>, _>(&heap, bytes), "");
+    (is_short, heap.has_failed())
+}
+
+// The growths whose failure is out of memory, in reading a structure of one number.
+fn failed_growths(alloc: Global, bytes: &[u8]) -> Result<Vec<u64>, AllocError> {
+    let mut failed = Vec::new(alloc);
     for before in 0..1000u64 {
-        let heap = BoundedAllocator::failing_after(alloc, before);
-        let (_, is_short) = outcome(from_slice::<Reading<Single, _>, _>(&heap, bytes), "");
+        let (is_short, has_failed) = number_after(alloc, bytes, before);
         if is_short {
-            refused.push(before)?;
+            failed.push(before)?;
         }
-        if !heap.has_failed() {
+        if !has_failed {
             break;
         }
     }
-    Ok(refused)
+    Ok(failed)
 }
 
 #[test]
@@ -79,11 +95,11 @@ fn an_ignored_text_takes_no_memory(rt: HostRuntime) -> Result<(), Fail> {
     for _ in 0..904u16 {
         long.push(0x61)?;
     }
-    let wanted = refused_growths(rt.alloc(), number.as_slice())?;
+    let wanted = failed_growths(rt.alloc(), number.as_slice())?;
     assert!(rt; !wanted.is_empty());
-    let found = refused_growths(rt.alloc(), short.as_slice())?;
+    let found = failed_growths(rt.alloc(), short.as_slice())?;
     assert_eq!(rt; found.as_slice(), wanted.as_slice());
-    let found = refused_growths(rt.alloc(), long.as_slice())?;
+    let found = failed_growths(rt.alloc(), long.as_slice())?;
     assert_eq!(rt; found.as_slice(), wanted.as_slice());
     Ok(())
 }

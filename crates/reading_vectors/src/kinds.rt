@@ -39,7 +39,16 @@ fn refusal(alloc: Global, kind: &str, expected: &str, typ: (&str, &str)) -> Resu
     )?)
 }
 
-// Fails unless the shape refuses an item of each type but those of these codes.
+fn is_among(code: &str, codes: &[&str]) -> bool {
+    for other in codes {
+        if *other == code {
+            return true;
+        }
+    }
+    false
+}
+
+// Fails unless an item of each type but those of these codes is an error by the shape.
 fn takes_only<P: Part>(
     alloc: Global,
     kind: &str,
@@ -47,7 +56,7 @@ fn takes_only<P: Part>(
     codes: &[&str],
 ) -> Result<(), Fail> {
     for typ in TYPES {
-        if codes.iter().any(|code| *code == typ.0) {
+        if is_among(typ.0, codes) {
             continue;
         }
         let bytes = message(alloc, typ.0)?;

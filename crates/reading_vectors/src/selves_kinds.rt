@@ -355,19 +355,23 @@ fn ending<T: Drop, A: Allocator>(found: Result<T, Error<A>>) -> (bool, bool) {
     }
 }
 
-// Fails unless reading these messages runs out of memory at each growth that is refused.
+// What comes of these messages if the growth after so many fails: whether both are read, whether memory ran out for one, and
+// whether a growth failed.
+fn both_after(alloc: Global, lists: &[u8], task: &[u8], before: u64) -> (bool, bool, bool) {
+    let heap = BoundedAllocator::failing_after(alloc, before);
+    let (is_read, is_short) = ending(read_lists(&heap, lists));
+    let (is_task, lacks) = ending(read_task(&heap, task));
+    (is_read && is_task, is_short || lacks, heap.has_failed())
+}
+
+// Fails unless reading these messages runs out of memory at each growth that fails.
 fn grows(alloc: Global, lists: &[u8], task: &[u8]) -> Result<(), Fail> {
     for before in 0..100u64 {
-        let heap = BoundedAllocator::failing_after(alloc, before);
-        let (is_read, is_short) = ending(read_lists(&heap, lists));
-        let (is_task, lacks) = ending(read_task(&heap, task));
-        if !heap.has_failed() {
-            if is_read && is_task {
-                return Ok(());
-            }
-            return Err(Fail::new(format_args!("at {before}")));
+        let (are_read, is_short, has_failed) = both_after(alloc, lists, task, before);
+        if !has_failed && are_read {
+            return Ok(());
         }
-        if !is_short && !lacks {
+        if !has_failed || !is_short {
             return Err(Fail::new(format_args!("at {before}")));
         }
     }

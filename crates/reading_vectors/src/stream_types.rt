@@ -28,7 +28,8 @@ fn read_within<P: Part>(alloc: Global, limit: Option<u32>) -> Result<String, Fai
 fn is_of_no_type<P: Part>(alloc: Global) -> Result<(), Fail> {
     let wanted = "MalformedTtlv(InvalidType(12)); pos: 3 bytes, tag: 0xAAAAAA";
     for limit in [None, Some(0), Some(7), Some(8)] {
-        compare(read_within::<P>(alloc, limit), NO_TYPE, wanted)?;
+        let found = read_within::<P>(alloc, limit)?;
+        compare(found.as_str(), NO_TYPE, wanted)?;
     }
     Ok(())
 }
