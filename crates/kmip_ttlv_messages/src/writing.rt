@@ -39,6 +39,23 @@ pub fn date_time<V: Visitor>(
     visitor.end(Group::Newtype { name })
 }
 
+/// A Text String, of a string, in a newtype of this name.
+///
+/// ```
+/// string(visitor, "Transparent:0x420020", &name)?; // of `Hello World`: 42002007 0000000B 48656C6C 6F20576F 726C6400 00000000
+/// ```
+#[inline(always)]
+pub fn string<V: Visitor, A: Allocator>(
+    visitor: &mut V,
+    name: &'static str,
+    text: &String<A>,
+) -> Result<(), AllocError>
+    ensures told { OnOk result (Tells V.knows V.step (newtype_value name.now (text_value (string_bytes text.now))) visitor.old visitor.new) }
+    ensures stopped { OnErr result (V.stopped visitor.new) }
+{
+    parts::text_string(visitor, name, text.as_str())
+}
+
 /// An Integer, in a newtype of this name. Where it is absent, nothing is told.
 #[inline(always)]
 pub fn optional_integer<V: Visitor>(
