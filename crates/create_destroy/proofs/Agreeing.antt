@@ -10,8 +10,8 @@ use Rattle.kmip_ttlv_laws.proofs.MessageParts.{IsUnit, PartAgrees, a_structure, 
 use Rattle.kmip_ttlv_laws.proofs.MessageParts.{every_agrees, leaf_then, message, newtype_structure, nothing_left}
 use Rattle.kmip_ttlv_laws.proofs.MessageParts.{part_then, several_then, structure, text_is_utf8, wrapped_leaf}
 use Rattle.kmip_ttlv_laws.proofs.MessageParts.{wrapped_unit}
-use Rattle.kmip_ttlv_laws.proofs.MessageRules.{PartAfter, by_rules, choice_then, chosen_after, enumeration_kept}
-use Rattle.kmip_ttlv_laws.proofs.MessageRules.{kept_then, other_kept, spared_then, text_kept, unit_kept}
+use Rattle.kmip_ttlv_laws.proofs.MessageRules.{PartAfter, choice_then, chosen_after, enumeration_kept, kept_then}
+use Rattle.kmip_ttlv_laws.proofs.MessageRules.{text_kept}
 use Rattle.std.proofs.Common.{ap, inl, inr, refl, ◌∙◌}
 use Rattle.std.specs.Prelude.{List, Some, false, string_bytes, ℕ, ◌≡◌}
 use Rattle.std.specs.Str.{chars, trim_end, trim_start}
@@ -105,8 +105,8 @@ pub attribute_agrees : {A : Type 0} (x : Attribute A) → IsAttribute x
 unfolding take_tag tag_of number transparent_name rule written_attribute read_attribute
 attribute_agrees x is =
     structure refl refl (
-    by_rules (kept_then refl refl (text_kept refl refl (text_is_utf8 x.name)) (
-    choice_then refl refl (attribute_value_single x.value) (attribute_value_agrees (string_bytes x.name) x.value is.0 is.1) nothing_left)))
+    kept_then refl refl (text_kept refl refl (text_is_utf8 x.name)) (
+    choice_then refl refl (attribute_value_single x.value) (attribute_value_agrees (string_bytes x.name) x.value is.0 is.1) nothing_left))
 
 pub template_agrees : {A : Type 0} (x : Template A) → IsTemplate x
     → PartAgrees template_form
@@ -158,8 +158,8 @@ pub request_item_agrees : {A : Type 0} (x : RequestItem A) → IsRequestItem x
 unfolding take_tag tag_of number transparent_name rule written_request_item read_request_item operation_value
 request_item_agrees x is =
     structure refl refl (
-    by_rules (kept_then refl refl (enumeration_kept refl (operation_is_unit x.operation)) (
-    choice_then refl refl (request_payload_single x.payload) (request_payload_agrees (operation_number x.operation) x.payload is.0 is.1) nothing_left)))
+    kept_then refl refl (enumeration_kept refl (operation_is_unit x.operation)) (
+    choice_then refl refl (request_payload_single x.payload) (request_payload_agrees (operation_number x.operation) x.payload is.0 is.1) nothing_left))
 
 pub request_agrees : {A : Type 0} (x : Request A) → IsRequest x
     → MessageAgrees request_form
@@ -212,9 +212,9 @@ pub response_item_agrees : {A : Type 0} (x : ResponseItem A) → IsResponseItem 
 unfolding take_tag tag_of number transparent_name rule written_response_item read_response_item operation_value
 response_item_agrees x is =
     structure refl refl (
-    by_rules (kept_then refl refl (enumeration_kept refl (operation_is_unit x.operation)) (
-    spared_then refl refl (other_kept (unit_kept {n = 0x00000000} refl refl refl (λ k. record { no_rule = refl; named = refl })) refl) (
-    choice_then refl refl (response_payload_single x.payload) (response_payload_agrees (operation_number x.operation) x.payload is) nothing_left))))
+    kept_then refl refl (enumeration_kept refl (operation_is_unit x.operation)) (
+    constant_then {n = 0x00000000} refl refl refl refl (λ k. record { no_rule = refl; named = refl }) (
+    choice_then refl refl (response_payload_single x.payload) (response_payload_agrees (operation_number x.operation) x.payload is) nothing_left)))
 
 pub response_agrees : {A : Type 0} (x : Response A) → IsResponse x
     → MessageAgrees response_form

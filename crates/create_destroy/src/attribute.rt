@@ -9,13 +9,13 @@ ghost use Rattle.kmip_ttlv.specs.Visits.{Tells, leaf_value};
 ghost use Rattle.create_destroy.specs.Attributes.{attribute_value_form, written_attribute_value, read_attribute_value, attribute_value_content, ChoosesAttributeValue, attribute_form, written_attribute, read_attribute, template_form, written_template, read_template};
 
 use kmip_ttlv::messages::writing;
-use kmip_ttlv::shape::{Decode, Serialize};
+use kmip_ttlv::reader;
+use kmip_ttlv::shape::Serialize;
 use kmip_ttlv::visit::{Leaf, Visitor};
-use kmip_ttlv::{error, reader};
 use std::alloc::{AllocError, Allocator, Global};
 
 /// What an attribute says.
-#[derive(Clone, Copy, Debug, PartialEq, Eq)]
+#[derive(Clone, Copy, PartialEq, Eq)]
 pub enum AttributeValue {
     /// The algorithm AES.
     Aes,
@@ -93,7 +93,7 @@ impl reader::Rule for AttributeValueAesRule {
 }
 
 /// What is in `AttributeValue::Aes`.
-#[derive(Clone, Copy, Debug, PartialEq, Eq)]
+#[derive(Clone, Copy)]
 pub struct AttributeValueAes;
 
 impl reader::Listed for AttributeValueAes {
@@ -168,7 +168,7 @@ impl<A: Allocator + Copy> reader::ReadItem<A> for AttributeValue {
 
 /// What is known of a key, by its name.
 #[derive(Drop)]
-#[derive_where(Debug, PartialEq)]
+#[derive_where(PartialEq)]
 pub struct Attribute<A: Allocator = Global> {
     /// The name of the attribute.
     pub name: String<A>,
@@ -182,7 +182,7 @@ impl<B: Allocator> Serialize for Attribute<B> {
     #[tactic(auto, unfolding(crate::specs::Attributes::written_attribute))]
     fn visit<V: Visitor>(&self, visitor: &mut V) -> Result<(), AllocError> {
         writing::begin_struct(visitor, "0x420008")?;
-        writing::text_string(visitor, "Transparent:0x42000A", self.name.as_str())?;
+        writing::string(visitor, "Transparent:0x42000A", &self.name)?;
         self.value.visit(visitor)?;
         writing::end_struct(visitor, "0x420008")?;
         Ok(())
@@ -212,17 +212,6 @@ impl<A: Allocator + Copy> reader::ReadStructure<A> for Attribute<A> {
     }
 }
 
-impl<A: Allocator + Copy> Decode<A> for Attribute<A> {
-    ghost form = { attribute_form };
-
-    ghost is_value = { λ v x. v ≡ read_attribute x };
-
-    #[tactic(auto, unfolding(kmip_ttlv_types::specs::Digits::six_digits, crate::specs::Attributes::read_attribute))]
-    fn decode(alloc: A, bytes: &[u8]) -> Result<Self, error::Error<A>> {
-        reader::read_message(alloc, bytes)
-    }
-}
-
 impl<A: Allocator + Copy> reader::ReadNested<A> for Attribute<A> {
     ghost TAG = { 0x420008 };
 
@@ -245,7 +234,7 @@ impl<A: Allocator + Copy> reader::ReadNested<A> for Attribute<A> {
 
 /// The attributes of a key that is to be made, as they are read.
 #[derive(Drop)]
-#[derive_where(Debug, PartialEq)]
+#[derive_where(PartialEq)]
 pub struct Template<A: Allocator = Global> {
     /// One or more.
     pub attributes: Vec<Attribute<A>, A>,
@@ -285,17 +274,6 @@ impl<A: Allocator + Copy> reader::ReadStructure<A> for Template<A> {
     fn from_fields(fields: (Vec<Attribute<A>, A>, ())) -> Self {
         let (attributes, ()) = fields;
         Template { attributes }
-    }
-}
-
-impl<A: Allocator + Copy> Decode<A> for Template<A> {
-    ghost form = { template_form };
-
-    ghost is_value = { λ v x. v ≡ read_template x };
-
-    #[tactic(auto, unfolding(kmip_ttlv_types::specs::Digits::six_digits, crate::specs::Attributes::read_template))]
-    fn decode(alloc: A, bytes: &[u8]) -> Result<Self, error::Error<A>> {
-        reader::read_message(alloc, bytes)
     }
 }
 

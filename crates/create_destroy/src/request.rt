@@ -20,7 +20,7 @@ use std::alloc::{AllocError, Allocator, Global};
 
 /// The payload that asks for a key, as it is read.
 #[derive(Drop)]
-#[derive_where(Debug, PartialEq)]
+#[derive_where(PartialEq)]
 pub struct CreatePayload<A: Allocator = Global> {
     /// What the key is to be.
     pub template: Template<A>,
@@ -67,17 +67,6 @@ impl<A: Allocator + Copy> reader::ReadStructure<A> for CreatePayload<A> {
     }
 }
 
-impl<A: Allocator + Copy> Decode<A> for CreatePayload<A> {
-    ghost form = { create_payload_form };
-
-    ghost is_value = { λ v x. v ≡ read_create_payload x };
-
-    #[tactic(auto, unfolding(kmip_ttlv_types::specs::Digits::six_digits, crate::specs::Requests::read_create_payload))]
-    fn decode(alloc: A, bytes: &[u8]) -> Result<Self, error::Error<A>> {
-        reader::read_message(alloc, bytes)
-    }
-}
-
 impl<A: Allocator + Copy> reader::ReadNested<A> for CreatePayload<A> {
     ghost TAG = { 0x420079 };
 
@@ -99,7 +88,7 @@ impl<A: Allocator + Copy> reader::ReadNested<A> for CreatePayload<A> {
 }
 
 /// What `object_type` of a `CreatePayload` always is.
-#[derive(Clone, Copy, Debug, PartialEq, Eq)]
+#[derive(Clone, Copy)]
 pub struct CreatePayloadObjectType;
 
 impl reader::Listed for CreatePayloadObjectType {
@@ -127,7 +116,7 @@ impl<A: Allocator + Copy> reader::ReadItem<A> for CreatePayloadObjectType {
 
 /// The payload that destroys a key, as it is read.
 #[derive(Drop)]
-#[derive_where(Debug, PartialEq)]
+#[derive_where(PartialEq)]
 pub struct DestroyPayload<A: Allocator = Global> {
     /// The identifier of the key.
     pub unique_identifier: String<A>,
@@ -142,7 +131,7 @@ impl<A: Allocator> DestroyPayload<A> {
         ensures told { OnOk result (Tells V.knows V.step (newtype_value (codes "Transparent:0x420094") (text_value (string_bytes unique_identifier.now))) visitor.old visitor.new) }
         ensures stopped { OnErr result (V.stopped visitor.new) }
     {
-        writing::text_string(visitor, "Transparent:0x420094", unique_identifier.as_str())?;
+        writing::string(visitor, "Transparent:0x420094", unique_identifier)?;
         Ok(())
     }
 
@@ -182,17 +171,6 @@ impl<A: Allocator + Copy> reader::ReadStructure<A> for DestroyPayload<A> {
     }
 }
 
-impl<A: Allocator + Copy> Decode<A> for DestroyPayload<A> {
-    ghost form = { destroy_payload_form };
-
-    ghost is_value = { λ v x. v ≡ read_destroy_payload x };
-
-    #[tactic(auto, unfolding(kmip_ttlv_types::specs::Digits::six_digits, crate::specs::Requests::read_destroy_payload))]
-    fn decode(alloc: A, bytes: &[u8]) -> Result<Self, error::Error<A>> {
-        reader::read_message(alloc, bytes)
-    }
-}
-
 impl<A: Allocator + Copy> reader::ReadNested<A> for DestroyPayload<A> {
     ghost TAG = { 0x420079 };
 
@@ -215,7 +193,7 @@ impl<A: Allocator + Copy> reader::ReadNested<A> for DestroyPayload<A> {
 
 /// What an operation needs.
 #[derive(Drop)]
-#[derive_where(Debug, PartialEq)]
+#[derive_where(PartialEq)]
 pub enum RequestPayload<A: Allocator = Global> {
     /// A key with these attributes is to be made.
     Create(Vec<Attribute<A>, A>),
@@ -320,7 +298,7 @@ impl<A: Allocator + Copy> reader::ReadItem<A> for RequestPayload<A> {
 
 /// One thing that is asked for.
 #[derive(Drop)]
-#[derive_where(Debug, PartialEq)]
+#[derive_where(PartialEq)]
 pub struct RequestItem<A: Allocator = Global> {
     /// What is asked for.
     pub operation: Operation,
@@ -364,17 +342,6 @@ impl<A: Allocator + Copy> reader::ReadStructure<A> for RequestItem<A> {
     }
 }
 
-impl<A: Allocator + Copy> Decode<A> for RequestItem<A> {
-    ghost form = { request_item_form };
-
-    ghost is_value = { λ v x. v ≡ read_request_item x };
-
-    #[tactic(auto, unfolding(kmip_ttlv_types::specs::Digits::six_digits, crate::specs::Requests::read_request_item))]
-    fn decode(alloc: A, bytes: &[u8]) -> Result<Self, error::Error<A>> {
-        reader::read_message(alloc, bytes)
-    }
-}
-
 impl<A: Allocator + Copy> reader::ReadNested<A> for RequestItem<A> {
     ghost TAG = { 0x42000F };
 
@@ -397,7 +364,7 @@ impl<A: Allocator + Copy> reader::ReadNested<A> for RequestItem<A> {
 
 /// A request.
 #[derive(Drop)]
-#[derive_where(Debug, PartialEq)]
+#[derive_where(PartialEq)]
 pub struct Request<A: Allocator = Global> {
     /// The version of the protocol: major versions are not compatible, minor ones are.
     pub major: i32,
@@ -490,25 +457,5 @@ impl<A: Allocator + Copy> Decode<A> for Request<A> {
     #[tactic(auto, unfolding(kmip_ttlv_types::specs::Digits::six_digits, crate::specs::Requests::read_request))]
     fn decode(alloc: A, bytes: &[u8]) -> Result<Self, error::Error<A>> {
         reader::read_message(alloc, bytes)
-    }
-}
-
-impl<A: Allocator + Copy> reader::ReadNested<A> for Request<A> {
-    ghost TAG = { 0x420078 };
-
-    ghost fields = { struct_fields request_form };
-
-    ghost denies_unknown = { false };
-
-    ghost values = { λ x. fields_in (read_request x) };
-
-    const TAG: u32 = 0x420078;
-
-    #[tactic(auto, unfolding(kmip_ttlv_types::specs::Digits::six_digits, crate::specs::Requests::read_request))]
-    fn read_nested<'b>(
-        scope: &reader::Scope<'b, A>,
-        cursor: &mut reader::Cursor<'b, A>,
-    ) -> reader::Step<Self, A> {
-        reader::read_form(scope, cursor)
     }
 }

@@ -19,7 +19,7 @@ use std::alloc::{AllocError, Allocator, Global};
 
 /// The payload on a key that was made, as it is read.
 #[derive(Drop)]
-#[derive_where(Debug, PartialEq)]
+#[derive_where(PartialEq)]
 pub struct Created<A: Allocator = Global> {
     /// The identifier of the key.
     pub unique_identifier: String<A>,
@@ -34,7 +34,7 @@ impl<A: Allocator> Created<A> {
         ensures told { OnOk result (Tells V.knows V.step (newtype_value (codes "Transparent:0x420094") (text_value (string_bytes unique_identifier.now))) visitor.old visitor.new) }
         ensures stopped { OnErr result (V.stopped visitor.new) }
     {
-        writing::text_string(visitor, "Transparent:0x420094", unique_identifier.as_str())?;
+        writing::string(visitor, "Transparent:0x420094", unique_identifier)?;
         Ok(())
     }
 
@@ -78,17 +78,6 @@ impl<A: Allocator + Copy> reader::ReadStructure<A> for Created<A> {
     }
 }
 
-impl<A: Allocator + Copy> Decode<A> for Created<A> {
-    ghost form = { created_form };
-
-    ghost is_value = { λ v x. v ≡ created_value x };
-
-    #[tactic(auto, unfolding(kmip_ttlv_types::specs::Digits::six_digits, crate::specs::Responses::created_value))]
-    fn decode(alloc: A, bytes: &[u8]) -> Result<Self, error::Error<A>> {
-        reader::read_message(alloc, bytes)
-    }
-}
-
 impl<A: Allocator + Copy> reader::ReadNested<A> for Created<A> {
     ghost TAG = { 0x42007C };
 
@@ -110,7 +99,7 @@ impl<A: Allocator + Copy> reader::ReadNested<A> for Created<A> {
 }
 
 /// What `object_type` of a `Created` always is.
-#[derive(Clone, Copy, Debug, PartialEq, Eq)]
+#[derive(Clone, Copy)]
 pub struct CreatedObjectType;
 
 impl reader::Listed for CreatedObjectType {
@@ -138,7 +127,7 @@ impl<A: Allocator + Copy> reader::ReadItem<A> for CreatedObjectType {
 
 /// The payload on a key that was destroyed, as it is read.
 #[derive(Drop)]
-#[derive_where(Debug, PartialEq)]
+#[derive_where(PartialEq)]
 pub struct Destroyed<A: Allocator = Global> {
     /// The identifier of the key.
     pub unique_identifier: String<A>,
@@ -153,7 +142,7 @@ impl<A: Allocator> Destroyed<A> {
         ensures told { OnOk result (Tells V.knows V.step (newtype_value (codes "Transparent:0x420094") (text_value (string_bytes unique_identifier.now))) visitor.old visitor.new) }
         ensures stopped { OnErr result (V.stopped visitor.new) }
     {
-        writing::text_string(visitor, "Transparent:0x420094", unique_identifier.as_str())?;
+        writing::string(visitor, "Transparent:0x420094", unique_identifier)?;
         Ok(())
     }
 
@@ -193,17 +182,6 @@ impl<A: Allocator + Copy> reader::ReadStructure<A> for Destroyed<A> {
     }
 }
 
-impl<A: Allocator + Copy> Decode<A> for Destroyed<A> {
-    ghost form = { destroyed_form };
-
-    ghost is_value = { λ v x. v ≡ destroyed_value x };
-
-    #[tactic(auto, unfolding(kmip_ttlv_types::specs::Digits::six_digits, crate::specs::Responses::destroyed_value))]
-    fn decode(alloc: A, bytes: &[u8]) -> Result<Self, error::Error<A>> {
-        reader::read_message(alloc, bytes)
-    }
-}
-
 impl<A: Allocator + Copy> reader::ReadNested<A> for Destroyed<A> {
     ghost TAG = { 0x42007C };
 
@@ -226,7 +204,7 @@ impl<A: Allocator + Copy> reader::ReadNested<A> for Destroyed<A> {
 
 /// What was done.
 #[derive(Drop)]
-#[derive_where(Debug, PartialEq)]
+#[derive_where(PartialEq)]
 pub enum ResponsePayload<A: Allocator = Global> {
     /// The key of this identifier was made.
     Create(String<A>),
@@ -331,7 +309,7 @@ impl<A: Allocator + Copy> reader::ReadItem<A> for ResponsePayload<A> {
 
 /// One thing that was done.
 #[derive(Drop)]
-#[derive_where(Debug, PartialEq)]
+#[derive_where(PartialEq)]
 pub struct ResponseItem<A: Allocator = Global> {
     /// What was asked for.
     pub operation: Operation,
@@ -384,17 +362,6 @@ impl<A: Allocator + Copy> reader::ReadStructure<A> for ResponseItem<A> {
     }
 }
 
-impl<A: Allocator + Copy> Decode<A> for ResponseItem<A> {
-    ghost form = { response_item_form };
-
-    ghost is_value = { λ v x. v ≡ read_response_item x };
-
-    #[tactic(auto, unfolding(kmip_ttlv_types::specs::Digits::six_digits, crate::specs::Responses::read_response_item))]
-    fn decode(alloc: A, bytes: &[u8]) -> Result<Self, error::Error<A>> {
-        reader::read_message(alloc, bytes)
-    }
-}
-
 impl<A: Allocator + Copy> reader::ReadNested<A> for ResponseItem<A> {
     ghost TAG = { 0x42000F };
 
@@ -416,7 +383,7 @@ impl<A: Allocator + Copy> reader::ReadNested<A> for ResponseItem<A> {
 }
 
 /// What `result_status` of a `ResponseItem` always is.
-#[derive(Clone, Copy, Debug, PartialEq, Eq)]
+#[derive(Clone, Copy)]
 pub struct ResponseItemResultStatus;
 
 impl reader::Listed for ResponseItemResultStatus {
@@ -444,7 +411,7 @@ impl<A: Allocator + Copy> reader::ReadItem<A> for ResponseItemResultStatus {
 
 /// A response.
 #[derive(Drop)]
-#[derive_where(Debug, PartialEq)]
+#[derive_where(PartialEq)]
 pub struct Response<A: Allocator = Global> {
     /// The version of the protocol: major versions are not compatible, minor ones are.
     pub major: i32,
@@ -541,25 +508,5 @@ impl<A: Allocator + Copy> Decode<A> for Response<A> {
     #[tactic(auto, unfolding(kmip_ttlv_types::specs::Digits::six_digits, crate::specs::Responses::read_response))]
     fn decode(alloc: A, bytes: &[u8]) -> Result<Self, error::Error<A>> {
         reader::read_message(alloc, bytes)
-    }
-}
-
-impl<A: Allocator + Copy> reader::ReadNested<A> for Response<A> {
-    ghost TAG = { 0x42007B };
-
-    ghost fields = { struct_fields response_form };
-
-    ghost denies_unknown = { false };
-
-    ghost values = { λ x. fields_in (read_response x) };
-
-    const TAG: u32 = 0x42007B;
-
-    #[tactic(auto, unfolding(kmip_ttlv_types::specs::Digits::six_digits, crate::specs::Responses::read_response))]
-    fn read_nested<'b>(
-        scope: &reader::Scope<'b, A>,
-        cursor: &mut reader::Cursor<'b, A>,
-    ) -> reader::Step<Self, A> {
-        reader::read_form(scope, cursor)
     }
 }

@@ -1,18 +1,18 @@
 // Written by codegen from types.table: change that, and run codegen/codegen.
 //! What requests and responses begin with (KMIP 1.0, sections 6.1, 6.4 and 6.5).
 
-ghost use Rattle.std.specs.Prelude.{◌≡◌, false};
+ghost use Rattle.std.specs.Prelude.{false};
 ghost use Rattle.kmip_ttlv.specs.Spots.{fields_in, struct_fields};
 ghost use Rattle.get_messages.specs.Headers.{protocol_version_form, protocol_version_value, request_header_form, request_header_value, response_header_form, response_header_value};
 
 use kmip_ttlv::messages::writing;
-use kmip_ttlv::shape::{Decode, Serialize};
+use kmip_ttlv::reader;
+use kmip_ttlv::shape::Serialize;
 use kmip_ttlv::visit::Visitor;
-use kmip_ttlv::{error, reader};
 use std::alloc::{AllocError, Allocator};
 
 /// The version of the protocol (KMIP 1.0, section 6.1).
-#[derive(Clone, Copy, Debug, PartialEq, Eq)]
+#[derive(Clone, Copy, PartialEq, Eq)]
 pub struct ProtocolVersion {
     /// Major versions are not compatible.
     pub major: i32,
@@ -56,17 +56,6 @@ impl<A: Allocator + Copy> reader::ReadStructure<A> for ProtocolVersion {
     }
 }
 
-impl<A: Allocator + Copy> Decode<A> for ProtocolVersion {
-    ghost form = { protocol_version_form };
-
-    ghost is_value = { λ v x. v ≡ protocol_version_value x };
-
-    #[tactic(auto, unfolding(kmip_ttlv_types::specs::Digits::six_digits, crate::specs::Headers::protocol_version_value))]
-    fn decode(alloc: A, bytes: &[u8]) -> Result<Self, error::Error<A>> {
-        reader::read_message(alloc, bytes)
-    }
-}
-
 impl<A: Allocator + Copy> reader::ReadNested<A> for ProtocolVersion {
     ghost TAG = { 0x420069 };
 
@@ -88,7 +77,7 @@ impl<A: Allocator + Copy> reader::ReadNested<A> for ProtocolVersion {
 }
 
 /// The header of a request.
-#[derive(Clone, Copy, Debug, PartialEq, Eq)]
+#[derive(Clone, Copy, PartialEq, Eq)]
 pub struct RequestHeader {
     /// The version of the request.
     pub version: ProtocolVersion,
@@ -135,17 +124,6 @@ impl<A: Allocator + Copy> reader::ReadStructure<A> for RequestHeader {
     }
 }
 
-impl<A: Allocator + Copy> Decode<A> for RequestHeader {
-    ghost form = { request_header_form };
-
-    ghost is_value = { λ v x. v ≡ request_header_value x };
-
-    #[tactic(auto, unfolding(kmip_ttlv_types::specs::Digits::six_digits, crate::specs::Headers::request_header_value))]
-    fn decode(alloc: A, bytes: &[u8]) -> Result<Self, error::Error<A>> {
-        reader::read_message(alloc, bytes)
-    }
-}
-
 impl<A: Allocator + Copy> reader::ReadNested<A> for RequestHeader {
     ghost TAG = { 0x420077 };
 
@@ -167,7 +145,7 @@ impl<A: Allocator + Copy> reader::ReadNested<A> for RequestHeader {
 }
 
 /// The header of a response.
-#[derive(Clone, Copy, Debug, PartialEq, Eq)]
+#[derive(Clone, Copy, PartialEq, Eq)]
 pub struct ResponseHeader {
     /// The version of the response.
     pub version: ProtocolVersion,
@@ -218,17 +196,6 @@ impl<A: Allocator + Copy> reader::ReadStructure<A> for ResponseHeader {
             time_stamp: time_stamp.0,
             batch_count,
         }
-    }
-}
-
-impl<A: Allocator + Copy> Decode<A> for ResponseHeader {
-    ghost form = { response_header_form };
-
-    ghost is_value = { λ v x. v ≡ response_header_value x };
-
-    #[tactic(auto, unfolding(kmip_ttlv_types::specs::Digits::six_digits, crate::specs::Headers::response_header_value))]
-    fn decode(alloc: A, bytes: &[u8]) -> Result<Self, error::Error<A>> {
-        reader::read_message(alloc, bytes)
     }
 }
 

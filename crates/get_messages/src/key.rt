@@ -1,7 +1,7 @@
 // Written by codegen from types.table: change that, and run codegen/codegen.
 //! A symmetric key as an object (KMIP 1.0, sections 2.1.3, 2.1.4 and 2.2.2).
 
-ghost use Rattle.std.specs.Prelude.{◌≡◌, refl, codes, false, true};
+ghost use Rattle.std.specs.Prelude.{refl, codes, false, true};
 ghost use Rattle.kmip_ttlv.specs.Forms.{enum, no_variants, unit, variant};
 ghost use Rattle.kmip_ttlv.specs.Spots.{fields_in, struct_fields};
 ghost use Rattle.kmip_ttlv.specs.Values.{unit_variant_value};
@@ -9,14 +9,14 @@ ghost use Rattle.get_messages.specs.Keys.{key_value_form, key_value_value, key_l
 
 use crate::wrapping::KeyWrappingData;
 use kmip_ttlv::messages::writing;
-use kmip_ttlv::shape::{Decode, Serialize};
+use kmip_ttlv::reader;
+use kmip_ttlv::shape::Serialize;
 use kmip_ttlv::visit::Visitor;
-use kmip_ttlv::{error, reader};
 use std::alloc::{AllocError, Allocator, Global};
 
 /// The value of a key in raw form.
 #[derive(Drop)]
-#[derive_where(Debug, PartialEq)]
+#[derive_where(PartialEq)]
 pub struct KeyValue<A: Allocator = Global> {
     /// The bytes of the key.
     pub key_material: Vec<u8, A>,
@@ -58,17 +58,6 @@ impl<A: Allocator + Copy> reader::ReadStructure<A> for KeyValue<A> {
     }
 }
 
-impl<A: Allocator + Copy> Decode<A> for KeyValue<A> {
-    ghost form = { key_value_form };
-
-    ghost is_value = { λ v x. v ≡ key_value_value x };
-
-    #[tactic(auto, unfolding(kmip_ttlv_types::specs::Digits::six_digits, crate::specs::Keys::key_value_value))]
-    fn decode(alloc: A, bytes: &[u8]) -> Result<Self, error::Error<A>> {
-        reader::read_message(alloc, bytes)
-    }
-}
-
 impl<A: Allocator + Copy> reader::ReadNested<A> for KeyValue<A> {
     ghost TAG = { 0x420045 };
 
@@ -90,7 +79,7 @@ impl<A: Allocator + Copy> reader::ReadNested<A> for KeyValue<A> {
 }
 
 /// The length of a key, in bits.
-#[derive(Clone, Copy, Debug, PartialEq, Eq)]
+#[derive(Clone, Copy, PartialEq, Eq)]
 pub struct KeyLength {
     /// What it holds.
     pub bits: i32,
@@ -124,7 +113,7 @@ impl<A: Allocator + Copy> reader::ReadItem<A> for KeyLength {
 
 /// A key in raw form, of the algorithm AES.
 #[derive(Drop)]
-#[derive_where(Debug, PartialEq)]
+#[derive_where(PartialEq)]
 pub struct KeyBlock<A: Allocator = Global> {
     /// The value of the key.
     pub key_value: KeyValue<A>,
@@ -191,17 +180,6 @@ impl<A: Allocator + Copy> reader::ReadStructure<A> for KeyBlock<A> {
     }
 }
 
-impl<A: Allocator + Copy> Decode<A> for KeyBlock<A> {
-    ghost form = { key_block_form };
-
-    ghost is_value = { λ v x. v ≡ read_key_block x };
-
-    #[tactic(auto, unfolding(kmip_ttlv_types::specs::Digits::six_digits, crate::specs::Keys::read_key_block))]
-    fn decode(alloc: A, bytes: &[u8]) -> Result<Self, error::Error<A>> {
-        reader::read_message(alloc, bytes)
-    }
-}
-
 impl<A: Allocator + Copy> reader::ReadNested<A> for KeyBlock<A> {
     ghost TAG = { 0x420040 };
 
@@ -223,7 +201,7 @@ impl<A: Allocator + Copy> reader::ReadNested<A> for KeyBlock<A> {
 }
 
 /// What `key_format_type` of a `KeyBlock` always is.
-#[derive(Clone, Copy, Debug, PartialEq, Eq)]
+#[derive(Clone, Copy)]
 pub struct KeyBlockKeyFormatType;
 
 impl reader::Listed for KeyBlockKeyFormatType {
@@ -250,7 +228,7 @@ impl<A: Allocator + Copy> reader::ReadItem<A> for KeyBlockKeyFormatType {
 }
 
 /// What `cryptographic_algorithm` of a `KeyBlock` always is.
-#[derive(Clone, Copy, Debug, PartialEq, Eq)]
+#[derive(Clone, Copy)]
 pub struct KeyBlockCryptographicAlgorithm;
 
 impl reader::Listed for KeyBlockCryptographicAlgorithm {
@@ -278,7 +256,7 @@ impl<A: Allocator + Copy> reader::ReadItem<A> for KeyBlockCryptographicAlgorithm
 
 /// A symmetric key.
 #[derive(Drop)]
-#[derive_where(Debug, PartialEq)]
+#[derive_where(PartialEq)]
 pub struct SymmetricKey<A: Allocator = Global> {
     /// The key.
     pub key_block: KeyBlock<A>,
@@ -313,17 +291,6 @@ impl<A: Allocator + Copy> reader::ReadStructure<A> for SymmetricKey<A> {
     fn from_fields(fields: (KeyBlock<A>, ())) -> Self {
         let (key_block, ()) = fields;
         SymmetricKey { key_block }
-    }
-}
-
-impl<A: Allocator + Copy> Decode<A> for SymmetricKey<A> {
-    ghost form = { symmetric_key_form };
-
-    ghost is_value = { λ v x. v ≡ read_symmetric_key x };
-
-    #[tactic(auto, unfolding(kmip_ttlv_types::specs::Digits::six_digits, crate::specs::Keys::read_symmetric_key))]
-    fn decode(alloc: A, bytes: &[u8]) -> Result<Self, error::Error<A>> {
-        reader::read_message(alloc, bytes)
     }
 }
 

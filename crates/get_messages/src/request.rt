@@ -16,7 +16,7 @@ use std::alloc::{AllocError, Allocator, Global};
 
 /// Which object is to be got.
 #[derive(Drop)]
-#[derive_where(Debug, PartialEq)]
+#[derive_where(PartialEq)]
 pub struct GetRequestPayload<A: Allocator = Global> {
     /// The object's identifier.
     pub unique_identifier: String<A>,
@@ -28,11 +28,7 @@ impl<B: Allocator> Serialize for GetRequestPayload<B> {
     #[tactic(auto, unfolding(crate::specs::Requests::get_request_payload_value))]
     fn visit<V: Visitor>(&self, visitor: &mut V) -> Result<(), AllocError> {
         writing::begin_struct(visitor, "0x420079")?;
-        writing::text_string(
-            visitor,
-            "Transparent:0x420094",
-            self.unique_identifier.as_str(),
-        )?;
+        writing::string(visitor, "Transparent:0x420094", &self.unique_identifier)?;
         writing::end_struct(visitor, "0x420079")?;
         Ok(())
     }
@@ -58,17 +54,6 @@ impl<A: Allocator + Copy> reader::ReadStructure<A> for GetRequestPayload<A> {
     }
 }
 
-impl<A: Allocator + Copy> Decode<A> for GetRequestPayload<A> {
-    ghost form = { get_request_payload_form };
-
-    ghost is_value = { λ v x. v ≡ get_request_payload_value x };
-
-    #[tactic(auto, unfolding(kmip_ttlv_types::specs::Digits::six_digits, crate::specs::Requests::get_request_payload_value))]
-    fn decode(alloc: A, bytes: &[u8]) -> Result<Self, error::Error<A>> {
-        reader::read_message(alloc, bytes)
-    }
-}
-
 impl<A: Allocator + Copy> reader::ReadNested<A> for GetRequestPayload<A> {
     ghost TAG = { 0x420079 };
 
@@ -91,7 +76,7 @@ impl<A: Allocator + Copy> reader::ReadNested<A> for GetRequestPayload<A> {
 
 /// An item: get an object.
 #[derive(Drop)]
-#[derive_where(Debug, PartialEq)]
+#[derive_where(PartialEq)]
 pub struct GetRequestItem<A: Allocator = Global> {
     /// Which object.
     pub payload: GetRequestPayload<A>,
@@ -133,17 +118,6 @@ impl<A: Allocator + Copy> reader::ReadStructure<A> for GetRequestItem<A> {
     }
 }
 
-impl<A: Allocator + Copy> Decode<A> for GetRequestItem<A> {
-    ghost form = { get_request_item_form };
-
-    ghost is_value = { λ v x. v ≡ get_request_item_value x };
-
-    #[tactic(auto, unfolding(kmip_ttlv_types::specs::Digits::six_digits, crate::specs::Requests::get_request_item_value))]
-    fn decode(alloc: A, bytes: &[u8]) -> Result<Self, error::Error<A>> {
-        reader::read_message(alloc, bytes)
-    }
-}
-
 impl<A: Allocator + Copy> reader::ReadNested<A> for GetRequestItem<A> {
     ghost TAG = { 0x42000F };
 
@@ -165,7 +139,7 @@ impl<A: Allocator + Copy> reader::ReadNested<A> for GetRequestItem<A> {
 }
 
 /// What `operation` of a `GetRequestItem` always is.
-#[derive(Clone, Copy, Debug, PartialEq, Eq)]
+#[derive(Clone, Copy)]
 pub struct GetRequestItemOperation;
 
 impl reader::Listed for GetRequestItemOperation {
@@ -193,7 +167,7 @@ impl<A: Allocator + Copy> reader::ReadItem<A> for GetRequestItemOperation {
 
 /// A request of one item.
 #[derive(Drop)]
-#[derive_where(Debug, PartialEq)]
+#[derive_where(PartialEq)]
 pub struct GetRequest<A: Allocator = Global> {
     /// The header, whose count is 1.
     pub header: RequestHeader,
@@ -245,25 +219,5 @@ impl<A: Allocator + Copy> Decode<A> for GetRequest<A> {
     #[tactic(auto, unfolding(kmip_ttlv_types::specs::Digits::six_digits, crate::specs::Requests::get_request_value))]
     fn decode(alloc: A, bytes: &[u8]) -> Result<Self, error::Error<A>> {
         reader::read_message(alloc, bytes)
-    }
-}
-
-impl<A: Allocator + Copy> reader::ReadNested<A> for GetRequest<A> {
-    ghost TAG = { 0x420078 };
-
-    ghost fields = { struct_fields get_request_form };
-
-    ghost denies_unknown = { false };
-
-    ghost values = { λ x. fields_in (get_request_value x) };
-
-    const TAG: u32 = 0x420078;
-
-    #[tactic(auto, unfolding(kmip_ttlv_types::specs::Digits::six_digits, crate::specs::Requests::get_request_value))]
-    fn read_nested<'b>(
-        scope: &reader::Scope<'b, A>,
-        cursor: &mut reader::Cursor<'b, A>,
-    ) -> reader::Step<Self, A> {
-        reader::read_form(scope, cursor)
     }
 }

@@ -17,7 +17,7 @@ use std::alloc::{AllocError, Allocator, Global};
 
 /// The object that was got.
 #[derive(Drop)]
-#[derive_where(Debug, PartialEq)]
+#[derive_where(PartialEq)]
 pub struct GetResponsePayload<A: Allocator = Global> {
     /// The object's identifier.
     pub unique_identifier: String<A>,
@@ -32,11 +32,7 @@ impl<B: Allocator> Serialize for GetResponsePayload<B> {
     fn visit<V: Visitor>(&self, visitor: &mut V) -> Result<(), AllocError> {
         writing::begin_struct(visitor, "0x42007C")?;
         writing::unit_variant(visitor, "0x420057", "0x00000002")?;
-        writing::text_string(
-            visitor,
-            "Transparent:0x420094",
-            self.unique_identifier.as_str(),
-        )?;
+        writing::string(visitor, "Transparent:0x420094", &self.unique_identifier)?;
         self.symmetric_key.visit(visitor)?;
         writing::end_struct(visitor, "0x42007C")?;
         Ok(())
@@ -77,17 +73,6 @@ impl<A: Allocator + Copy> reader::ReadStructure<A> for GetResponsePayload<A> {
     }
 }
 
-impl<A: Allocator + Copy> Decode<A> for GetResponsePayload<A> {
-    ghost form = { get_response_payload_form };
-
-    ghost is_value = { λ v x. v ≡ read_get_response_payload x };
-
-    #[tactic(auto, unfolding(kmip_ttlv_types::specs::Digits::six_digits, crate::specs::Responses::read_get_response_payload))]
-    fn decode(alloc: A, bytes: &[u8]) -> Result<Self, error::Error<A>> {
-        reader::read_message(alloc, bytes)
-    }
-}
-
 impl<A: Allocator + Copy> reader::ReadNested<A> for GetResponsePayload<A> {
     ghost TAG = { 0x42007C };
 
@@ -109,7 +94,7 @@ impl<A: Allocator + Copy> reader::ReadNested<A> for GetResponsePayload<A> {
 }
 
 /// What `object_type` of a `GetResponsePayload` always is.
-#[derive(Clone, Copy, Debug, PartialEq, Eq)]
+#[derive(Clone, Copy)]
 pub struct GetResponsePayloadObjectType;
 
 impl reader::Listed for GetResponsePayloadObjectType {
@@ -137,7 +122,7 @@ impl<A: Allocator + Copy> reader::ReadItem<A> for GetResponsePayloadObjectType {
 
 /// An item: an object was got.
 #[derive(Drop)]
-#[derive_where(Debug, PartialEq)]
+#[derive_where(PartialEq)]
 pub struct GetResponseItem<A: Allocator = Global> {
     /// The object.
     pub payload: GetResponsePayload<A>,
@@ -188,17 +173,6 @@ impl<A: Allocator + Copy> reader::ReadStructure<A> for GetResponseItem<A> {
     }
 }
 
-impl<A: Allocator + Copy> Decode<A> for GetResponseItem<A> {
-    ghost form = { get_response_item_form };
-
-    ghost is_value = { λ v x. v ≡ read_get_response_item x };
-
-    #[tactic(auto, unfolding(kmip_ttlv_types::specs::Digits::six_digits, crate::specs::Responses::read_get_response_item))]
-    fn decode(alloc: A, bytes: &[u8]) -> Result<Self, error::Error<A>> {
-        reader::read_message(alloc, bytes)
-    }
-}
-
 impl<A: Allocator + Copy> reader::ReadNested<A> for GetResponseItem<A> {
     ghost TAG = { 0x42000F };
 
@@ -220,7 +194,7 @@ impl<A: Allocator + Copy> reader::ReadNested<A> for GetResponseItem<A> {
 }
 
 /// What `operation` of a `GetResponseItem` always is.
-#[derive(Clone, Copy, Debug, PartialEq, Eq)]
+#[derive(Clone, Copy)]
 pub struct GetResponseItemOperation;
 
 impl reader::Listed for GetResponseItemOperation {
@@ -247,7 +221,7 @@ impl<A: Allocator + Copy> reader::ReadItem<A> for GetResponseItemOperation {
 }
 
 /// What `result_status` of a `GetResponseItem` always is.
-#[derive(Clone, Copy, Debug, PartialEq, Eq)]
+#[derive(Clone, Copy)]
 pub struct GetResponseItemResultStatus;
 
 impl reader::Listed for GetResponseItemResultStatus {
@@ -275,7 +249,7 @@ impl<A: Allocator + Copy> reader::ReadItem<A> for GetResponseItemResultStatus {
 
 /// A response of one item.
 #[derive(Drop)]
-#[derive_where(Debug, PartialEq)]
+#[derive_where(PartialEq)]
 pub struct GetResponse<A: Allocator = Global> {
     /// The header, whose count is 1.
     pub header: ResponseHeader,
@@ -327,25 +301,5 @@ impl<A: Allocator + Copy> Decode<A> for GetResponse<A> {
     #[tactic(auto, unfolding(kmip_ttlv_types::specs::Digits::six_digits, crate::specs::Responses::read_get_response))]
     fn decode(alloc: A, bytes: &[u8]) -> Result<Self, error::Error<A>> {
         reader::read_message(alloc, bytes)
-    }
-}
-
-impl<A: Allocator + Copy> reader::ReadNested<A> for GetResponse<A> {
-    ghost TAG = { 0x42007B };
-
-    ghost fields = { struct_fields get_response_form };
-
-    ghost denies_unknown = { false };
-
-    ghost values = { λ x. fields_in (read_get_response x) };
-
-    const TAG: u32 = 0x42007B;
-
-    #[tactic(auto, unfolding(kmip_ttlv_types::specs::Digits::six_digits, crate::specs::Responses::read_get_response))]
-    fn read_nested<'b>(
-        scope: &reader::Scope<'b, A>,
-        cursor: &mut reader::Cursor<'b, A>,
-    ) -> reader::Step<Self, A> {
-        reader::read_form(scope, cursor)
     }
 }

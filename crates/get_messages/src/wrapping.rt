@@ -6,9 +6,9 @@ ghost use Rattle.kmip_ttlv.specs.Spots.{fields_in, struct_fields};
 ghost use Rattle.get_messages.specs.Wrappings.{wrapping_method_form, wrapping_method_value, wrapping_method_number, wrapping_method_variants, block_cipher_mode_form, block_cipher_mode_value, block_cipher_mode_number, block_cipher_mode_variants, padding_method_form, padding_method_value, padding_method_number, padding_method_variants, hashing_algorithm_form, hashing_algorithm_value, hashing_algorithm_number, hashing_algorithm_variants, role_type_form, role_type_value, role_type_number, role_type_variants, cryptographic_parameters_form, written_cryptographic_parameters, read_cryptographic_parameters, encryption_key_information_form, written_encryption_key_information, read_encryption_key_information, mac_signature_key_information_form, written_mac_signature_key_information, read_mac_signature_key_information, key_wrapping_data_form, written_key_wrapping_data, read_key_wrapping_data};
 
 use kmip_ttlv::messages::writing;
-use kmip_ttlv::shape::{Decode, Serialize};
+use kmip_ttlv::reader;
+use kmip_ttlv::shape::Serialize;
 use kmip_ttlv::visit::Visitor;
-use kmip_ttlv::{error, reader};
 use std::alloc::{AllocError, Allocator, Global};
 
 /// What was done to wrap a key.
@@ -521,7 +521,7 @@ impl<A: Allocator + Copy> reader::ReadItem<A> for RoleType {
 }
 
 /// How a key is used.
-#[derive(Clone, Copy, Debug, PartialEq, Eq)]
+#[derive(Clone, Copy, PartialEq, Eq)]
 pub struct CryptographicParameters {
     /// The mode of its block cipher.
     pub block_cipher_mode: Option<BlockCipherMode>,
@@ -587,17 +587,6 @@ impl<A: Allocator + Copy> reader::ReadStructure<A> for CryptographicParameters {
     }
 }
 
-impl<A: Allocator + Copy> Decode<A> for CryptographicParameters {
-    ghost form = { cryptographic_parameters_form };
-
-    ghost is_value = { λ v x. v ≡ read_cryptographic_parameters x };
-
-    #[tactic(auto, unfolding(kmip_ttlv_types::specs::Digits::six_digits, crate::specs::Wrappings::read_cryptographic_parameters))]
-    fn decode(alloc: A, bytes: &[u8]) -> Result<Self, error::Error<A>> {
-        reader::read_message(alloc, bytes)
-    }
-}
-
 impl<A: Allocator + Copy> reader::ReadNested<A> for CryptographicParameters {
     ghost TAG = { 0x42002B };
 
@@ -620,7 +609,7 @@ impl<A: Allocator + Copy> reader::ReadNested<A> for CryptographicParameters {
 
 /// The key that encrypted.
 #[derive(Drop)]
-#[derive_where(Debug, PartialEq)]
+#[derive_where(PartialEq)]
 pub struct EncryptionKeyInformation<A: Allocator = Global> {
     /// The identifier of that key.
     pub unique_identifier: String<A>,
@@ -634,11 +623,7 @@ impl<B: Allocator> Serialize for EncryptionKeyInformation<B> {
     #[tactic(auto, using(kmip_ttlv_base::proofs::Visiting::visited_joined), unfolding(crate::specs::Wrappings::written_encryption_key_information))]
     fn visit<V: Visitor>(&self, visitor: &mut V) -> Result<(), AllocError> {
         writing::begin_struct(visitor, "0x420036")?;
-        writing::text_string(
-            visitor,
-            "Transparent:0x420094",
-            self.unique_identifier.as_str(),
-        )?;
+        writing::string(visitor, "Transparent:0x420094", &self.unique_identifier)?;
         writing::option(visitor, &self.cryptographic_parameters)?;
         writing::end_struct(visitor, "0x420036")?;
         Ok(())
@@ -671,17 +656,6 @@ impl<A: Allocator + Copy> reader::ReadStructure<A> for EncryptionKeyInformation<
     }
 }
 
-impl<A: Allocator + Copy> Decode<A> for EncryptionKeyInformation<A> {
-    ghost form = { encryption_key_information_form };
-
-    ghost is_value = { λ v x. v ≡ read_encryption_key_information x };
-
-    #[tactic(auto, unfolding(kmip_ttlv_types::specs::Digits::six_digits, crate::specs::Wrappings::read_encryption_key_information))]
-    fn decode(alloc: A, bytes: &[u8]) -> Result<Self, error::Error<A>> {
-        reader::read_message(alloc, bytes)
-    }
-}
-
 impl<A: Allocator + Copy> reader::ReadNested<A> for EncryptionKeyInformation<A> {
     ghost TAG = { 0x420036 };
 
@@ -704,7 +678,7 @@ impl<A: Allocator + Copy> reader::ReadNested<A> for EncryptionKeyInformation<A> 
 
 /// The key that made a MAC or a signature.
 #[derive(Drop)]
-#[derive_where(Debug, PartialEq)]
+#[derive_where(PartialEq)]
 pub struct MacSignatureKeyInformation<A: Allocator = Global> {
     /// The identifier of that key.
     pub unique_identifier: String<A>,
@@ -718,11 +692,7 @@ impl<B: Allocator> Serialize for MacSignatureKeyInformation<B> {
     #[tactic(auto, using(kmip_ttlv_base::proofs::Visiting::visited_joined), unfolding(crate::specs::Wrappings::written_mac_signature_key_information))]
     fn visit<V: Visitor>(&self, visitor: &mut V) -> Result<(), AllocError> {
         writing::begin_struct(visitor, "0x42004E")?;
-        writing::text_string(
-            visitor,
-            "Transparent:0x420094",
-            self.unique_identifier.as_str(),
-        )?;
+        writing::string(visitor, "Transparent:0x420094", &self.unique_identifier)?;
         writing::option(visitor, &self.cryptographic_parameters)?;
         writing::end_struct(visitor, "0x42004E")?;
         Ok(())
@@ -755,17 +725,6 @@ impl<A: Allocator + Copy> reader::ReadStructure<A> for MacSignatureKeyInformatio
     }
 }
 
-impl<A: Allocator + Copy> Decode<A> for MacSignatureKeyInformation<A> {
-    ghost form = { mac_signature_key_information_form };
-
-    ghost is_value = { λ v x. v ≡ read_mac_signature_key_information x };
-
-    #[tactic(auto, unfolding(kmip_ttlv_types::specs::Digits::six_digits, crate::specs::Wrappings::read_mac_signature_key_information))]
-    fn decode(alloc: A, bytes: &[u8]) -> Result<Self, error::Error<A>> {
-        reader::read_message(alloc, bytes)
-    }
-}
-
 impl<A: Allocator + Copy> reader::ReadNested<A> for MacSignatureKeyInformation<A> {
     ghost TAG = { 0x42004E };
 
@@ -788,7 +747,7 @@ impl<A: Allocator + Copy> reader::ReadNested<A> for MacSignatureKeyInformation<A
 
 /// How a key is wrapped.
 #[derive(Drop)]
-#[derive_where(Debug, PartialEq)]
+#[derive_where(PartialEq)]
 pub struct KeyWrappingData<A: Allocator = Global> {
     /// What was done.
     pub wrapping_method: WrappingMethod,
@@ -864,17 +823,6 @@ impl<A: Allocator + Copy> reader::ReadStructure<A> for KeyWrappingData<A> {
             mac_signature,
             iv_counter_nonce,
         }
-    }
-}
-
-impl<A: Allocator + Copy> Decode<A> for KeyWrappingData<A> {
-    ghost form = { key_wrapping_data_form };
-
-    ghost is_value = { λ v x. v ≡ read_key_wrapping_data x };
-
-    #[tactic(auto, unfolding(kmip_ttlv_types::specs::Digits::six_digits, crate::specs::Wrappings::read_key_wrapping_data))]
-    fn decode(alloc: A, bytes: &[u8]) -> Result<Self, error::Error<A>> {
-        reader::read_message(alloc, bytes)
     }
 }
 

@@ -3,6 +3,7 @@ pub mod RootForms
 pub mod Padding
 pub mod Roots
 pub mod TreeTexts
+pub mod Known
 pub mod MessageParts
 pub mod MessageRules
 pub mod Lacking

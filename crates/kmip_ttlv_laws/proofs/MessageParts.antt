@@ -22,6 +22,7 @@ use Rattle.kmip_ttlv_ser.specs.WrittenItems.{take_tag, held_tag}
 use Rattle.kmip_ttlv_reader.specs.Keeps.{Keep}
 use Rattle.kmip_ttlv_reader.specs.Reads.{has_tag}
 use Rattle.kmip_ttlv_laws.specs.Agreements.{Head, Agrees, FieldsAgree, IsNumbered, MessageAgrees, RunAgrees, Wraps, absent_agrees, field_agrees, inner_agrees, is_alike, is_named, is_field_of, is_run, goes_on, last_agrees, leaf_agrees, leaf_type, newtype_agrees, newtype_encloses, newtype_wraps, next_agrees, no_field_agrees, nothing_agrees, number_agrees, option_agrees, seq_agrees, struct_agrees, struct_encloses, unit_is_numbered}
+use Rattle.kmip_ttlv_laws.proofs.Known.{Finds, Known, finds_left, finds_less, finds_none, left}
 use Rattle.kmip_ttlv_laws.specs.Returns.{ComesBack, as_big_integer, as_date_time, as_int32, as_int64, NamesUnit, text_of_number}
 
 -- whatever was kept before, the value agrees with the form as the other, as an item of this head
@@ -29,33 +30,37 @@ pub record PartAgrees (s : Form) (w : Value) (x : Head) (v : Value) : Type 0 whe
   pub kept : List Keep → List Keep
   pub agrees : (k : List Keep) → Agrees s k Nothing w x v (kept k)
 
--- the same for fields; of their items, if there are any, the first has this head
-pub record PartsAgree (fs : Fields) (ws : Values) (y : Option Head) (vs : Values) : Type 0 where
+-- the same for fields, where these texts are known; of their items, if there are any, the first has this head
+pub record PartsAgree (known : List Known) (fs : Fields) (ws : Values) (y : Option Head) (vs : Values) : Type 0 where
   pub kept : List Keep → List Keep
-  pub agrees : (k : List Keep) → FieldsAgree fs k ws y vs (kept k)
+  pub agrees : (k : List Keep) → Finds known k → FieldsAgree fs k ws y vs (kept k)
 
 -- the bytes of a text are UTF-8
 pub text_is_utf8 : {A : Type 0} (s : String A) → is_utf8 (string_bytes s) ≡ true
 text_is_utf8 s = is_utf8-from_IsUtf8 (string_bytes s) (IsUtf8-string_bytes s)
 
 -- no fields are left
-pub nothing_left : PartsAgree no_fields no_values None no_values
-nothing_left = record { kept = λ k. k; agrees = λ k. no_field_agrees }
+pub nothing_left : {known : List Known} → PartsAgree known no_fields no_values None no_values
+nothing_left = record { kept = λ k. k; agrees = λ k found. no_field_agrees }
 
 -- a value that is no sequence isn't continued
 pub ends : (v : Value) (x : Head) (y : Option Head) → is_run v ≡ false → goes_on v x y ≡ false
 ends v x y single = rw single refl
 
--- a field that is no sequence
-pub part_then : {name : List ℕ} {s : Form} {fs : Fields} {w v : Value} {ws vs : Values} {x : Head} {y : Option Head} → is_field_of name s x ≡ true → is_run v ≡ false → PartAgrees s w x v → PartsAgree fs ws y vs → PartsAgree (field name s fs) (value w ws) (Some x) (value v vs)
-part_then {name} {s} {fs} {w} {v} {ws} {vs} {x} {y} named single p rest =
+-- a field: what follows doesn't continue it, and after it is known what it leaves
+pub field_then : {known : List Known} {name : List ℕ} {s : Form} {fs : Fields} {w v : Value} {ws vs : Values} {x : Head} {y : Option Head} → is_field_of name s x ≡ true → goes_on v x y ≡ false → PartAgrees s w x v → PartsAgree (left known x.tag s) fs ws y vs → PartsAgree known (field name s fs) (value w ws) (Some x) (value v vs)
+field_then {known} named apart p rest =
     record {
       kept = λ k. rest.kept (p.kept k);
-      agrees = λ k. field_agrees named (ends v x y single) (p.agrees k) (rest.agrees (p.kept k));
+      agrees = λ k found. field_agrees named apart (p.agrees k) (rest.agrees (p.kept k) (finds_left known (p.agrees k) found));
     }
 
+-- a field that is no sequence
+pub part_then : {known : List Known} {name : List ℕ} {s : Form} {fs : Fields} {w v : Value} {ws vs : Values} {x : Head} {y : Option Head} → is_field_of name s x ≡ true → is_run v ≡ false → PartAgrees s w x v → PartsAgree (left known x.tag s) fs ws y vs → PartsAgree known (field name s fs) (value w ws) (Some x) (value v vs)
+part_then {v = v} {x = x} {y = y} named single p rest = field_then named (ends v x y single) p rest
+
 -- a leaf in a newtype of the name `Transparent:TAG`, in the field of that tag
-pub leaf_then : {name tag inner : List ℕ} {s : Form} {fs : Fields} {w v : Value} {ws vs : Values} {t : ℕ} {y : Option Head} → transparent_name name ≡ Some inner → take_tag Nothing inner ≡ Some t → is_field_of tag s record { tag = t; typ = leaf_type w } ≡ true → is_run v ≡ false → ComesBack s w v → PartsAgree fs ws y vs → PartsAgree (field tag (newtype name s) fs) (value (newtype_value name w) ws) (Some record { tag = t; typ = leaf_type w }) (value (newtype_value name v) vs)
+pub leaf_then : {known : List Known} {name tag inner : List ℕ} {s : Form} {fs : Fields} {w v : Value} {ws vs : Values} {t : ℕ} {y : Option Head} → transparent_name name ≡ Some inner → take_tag Nothing inner ≡ Some t → is_field_of tag s record { tag = t; typ = leaf_type w } ≡ true → is_run v ≡ false → ComesBack s w v → PartsAgree (left known t (newtype name s)) fs ws y vs → PartsAgree known (field tag (newtype name s) fs) (value (newtype_value name w) ws) (Some record { tag = t; typ = leaf_type w }) (value (newtype_value name v) vs)
 leaf_then wraps takes named single back rest = part_then named single record { kept = _; agrees = λ k. newtype_agrees (inner_agrees (newtype_wraps wraps takes) (leaf_agrees refl back)) } rest
 
 -- a unit by its number
@@ -65,24 +70,24 @@ unit_agrees {tag} {vname} {name} {vs} {t} {n} takes numbered text k units =
     subst P text (number_agrees (unit_is_numbered takes numbered) units)
 
 -- an Enumeration of one number
-pub constant_then : {tag vname : List ℕ} {vs : Variants} {fs : Fields} {ws us : Values} {t n : ℕ} {y : Option Head} → take_tag Nothing tag ≡ Some t → number vname ≡ Some n → text_of_number n ≡ vname → has_tag tag t ≡ true → ((k : List Keep) → NamesUnit vs k n) → PartsAgree fs ws y us → PartsAgree (field tag (enum tag vs) fs) (value (unit_variant_value tag vname) ws) (Some record { tag = t; typ = Enumeration }) (value (unit_variant_value tag vname) us)
+pub constant_then : {known : List Known} {tag vname : List ℕ} {vs : Variants} {fs : Fields} {ws us : Values} {t n : ℕ} {y : Option Head} → take_tag Nothing tag ≡ Some t → number vname ≡ Some n → text_of_number n ≡ vname → has_tag tag t ≡ true → ((k : List Keep) → NamesUnit vs k n) → PartsAgree (left known t (enum tag vs)) fs ws y us → PartsAgree known (field tag (enum tag vs) fs) (value (unit_variant_value tag vname) ws) (Some record { tag = t; typ = Enumeration }) (value (unit_variant_value tag vname) us)
 constant_then {t = t} {n = n} takes numbered text named units rest = part_then named refl record { kept = λ k. k ++ record { tag = t; text = text_of_number n } ∷ []; agrees = λ k. unit_agrees takes numbered text k (units k) } rest
 
+-- what is true of fields where less is known
+where_more_is_known : {known : List Known} {fs : Fields} {ws vs : Values} {y : Option Head} (u : ℕ) (s : Form) → PartsAgree (left known u s) fs ws y vs → PartsAgree known fs ws y vs
+where_more_is_known {known} u s rest = record { kept = rest.kept; agrees = λ k found. rest.agrees k (finds_less known k u s found) }
+
 -- an option that is left out
-pub absent_then : {name : List ℕ} {s : Form} {fs : Fields} {ws vs : Values} {y : Option Head} → is_named name y ≡ false → PartsAgree fs ws y vs → PartsAgree (field name (option s) fs) ws y (value none_value vs)
-absent_then other rest = record { kept = rest.kept; agrees = λ k. absent_agrees other (rest.agrees k) }
+pub absent_then : {known : List Known} {name : List ℕ} {s : Form} {fs : Fields} {ws vs : Values} {y : Option Head} → is_named name y ≡ false → PartsAgree known fs ws y vs → PartsAgree known (field name (option s) fs) ws y (value none_value vs)
+absent_then other rest = record { kept = rest.kept; agrees = λ k found. absent_agrees other (rest.agrees k found) }
 
 -- an option that is there
-pub present_then : {name : List ℕ} {s : Form} {fs : Fields} {w v : Value} {ws vs : Values} {x : Head} {y : Option Head} → is_field_of name (option s) x ≡ true → is_run v ≡ false → PartAgrees s w x v → PartsAgree fs ws y vs → PartsAgree (field name (option s) fs) (value w ws) (Some x) (value (some_value v) vs)
-present_then {name} {s} {fs} {w} {v} {ws} {vs} {x} {y} named single p rest =
-    record {
-      kept = λ k. rest.kept (p.kept k);
-      agrees = λ k. field_agrees named (ends v x y single) (option_agrees (p.agrees k)) (rest.agrees (p.kept k));
-    }
+pub present_then : {known : List Known} {name : List ℕ} {s : Form} {fs : Fields} {w v : Value} {ws vs : Values} {x : Head} {y : Option Head} → is_field_of name (option s) x ≡ true → is_run v ≡ false → PartAgrees s w x v → PartsAgree (left known x.tag (option s)) fs ws y vs → PartsAgree known (field name (option s) fs) (value w ws) (Some x) (value (some_value v) vs)
+present_then named single p rest = part_then named single record { kept = p.kept; agrees = λ k. option_agrees (p.agrees k) } rest
 
 -- a structure of such fields
-pub structure : {name : List ℕ} {fs : Fields} {deny : Boole} {ws vs : Values} {t : ℕ} {y : Option Head} → has_tag name t ≡ true → take_tag Nothing name ≡ Some t → PartsAgree fs ws y vs → PartAgrees (struct name fs deny) (struct_value name ws) record { tag = t; typ = Structure } (struct_value name vs)
-structure named takes parts = record { kept = parts.kept; agrees = λ k. struct_agrees named (struct_encloses takes) (parts.agrees k) }
+pub structure : {name : List ℕ} {fs : Fields} {deny : Boole} {ws vs : Values} {t : ℕ} {y : Option Head} → has_tag name t ≡ true → take_tag Nothing name ≡ Some t → PartsAgree [] fs ws y vs → PartAgrees (struct name fs deny) (struct_value name ws) record { tag = t; typ = Structure } (struct_value name vs)
+structure named takes parts = record { kept = parts.kept; agrees = λ k. struct_agrees named (struct_encloses takes) (parts.agrees k (finds_none k)) }
 
 -- as a whole message
 pub message : {s : Form} {w v : Value} {x : Head} → PartAgrees s w x v → MessageAgrees s w v
@@ -150,8 +155,8 @@ wrapped_unit {own} {name} {vs} {w} {u} {h} {t} {n} wraps numbered text units =
     record { kept = λ k. k ++ record { tag = t; text = text_of_number n } ∷ []; agrees = λ k. subst (λ m. P m k) text (inner_agrees wraps (number_agrees numbered (units k))) }
 
 -- a structure that is encoded as a newtype which is no wrapper
-pub newtype_structure : {name : List ℕ} {fs : Fields} {deny : Boole} {w : Value} {vs : Values} {t : ℕ} {y : Option Head} → has_tag name t ≡ true → transparent_name name ≡ None → take_tag Nothing name ≡ Some t → PartsAgree fs (value w no_values) y vs → PartAgrees (struct name fs deny) (newtype_value name w) record { tag = t; typ = Structure } (struct_value name vs)
-newtype_structure named plain takes parts = record { kept = parts.kept; agrees = λ k. struct_agrees named (newtype_encloses plain takes) (parts.agrees k) }
+pub newtype_structure : {name : List ℕ} {fs : Fields} {deny : Boole} {w : Value} {vs : Values} {t : ℕ} {y : Option Head} → has_tag name t ≡ true → transparent_name name ≡ None → take_tag Nothing name ≡ Some t → PartsAgree [] fs (value w no_values) y vs → PartAgrees (struct name fs deny) (newtype_value name w) record { tag = t; typ = Structure } (struct_value name vs)
+newtype_structure named plain takes parts = record { kept = parts.kept; agrees = λ k. struct_agrees named (newtype_encloses plain takes) (parts.agrees k (finds_none k)) }
 
 -- ---- options, whether they are there or not
 
@@ -184,9 +189,14 @@ pub present : {T : Type 0} {f g : T → Value} {s : Form} {x : Head} → ((t : T
 present agrees single None = tt
 present agrees single (Some t) = (agrees t, single t)
 
+-- the same where the head is by what is there
+pub present_as : {T : Type 0} {P : T → Type 0} {f g : T → Value} {s : Form} (h : Option T → Head) → ((t : T) → P t → PartAgrees s (f t) (h (Some t)) (g t)) → ((t : T) → is_run (g t) ≡ false) → (o : Option T) → IfSome o P → PresentAgrees f g s (h o) o
+present_as h agrees single None is = tt
+present_as h agrees single (Some t) is = (agrees t is, single t)
+
 -- an option, there or left out: the name is that of its own head, and not of the next
-pub optional_then : {T : Type 0} {name : List ℕ} {s : Form} {fs : Fields} {ws vs : Values} {y : Option Head} (f g : T → Value) (x : Head) (o : Option T) → is_field_of name (option s) x ≡ true → is_named name y ≡ false → PresentAgrees f g s x o → PartsAgree fs ws y vs → PartsAgree (field name (option s) fs) (joined (optional (option_map f o)) ws) (head_or o x y) (value (read_optional g o) vs)
-optional_then f g x None named other p rest = absent_then other rest
+pub optional_then : {T : Type 0} {known : List Known} {name : List ℕ} {s : Form} {fs : Fields} {ws vs : Values} {y : Option Head} (f g : T → Value) (x : Head) (o : Option T) → is_field_of name (option s) x ≡ true → is_named name y ≡ false → PresentAgrees f g s x o → PartsAgree (left known x.tag (option s)) fs ws y vs → PartsAgree known (field name (option s) fs) (joined (optional (option_map f o)) ws) (head_or o x y) (value (read_optional g o) vs)
+optional_then {s = s} f g x None named other p rest = absent_then other (where_more_is_known x.tag (option s) rest)
 optional_then f g x (Some z) named other p rest = present_then named p.1 p.0 rest
 
 -- ---- sequences
@@ -196,19 +206,16 @@ none_alike true = refl
 none_alike false = refl
 
 -- what is last in a structure; it may be a sequence
-pub last_then : {name : List ℕ} {s : Form} {w v : Value} {x : Head} → is_field_of name s x ≡ true → PartAgrees s w x v → PartsAgree (field name s no_fields) (value w no_values) (Some x) (value v no_values)
-last_then {v = v} named p = record { kept = p.kept; agrees = λ k. field_agrees named (none_alike (is_run v)) (p.agrees k) no_field_agrees }
+pub last_then : {known : List Known} {name : List ℕ} {s : Form} {w v : Value} {x : Head} → is_field_of name s x ≡ true → PartAgrees s w x v → PartsAgree known (field name s no_fields) (value w no_values) (Some x) (value v no_values)
+last_then {v = v} named p = field_then named (none_alike (is_run v)) p nothing_left
 
-run_ends : (v : Value) (x : Head) (y : Option Head) → is_alike x y ≡ false → goes_on v x y ≡ false
+-- and a sequence ends before what isn't like its items
+pub run_ends : (v : Value) (x : Head) (y : Option Head) → is_alike x y ≡ false → goes_on v x y ≡ false
 run_ends v x y other = rw other (none_alike (is_run v))
 
 -- a field that may be a sequence: what follows isn't like its items
-pub run_then : {name : List ℕ} {s : Form} {fs : Fields} {w v : Value} {ws vs : Values} {x : Head} {y : Option Head} → is_field_of name s x ≡ true → is_alike x y ≡ false → PartAgrees s w x v → PartsAgree fs ws y vs → PartsAgree (field name s fs) (value w ws) (Some x) (value v vs)
-run_then {name} {s} {fs} {w} {v} {ws} {vs} {x} {y} named other p rest =
-    record {
-      kept = λ k. rest.kept (p.kept k);
-      agrees = λ k. field_agrees named (run_ends v x y other) (p.agrees k) (rest.agrees (p.kept k));
-    }
+pub run_then : {known : List Known} {name : List ℕ} {s : Form} {fs : Fields} {w v : Value} {ws vs : Values} {x : Head} {y : Option Head} → is_field_of name s x ≡ true → is_alike x y ≡ false → PartAgrees s w x v → PartsAgree (left known x.tag s) fs ws y vs → PartsAgree known (field name s fs) (value w ws) (Some x) (value v vs)
+run_then {v = v} {x = x} {y = y} named other p rest = field_then named (run_ends v x y other) p rest
 
 -- each of these agrees, and none is a sequence itself
 abbrev pub EachAgrees : {T : Type 0} → (T → Value) → (T → Value) → Form → Head → List T → Type 0
@@ -254,7 +261,8 @@ abbrev pub first_of : {T : Type 0} → List T → Option T
 first_of [] = None
 first_of (t ∷ ts) = Some t
 
-unlike : (name : List ℕ) (s : Form) (x : Head) (y : Option Head) → is_field_of name (option s) x ≡ true → is_named name y ≡ false → is_alike x y ≡ false
+-- what has another name isn't like the items of this one
+pub unlike : (name : List ℕ) (s : Form) (x : Head) (y : Option Head) → is_field_of name (option s) x ≡ true → is_named name y ≡ false → is_alike x y ≡ false
 unlike name s x None named other = refl
 unlike name s x (Some z) named other = by_tag (z.tag == x.tag) refl
   where
@@ -263,12 +271,14 @@ unlike name s x (Some z) named other = by_tag (z.tag == x.tag) refl
     by_tag true same = absurd (false≢true (sym other ∙ ap (has_tag name) (eqb-true z.tag x.tag same) ∙ named))
 
 -- a sequence of one or more, also the last part: the name is that of its items, and not of the next
-pub several_then : {T : Type 0} {name : List ℕ} {s : Form} {fs : Fields} {ws vs : Values} {y : Option Head} (f g : T → Value) (x : Head) (ts : List T) → is_field_of name (seq s) x ≡ true → is_named name y ≡ false → 0 < length ts → EachAgrees f g s x ts → PartsAgree fs ws y vs → PartsAgree (field name (seq s) fs) (value (sequence f ts) ws) (Some x) (value (sequence g ts) vs)
+pub several_then : {T : Type 0} {known : List Known} {name : List ℕ} {s : Form} {fs : Fields} {ws vs : Values} {y : Option Head} (f g : T → Value) (x : Head) (ts : List T) → is_field_of name (seq s) x ≡ true → is_named name y ≡ false → 0 < length ts → EachAgrees f g s x ts → PartsAgree (left known x.tag (seq s)) fs ws y vs → PartsAgree known (field name (seq s) fs) (value (sequence f ts) ws) (Some x) (value (sequence g ts) vs)
 several_then {name = name} {s = s} {y = y} f g x ts named other filled each rest = run_then named (unlike name (seq s) x y named other) (sequence_part f g ts filled each) rest
 
 -- a sequence that may be empty: the name is that of its items, and not of the next
-pub any_then : {T : Type 0} {name : List ℕ} {s : Form} {fs : Fields} {ws vs : Values} {y : Option Head} (f g : T → Value) (x : Head) (ts : List T) → is_field_of name (option (seq s)) x ≡ true → is_named name y ≡ false → EachAgrees f g s x ts → PartsAgree fs ws y vs → PartsAgree (field name (option (seq s)) fs) (value (sequence f ts) ws) (head_or (first_of ts) x y) (value (optional_sequence g ts) vs)
-any_then f g x [] named other each rest = record { kept = rest.kept; agrees = λ k. nothing_agrees (absent_agrees other (rest.agrees k)) }
+pub any_then : {T : Type 0} {known : List Known} {name : List ℕ} {s : Form} {fs : Fields} {ws vs : Values} {y : Option Head} (f g : T → Value) (x : Head) (ts : List T) → is_field_of name (option (seq s)) x ≡ true → is_named name y ≡ false → EachAgrees f g s x ts → PartsAgree (left known x.tag (option (seq s))) fs ws y vs → PartsAgree known (field name (option (seq s)) fs) (value (sequence f ts) ws) (head_or (first_of ts) x y) (value (optional_sequence g ts) vs)
+any_then {s = s} f g x [] named other each rest =
+    let absent = absent_then other (where_more_is_known x.tag (option (seq s)) rest) in
+    record { kept = absent.kept; agrees = λ k found. nothing_agrees (absent.agrees k found) }
 any_then {name = name} {s = s} {y = y} f g x (t ∷ ts) named other each rest =
     let p = sequence_agrees f g s x t ts each in
     run_then named (unlike name (seq s) x y named other) record { kept = p.kept; agrees = λ k. option_agrees (p.agrees k) } rest

@@ -1,83 +1,32 @@
 -- Parts of messages that a rule chooses by the texts that were kept before, and parts that are kept for such rules.
-use Rattle.std.proofs.Common.{◌≡◌, ◌<◌, ◌^◌, subst, ℕ, Bool as Boole, true, false, cond, List, [], ◌++◌, ◌∷◌, Some, None, Option, option_map, filter, refl, ap, sym, ◌∙◌, ◌==◌}
-use Rattle.std.specs.List.{last_or}
+use Rattle.std.proofs.Common.{◌≡◌, ◌<◌, ◌^◌, subst, ℕ, Bool as Boole, true, false, List, [], ◌++◌, ◌∷◌, Some, None, Option, option_map, map, length, refl, sym, ◌∙◌, ◌==◌, arith}
+use Rattle.std.specs.Option.{IsSomeAnd}
+use Rattle.std.specs.Prelude.{All, IfSome, ◌||◌, not}
+use Rattle.std.specs.List.{AllByRecursion}
+use Rattle.std.proofs.lemmas.List.Elements.{recursion_from_All}
+use Rattle.std.proofs.lemmas.Bool.{and_parts}
 use Rattle.std.specs.Str.{is_utf8}
-use Rattle.std.proofs.lemmas.Bool.{eq-eqb, eqb-true}
 use Rattle.std.proofs.lemmas.Option.{none-some}
 use Rattle.kmip_ttlv_types.specs.declared.typ.TtlvType.TheVariants.{Structure, Enumeration, TextString}
+use Rattle.kmip_ttlv_types.specs.declared.typ.TtlvType.{TtlvType}
 use Rattle.kmip_ttlv_types.specs.Names.{number, transparent_name}
-use Rattle.kmip_ttlv_base.specs.Forms.{Form, any_number, option, text as text_form, struct, newtype, enum, wrapped, Fields, field, Variants}
-use Rattle.kmip_ttlv_base.specs.Values.{Value, some_value, u32_value, text_value, newtype_value, unit_variant_value, newtype_variant_value, struct_value, Values, value}
+use Rattle.kmip_ttlv_base.specs.Forms.{Form, any_number, option, seq, text as text_form, struct, newtype, enum, wrapped, Fields, field, Variants}
+use Rattle.kmip_ttlv_base.specs.Values.{Value, some_value, u32_value, text_value, newtype_value, unit_variant_value, newtype_variant_value, struct_value, Values, value, values_of}
+use Rattle.kmip_ttlv_base.specs.Visits.{joined}
+use Rattle.kmip_ttlv_base.specs.Visits as told
+use Rattle.kmip_ttlv_messages.specs.MessageParts.{optional, optional_sequence, sequence}
 use Rattle.kmip_ttlv_ser.specs.declared.held.Held.{Held}
 use Rattle.kmip_ttlv_ser.specs.declared.held.Held.TheVariants.{Nothing}
 use Rattle.kmip_ttlv_ser.specs.WrittenItems.{take_tag, held_tag}
-use Rattle.kmip_ttlv_reader.specs.Keeps.{Keep}
-use Rattle.kmip_ttlv_reader.specs.Reads.{has_tag}
-use Rattle.kmip_ttlv_reader.specs.Rules.{choice, chosen, last}
-use Rattle.kmip_ttlv_laws.specs.Agreements.{Head, Agrees, FieldsAgree, HasVariant, Wraps, absent_agrees, field_agrees, inner_agrees, is_field_of, is_named, is_run, leaf_agrees, leaf_type, newtype_agrees, newtype_wraps, option_agrees, rule_agrees, struct_agrees, struct_encloses, unit_is_numbered, with_value}
+use Rattle.kmip_ttlv_reader.specs.Keeps.{Keep, last}
+use Rattle.kmip_ttlv_reader.specs.Reads.{is_struct}
+use Rattle.kmip_ttlv_reader.specs.Rules.{choice, chosen}
+use Rattle.kmip_ttlv_laws.specs.Agreements.{Head, Agrees, HasVariant, RunAgrees, Wraps, absent_agrees, field_agrees, inner_agrees, is_alike, is_field_of, is_named, is_run, last_agrees, leaf_agrees, leaf_type, newtype_agrees, newtype_encloses, newtype_wraps, next_agrees, nothing_agrees, option_agrees, rule_agrees, seq_agrees, struct_agrees, struct_encloses, unit_is_numbered}
 use Rattle.kmip_ttlv_laws.specs.Returns.{ComesBack, as_number, as_text, NamesUnit, text_of_number}
-use Rattle.kmip_ttlv_laws.proofs.MessageParts.{IsUnit, PartAgrees, PartsAgree, ends, head_or, unit_agrees, wrapped_unit}
-use Rattle.kmip_ttlv_base.specs.Visits.{joined}
-use Rattle.kmip_ttlv_base.specs.Visits as told
-use Rattle.kmip_ttlv_messages.specs.MessageParts.{optional}
-use Rattle.std.specs.Prelude.{IfSome}
+use Rattle.kmip_ttlv_laws.proofs.Known.{Known, finds_kept, finds_left, finds_less, finds_unknown, is_without, left, said, spared, spares}
+use Rattle.kmip_ttlv_laws.proofs.MessageParts.{IsUnit, PartAgrees, PartsAgree, ends, first_of, head_or, run_ends, unit_agrees, unlike, wrapped_unit}
 
-found_last : (o : Option Keep) (k : List Keep) (r : Keep) → last_or o (filter (λ q. q.tag == r.tag) (k ++ r ∷ [])) ≡ Some r
-found_last o [] r = rw (eq-eqb r.tag r.tag refl) refl
-found_last o (q ∷ k) r = elim (q.tag == r.tag) as (λ b. last_or o (cond b (q ∷ filter (λ p. p.tag == r.tag) (k ++ r ∷ [])) (filter (λ p. p.tag == r.tag) (k ++ r ∷ []))) ≡ Some r) [ true ↦ found_last (Some q) k r | false ↦ found_last o k r ]
-
--- the text that was kept last under a tag is the last
-pub last_kept : (k : List Keep) (r : Keep) → last (k ++ r ∷ []) r.tag ≡ Some r.text
-last_kept k r = ap (option_map (λ q. q.text)) (found_last None k r)
-
-skips : (o : Option Keep) (k : List Keep) (r : Keep) (t : ℕ) → (r.tag == t) ≡ false → last_or o (filter (λ q. q.tag == t) (k ++ r ∷ [])) ≡ last_or o (filter (λ q. q.tag == t) k)
-skips o [] r t other = rw other refl
-skips o (q ∷ k) r t other = elim (q.tag == t) as (λ b. last_or o (cond b (q ∷ filter (λ p. p.tag == t) (k ++ r ∷ [])) (filter (λ p. p.tag == t) (k ++ r ∷ []))) ≡ last_or o (cond b (q ∷ filter (λ p. p.tag == t) k) (filter (λ p. p.tag == t) k))) [ true ↦ skips (Some q) k r t other | false ↦ skips o k r t other ]
-
--- and it still is after a text under another tag
-pub still_kept : (k : List Keep) (r : Keep) (t : ℕ) → (r.tag == t) ≡ false → last (k ++ r ∷ []) t ≡ last k t
-still_kept k r t other = ap (option_map (λ q. q.text)) (skips None k r t other)
-
--- for each tag that is among these texts, the last of these is the last that was kept
-abbrev pub Finds : List Keep → List Keep → Type 0
-Finds known k = (t : ℕ) (text : List ℕ) → last known t ≡ Some text → last k t ≡ Some text
-
--- one more text, in both
-finds_more : (known k : List Keep) (r : Keep) → Finds known k → Finds (known ++ r ∷ []) (k ++ r ∷ [])
-finds_more known k r found t text e =
-    elim (r.tag == t) as (λ b. (r.tag == t) ≡ b → last (k ++ r ∷ []) t ≡ Some text) [
-      | true ↦ λ same.
-          let tag : r.tag ≡ t = eqb-true r.tag t same in
-          let P : ℕ → Type 0 = λ u. last (known ++ r ∷ []) u ≡ Some text → last (k ++ r ∷ []) u ≡ Some text in
-          subst P tag (λ h. last_kept k r ∙ sym (last_kept known r) ∙ h) e
-      | false ↦ λ other. still_kept k r t other ∙ found t text (sym (still_kept known r t other) ∙ e)
-    ] refl
-
--- if these texts are the last of their tags, the value agrees with the form as the other, as an item of this head
-pub record PartFollows (known : List Keep) (s : Form) (w : Value) (x : Head) (v : Value) : Type 0 where
-  pub kept : List Keep → List Keep
-  pub agrees : (k : List Keep) → Finds known k → Agrees s k Nothing w x v (kept k)
-
--- the same for fields
-pub record PartsFollow (known : List Keep) (fs : Fields) (ws : Values) (y : Option Head) (vs : Values) : Type 0 where
-  pub kept : List Keep → List Keep
-  pub agrees : (k : List Keep) → Finds known k → FieldsAgree fs k ws y vs (kept k)
-
--- what agrees whatever was kept
-pub in_any_case : {known : List Keep} {s : Form} {w v : Value} {x : Head} → PartAgrees s w x v → PartFollows known s w x v
-in_any_case p = record { kept = p.kept; agrees = λ k found. p.agrees k }
-
--- what agrees if nothing is known
-pub by_itself : {s : Form} {w v : Value} {x : Head} → PartFollows [] s w x v → PartAgrees s w x v
-by_itself p = record { kept = p.kept; agrees = λ k. p.agrees k (λ t text e. absurd (none-some text e)) }
-
--- the fields of a structure in which a rule chooses, from the first on
-pub by_rules : {fs : Fields} {ws vs : Values} {y : Option Head} → PartsFollow [] fs ws y vs → PartsAgree fs ws y vs
-by_rules p = record { kept = p.kept; agrees = λ k. p.agrees k (λ t text e. absurd (none-some text e)) }
-
--- a structure that has to know what was kept before it
-pub structure_follows : {known : List Keep} {name : List ℕ} {fs : Fields} {deny : Boole} {ws vs : Values} {t : ℕ} {y : Option Head} → has_tag name t ≡ true → take_tag Nothing name ≡ Some t → PartsFollow known fs ws y vs → PartFollows known (struct name fs deny) (struct_value name ws) record { tag = t; typ = Structure } (struct_value name vs)
-structure_follows named takes parts = record { kept = parts.kept; agrees = λ k found. struct_agrees named (struct_encloses takes) (parts.agrees k found) }
+-- ---- what is kept
 
 -- the value agrees with the form as the other, and this one text of it is kept
 pub record PartKeeps (s : Form) (w : Value) (x : Head) (v : Value) (r : Keep) : Type 0 where
@@ -99,97 +48,36 @@ number_kept wraps takes fits = record { agrees = λ k. newtype_agrees (inner_agr
 pub unit_kept : {tag vname : List ℕ} {vs : Variants} {t n : ℕ} → take_tag Nothing tag ≡ Some t → number vname ≡ Some n → text_of_number n ≡ vname → ((k : List Keep) → NamesUnit vs k n) → PartKeeps (enum tag vs) (unit_variant_value tag vname) record { tag = t; typ = Enumeration } (unit_variant_value tag vname) record { tag = t; text = text_of_number n }
 unit_kept takes numbered text units = record { agrees = λ k. unit_agrees takes numbered text k (units k) }
 
--- a field of which one text is kept, which rules of later fields see
-pub kept_then : {known : List Keep} {name : List ℕ} {s : Form} {fs : Fields} {w v : Value} {ws vs : Values} {x : Head} {y : Option Head} {r : Keep} → is_field_of name s x ≡ true → is_run v ≡ false → PartKeeps s w x v r → PartsFollow (known ++ r ∷ []) fs ws y vs → PartsFollow known (field name s fs) (value w ws) (Some x) (value v vs)
-kept_then {known} {v = v} {x = x} {y = y} {r = r} named single p rest =
-    record {
-      kept = λ k. rest.kept (k ++ r ∷ []);
-      agrees = λ k found. field_agrees named (ends v x y single) (p.agrees k) (rest.agrees (k ++ r ∷ []) (finds_more known k r found));
-    }
-
--- a part of which nothing is kept, so that what was known is known after it
-pub silent_then : {known : List Keep} {name : List ℕ} {s : Form} {fs : Fields} {w v : Value} {ws vs : Values} {x : Head} {y : Option Head} → is_field_of name s x ≡ true → is_run v ≡ false → (p : PartAgrees s w x v) → ((k : List Keep) → p.kept k ≡ k) → PartsFollow known fs ws y vs → PartsFollow known (field name s fs) (value w ws) (Some x) (value v vs)
-silent_then {known} {name} {s} {fs} {w} {v} {ws} {vs} {x} {y} named single p silent rest =
-    record {
-      kept = λ k. rest.kept (p.kept k);
-      agrees = λ k found. field_agrees named (ends v x y single) (p.agrees k) (rest.agrees (p.kept k) (subst (Finds known) (sym (silent k)) found));
-    }
-
--- what a rule chooses by what is known
-pub chosen_part : {known : List Keep} {s : Form} {own name : List ℕ} {vs : Variants} {i : ℕ} {w v : Value} {x : Head} → ((k : List Keep) → Finds known k → choice vs k x.typ ≡ chosen i) → HasVariant vs i name (wrapped s) → PartFollows known s w x v → PartFollows known (enum own vs) w x (newtype_variant_value own name v)
-chosen_part chooses at p = record { kept = p.kept; agrees = λ k found. rule_agrees (chooses k found) at (p.agrees k found) }
-
--- a field that needs what is known; after it nothing is
-pub follows_then : {known : List Keep} {name : List ℕ} {s : Form} {fs : Fields} {w v : Value} {ws vs : Values} {x : Head} {y : Option Head} → is_field_of name s x ≡ true → is_run v ≡ false → PartFollows known s w x v → PartsAgree fs ws y vs → PartsFollow known (field name s fs) (value w ws) (Some x) (value v vs)
-follows_then {v = v} {x = x} {y = y} named single p rest =
-    record {
-      kept = λ k. rest.kept (p.kept k);
-      agrees = λ k found. field_agrees named (ends v x y single) (p.agrees k found) (rest.agrees (p.kept k));
-    }
-
--- a field that a rule chooses; after it nothing is known of what was kept
-pub rule_then : {known : List Keep} {field_name own name : List ℕ} {s : Form} {cs : Variants} {fs : Fields} {i : ℕ} {w v : Value} {ws vs : Values} {x : Head} {y : Option Head} → is_field_of field_name (enum own cs) x ≡ true → is_run v ≡ false → ((k : List Keep) → Finds known k → choice cs k x.typ ≡ chosen i) → HasVariant cs i name (wrapped s) → PartFollows known s w x v → PartsAgree fs ws y vs → PartsFollow known (field field_name (enum own cs) fs) (value w ws) (Some x) (value (newtype_variant_value own name v) vs)
-rule_then named single chooses at p rest = follows_then named single (chosen_part chooses at p) rest
-
--- ---- one text that is known, and the part that a rule chooses by it
-
 -- the name of an Enumeration, which is its number's text
 pub enumeration_kept : {tag name : List ℕ} {vs : Variants} {t : ℕ} → take_tag Nothing tag ≡ Some t → IsUnit vs name → PartKeeps (enum tag vs) (unit_variant_value tag name) record { tag = t; typ = Enumeration } (unit_variant_value tag name) record { tag = t; text = name }
 enumeration_kept {tag = tag} {name = name} {vs = vs} {t = t} takes u =
     let P : List ℕ → Type 0 = λ m. PartKeeps (enum tag vs) (unit_variant_value tag name) record { tag = t; typ = Enumeration } (unit_variant_value tag name) record { tag = t; text = m } in
     subst P u.text (unit_kept takes u.numbered u.text u.units)
 
--- a text under another tag leaves what is known
-spares : (known k : List Keep) (r : Keep) → last known r.tag ≡ None → Finds known k → Finds known (k ++ r ∷ [])
-spares known k r other found t text e =
-    elim (r.tag == t) as (λ b. (r.tag == t) ≡ b → last (k ++ r ∷ []) t ≡ Some text) [
-      | true ↦ λ same.
-          let tag : r.tag ≡ t = eqb-true r.tag t same in
-          absurd (none-some text (sym other ∙ ap (last known) tag ∙ e))
-      | false ↦ λ differ. still_kept k r t differ ∙ found t text e
-    ] refl
-
--- the value agrees with the form as the other, and what is known before it is known after it
-pub record PartSpares (known : List Keep) (s : Form) (w : Value) (x : Head) (v : Value) : Type 0 where
-  pub kept : List Keep → List Keep
-  pub agrees : (k : List Keep) → Agrees s k Nothing w x v (kept k)
-  pub spared : (k : List Keep) → Finds known k → Finds known (kept k)
-
--- of a text under another tag
-pub other_kept : {known : List Keep} {s : Form} {w v : Value} {x : Head} {r : Keep} → PartKeeps s w x v r → last known r.tag ≡ None → PartSpares known s w x v
-other_kept {known} {s} {w} {v} {x} {r} p other = record { kept = λ k. k ++ r ∷ []; agrees = p.agrees; spared = λ k found. spares known k r other found }
-
--- of a leaf of which nothing is kept, in a newtype of the name `Transparent:TAG`
-pub none_kept : {known : List Keep} {name inner : List ℕ} {s : Form} {w v : Value} {t : ℕ} → transparent_name name ≡ Some inner → take_tag Nothing inner ≡ Some t → ((k : List Keep) → with_value s t w k ≡ k) → ComesBack s w v → PartSpares known (newtype name s) (newtype_value name w) record { tag = t; typ = leaf_type w } (newtype_value name v)
-none_kept {known} {name} {inner} {s} {w} {v} {t} wraps takes silent back =
+-- a field of which one text is kept, which rules of later fields see
+pub kept_then : {known : List Known} {name : List ℕ} {s : Form} {fs : Fields} {w v : Value} {ws vs : Values} {x : Head} {y : Option Head} {r : Keep} → is_field_of name s x ≡ true → is_run v ≡ false → PartKeeps s w x v r → PartsAgree (record { tag = r.tag; text = Some r.text } ∷ known) fs ws y vs → PartsAgree known (field name s fs) (value w ws) (Some x) (value v vs)
+kept_then {known} {v = v} {x = x} {y = y} {r = r} named single p rest =
     record {
-      kept = λ k. k;
-      agrees = λ k. subst (λ l. Agrees (newtype name s) k Nothing (newtype_value name w) record { tag = t; typ = leaf_type w } (newtype_value name v) l) (silent k) (newtype_agrees (inner_agrees (newtype_wraps wraps takes) (leaf_agrees refl back)));
-      spared = λ k found. found;
+      kept = λ k. rest.kept (k ++ r ∷ []);
+      agrees = λ k found. field_agrees named (ends v x y single) (p.agrees k) (rest.agrees (k ++ r ∷ []) (finds_kept known k r found));
     }
 
--- such a field
-pub spared_then : {known : List Keep} {name : List ℕ} {s : Form} {fs : Fields} {w v : Value} {ws vs : Values} {x : Head} {y : Option Head} → is_field_of name s x ≡ true → is_run v ≡ false → PartSpares known s w x v → PartsFollow known fs ws y vs → PartsFollow known (field name s fs) (value w ws) (Some x) (value v vs)
-spared_then {v = v} {x = x} {y = y} named single p rest =
+-- one that may be absent: then nothing is known of its tag
+pub optional_kept_then : {T : Type 0} {P : T → Type 0} {known : List Known} {name : List ℕ} {s : Form} {fs : Fields} {ws vs : Values} {y : Option Head} (f g : T → Value) (x : Head) (text : T → List ℕ) (o : Option T) → is_field_of name (option s) x ≡ true → is_named name y ≡ false → ((t : T) → P t → PartKeeps s (f t) x (g t) record { tag = x.tag; text = text t }) → ((t : T) → is_run (g t) ≡ false) → IfSome o P → PartsAgree (record { tag = x.tag; text = option_map text o } ∷ known) fs ws y vs → PartsAgree known (field name (option s) fs) (joined (told.optional (option_map f o)) ws) (head_or o x y) (value (optional g o) vs)
+optional_kept_then {known = known} f g x text None named other keeps single is rest = record { kept = rest.kept; agrees = λ k found. absent_agrees other (rest.agrees k (finds_unknown known k x.tag found)) }
+optional_kept_then {known = known} {y = y} f g x text (Some t) named other keeps single is rest =
+    let r : Keep = record { tag = x.tag; text = text t } in
     record {
-      kept = λ k. rest.kept (p.kept k);
-      agrees = λ k found. field_agrees named (ends v x y single) (p.agrees k) (rest.agrees (p.kept k) (p.spared k found));
-    }
-
--- one that may be absent
-pub optional_spared_then : {T : Type 0} {P : T → Type 0} {known : List Keep} {name : List ℕ} {s : Form} {fs : Fields} {ws vs : Values} {y : Option Head} (f g : T → Value) (x : Head) (o : Option T) → is_field_of name (option s) x ≡ true → is_named name y ≡ false → ((t : T) → P t → PartSpares known s (f t) x (g t)) → ((t : T) → is_run (g t) ≡ false) → IfSome o P → PartsFollow known fs ws y vs → PartsFollow known (field name (option s) fs) (joined (told.optional (option_map f o)) ws) (head_or o x y) (value (optional g o) vs)
-optional_spared_then f g x None named other p single is rest = record { kept = rest.kept; agrees = λ k found. absent_agrees other (rest.agrees k found) }
-optional_spared_then {y = y} f g x (Some t) named other p single is rest =
-    let there = p t is in
-    record {
-      kept = λ k. rest.kept (there.kept k);
-      agrees = λ k found. field_agrees named (ends (some_value (g t)) x y (single t)) (option_agrees (there.agrees k)) (rest.agrees (there.kept k) (there.spared k found));
+      kept = λ k. rest.kept (k ++ r ∷ []);
+      agrees = λ k found. field_agrees named (ends (some_value (g t)) x y (single t)) (option_agrees ((keeps t is).agrees k)) (rest.agrees (k ++ r ∷ []) (finds_kept known k r found));
     }
 
 -- of what may be absent nothing has to be known
 pub if_any : {T : Type 0} (o : Option T) → IfSome o (λ t. Unit {0})
 if_any None = tt
 if_any (Some t) = tt
+
+-- ---- what is chosen
 
 -- where this text was kept last under a tag, the value agrees with the form as the other
 pub record PartAfter (tag : ℕ) (text : List ℕ) (s : Form) (w : Value) (x : Head) (v : Value) : Type 0 where
@@ -200,18 +88,120 @@ pub record PartAfter (tag : ℕ) (text : List ℕ) (s : Form) (w : Value) (x : H
 pub chosen_after : {tag : ℕ} {text : List ℕ} {s : Form} {own name : List ℕ} {vs : Variants} {i : ℕ} {w v : Value} {x : Head} → HasVariant vs i name (wrapped s) → ((k : List Keep) → last k tag ≡ Some text → choice vs k x.typ ≡ chosen i) → PartAgrees s w x v → PartAfter tag text (enum own vs) w x (newtype_variant_value own name v)
 chosen_after at chooses p = record { kept = p.kept; agrees = λ k found. rule_agrees (chooses k found) at (p.agrees k) }
 
--- a field that it chooses; after it nothing is known of what was kept
-pub choice_then : {known : List Keep} {tag : ℕ} {text : List ℕ} {name : List ℕ} {s : Form} {fs : Fields} {w v : Value} {ws vs : Values} {x : Head} {y : Option Head} → last known tag ≡ Some text → is_field_of name s x ≡ true → is_run v ≡ false → PartAfter tag text s w x v → PartsAgree fs ws y vs → PartsFollow known (field name s fs) (value w ws) (Some x) (value v vs)
-choice_then {tag = tag} {text = text} {v = v} {x = x} {y = y} known named single p rest =
+-- what a rule chooses by the item's type, whatever was kept
+pub chosen_by_type : {s : Form} {own name : List ℕ} {vs : Variants} {i : ℕ} {w v : Value} {x : Head} → HasVariant vs i name (wrapped s) → ((k : List Keep) → choice vs k x.typ ≡ chosen i) → PartAgrees s w x v → PartAgrees (enum own vs) w x (newtype_variant_value own name v)
+chosen_by_type at chooses p = record { kept = p.kept; agrees = λ k. rule_agrees (chooses k) at (p.agrees k) }
+
+-- a field that a rule chooses by a text that is known
+pub choice_then : {known : List Known} {tag : ℕ} {text : List ℕ} {name : List ℕ} {s : Form} {fs : Fields} {w v : Value} {ws vs : Values} {x : Head} {y : Option Head} → said known tag ≡ Some text → is_field_of name s x ≡ true → is_run v ≡ false → PartAfter tag text s w x v → PartsAgree (left known x.tag s) fs ws y vs → PartsAgree known (field name s fs) (value w ws) (Some x) (value v vs)
+choice_then {known = all} {tag = tag} {text = text} {v = v} {x = x} {y = y} known named single p rest =
     record {
       kept = λ k. rest.kept (p.kept k);
-      agrees = λ k found. field_agrees named (ends v x y single) (p.agrees k (found tag text known)) (rest.agrees (p.kept k));
+      agrees = λ k found. let a = p.agrees k (found tag text known) in field_agrees named (ends v x y single) a (rest.agrees (p.kept k) (finds_left all a found));
     }
 
--- what is encoded in a wrapper under another tag, and decoded in its own newtype
+-- one that is chosen by a part that may be absent, where that is there
+pub choice_if_there_then : {S : Type 0} {C : S → Type 0} {known : List Known} {tag : ℕ} {name : List ℕ} {s : Form} {fs : Fields} {w v : Value} {ws vs : Values} {x : Head} {y : Option Head} (text : S → List ℕ) (m : Option S) → said known tag ≡ option_map text m → is_field_of name s x ≡ true → is_run v ≡ false → ((z : S) → C z → PartAfter tag (text z) s w x v) → IsSomeAnd m C → PartsAgree (left known x.tag s) fs ws y vs → PartsAgree known (field name s fs) (value w ws) (Some x) (value v vs)
+choice_if_there_then text None known named single agrees chooses rest = absurd chooses
+choice_if_there_then text (Some z) known named single agrees chooses rest = choice_then known named single (agrees z chooses) rest
+
+-- one that may be absent itself: if it is there, the other part is there, and chooses it
+pub optional_choice_then : {S T : Type 0} {C : S → T → Type 0} {P : T → Type 0} {known : List Known} {tag : ℕ} {name : List ℕ} {s : Form} {fs : Fields} {ws vs : Values} {y : Option Head} (f g : T → Value) (h : Option T → Head) (o : Option T) (text : S → List ℕ) (m : Option S) → said known tag ≡ option_map text m → is_field_of name (option s) (h o) ≡ true → is_named name y ≡ false → ((z : S) (t : T) → C z t → P t → PartAfter tag (text z) s (f t) (h (Some t)) (g t)) → ((t : T) → is_run (g t) ≡ false) → IfSome o (λ t. IsSomeAnd m (λ z. C z t)) → IfSome o P → PartsAgree (left known (h o).tag (option s)) fs ws y vs → PartsAgree known (field name (option s) fs) (joined (told.optional (option_map f o)) ws) (head_or o (h o) y) (value (optional g o) vs)
+optional_choice_then {known = all} {s = s} f g h None text m known named other agrees single chooses is rest = record { kept = rest.kept; agrees = λ k found. absent_agrees other (rest.agrees k (finds_less all k (h None).tag (option s) found)) }
+optional_choice_then f g h (Some t) text None known named other agrees single chooses is rest = absurd chooses
+optional_choice_then f g h (Some t) text (Some z) known named other agrees single chooses is rest =
+    let p = agrees z t chooses is in
+    choice_then known named (single t) record { kept = p.kept; agrees = λ k found. option_agrees (p.agrees k found) } rest
+
+-- the type of the item of what may be absent
+abbrev pub typ_or : {T : Type 0} → (T → TtlvType) → Option T → TtlvType
+typ_or typ None = Structure
+typ_or typ (Some t) = typ t
+
+-- ---- choices that come several times
+
+-- where this text was kept last under a tag each of these agrees, and none is a sequence itself
+abbrev pub EachAfter : {T : Type 0} → ℕ → List ℕ → (T → Value) → (T → Value) → Form → Head → List T → Type 0
+EachAfter tag text f g s x [] = Unit {0}
+EachAfter tag text f g s x (t ∷ ts) = PartAfter tag text s (f t) x (g t) × (is_run (g t) ≡ false) × EachAfter tag text f g s x ts
+
+each_after : {T : Type 0} {C P : T → Type 0} {tag : ℕ} {text : List ℕ} {f g : T → Value} {s : Form} {x : Head} → ((t : T) → C t → P t → PartAfter tag text s (f t) x (g t)) → ((t : T) → is_run (g t) ≡ false) → (ts : List T) → AllByRecursion C ts → AllByRecursion P ts → EachAfter tag text f g s x ts
+each_after agrees single [] chooses all = tt
+each_after agrees single (t ∷ ts) chooses all = (agrees t chooses.0 all.0, single t, each_after agrees single ts chooses.1 all.1)
+
+-- what is kept after one or more of them
+abbrev pub run_after_kept : {T : Type 0} (tag : ℕ) (text : List ℕ) (f g : T → Value) (s : Form) (x : Head) (t : T) (ts : List T) → EachAfter tag text f g s x (t ∷ ts) → List Keep → List Keep
+run_after_kept tag text f g s x t [] e k = e.0.kept k
+run_after_kept tag text f g s x t (u ∷ us) e k = run_after_kept tag text f g s x u us e.2 (e.0.kept k)
+
+-- none of them keeps another text under the tag
+run_after : {T : Type 0} (tag : ℕ) (text : List ℕ) (f g : T → Value) (s : Form) (x : Head) (t : T) (ts : List T) (e : EachAfter tag text f g s x (t ∷ ts)) (k : List Keep) → spares tag x.tag s ≡ true → last k tag ≡ Some text → RunAgrees s k Nothing (values_of (map f (t ∷ ts))) x (values_of (map g (t ∷ ts))) (run_after_kept tag text f g s x t ts e k)
+run_after tag text f g s x t [] e k spare found = last_agrees (e.0.agrees k found)
+run_after tag text f g s x t (u ∷ us) e k spare found =
+    let first = e.0.agrees k found in
+    let parts = and_parts (is_struct s || not (x.tag == tag)) (is_without tag s) spare in
+    next_agrees first e.1 (run_after tag text f g s x u us e.2 (e.0.kept k) spare (spared tag first parts.0 parts.1 ∙ found))
+
+-- a sequence of one or more that are chosen by a text that is known
+sequence_after : {T : Type 0} {C P : T → Type 0} {tag : ℕ} {text : List ℕ} {s : Form} {x : Head} (f g : T → Value) (t : T) (ts : List T) → spares tag x.tag s ≡ true → ((u : T) → C u → P u → PartAfter tag text s (f u) x (g u)) → ((u : T) → is_run (g u) ≡ false) → All C (t ∷ ts) → All P (t ∷ ts) → PartAfter tag text (seq s) (sequence f (t ∷ ts)) x (sequence g (t ∷ ts))
+sequence_after {C = C} {P = P} {tag = tag} {text = text} {s = s} {x = x} f g t ts spare agrees single chooses all =
+    let e : EachAfter tag text f g s x (t ∷ ts) = each_after agrees single (t ∷ ts) (recursion_from_All C (t ∷ ts) chooses) (recursion_from_All P (t ∷ ts) all) in
+    record { kept = run_after_kept tag text f g s x t ts e; agrees = λ k found. seq_agrees (run_after tag text f g s x t ts e k spare found) }
+
+-- a field of such a sequence: what follows isn't like its items
+run_choice_then : {known : List Known} {tag : ℕ} {text : List ℕ} {name : List ℕ} {s : Form} {fs : Fields} {w v : Value} {ws vs : Values} {x : Head} {y : Option Head} → said known tag ≡ Some text → is_field_of name s x ≡ true → is_alike x y ≡ false → PartAfter tag text s w x v → PartsAgree (left known x.tag s) fs ws y vs → PartsAgree known (field name s fs) (value w ws) (Some x) (value v vs)
+run_choice_then {known = all} {tag = tag} {text = text} {v = v} {x = x} {y = y} known named other p rest =
+    record {
+      kept = λ k. rest.kept (p.kept k);
+      agrees = λ k found. let a = p.agrees k (found tag text known) in field_agrees named (run_ends v x y other) a (rest.agrees (p.kept k) (finds_left all a found));
+    }
+
+-- one or more that are chosen by a text that is known, also the last part; none keeps another under its tag
+pub several_choice_then : {T : Type 0} {C P : T → Type 0} {known : List Known} {tag : ℕ} {text : List ℕ} {name : List ℕ} {s : Form} {fs : Fields} {ws vs : Values} {y : Option Head} (f g : T → Value) (x : Head) (ts : List T) → said known tag ≡ Some text → spares tag x.tag s ≡ true → is_field_of name (seq s) x ≡ true → is_named name y ≡ false → ((t : T) → C t → P t → PartAfter tag text s (f t) x (g t)) → ((t : T) → is_run (g t) ≡ false) → All C ts → 0 < length ts → All P ts → PartsAgree (left known x.tag (seq s)) fs ws y vs → PartsAgree known (field name (seq s) fs) (value (sequence f ts) ws) (Some x) (value (sequence g ts) vs)
+several_choice_then f g x [] known spare named other agrees single chooses filled all rest = absurd (omega arith)
+several_choice_then {name = name} {s = s} {y = y} f g x (t ∷ ts) known spare named other agrees single chooses filled all rest =
+    run_choice_then known named (unlike name (seq s) x y named other) (sequence_after f g t ts spare agrees single chooses all) rest
+
+-- the same of any number of them
+pub any_choice_then : {T : Type 0} {C P : T → Type 0} {known : List Known} {tag : ℕ} {text : List ℕ} {name : List ℕ} {s : Form} {fs : Fields} {ws vs : Values} {y : Option Head} (f g : T → Value) (x : Head) (ts : List T) → said known tag ≡ Some text → spares tag x.tag s ≡ true → is_field_of name (option (seq s)) x ≡ true → is_named name y ≡ false → ((t : T) → C t → P t → PartAfter tag text s (f t) x (g t)) → ((t : T) → is_run (g t) ≡ false) → All C ts → All P ts → PartsAgree (left known x.tag (option (seq s))) fs ws y vs → PartsAgree known (field name (option (seq s)) fs) (value (sequence f ts) ws) (head_or (first_of ts) x y) (value (optional_sequence g ts) vs)
+any_choice_then {known = before} {s = s} f g x [] known spare named other agrees single chooses all rest =
+    record { kept = rest.kept; agrees = λ k found. nothing_agrees (absent_agrees other (rest.agrees k (finds_less before k x.tag (option (seq s)) found))) }
+any_choice_then {name = name} {s = s} {y = y} f g x (t ∷ ts) known spare named other agrees single chooses all rest =
+    let p = sequence_after f g t ts spare agrees single chooses all in
+    run_choice_then known named (unlike name (seq s) x y named other) record { kept = p.kept; agrees = λ k found. option_agrees (p.agrees k found) } rest
+
+-- ---- what is encoded under another tag
+
+-- a leaf in its own newtype
 pub overridden_leaf : {name inner : List ℕ} {s : Form} {w u v : Value} {h : Held} {t : ℕ} → Wraps Nothing w h (newtype_value name u) → transparent_name name ≡ Some inner → take_tag h inner ≡ Some t → ComesBack s u v → PartAgrees (newtype name s) w record { tag = t; typ = leaf_type u } (newtype_value name v)
 overridden_leaf wraps own takes back = record { kept = _; agrees = λ k. inner_agrees wraps (newtype_agrees (inner_agrees (newtype_wraps own takes) (leaf_agrees refl back))) }
 
--- an Enumeration in such a wrapper
+-- an Enumeration
 pub overridden_enumeration : {own tag name : List ℕ} {vs : Variants} {w : Value} {h : Held} {t : ℕ} → Wraps Nothing w h (unit_variant_value tag name) → take_tag h tag ≡ Some t → IsUnit vs name → PartAgrees (enum own vs) w record { tag = t; typ = Enumeration } (unit_variant_value own name)
 overridden_enumeration wraps takes u = wrapped_unit wraps (unit_is_numbered takes u.numbered) u.text u.units
+
+no_leaf : {name : List ℕ} {fs : Fields} {deny : Boole} {w v : Value} → ComesBack (struct name fs deny) w v → ⊥
+no_leaf c = elim c [ ]
+
+no_wrapper : {name : List ℕ} {h i : Held} {ws : Values} {u : Value} → Wraps h (struct_value name ws) i u → ⊥
+no_wrapper wraps = elim wraps [ ]
+
+-- a structure takes the tag that is held
+held_structure : {own name : List ℕ} {fs : Fields} {deny : Boole} {k k' : List Keep} {h : Held} {ws : Values} {v : Value} {x : Head} → take_tag h name ≡ Some x.tag → Agrees (struct own fs deny) k Nothing (struct_value name ws) x v k' → Agrees (struct own fs deny) k h (struct_value name ws) x v k'
+held_structure takes (leaf_agrees held c) = absurd (no_leaf c)
+held_structure takes (inner_agrees wraps a) = absurd (no_wrapper wraps)
+held_structure takes (struct_agrees named (struct_encloses own) parts) = struct_agrees named (struct_encloses takes) parts
+
+-- so does one that is encoded as a newtype which is no wrapper
+held_newtype : {own name : List ℕ} {fs : Fields} {deny : Boole} {k k' : List Keep} {h : Held} {w v : Value} {x : Head} → transparent_name name ≡ None → take_tag h name ≡ Some x.tag → Agrees (struct own fs deny) k Nothing (newtype_value name w) x v k' → Agrees (struct own fs deny) k h (newtype_value name w) x v k'
+held_newtype plain takes (leaf_agrees held c) = absurd (no_leaf c)
+held_newtype plain takes (inner_agrees (newtype_wraps named own) a) = absurd (none-some _ (sym plain ∙ named))
+held_newtype plain takes (struct_agrees named (newtype_encloses other own) parts) = struct_agrees named (newtype_encloses plain takes) parts
+
+-- a structure in a wrapper of its own tag
+pub overridden_structure : {own name : List ℕ} {fs : Fields} {deny : Boole} {w : Value} {ws : Values} {v : Value} {h : Held} {x : Head} → Wraps Nothing w h (struct_value name ws) → take_tag h name ≡ Some x.tag → PartAgrees (struct own fs deny) (struct_value name ws) x v → PartAgrees (struct own fs deny) w x v
+overridden_structure wraps takes p = record { kept = p.kept; agrees = λ k. inner_agrees wraps (held_structure takes (p.agrees k)) }
+
+-- one that is encoded as a newtype
+pub overridden_newtype : {own name : List ℕ} {fs : Fields} {deny : Boole} {w u v : Value} {h : Held} {x : Head} → Wraps Nothing w h (newtype_value name u) → transparent_name name ≡ None → take_tag h name ≡ Some x.tag → PartAgrees (struct own fs deny) (newtype_value name u) x v → PartAgrees (struct own fs deny) w x v
+overridden_newtype wraps plain takes p = record { kept = p.kept; agrees = λ k. inner_agrees wraps (held_newtype plain takes (p.agrees k)) }

@@ -12,7 +12,7 @@ use Rattle.kmip_ttlv_base.specs.Forms.{int32, newtype}
 use Rattle.kmip_ttlv_base.specs.Values.{Value, i32_value, unit_variant_value}
 use Rattle.kmip_ttlv_laws.specs.Agreements.{Head, absent_agrees, field_agrees, first_variant, inner_agrees, later_variant, leaf_agrees, newtype_wraps, no_field_agrees, nothing_agrees, option_agrees, struct_agrees, struct_encloses, unit_is_numbered, variant_wraps}
 use Rattle.kmip_ttlv_laws.proofs.MessageParts.{PartAgrees, a_structure, any_then, each_agrees, first_of, last_then, leaf_part, message, neither_named, newtype_structure, nothing_left, sequence_part, structure, wrapped_leaf, wrapped_unit}
-use Rattle.kmip_ttlv_laws.proofs.MessageRules.{by_rules, in_any_case, kept_then, rule_then, wrapped_text_kept}
+use Rattle.kmip_ttlv_laws.proofs.MessageRules.{choice_then, chosen_after, kept_then, wrapped_text_kept}
 use Rattle.kmip_ttlv_laws.specs.Returns.{as_int32}
 use Rattle.kmip_ttlv_laws.specs.WorkedAgreements.{AttributesAgree, OptionsAgree, SequencesAgree, attribute_form, number_under, written_attribute, read_attribute}
 
@@ -50,19 +50,19 @@ options_agree =
 algorithm_agrees : PartAgrees attribute_form (written_attribute (codes "Cryptographic Algorithm") (unit_variant_value (codes "420028") (codes "0x00000003"))) (a_structure 0x420008) (read_attribute (codes "Cryptographic Algorithm") (codes "if 0x42000A==Cryptographic Algorithm") (unit_variant_value (codes "algorithm") (codes "0x00000003")))
 unfolding take_tag tag_of number transparent_name override_name held_over is_wrapper rule sides equal at_least member in_brackets trim_end chars trim_start encode
 algorithm_agrees =
-    structure refl refl (by_rules (
+    structure refl refl (
     kept_then refl refl (wrapped_text_kept (newtype_wraps refl refl) refl algorithm_utf8) (
-    rule_then refl refl (λ k found. rw (found 0x42000A _ refl) refl) first_variant (in_any_case (
-    wrapped_unit (variant_wraps refl refl) (unit_is_numbered refl refl) refl (λ k. record { no_rule = refl; named = refl }))) nothing_left)))
+    choice_then {tag = 0x42000A} refl refl refl (chosen_after first_variant (λ k found. rw found refl) (
+    wrapped_unit (variant_wraps refl refl) (unit_is_numbered refl refl) refl (λ k. record { no_rule = refl; named = refl }))) nothing_left))
 
 -- one whose name chooses a number
 length_agrees : PartAgrees attribute_form (written_attribute (codes "Cryptographic Length") (i32_value (pos 128))) (a_structure 0x420008) (read_attribute (codes "Cryptographic Length") (codes "if 0x42000A in [Cryptographic Length, Cryptographic Usage Mask]") (i32_value (pos 128)))
 unfolding take_tag tag_of number transparent_name override_name held_over is_wrapper rule sides equal at_least member in_brackets trim_end chars trim_start encode
 length_agrees =
-    structure refl refl (by_rules (
+    structure refl refl (
     kept_then refl refl (wrapped_text_kept (newtype_wraps refl refl) refl length_utf8) (
-    rule_then refl refl (λ k found. rw (found 0x42000A _ refl) refl) (later_variant first_variant) (in_any_case (
-    wrapped_leaf (variant_wraps refl refl) refl (as_int32 bits_fit))) nothing_left)))
+    choice_then {tag = 0x42000A} refl refl refl (chosen_after (later_variant first_variant) (λ k found. rw found refl) (
+    wrapped_leaf (variant_wraps refl refl) refl (as_int32 bits_fit))) nothing_left))
 
 -- both, each as it is encoded and as it is decoded
 both : List (Value × Value)

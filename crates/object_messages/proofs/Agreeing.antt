@@ -10,10 +10,9 @@ use Rattle.kmip_ttlv_laws.proofs.MessageParts.{IsUnit, PartAgrees, a_structure, 
 use Rattle.kmip_ttlv_laws.proofs.MessageParts.{every_agrees, first_of, head_or, if_present, leaf_part, leaf_then}
 use Rattle.kmip_ttlv_laws.proofs.MessageParts.{message, neither_named, nothing_left, optional_then, part_then, present}
 use Rattle.kmip_ttlv_laws.proofs.MessageParts.{several_then, structure, text_is_utf8}
-use Rattle.kmip_ttlv_laws.proofs.MessageRules.{PartAfter, by_rules, choice_then, chosen_after, enumeration_kept}
-use Rattle.kmip_ttlv_laws.proofs.MessageRules.{kept_then, none_kept, optional_spared_then, other_kept}
-use Rattle.kmip_ttlv_laws.proofs.MessageRules.{overridden_enumeration, overridden_leaf, spared_then, text_kept}
-use Rattle.kmip_ttlv_laws.proofs.MessageRules.{unit_kept}
+use Rattle.kmip_ttlv_laws.proofs.MessageRules.{PartAfter, choice_then, chosen_after, enumeration_kept, if_any}
+use Rattle.kmip_ttlv_laws.proofs.MessageRules.{kept_then, optional_choice_then, optional_kept_then}
+use Rattle.kmip_ttlv_laws.proofs.MessageRules.{overridden_enumeration, overridden_leaf, overridden_structure, text_kept}
 use Rattle.std.proofs.Common.{ap, inl, inr, refl, ◌∙◌}
 use Rattle.std.specs.Prelude.{List, None, Some, codes, false, string_bytes, ℕ, ◌≡◌}
 use Rattle.std.specs.Str.{chars, trim_end, trim_start}
@@ -48,6 +47,14 @@ use Rattle.object_messages.specs.Soundness.{IsAttributeDate}
 use Rattle.object_messages.specs.declared.attribute.AttributeDate.{AttributeDate}
 use Rattle.object_messages.specs.Attributes.{attribute_text_form, attribute_text_value}
 use Rattle.object_messages.specs.declared.attribute.AttributeText.{AttributeText}
+use Rattle.object_messages.specs.Attributes.{name_type_form, written_name_type, read_name_type, name_type_number}
+use Rattle.object_messages.specs.Soundness.{IsNameType}
+use Rattle.object_messages.specs.declared.attribute.NameType.{NameType}
+use Rattle.object_messages.specs.Attributes.{name_text_form, name_text_value}
+use Rattle.object_messages.specs.declared.attribute.NameText.{NameText}
+use Rattle.object_messages.specs.Attributes.{name_form, written_name, read_name, returned_name}
+use Rattle.object_messages.specs.Soundness.{IsName}
+use Rattle.object_messages.specs.declared.attribute.Name.{Name}
 use Rattle.object_messages.specs.Attributes.{attribute_value_form, written_attribute_value, read_attribute_value, returned_attribute_value, ChoosesAttributeValue, attribute_value_content}
 use Rattle.object_messages.specs.Soundness.{IsAttributeValue}
 use Rattle.object_messages.specs.declared.attribute.AttributeValue.{AttributeValue}
@@ -128,6 +135,12 @@ use Rattle.object_messages.specs.Responses.{response_payload_form, written_respo
 use Rattle.object_messages.specs.Soundness.{IsResponsePayload}
 use Rattle.object_messages.specs.declared.response.ResponsePayload.{ResponsePayload}
 use Rattle.object_messages.specs.declared.response.ResponsePayload.TheVariants as response_payload
+use Rattle.object_messages.specs.Responses.{result_status_form, written_result_status, read_result_status, result_status_number}
+use Rattle.object_messages.specs.Soundness.{IsResultStatus}
+use Rattle.object_messages.specs.declared.response.ResultStatus.{ResultStatus}
+use Rattle.object_messages.specs.Responses.{result_reason_form, written_result_reason, read_result_reason, result_reason_number}
+use Rattle.object_messages.specs.Soundness.{IsResultReason}
+use Rattle.object_messages.specs.declared.response.ResultReason.{ResultReason}
 use Rattle.object_messages.specs.Responses.{response_item_form, written_response_item, read_response_item, returned_response_item}
 use Rattle.object_messages.specs.Soundness.{IsResponseItem}
 use Rattle.object_messages.specs.declared.response.ResponseItem.{ResponseItem}
@@ -209,6 +222,31 @@ unfolding take_tag tag_of number transparent_name
 attribute_text_agrees x =
     leaf_part refl refl (as_text (text_is_utf8 x.text))
 
+pub name_type_agrees : (x : NameType) → IsNameType x
+    → PartAgrees name_type_form
+    (written_name_type x) record { tag = 0x420054; typ = types.Enumeration }
+    (written_name_type x)
+unfolding take_tag tag_of number transparent_name written_name_type
+name_type_agrees x is = leaf_part refl refl (as_number is)
+
+pub name_text_agrees : {A : Type 0} (x : NameText A)
+    → PartAgrees name_text_form
+    (name_text_value x) record { tag = 0x420055; typ = types.TextString }
+    (name_text_value x)
+unfolding take_tag tag_of number transparent_name
+name_text_agrees x =
+    leaf_part refl refl (as_text (text_is_utf8 x.text))
+
+pub name_agrees : {A : Type 0} (x : Name A) → IsName x
+    → PartAgrees name_form
+    (written_name x) (a_structure 0x42000B)
+    (returned_name x)
+unfolding take_tag tag_of number transparent_name rule written_name returned_name written_name_type
+name_agrees x is =
+    structure refl refl (
+    leaf_then refl refl refl refl (as_text (text_is_utf8 x.text.text)) (
+    part_then refl refl (name_type_agrees x.name_type is) nothing_left))
+
 -- the type of the item of a `AttributeValue`
 abbrev pub attribute_value_typ : {A : Type 0} → AttributeValue A → TtlvType
 attribute_value_typ (attribute_value.Type x) = types.Enumeration
@@ -217,21 +255,23 @@ attribute_value_typ (attribute_value.State x) = types.Enumeration
 attribute_value_typ (attribute_value.Number x) = types.Integer
 attribute_value_typ (attribute_value.Date x) = types.DateTime
 attribute_value_typ (attribute_value.Text x) = types.TextString
+attribute_value_typ (attribute_value.Name x) = types.Structure
 
 pub attribute_value_single : {A : Type 0} (x : AttributeValue A) → is_run (returned_attribute_value x) ≡ false
-unfolding attribute_value_content written_attribute_value returned_attribute_value written_object_type written_cryptographic_algorithm object_state_value
+unfolding attribute_value_content written_attribute_value returned_attribute_value written_object_type written_cryptographic_algorithm object_state_value written_name returned_name
 attribute_value_single (attribute_value.Type x) = refl
 attribute_value_single (attribute_value.Algorithm x) = refl
 attribute_value_single (attribute_value.State x) = refl
 attribute_value_single (attribute_value.Number x) = refl
 attribute_value_single (attribute_value.Date x) = refl
 attribute_value_single (attribute_value.Text x) = refl
+attribute_value_single (attribute_value.Name x) = refl
 
 pub attribute_value_agrees : {A : Type 0} (said : List ℕ) (x : AttributeValue A) → ChoosesAttributeValue said x → IsAttributeValue x
     → PartAfter 0x42000A said attribute_value_form
     (written_attribute_value x) record { tag = 0x42000B; typ = attribute_value_typ x }
     (returned_attribute_value x)
-unfolding take_tag tag_of number transparent_name override_name held_over is_wrapper rule sides equal at_least member in_brackets trim_end chars trim_start encode attribute_value_content written_attribute_value returned_attribute_value written_object_type written_cryptographic_algorithm object_state_value
+unfolding take_tag tag_of number transparent_name override_name held_over is_wrapper rule sides equal at_least member in_brackets trim_end chars trim_start encode attribute_value_content written_attribute_value returned_attribute_value written_object_type written_cryptographic_algorithm object_state_value written_name returned_name
 attribute_value_agrees said (attribute_value.Type x) chooses is =
     chosen_after first_variant (λ k found. rw (found ∙ ap Some chooses) refl) (overridden_leaf (variant_wraps refl refl) refl refl (as_number is))
 attribute_value_agrees said (attribute_value.Algorithm x) chooses is =
@@ -254,6 +294,8 @@ attribute_value_agrees said (attribute_value.Text x) (inr (inl chooses)) is =
     chosen_after (later_variant (later_variant (later_variant (later_variant (later_variant first_variant))))) (λ k found. rw (found ∙ ap Some chooses) refl) (overridden_leaf (variant_wraps refl refl) refl refl (as_text (text_is_utf8 x.text)))
 attribute_value_agrees said (attribute_value.Text x) (inr (inr chooses)) is =
     chosen_after (later_variant (later_variant (later_variant (later_variant (later_variant first_variant))))) (λ k found. rw (found ∙ ap Some chooses) refl) (overridden_leaf (variant_wraps refl refl) refl refl (as_text (text_is_utf8 x.text)))
+attribute_value_agrees said (attribute_value.Name x) chooses is =
+    chosen_after (later_variant (later_variant (later_variant (later_variant (later_variant (later_variant first_variant)))))) (λ k found. rw (found ∙ ap Some chooses) refl) (overridden_structure (variant_wraps refl refl) refl (name_agrees x is))
 
 pub attribute_agrees : {A : Type 0} (x : Attribute A) → IsAttribute x
     → PartAgrees attribute_form
@@ -262,9 +304,9 @@ pub attribute_agrees : {A : Type 0} (x : Attribute A) → IsAttribute x
 unfolding take_tag tag_of number transparent_name rule written_attribute returned_attribute
 attribute_agrees x is =
     structure refl refl (
-    by_rules (kept_then refl refl (text_kept refl refl (text_is_utf8 x.name.text)) (
-    optional_spared_then attribute_index_value attribute_index_value record { tag = 0x420009; typ = types.Integer } x.index refl refl (λ y is. (none_kept refl refl (λ k. refl) (as_int32 is))) (λ y. refl) is.0 (
-    choice_then refl refl (attribute_value_single x.value) (attribute_value_agrees (string_bytes x.name.text) x.value is.1 is.2) nothing_left))))
+    kept_then refl refl (text_kept refl refl (text_is_utf8 x.name.text)) (
+    optional_then attribute_index_value attribute_index_value record { tag = 0x420009; typ = types.Integer } x.index refl refl (if_present attribute_index_agrees (λ y. refl) x.index is.0) (
+    choice_then refl refl (attribute_value_single x.value) (attribute_value_agrees (string_bytes x.name.text) x.value is.1 is.2) nothing_left)))
 
 pub key_format_type_agrees : (x : KeyFormatType) → IsKeyFormatType x
     → PartAgrees key_format_type_form
@@ -445,8 +487,8 @@ pub request_item_agrees : {A : Type 0} (x : RequestItem A) → IsRequestItem x
 unfolding take_tag tag_of number transparent_name rule written_request_item returned_request_item operation_value
 request_item_agrees x is =
     structure refl refl (
-    by_rules (kept_then refl refl (enumeration_kept refl (operation_is_unit x.operation)) (
-    choice_then refl refl (request_payload_single x.payload) (request_payload_agrees (operation_number x.operation) x.payload is.0 is.1) nothing_left)))
+    kept_then refl refl (enumeration_kept refl (operation_is_unit x.operation)) (
+    choice_then refl refl (request_payload_single x.payload) (request_payload_agrees (operation_number x.operation) x.payload is.0 is.1) nothing_left))
 
 pub request_agrees : {A : Type 0} (x : Request A) → IsRequest x
     → MessageAgrees request_form
@@ -525,16 +567,32 @@ response_payload_agrees said (response_payload.GetAttributes x) chooses is =
 response_payload_agrees said (response_payload.Query x) chooses is =
     chosen_after (later_variant (later_variant (later_variant first_variant))) (λ k found. rw (found ∙ ap Some chooses) refl) (answered_agrees x is)
 
+pub result_status_agrees : (x : ResultStatus) → IsResultStatus x
+    → PartAgrees result_status_form
+    (written_result_status x) record { tag = 0x42007F; typ = types.Enumeration }
+    (written_result_status x)
+unfolding take_tag tag_of number transparent_name written_result_status
+result_status_agrees x is = leaf_part refl refl (as_number is)
+
+pub result_reason_agrees : (x : ResultReason) → IsResultReason x
+    → PartAgrees result_reason_form
+    (written_result_reason x) record { tag = 0x42007E; typ = types.Enumeration }
+    (written_result_reason x)
+unfolding take_tag tag_of number transparent_name written_result_reason
+result_reason_agrees x is = leaf_part refl refl (as_number is)
+
 pub response_item_agrees : {A : Type 0} (x : ResponseItem A) → IsResponseItem x
     → PartAgrees response_item_form
     (written_response_item x) (a_structure 0x42000F)
     (returned_response_item x)
-unfolding take_tag tag_of number transparent_name rule written_response_item returned_response_item operation_value
+unfolding take_tag tag_of number transparent_name rule written_response_item returned_response_item operation_value written_result_status written_result_reason
 response_item_agrees x is =
     structure refl refl (
-    by_rules (kept_then refl refl (enumeration_kept refl (operation_is_unit x.operation)) (
-    spared_then refl refl (other_kept (unit_kept {n = 0x00000000} refl refl refl (λ k. record { no_rule = refl; named = refl })) refl) (
-    choice_then refl refl (response_payload_single x.payload) (response_payload_agrees (operation_number x.operation) x.payload is.0 is.1) nothing_left))))
+    optional_kept_then operation_value operation_value record { tag = 0x42005C; typ = types.Enumeration } operation_number x.operation refl refl (λ y is. (enumeration_kept refl (operation_is_unit y))) (λ y. refl) (if_any x.operation) (
+    part_then refl refl (result_status_agrees x.result_status is.0) (
+    optional_then written_result_reason written_result_reason record { tag = 0x42007E; typ = types.Enumeration } x.result_reason refl (neither_named (codes "0x42007E") x.result_message record { tag = 0x42007D; typ = types.TextString } (head_or x.payload (a_structure 0x42007C) None) refl (neither_named (codes "0x42007E") x.payload (a_structure 0x42007C) None refl refl)) (if_present result_reason_agrees (λ y. refl) x.result_reason is.1) (
+    optional_then (λ y. newtype_value (codes "Transparent:0x42007D") (text_value (string_bytes y))) (λ y. newtype_value (codes "Transparent:0x42007D") (text_value (string_bytes y))) record { tag = 0x42007D; typ = types.TextString } x.result_message refl (neither_named (codes "0x42007D") x.payload (a_structure 0x42007C) None refl refl) (present (λ y. leaf_part refl refl (as_text (text_is_utf8 y))) (λ y. refl) x.result_message) (
+    optional_choice_then {C = λ z y. ChoosesResponsePayload (operation_number z) y} written_response_payload returned_response_payload (λ o. (a_structure 0x42007C)) x.payload operation_number x.operation refl refl refl (λ z y chooses is. response_payload_agrees (operation_number z) y chooses is) response_payload_single is.2 is.3 nothing_left)))))
 
 pub response_agrees : {A : Type 0} (x : Response A) → IsResponse x
     → MessageAgrees response_form

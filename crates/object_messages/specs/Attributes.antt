@@ -20,6 +20,10 @@ use Rattle.object_messages.specs.declared.attribute.AttributeIndex.{AttributeInd
 use Rattle.object_messages.specs.declared.attribute.AttributeNumber.{AttributeNumber}
 use Rattle.object_messages.specs.declared.attribute.AttributeDate.{AttributeDate}
 use Rattle.object_messages.specs.declared.attribute.AttributeText.{AttributeText}
+use Rattle.object_messages.specs.declared.attribute.NameType.{NameType}
+use Rattle.object_messages.specs.declared.attribute.NameType.TheVariants as name_type
+use Rattle.object_messages.specs.declared.attribute.NameText.{NameText}
+use Rattle.object_messages.specs.declared.attribute.Name.{Name}
 use Rattle.object_messages.specs.declared.attribute.AttributeValue.{AttributeValue}
 use Rattle.object_messages.specs.declared.attribute.AttributeValue.TheVariants as attribute_value
 use Rattle.object_messages.specs.declared.attribute.Attribute.{Attribute}
@@ -155,6 +159,72 @@ attribute_text_form = (newtype (codes "Transparent:0x42000B") text)
 abbrev pub attribute_text_value : {A : Type 0} → AttributeText A → Value
 attribute_text_value x = newtype_value (codes "Transparent:0x42000B") (text_value (string_bytes x.text))
 
+-- the form of a `NameType`: any number
+abbrev pub name_type_form : Form
+name_type_form = newtype (codes "Transparent:0x420054") any_number
+
+-- the numbers that have a name
+abbrev pub name_type_numbers : List ℕ
+name_type_numbers =
+    0x00000001
+    ∷ 0x00000002
+    ∷ []
+
+-- the number of a `NameType`
+abbrev pub name_type_number : NameType → ℕ
+name_type_number name_type.Text = 0x00000001
+name_type_number name_type.Uri = 0x00000002
+name_type_number (name_type.Other n) = n
+
+-- the number that a `NameType` is read from; `Other` with a number that has a name is read from none
+abbrev pub name_type_read_number : NameType → Option ℕ
+name_type_read_number (name_type.Other n) = other_number name_type_numbers n
+name_type_read_number x = Some (name_type_number x)
+
+-- what is written of a `NameType`
+unfoldable pub written_name_type : NameType → Value
+written_name_type x = newtype_value (codes "Transparent:0x420054") (u32_value (name_type_number x))
+
+-- what is read of a `NameType`
+unfoldable pub read_name_type : NameType → Value
+read_name_type x = newtype_value (codes "Transparent:0x420054") (numbered_value (name_type_read_number x))
+
+-- the form of a `NameText`
+abbrev pub name_text_form : Form
+name_text_form = (newtype (codes "Transparent:0x420055") text)
+
+-- the value of a `NameText`
+abbrev pub name_text_value : {A : Type 0} → NameText A → Value
+name_text_value x = newtype_value (codes "Transparent:0x420055") (text_value (string_bytes x.text))
+
+-- the form of a `Name`
+abbrev pub name_form : Form
+name_form =
+    struct (codes "0x42000B") (
+    field (codes "0x420055") name_text_form (
+    field (codes "0x420054") name_type_form no_fields)) false
+
+-- what is written of a `Name`
+unfoldable pub written_name : {A : Type 0} → Name A → Value
+written_name x =
+    struct_value (codes "0x42000B") (
+    value (name_text_value x.text) (
+    value (written_name_type x.name_type) no_values))
+
+-- what is read of a `Name`
+unfoldable pub read_name : {A : Type 0} → Name A → Value
+read_name x =
+    struct_value (codes "0x42000B") (
+    value (name_text_value x.text) (
+    value (read_name_type x.name_type) no_values))
+
+-- what is read of the bytes of a `Name`
+unfoldable pub returned_name : {A : Type 0} → Name A → Value
+returned_name x =
+    struct_value (codes "0x42000B") (
+    value (name_text_value x.text) (
+    value (written_name_type x.name_type) no_values))
+
 -- the form of a `AttributeValue`
 abbrev pub attribute_value_form : Form
 attribute_value_form =
@@ -170,7 +240,9 @@ attribute_value_form =
     variant (codes "if 0x42000A in [Initial Date, Activation Date, Last Change Date]") (wrapped
     attribute_date_form) (
     variant (codes "if 0x42000A in [Unique Identifier, Object Group, Contact Information]") (wrapped
-    attribute_text_form) no_variants))))))
+    attribute_text_form) (
+    variant (codes "if 0x42000A==Name") (wrapped
+    name_form) no_variants)))))))
 
 -- what a `AttributeValue` holds, as it is written
 unfoldable pub attribute_value_content : {A : Type 0} → AttributeValue A → Value
@@ -186,6 +258,8 @@ attribute_value_content (attribute_value.Date x) =
     attribute_date_value x
 attribute_value_content (attribute_value.Text x) =
     attribute_text_value x
+attribute_value_content (attribute_value.Name x) =
+    written_name x
 
 -- what is written of a `AttributeValue`
 unfoldable pub written_attribute_value : {A : Type 0} → AttributeValue A → Value
@@ -218,6 +292,10 @@ read_attribute_value (attribute_value.Text x) =
     newtype_variant_value (codes "value")
     (codes "if 0x42000A in [Unique Identifier, Object Group, Contact Information]")
     (attribute_text_value x)
+read_attribute_value (attribute_value.Name x) =
+    newtype_variant_value (codes "value")
+    (codes "if 0x42000A==Name")
+    (read_name x)
 
 -- what is read of the bytes of a `AttributeValue`
 unfoldable pub returned_attribute_value : {A : Type 0} → AttributeValue A → Value
@@ -245,6 +323,10 @@ returned_attribute_value (attribute_value.Text x) =
     newtype_variant_value (codes "value")
     (codes "if 0x42000A in [Unique Identifier, Object Group, Contact Information]")
     (attribute_text_value x)
+returned_attribute_value (attribute_value.Name x) =
+    newtype_variant_value (codes "value")
+    (codes "if 0x42000A==Name")
+    (returned_name x)
 
 -- what is said, if it is the text of 42000A, chooses what is in a `AttributeValue`
 abbrev pub ChoosesAttributeValue : {A : Type 0} → List ℕ → AttributeValue A → Type 0
@@ -254,6 +336,7 @@ ChoosesAttributeValue said (attribute_value.State x) = (said ≡ codes "State")
 ChoosesAttributeValue said (attribute_value.Number x) = (said ≡ codes "Cryptographic Length") ⊎ (said ≡ codes "Cryptographic Usage Mask")
 ChoosesAttributeValue said (attribute_value.Date x) = (said ≡ codes "Initial Date") ⊎ ((said ≡ codes "Activation Date") ⊎ (said ≡ codes "Last Change Date"))
 ChoosesAttributeValue said (attribute_value.Text x) = (said ≡ codes "Unique Identifier") ⊎ ((said ≡ codes "Object Group") ⊎ (said ≡ codes "Contact Information"))
+ChoosesAttributeValue said (attribute_value.Name x) = (said ≡ codes "Name")
 
 -- the form of a `Attribute`
 abbrev pub attribute_form : Form

@@ -1,10 +1,10 @@
 -- Written by codegen from types.table: change that, and run codegen/codegen.
 -- Forms and values of the types in `response`.
 use Rattle.kmip_ttlv.specs.Forms.{Form, any_number, enum, field, newtype, no_fields, no_variants, option, seq, struct}
-use Rattle.kmip_ttlv.specs.Forms.{text, unit, variant, wrapped}
+use Rattle.kmip_ttlv.specs.Forms.{text, variant, wrapped}
 use Rattle.kmip_ttlv.specs.MessageParts.{numbered_value, optional, optional_sequence, other_number, sequence}
 use Rattle.kmip_ttlv.specs.Values.{Value, newtype_value, newtype_variant_value, no_values, struct_value, text_value}
-use Rattle.kmip_ttlv.specs.Values.{u32_value, unit_variant_value, value}
+use Rattle.kmip_ttlv.specs.Values.{u32_value, value}
 use Rattle.kmip_ttlv.specs.Visits.{joined}
 use Rattle.std.specs.Prelude.{List, Option, Some, [], codes, false, option_map, string_bytes, ℕ, ◌∷◌, ◌≡◌}
 use Rattle.kmip_ttlv.specs.Visits as told
@@ -16,6 +16,10 @@ use Rattle.object_messages.specs.declared.response.AnyOperation.TheVariants as a
 use Rattle.object_messages.specs.declared.response.Answered.{Answered}
 use Rattle.object_messages.specs.declared.response.ResponsePayload.{ResponsePayload}
 use Rattle.object_messages.specs.declared.response.ResponsePayload.TheVariants as response_payload
+use Rattle.object_messages.specs.declared.response.ResultStatus.{ResultStatus}
+use Rattle.object_messages.specs.declared.response.ResultStatus.TheVariants as result_status
+use Rattle.object_messages.specs.declared.response.ResultReason.{ResultReason}
+use Rattle.object_messages.specs.declared.response.ResultReason.TheVariants as result_reason
 use Rattle.object_messages.specs.declared.response.ResponseItem.{ResponseItem}
 use Rattle.object_messages.specs.declared.response.Response.{Response}
 use Rattle.get_messages.specs.Headers.{response_header_form, response_header_value}
@@ -224,37 +228,114 @@ ChoosesResponsePayload said (response_payload.Locate x) = (said ≡ codes "0x000
 ChoosesResponsePayload said (response_payload.GetAttributes x) = (said ≡ codes "0x0000000B")
 ChoosesResponsePayload said (response_payload.Query x) = (said ≡ codes "0x00000018")
 
+-- the form of a `ResultStatus`: any number
+abbrev pub result_status_form : Form
+result_status_form = newtype (codes "Transparent:0x42007F") any_number
+
+-- the numbers that have a name
+abbrev pub result_status_numbers : List ℕ
+result_status_numbers =
+    0x00000000
+    ∷ 0x00000001
+    ∷ 0x00000002
+    ∷ 0x00000003
+    ∷ []
+
+-- the number of a `ResultStatus`
+abbrev pub result_status_number : ResultStatus → ℕ
+result_status_number result_status.Success = 0x00000000
+result_status_number result_status.Failed = 0x00000001
+result_status_number result_status.Pending = 0x00000002
+result_status_number result_status.Undone = 0x00000003
+result_status_number (result_status.Other n) = n
+
+-- the number that a `ResultStatus` is read from; `Other` with a number that has a name is read from none
+abbrev pub result_status_read_number : ResultStatus → Option ℕ
+result_status_read_number (result_status.Other n) = other_number result_status_numbers n
+result_status_read_number x = Some (result_status_number x)
+
+-- what is written of a `ResultStatus`
+unfoldable pub written_result_status : ResultStatus → Value
+written_result_status x = newtype_value (codes "Transparent:0x42007F") (u32_value (result_status_number x))
+
+-- what is read of a `ResultStatus`
+unfoldable pub read_result_status : ResultStatus → Value
+read_result_status x = newtype_value (codes "Transparent:0x42007F") (numbered_value (result_status_read_number x))
+
+-- the form of a `ResultReason`: any number
+abbrev pub result_reason_form : Form
+result_reason_form = newtype (codes "Transparent:0x42007E") any_number
+
+-- the numbers that have a name
+abbrev pub result_reason_numbers : List ℕ
+result_reason_numbers =
+    0x00000001
+    ∷ 0x00000005
+    ∷ 0x00000100
+    ∷ []
+
+-- the number of a `ResultReason`
+abbrev pub result_reason_number : ResultReason → ℕ
+result_reason_number result_reason.ItemNotFound = 0x00000001
+result_reason_number result_reason.OperationNotSupported = 0x00000005
+result_reason_number result_reason.GeneralFailure = 0x00000100
+result_reason_number (result_reason.Other n) = n
+
+-- the number that a `ResultReason` is read from; `Other` with a number that has a name is read from none
+abbrev pub result_reason_read_number : ResultReason → Option ℕ
+result_reason_read_number (result_reason.Other n) = other_number result_reason_numbers n
+result_reason_read_number x = Some (result_reason_number x)
+
+-- what is written of a `ResultReason`
+unfoldable pub written_result_reason : ResultReason → Value
+written_result_reason x = newtype_value (codes "Transparent:0x42007E") (u32_value (result_reason_number x))
+
+-- what is read of a `ResultReason`
+unfoldable pub read_result_reason : ResultReason → Value
+read_result_reason x = newtype_value (codes "Transparent:0x42007E") (numbered_value (result_reason_read_number x))
+
 -- the form of a `ResponseItem`
 abbrev pub response_item_form : Form
 response_item_form =
     struct (codes "0x42000F") (
-    field (codes "0x42005C") operation_form (
-    field (codes "0x42007F") (enum (codes "0x42007F") (variant (codes "0x00000000") unit no_variants)) (
-    field (codes "0x42007C") response_payload_form no_fields))) false
+    field (codes "0x42005C") (option operation_form) (
+    field (codes "0x42007F") result_status_form (
+    field (codes "0x42007E") (option result_reason_form) (
+    field (codes "0x42007D") (option (newtype (codes "Transparent:0x42007D") text)) (
+    field (codes "0x42007C") (option response_payload_form) no_fields))))) false
 
 -- what is written of a `ResponseItem`
 unfoldable pub written_response_item : {A : Type 0} → ResponseItem A → Value
 written_response_item x =
     struct_value (codes "0x42000F") (
-    value (operation_value x.operation) (
-    value (unit_variant_value (codes "0x42007F") (codes "0x00000000")) (
-    value (written_response_payload x.payload) no_values)))
+    joined (told.optional (option_map operation_value x.operation)) (
+    value (written_result_status x.result_status) (
+    joined (told.optional (option_map written_result_reason x.result_reason)) (
+    joined (told.optional (option_map
+    (λ y. newtype_value (codes "Transparent:0x42007D") (text_value (string_bytes y))) x.result_message)) (
+    joined (told.optional (option_map written_response_payload x.payload)) no_values)))))
 
 -- what is read of a `ResponseItem`
 unfoldable pub read_response_item : {A : Type 0} → ResponseItem A → Value
 read_response_item x =
     struct_value (codes "0x42000F") (
-    value (operation_value x.operation) (
-    value (unit_variant_value (codes "0x42007F") (codes "0x00000000")) (
-    value (read_response_payload x.payload) no_values)))
+    value (optional operation_value x.operation) (
+    value (read_result_status x.result_status) (
+    value (optional read_result_reason x.result_reason) (
+    value (optional
+    (λ y. newtype_value (codes "Transparent:0x42007D") (text_value (string_bytes y))) x.result_message) (
+    value (optional read_response_payload x.payload) no_values)))))
 
 -- what is read of the bytes of a `ResponseItem`
 unfoldable pub returned_response_item : {A : Type 0} → ResponseItem A → Value
 returned_response_item x =
     struct_value (codes "0x42000F") (
-    value (operation_value x.operation) (
-    value (unit_variant_value (codes "0x42007F") (codes "0x00000000")) (
-    value (returned_response_payload x.payload) no_values)))
+    value (optional operation_value x.operation) (
+    value (written_result_status x.result_status) (
+    value (optional written_result_reason x.result_reason) (
+    value (optional
+    (λ y. newtype_value (codes "Transparent:0x42007D") (text_value (string_bytes y))) x.result_message) (
+    value (optional returned_response_payload x.payload) no_values)))))
 
 -- the form of a `Response`
 abbrev pub response_form : Form

@@ -2,12 +2,15 @@
 -- Which values of each type are sound: what was encoded of them is decoded again.
 use Rattle.kmip_ttlv.specs.MessageParts.{there}
 use Rattle.std.specs.Int.{w32, w64}
+use Rattle.std.specs.Option.{IsSomeAnd}
 use Rattle.std.specs.Prelude.{All, FitsSigned, IfSome, length, string_bytes, ◌+◌, ◌<◌, ◌^◌, ◌≡◌}
 use Rattle.object_messages.specs.declared.attribute.ObjectType.{ObjectType}
 use Rattle.object_messages.specs.declared.attribute.CryptographicAlgorithm.{CryptographicAlgorithm}
 use Rattle.object_messages.specs.declared.attribute.AttributeIndex.{AttributeIndex}
 use Rattle.object_messages.specs.declared.attribute.AttributeNumber.{AttributeNumber}
 use Rattle.object_messages.specs.declared.attribute.AttributeDate.{AttributeDate}
+use Rattle.object_messages.specs.declared.attribute.NameType.{NameType}
+use Rattle.object_messages.specs.declared.attribute.Name.{Name}
 use Rattle.object_messages.specs.declared.attribute.AttributeValue.{AttributeValue}
 use Rattle.object_messages.specs.declared.attribute.AttributeValue.TheVariants as attribute_value
 use Rattle.object_messages.specs.declared.attribute.Attribute.{Attribute}
@@ -33,13 +36,15 @@ use Rattle.object_messages.specs.declared.response.AnyOperation.{AnyOperation}
 use Rattle.object_messages.specs.declared.response.Answered.{Answered}
 use Rattle.object_messages.specs.declared.response.ResponsePayload.{ResponsePayload}
 use Rattle.object_messages.specs.declared.response.ResponsePayload.TheVariants as response_payload
+use Rattle.object_messages.specs.declared.response.ResultStatus.{ResultStatus}
+use Rattle.object_messages.specs.declared.response.ResultReason.{ResultReason}
 use Rattle.object_messages.specs.declared.response.ResponseItem.{ResponseItem}
 use Rattle.object_messages.specs.declared.response.Response.{Response}
-use Rattle.object_messages.specs.Attributes.{object_type_number, cryptographic_algorithm_number, ChoosesAttributeValue}
+use Rattle.object_messages.specs.Attributes.{object_type_number, cryptographic_algorithm_number, name_type_number, ChoosesAttributeValue}
 use Rattle.object_messages.specs.Objects.{key_format_type_number, certificate_type_number}
 use Rattle.object_messages.specs.Requests.{query_function_number, ChoosesRequestPayload, operation_number}
 use Rattle.get_messages.specs.Soundness.{IsRequestHeader, IsResponseHeader}
-use Rattle.object_messages.specs.Responses.{any_operation_number, ChoosesResponsePayload}
+use Rattle.object_messages.specs.Responses.{any_operation_number, result_status_number, result_reason_number, ChoosesResponsePayload}
 
 -- which values of `ObjectType` are sound
 abbrev pub IsObjectType : ObjectType → Type 0
@@ -66,6 +71,16 @@ abbrev pub IsAttributeDate : AttributeDate → Type 0
 IsAttributeDate x =
     FitsSigned w64 x.seconds
 
+-- which values of `NameType` are sound
+abbrev pub IsNameType : NameType → Type 0
+IsNameType x =
+    (name_type_number x < 2 ^ 32)
+
+-- which values of `Name` are sound
+abbrev pub IsName : {A : Type 0} → Name A → Type 0
+IsName x =
+    IsNameType x.name_type
+
 -- which values of `AttributeValue` are sound
 abbrev pub IsAttributeValue : {A : Type 0} → AttributeValue A → Type 0
 IsAttributeValue (attribute_value.Type x) = IsObjectType x
@@ -74,6 +89,7 @@ IsAttributeValue (attribute_value.State x) = Unit {0}
 IsAttributeValue (attribute_value.Number x) = IsAttributeNumber x
 IsAttributeValue (attribute_value.Date x) = IsAttributeDate x
 IsAttributeValue (attribute_value.Text x) = Unit {0}
+IsAttributeValue (attribute_value.Name x) = IsName x
 
 -- which values of `Attribute` are sound
 abbrev pub IsAttribute : {A : Type 0} → Attribute A → Type 0
@@ -201,11 +217,23 @@ IsResponsePayload (response_payload.Locate x) = Unit {0}
 IsResponsePayload (response_payload.GetAttributes x) = IsGotAttributes x
 IsResponsePayload (response_payload.Query x) = IsAnswered x
 
+-- which values of `ResultStatus` are sound
+abbrev pub IsResultStatus : ResultStatus → Type 0
+IsResultStatus x =
+    (result_status_number x < 2 ^ 32)
+
+-- which values of `ResultReason` are sound
+abbrev pub IsResultReason : ResultReason → Type 0
+IsResultReason x =
+    (result_reason_number x < 2 ^ 32)
+
 -- which values of `ResponseItem` are sound
 abbrev pub IsResponseItem : {A : Type 0} → ResponseItem A → Type 0
 IsResponseItem x =
-    ChoosesResponsePayload (operation_number x.operation) x.payload
-    × IsResponsePayload x.payload
+    IsResultStatus x.result_status
+    × IfSome x.result_reason IsResultReason
+    × IfSome x.payload (λ y. IsSomeAnd x.operation (λ z. ChoosesResponsePayload (operation_number z) y))
+    × IfSome x.payload IsResponsePayload
 
 -- which values of `Response` are sound
 abbrev pub IsResponse : {A : Type 0} → Response A → Type 0

@@ -7,12 +7,12 @@ ghost use Rattle.std.specs.Cmp.Rules.{comparing};
 ghost use Rattle.std.specs.Ordering.{on};
 ghost use Rattle.kmip_ttlv.specs.Spots.{fields_in, struct_fields};
 ghost use Rattle.kmip_ttlv.specs.Visits.{Tells};
-ghost use Rattle.object_messages.specs.Attributes.{object_type_form, written_object_type, read_object_type, object_type_number, object_type_read_number, cryptographic_algorithm_form, written_cryptographic_algorithm, read_cryptographic_algorithm, cryptographic_algorithm_number, cryptographic_algorithm_read_number, object_state_form, object_state_value, object_state_number, object_state_variants, unique_identifier_form, unique_identifier_value, attribute_name_form, attribute_name_value, attribute_index_form, attribute_index_value, attribute_number_form, attribute_number_value, attribute_date_form, attribute_date_value, attribute_text_form, attribute_text_value, attribute_value_form, written_attribute_value, read_attribute_value, attribute_value_content, ChoosesAttributeValue, attribute_form, written_attribute, read_attribute};
+ghost use Rattle.object_messages.specs.Attributes.{object_type_form, written_object_type, read_object_type, object_type_number, object_type_read_number, cryptographic_algorithm_form, written_cryptographic_algorithm, read_cryptographic_algorithm, cryptographic_algorithm_number, cryptographic_algorithm_read_number, object_state_form, object_state_value, object_state_number, object_state_variants, unique_identifier_form, unique_identifier_value, attribute_name_form, attribute_name_value, attribute_index_form, attribute_index_value, attribute_number_form, attribute_number_value, attribute_date_form, attribute_date_value, attribute_text_form, attribute_text_value, name_type_form, written_name_type, read_name_type, name_type_number, name_type_read_number, name_text_form, name_text_value, name_form, written_name, read_name, attribute_value_form, written_attribute_value, read_attribute_value, attribute_value_content, ChoosesAttributeValue, attribute_form, written_attribute, read_attribute};
 
 use kmip_ttlv::messages::writing;
-use kmip_ttlv::shape::{Decode, Serialize};
+use kmip_ttlv::reader;
+use kmip_ttlv::shape::Serialize;
 use kmip_ttlv::visit::Visitor;
-use kmip_ttlv::{error, reader};
 use std::alloc::{AllocError, Allocator, Global};
 
 /// What an object is (KMIP 1.0, section 9.1.3.2).
@@ -240,7 +240,7 @@ impl<A: Allocator + Copy> reader::ReadItem<A> for ObjectState {
 
 /// What names an object.
 #[derive(Drop)]
-#[derive_where(Debug, PartialEq)]
+#[derive_where(PartialEq)]
 pub struct UniqueIdentifier<A: Allocator = Global> {
     /// What it holds.
     pub text: String<A>,
@@ -250,7 +250,7 @@ impl<B: Allocator> Serialize for UniqueIdentifier<B> {
     ghost stated = { unique_identifier_value };
 
     fn visit<V: Visitor>(&self, visitor: &mut V) -> Result<(), AllocError> {
-        writing::text_string(visitor, "Transparent:0x420094", self.text.as_str())?;
+        writing::string(visitor, "Transparent:0x420094", &self.text)?;
         Ok(())
     }
 }
@@ -274,7 +274,7 @@ impl<A: Allocator + Copy> reader::ReadItem<A> for UniqueIdentifier<A> {
 
 /// What names an attribute.
 #[derive(Drop)]
-#[derive_where(Debug, PartialEq)]
+#[derive_where(PartialEq)]
 pub struct AttributeName<A: Allocator = Global> {
     /// What it holds.
     pub text: String<A>,
@@ -284,7 +284,7 @@ impl<B: Allocator> Serialize for AttributeName<B> {
     ghost stated = { attribute_name_value };
 
     fn visit<V: Visitor>(&self, visitor: &mut V) -> Result<(), AllocError> {
-        writing::text_string(visitor, "Transparent:0x42000A", self.text.as_str())?;
+        writing::string(visitor, "Transparent:0x42000A", &self.text)?;
         Ok(())
     }
 }
@@ -307,7 +307,7 @@ impl<A: Allocator + Copy> reader::ReadItem<A> for AttributeName<A> {
 }
 
 /// Which of the attributes of this name.
-#[derive(Clone, Copy, Debug, PartialEq, Eq)]
+#[derive(Clone, Copy, PartialEq, Eq)]
 pub struct AttributeIndex {
     /// What it holds.
     pub index: i32,
@@ -340,7 +340,7 @@ impl<A: Allocator + Copy> reader::ReadItem<A> for AttributeIndex {
 }
 
 /// A number of bits, or a sum of flags.
-#[derive(Clone, Copy, Debug, PartialEq, Eq)]
+#[derive(Clone, Copy, PartialEq, Eq)]
 pub struct AttributeNumber {
     /// What it holds.
     pub number: i32,
@@ -373,7 +373,7 @@ impl<A: Allocator + Copy> reader::ReadItem<A> for AttributeNumber {
 }
 
 /// A date, in seconds since 1970.
-#[derive(Clone, Copy, Debug, PartialEq, Eq)]
+#[derive(Clone, Copy, PartialEq, Eq)]
 pub struct AttributeDate {
     /// What it holds.
     pub seconds: i64,
@@ -407,7 +407,7 @@ impl<A: Allocator + Copy> reader::ReadItem<A> for AttributeDate {
 
 /// A text.
 #[derive(Drop)]
-#[derive_where(Debug, PartialEq)]
+#[derive_where(PartialEq)]
 pub struct AttributeText<A: Allocator = Global> {
     /// What it holds.
     pub text: String<A>,
@@ -417,7 +417,7 @@ impl<B: Allocator> Serialize for AttributeText<B> {
     ghost stated = { attribute_text_value };
 
     fn visit<V: Visitor>(&self, visitor: &mut V) -> Result<(), AllocError> {
-        writing::text_string(visitor, "Transparent:0x42000B", self.text.as_str())?;
+        writing::string(visitor, "Transparent:0x42000B", &self.text)?;
         Ok(())
     }
 }
@@ -439,9 +439,186 @@ impl<A: Allocator + Copy> reader::ReadItem<A> for AttributeText<A> {
     }
 }
 
+/// How a name is to be read.
+#[derive(Clone, Copy, Debug)]
+pub enum NameType {
+    /// It is any text.
+    Text,
+    /// It is a URI.
+    Uri,
+    /// Any other number. One that has a name is encoded as it is, and decoded by its name, to which it is equal.
+    Other(u32),
+}
+
+impl NameType {
+    /// Its number.
+    pub fn number(self) -> u32
+        ensures { result ≡ name_type_number self }
+    {
+        match self {
+            NameType::Text => 0x00000001,
+            NameType::Uri => 0x00000002,
+            NameType::Other(number) => number,
+        }
+    }
+
+    /// The one of a number: by its name, if it has one.
+    pub fn from_number(number: u32) -> NameType
+        ensures { name_type_read_number result ≡ Some number }
+    {
+        match number {
+            0x00000001 => NameType::Text,
+            0x00000002 => NameType::Uri,
+            _ => NameType::Other(number),
+        }
+    }
+}
+
+/// By their numbers.
+impl PartialEq for NameType {
+    ghost eq = { on name_type_number ◌==◌ };
+
+    ghost laws = { Prim.search (comparing, rules) };
+
+    fn eq(&self, other: &NameType) -> bool {
+        self.number() == other.number()
+    }
+}
+
+impl Eq for NameType {
+    ghost laws = { Prim.search (comparing, rules) };
+}
+
+impl Serialize for NameType {
+    ghost stated = { written_name_type };
+
+    #[tactic(auto, unfolding(crate::specs::Attributes::written_name_type))]
+    fn visit<V: Visitor>(&self, visitor: &mut V) -> Result<(), AllocError> {
+        writing::enumeration(visitor, "Transparent:0x420054", self.number())?;
+        Ok(())
+    }
+}
+
+impl<A: Allocator + Copy> reader::ReadItem<A> for NameType {
+    ghost form = { name_type_form };
+
+    ghost value = { read_name_type };
+
+    ghost plain = { (refl, refl) };
+
+    #[tactic(auto, unfolding(kmip_ttlv_types::specs::Digits::six_digits, crate::specs::Attributes::read_name_type))]
+    fn read_item<'b>(
+        scope: &reader::Scope<'b, A>,
+        cursor: &mut reader::Cursor<'b, A>,
+    ) -> reader::Step<Self, A> {
+        let number: u32 = cursor.wrapped_leaf(scope, 0x420054)?;
+        Ok(NameType::from_number(number))
+    }
+}
+
+/// A name.
+#[derive(Drop)]
+#[derive_where(PartialEq)]
+pub struct NameText<A: Allocator = Global> {
+    /// What it holds.
+    pub text: String<A>,
+}
+
+impl<B: Allocator> Serialize for NameText<B> {
+    ghost stated = { name_text_value };
+
+    fn visit<V: Visitor>(&self, visitor: &mut V) -> Result<(), AllocError> {
+        writing::string(visitor, "Transparent:0x420055", &self.text)?;
+        Ok(())
+    }
+}
+
+impl<A: Allocator + Copy> reader::ReadItem<A> for NameText<A> {
+    ghost form = { name_text_form };
+
+    ghost value = { name_text_value };
+
+    ghost plain = { (refl, refl) };
+
+    #[tactic(auto, unfolding(kmip_ttlv_types::specs::Digits::six_digits))]
+    fn read_item<'b>(
+        scope: &reader::Scope<'b, A>,
+        cursor: &mut reader::Cursor<'b, A>,
+    ) -> reader::Step<Self, A> {
+        let text = cursor.wrapped_leaf(scope, 0x420055)?;
+        Ok(NameText { text })
+    }
+}
+
+/// What users call an object (KMIP 1.0, section 3.2).
+#[derive(Drop)]
+#[derive_where(PartialEq)]
+pub struct Name<A: Allocator = Global> {
+    /// The name.
+    pub text: NameText<A>,
+    /// How it is to be read.
+    pub name_type: NameType,
+}
+
+impl<B: Allocator> Serialize for Name<B> {
+    ghost stated = { written_name };
+
+    #[tactic(auto, unfolding(crate::specs::Attributes::written_name))]
+    fn visit<V: Visitor>(&self, visitor: &mut V) -> Result<(), AllocError> {
+        writing::begin_struct(visitor, "0x42000B")?;
+        self.text.visit(visitor)?;
+        self.name_type.visit(visitor)?;
+        writing::end_struct(visitor, "0x42000B")?;
+        Ok(())
+    }
+}
+
+impl<A: Allocator + Copy> reader::ReadStructure<A> for Name<A> {
+    ghost TAG = { 0x42000B };
+
+    ghost DENIES_UNKNOWN = { false };
+
+    ghost values = { λ x. fields_in (read_name x) };
+
+    type Fields = (
+        reader::Item<NameText<A>, 0x420055>,
+        (reader::Item<NameType, 0x420054>, ()),
+    );
+
+    const TAG: u32 = 0x42000B;
+
+    const DENIES_UNKNOWN: bool = false;
+
+    #[tactic(auto, unfolding(kmip_ttlv_types::specs::Digits::six_digits, crate::specs::Attributes::read_name))]
+    fn from_fields(fields: (NameText<A>, (NameType, ()))) -> Self {
+        let (text, (name_type, ())) = fields;
+        Name { text, name_type }
+    }
+}
+
+impl<A: Allocator + Copy> reader::ReadNested<A> for Name<A> {
+    ghost TAG = { 0x42000B };
+
+    ghost fields = { struct_fields name_form };
+
+    ghost denies_unknown = { false };
+
+    ghost values = { λ x. fields_in (read_name x) };
+
+    const TAG: u32 = 0x42000B;
+
+    #[tactic(auto, unfolding(kmip_ttlv_types::specs::Digits::six_digits, crate::specs::Attributes::read_name))]
+    fn read_nested<'b>(
+        scope: &reader::Scope<'b, A>,
+        cursor: &mut reader::Cursor<'b, A>,
+    ) -> reader::Step<Self, A> {
+        reader::read_form(scope, cursor)
+    }
+}
+
 /// What an attribute says.
 #[derive(Drop)]
-#[derive_where(Debug, PartialEq)]
+#[derive_where(PartialEq)]
 pub enum AttributeValue<A: Allocator = Global> {
     /// What the object is.
     Type(ObjectType),
@@ -455,6 +632,8 @@ pub enum AttributeValue<A: Allocator = Global> {
     Date(AttributeDate),
     /// A text.
     Text(AttributeText<A>),
+    /// What users call it.
+    Name(Name<A>),
 }
 
 impl<A: Allocator> AttributeValue<A> {
@@ -483,6 +662,9 @@ impl<A: Allocator> AttributeValue<A> {
             AttributeValue::Text(held) => {
                 held.visit(visitor)?;
             }
+            AttributeValue::Name(held) => {
+                held.visit(visitor)?;
+            }
         }
         Ok(())
     }
@@ -505,6 +687,7 @@ impl<A: Allocator> AttributeValue<A> {
             AttributeValue::Text(_) => text == "Unique Identifier"
                 || text == "Object Group"
                 || text == "Contact Information",
+            AttributeValue::Name(_) => text == "Name",
         }
     }
 }
@@ -635,6 +818,25 @@ impl reader::Rule for AttributeValueTextRule {
     }
 }
 
+/// The rule that chooses `AttributeValue::Name`.
+pub struct AttributeValueNameRule;
+
+impl reader::Rule for AttributeValueNameRule {
+    ghost condition = { codes "0x42000A==Name" };
+
+    fn name() -> &'static str {
+        "if 0x42000A==Name"
+    }
+
+    #[tactic(auto, unfolding(kmip_ttlv_reader::specs::RuleParts::parts_of))]
+    fn parts() -> Option<reader::RuleParts> {
+        Some(reader::RuleParts {
+            tag: 0x42000A,
+            texts: &["Name"],
+        })
+    }
+}
+
 impl<A: Allocator + Copy> reader::Choice<A> for AttributeValue<A> {
     ghost own = { codes "value" };
 
@@ -651,10 +853,16 @@ impl<A: Allocator + Copy> reader::Choice<A> for AttributeValue<A> {
                     reader::Variant<AttributeValueNumberRule, reader::ItemElement<AttributeNumber>>,
                     (
                         reader::Variant<AttributeValueDateRule, reader::ItemElement<AttributeDate>>,
-                        reader::Variant<
-                            AttributeValueTextRule,
-                            reader::ItemElement<AttributeText<A>>,
-                        >,
+                        (
+                            reader::Variant<
+                                AttributeValueTextRule,
+                                reader::ItemElement<AttributeText<A>>,
+                            >,
+                            reader::Variant<
+                                AttributeValueNameRule,
+                                reader::StructureElement<Name<A>>,
+                            >,
+                        ),
                     ),
                 ),
             ),
@@ -669,7 +877,7 @@ impl<A: Allocator + Copy> reader::ReadItem<A> for AttributeValue<A> {
 
     ghost plain = { (refl, refl) };
 
-    #[tactic(auto, unfolding(kmip_ttlv_types::specs::Digits::six_digits, crate::specs::Attributes::read_attribute_value))]
+    #[tactic(auto, unfolding(kmip_ttlv_types::specs::Digits::six_digits, crate::specs::Attributes::read_attribute_value, crate::specs::Attributes::read_name))]
     fn read_item<'b>(
         scope: &reader::Scope<'b, A>,
         cursor: &mut reader::Cursor<'b, A>,
@@ -690,16 +898,25 @@ impl<A: Allocator + Copy> reader::ReadItem<A> for AttributeValue<A> {
             ) => Ok(AttributeValue::Date(held)),
             reader::OneOf::Other(
                 reader::OneOf::Other(
-                    reader::OneOf::Other(reader::OneOf::Other(reader::OneOf::Other(held))),
+                    reader::OneOf::Other(
+                        reader::OneOf::Other(reader::OneOf::Other(reader::OneOf::First(held))),
+                    ),
                 ),
             ) => Ok(AttributeValue::Text(held)),
+            reader::OneOf::Other(
+                reader::OneOf::Other(
+                    reader::OneOf::Other(
+                        reader::OneOf::Other(reader::OneOf::Other(reader::OneOf::Other(held))),
+                    ),
+                ),
+            ) => Ok(AttributeValue::Name(held)),
         }
     }
 }
 
 /// What is known of an object.
 #[derive(Drop)]
-#[derive_where(Debug, PartialEq)]
+#[derive_where(PartialEq)]
 pub struct Attribute<A: Allocator = Global> {
     /// Its name.
     pub name: AttributeName<A>,
@@ -751,17 +968,6 @@ impl<A: Allocator + Copy> reader::ReadStructure<A> for Attribute<A> {
     ) -> Self {
         let (name, (index, (value, ()))) = fields;
         Attribute { name, index, value }
-    }
-}
-
-impl<A: Allocator + Copy> Decode<A> for Attribute<A> {
-    ghost form = { attribute_form };
-
-    ghost is_value = { λ v x. v ≡ read_attribute x };
-
-    #[tactic(auto, unfolding(kmip_ttlv_types::specs::Digits::six_digits, crate::specs::Attributes::read_attribute))]
-    fn decode(alloc: A, bytes: &[u8]) -> Result<Self, error::Error<A>> {
-        reader::read_message(alloc, bytes)
     }
 }
 

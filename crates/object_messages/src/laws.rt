@@ -1,18 +1,22 @@
 // Written by codegen from types.table: change that, and run codegen/codegen.
 //! What was written is read back: the laws of `kmip_ttlv::laws`, at these messages.
 
-ghost use Rattle.std.specs.Prelude.{◌≡◌};
+ghost use Rattle.std.specs.Prelude.{◌≡◌, IfSome, IsTrue, ◌↔◌};
+ghost use Rattle.std.specs.Option.{IsSomeAnd};
+ghost use Rattle.object_messages.specs.Responses.{ChoosesResponsePayload};
+ghost use Rattle.object_messages.specs.Requests.{operation_number};
 ghost use Rattle.kmip_ttlv.specs.Equal.{AreEqual, ReturnsEqual};
-ghost use Rattle.object_messages.specs.Attributes.{written_object_type, read_object_type, written_cryptographic_algorithm, read_cryptographic_algorithm, object_state_value, unique_identifier_value, attribute_name_value, attribute_index_value, attribute_number_value, attribute_date_value, attribute_text_value, returned_attribute_value, read_attribute_value, returned_attribute, read_attribute};
+ghost use Rattle.object_messages.specs.Attributes.{written_object_type, read_object_type, written_cryptographic_algorithm, read_cryptographic_algorithm, object_state_value, unique_identifier_value, attribute_name_value, attribute_index_value, attribute_number_value, attribute_date_value, attribute_text_value, written_name_type, read_name_type, name_text_value, returned_name, read_name, returned_attribute_value, read_attribute_value, returned_attribute, read_attribute};
 ghost use Rattle.object_messages.specs.Objects.{written_key_format_type, read_key_format_type, cryptographic_length_value, key_value_value, returned_key_block, read_key_block, returned_symmetric_key, read_symmetric_key, returned_public_key, read_public_key, written_certificate_type, read_certificate_type, returned_certificate, read_certificate};
 ghost use Rattle.object_messages.specs.Requests.{operation_value, returned_template_attribute, read_template_attribute, returned_register_payload, read_register_payload, maximum_items_value, returned_locate_payload, read_locate_payload, read_get_attributes_payload, written_query_function, read_query_function, returned_query_payload, read_query_payload, returned_request_payload, read_request_payload, returned_request_item, read_request_item, returned_request, read_request};
-ghost use Rattle.object_messages.specs.Responses.{registered_value, read_located, returned_got_attributes, read_got_attributes, written_any_operation, read_any_operation, returned_answered, read_answered, returned_response_payload, read_response_payload, returned_response_item, read_response_item, returned_response, read_response};
-ghost use Rattle.object_messages.specs.Soundness.{IsObjectType, IsCryptographicAlgorithm, IsAttributeIndex, IsAttributeNumber, IsAttributeDate, IsAttributeValue, IsAttribute, IsKeyFormatType, IsCryptographicLength, IsKeyBlock, IsSymmetricKey, IsPublicKey, IsCertificateType, IsCertificate, IsTemplateAttribute, IsRegisterPayload, IsMaximumItems, IsLocatePayload, IsQueryFunction, IsQueryPayload, IsRequestPayload, IsRequestItem, IsRequest, IsGotAttributes, IsAnyOperation, IsAnswered, IsResponsePayload, IsResponseItem, IsResponse};
+ghost use Rattle.object_messages.specs.Responses.{registered_value, read_located, returned_got_attributes, read_got_attributes, written_any_operation, read_any_operation, returned_answered, read_answered, returned_response_payload, read_response_payload, written_result_status, read_result_status, written_result_reason, read_result_reason, returned_response_item, read_response_item, returned_response, read_response};
+ghost use Rattle.object_messages.specs.Soundness.{IsObjectType, IsCryptographicAlgorithm, IsAttributeIndex, IsAttributeNumber, IsAttributeDate, IsNameType, IsName, IsAttributeValue, IsAttribute, IsKeyFormatType, IsCryptographicLength, IsKeyBlock, IsSymmetricKey, IsPublicKey, IsCertificateType, IsCertificate, IsTemplateAttribute, IsRegisterPayload, IsMaximumItems, IsLocatePayload, IsQueryFunction, IsQueryPayload, IsRequestPayload, IsRequestItem, IsRequest, IsGotAttributes, IsAnyOperation, IsAnswered, IsResponsePayload, IsResultStatus, IsResultReason, IsResponseItem, IsResponse};
 ghost use Rattle.object_messages.specs.Laws.{RequestsComeBack, ResponsesComeBack};
 
 use crate::attribute::{
     Attribute, AttributeDate, AttributeIndex, AttributeName, AttributeNumber, AttributeText,
-    AttributeValue, CryptographicAlgorithm, ObjectState, ObjectType, UniqueIdentifier,
+    AttributeValue, CryptographicAlgorithm, Name, NameText, NameType, ObjectState, ObjectType,
+    UniqueIdentifier,
 };
 use crate::object::{
     Certificate, CertificateType, CryptographicLength, KeyBlock, KeyFormatType, KeyValue,
@@ -24,7 +28,7 @@ use crate::request::{
 };
 use crate::response::{
     Answered, AnyOperation, GotAttributes, Located, Registered, Response, ResponseItem,
-    ResponsePayload,
+    ResponsePayload, ResultReason, ResultStatus,
 };
 use kmip_ttlv::laws::{Message, Sound, agreeing_values_come_back};
 use std::alloc::Allocator;
@@ -56,6 +60,9 @@ pub fn equal_values<A: Allocator>()
     ensures attribute_number { AreEqual attribute_number_value ⟦<AttributeNumber as PartialEq>⟧.eq }
     ensures attribute_date { AreEqual attribute_date_value ⟦<AttributeDate as PartialEq>⟧.eq }
     ensures attribute_text { AreEqual attribute_text_value ⟦<AttributeText<A> as PartialEq>⟧.eq }
+    ensures name_type { ReturnsEqual written_name_type read_name_type ⟦<NameType as PartialEq>⟧.eq }
+    ensures name_text { AreEqual name_text_value ⟦<NameText<A> as PartialEq>⟧.eq }
+    ensures name { ReturnsEqual returned_name read_name ⟦<Name<A> as PartialEq>⟧.eq }
     ensures attribute_value { ReturnsEqual returned_attribute_value read_attribute_value ⟦<AttributeValue<A> as PartialEq>⟧.eq }
     ensures attribute { ReturnsEqual returned_attribute read_attribute ⟦<Attribute<A> as PartialEq>⟧.eq }
     ensures key_format_type { ReturnsEqual written_key_format_type read_key_format_type ⟦<KeyFormatType as PartialEq>⟧.eq }
@@ -83,6 +90,8 @@ pub fn equal_values<A: Allocator>()
     ensures any_operation { ReturnsEqual written_any_operation read_any_operation ⟦<AnyOperation as PartialEq>⟧.eq }
     ensures answered { ReturnsEqual returned_answered read_answered ⟦<Answered<A> as PartialEq>⟧.eq }
     ensures response_payload { ReturnsEqual returned_response_payload read_response_payload ⟦<ResponsePayload<A> as PartialEq>⟧.eq }
+    ensures result_status { ReturnsEqual written_result_status read_result_status ⟦<ResultStatus as PartialEq>⟧.eq }
+    ensures result_reason { ReturnsEqual written_result_reason read_result_reason ⟦<ResultReason as PartialEq>⟧.eq }
     ensures response_item { ReturnsEqual returned_response_item read_response_item ⟦<ResponseItem<A> as PartialEq>⟧.eq }
     ensures response { ReturnsEqual returned_response read_response ⟦<Response<A> as PartialEq>⟧.eq }
 {
@@ -129,6 +138,22 @@ impl Sound for AttributeDate {
     }
 }
 
+impl Sound for NameType {
+    ghost IsSound = { IsNameType };
+
+    fn is_sound(&self) -> bool {
+        self.number().is_sound()
+    }
+}
+
+impl<A: Allocator> Sound for Name<A> {
+    ghost IsSound = { IsName };
+
+    fn is_sound(&self) -> bool {
+        self.name_type.is_sound()
+    }
+}
+
 impl<A: Allocator> Sound for AttributeValue<A> {
     ghost IsSound = { IsAttributeValue };
 
@@ -140,6 +165,7 @@ impl<A: Allocator> Sound for AttributeValue<A> {
             AttributeValue::Number(held) => held.is_sound(),
             AttributeValue::Date(held) => held.is_sound(),
             AttributeValue::Text(_) => true,
+            AttributeValue::Name(held) => held.is_sound(),
         }
     }
 }
@@ -329,11 +355,43 @@ impl<A: Allocator> Sound for ResponsePayload<A> {
     }
 }
 
+impl Sound for ResultStatus {
+    ghost IsSound = { IsResultStatus };
+
+    fn is_sound(&self) -> bool {
+        self.number().is_sound()
+    }
+}
+
+impl Sound for ResultReason {
+    ghost IsSound = { IsResultReason };
+
+    fn is_sound(&self) -> bool {
+        self.number().is_sound()
+    }
+}
+
+impl<A: Allocator> ResponseItem<A> {
+    // Whether `operation` chooses `payload`, if that is there.
+    fn is_payload_chosen(&self) -> bool
+        ensures { IsTrue result ↔ IfSome self.now.payload (λ y. IsSomeAnd self.now.operation (λ z. ChoosesResponsePayload (operation_number z) y)) }
+    {
+        match (&self.operation, &self.payload) {
+            (Some(said), Some(held)) => held.is_chosen_by(said.number()),
+            (None, Some(_)) => false,
+            (_, None) => true,
+        }
+    }
+}
+
 impl<A: Allocator> Sound for ResponseItem<A> {
     ghost IsSound = { IsResponseItem };
 
     fn is_sound(&self) -> bool {
-        self.payload.is_chosen_by(self.operation.number()) && self.payload.is_sound()
+        self.result_status.is_sound()
+            && self.result_reason.is_sound()
+            && self.is_payload_chosen()
+            && self.payload.is_sound()
     }
 }
 

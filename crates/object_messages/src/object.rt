@@ -10,9 +10,9 @@ ghost use Rattle.object_messages.specs.Objects.{key_format_type_form, written_ke
 
 use crate::attribute::CryptographicAlgorithm;
 use kmip_ttlv::messages::writing;
-use kmip_ttlv::shape::{Decode, Serialize};
+use kmip_ttlv::reader;
+use kmip_ttlv::shape::Serialize;
 use kmip_ttlv::visit::Visitor;
-use kmip_ttlv::{error, reader};
 use std::alloc::{AllocError, Allocator, Global};
 
 /// How the bytes of a key are to be read.
@@ -93,7 +93,7 @@ impl<A: Allocator + Copy> reader::ReadItem<A> for KeyFormatType {
 }
 
 /// How long a key is.
-#[derive(Clone, Copy, Debug, PartialEq, Eq)]
+#[derive(Clone, Copy, PartialEq, Eq)]
 pub struct CryptographicLength {
     /// What it holds.
     pub bits: i32,
@@ -127,7 +127,7 @@ impl<A: Allocator + Copy> reader::ReadItem<A> for CryptographicLength {
 
 /// The bytes of a key.
 #[derive(Drop)]
-#[derive_where(Debug, PartialEq)]
+#[derive_where(PartialEq)]
 pub struct KeyValue<A: Allocator = Global> {
     /// They.
     pub material: Vec<u8, A>,
@@ -165,17 +165,6 @@ impl<A: Allocator + Copy> reader::ReadStructure<A> for KeyValue<A> {
     }
 }
 
-impl<A: Allocator + Copy> Decode<A> for KeyValue<A> {
-    ghost form = { key_value_form };
-
-    ghost is_value = { λ v x. v ≡ key_value_value x };
-
-    #[tactic(auto, unfolding(kmip_ttlv_types::specs::Digits::six_digits, crate::specs::Objects::key_value_value))]
-    fn decode(alloc: A, bytes: &[u8]) -> Result<Self, error::Error<A>> {
-        reader::read_message(alloc, bytes)
-    }
-}
-
 impl<A: Allocator + Copy> reader::ReadNested<A> for KeyValue<A> {
     ghost TAG = { 0x420045 };
 
@@ -198,7 +187,7 @@ impl<A: Allocator + Copy> reader::ReadNested<A> for KeyValue<A> {
 
 /// A key.
 #[derive(Drop)]
-#[derive_where(Debug, PartialEq)]
+#[derive_where(PartialEq)]
 pub struct KeyBlock<A: Allocator = Global> {
     /// How its bytes are to be read.
     pub format: KeyFormatType,
@@ -267,17 +256,6 @@ impl<A: Allocator + Copy> reader::ReadStructure<A> for KeyBlock<A> {
     }
 }
 
-impl<A: Allocator + Copy> Decode<A> for KeyBlock<A> {
-    ghost form = { key_block_form };
-
-    ghost is_value = { λ v x. v ≡ read_key_block x };
-
-    #[tactic(auto, unfolding(kmip_ttlv_types::specs::Digits::six_digits, crate::specs::Objects::read_key_block))]
-    fn decode(alloc: A, bytes: &[u8]) -> Result<Self, error::Error<A>> {
-        reader::read_message(alloc, bytes)
-    }
-}
-
 impl<A: Allocator + Copy> reader::ReadNested<A> for KeyBlock<A> {
     ghost TAG = { 0x420040 };
 
@@ -300,7 +278,7 @@ impl<A: Allocator + Copy> reader::ReadNested<A> for KeyBlock<A> {
 
 /// A symmetric key.
 #[derive(Drop)]
-#[derive_where(Debug, PartialEq)]
+#[derive_where(PartialEq)]
 pub struct SymmetricKey<A: Allocator = Global> {
     /// The key.
     pub key_block: KeyBlock<A>,
@@ -338,17 +316,6 @@ impl<A: Allocator + Copy> reader::ReadStructure<A> for SymmetricKey<A> {
     }
 }
 
-impl<A: Allocator + Copy> Decode<A> for SymmetricKey<A> {
-    ghost form = { symmetric_key_form };
-
-    ghost is_value = { λ v x. v ≡ read_symmetric_key x };
-
-    #[tactic(auto, unfolding(kmip_ttlv_types::specs::Digits::six_digits, crate::specs::Objects::read_symmetric_key))]
-    fn decode(alloc: A, bytes: &[u8]) -> Result<Self, error::Error<A>> {
-        reader::read_message(alloc, bytes)
-    }
-}
-
 impl<A: Allocator + Copy> reader::ReadNested<A> for SymmetricKey<A> {
     ghost TAG = { 0x42008F };
 
@@ -371,7 +338,7 @@ impl<A: Allocator + Copy> reader::ReadNested<A> for SymmetricKey<A> {
 
 /// A public key.
 #[derive(Drop)]
-#[derive_where(Debug, PartialEq)]
+#[derive_where(PartialEq)]
 pub struct PublicKey<A: Allocator = Global> {
     /// The key.
     pub key_block: KeyBlock<A>,
@@ -406,17 +373,6 @@ impl<A: Allocator + Copy> reader::ReadStructure<A> for PublicKey<A> {
     fn from_fields(fields: (KeyBlock<A>, ())) -> Self {
         let (key_block, ()) = fields;
         PublicKey { key_block }
-    }
-}
-
-impl<A: Allocator + Copy> Decode<A> for PublicKey<A> {
-    ghost form = { public_key_form };
-
-    ghost is_value = { λ v x. v ≡ read_public_key x };
-
-    #[tactic(auto, unfolding(kmip_ttlv_types::specs::Digits::six_digits, crate::specs::Objects::read_public_key))]
-    fn decode(alloc: A, bytes: &[u8]) -> Result<Self, error::Error<A>> {
-        reader::read_message(alloc, bytes)
     }
 }
 
@@ -515,7 +471,7 @@ impl<A: Allocator + Copy> reader::ReadItem<A> for CertificateType {
 
 /// A certificate.
 #[derive(Drop)]
-#[derive_where(Debug, PartialEq)]
+#[derive_where(PartialEq)]
 pub struct Certificate<A: Allocator = Global> {
     /// What it is.
     pub certificate_type: CertificateType,
@@ -562,17 +518,6 @@ impl<A: Allocator + Copy> reader::ReadStructure<A> for Certificate<A> {
     }
 }
 
-impl<A: Allocator + Copy> Decode<A> for Certificate<A> {
-    ghost form = { certificate_form };
-
-    ghost is_value = { λ v x. v ≡ read_certificate x };
-
-    #[tactic(auto, unfolding(kmip_ttlv_types::specs::Digits::six_digits, crate::specs::Objects::read_certificate))]
-    fn decode(alloc: A, bytes: &[u8]) -> Result<Self, error::Error<A>> {
-        reader::read_message(alloc, bytes)
-    }
-}
-
 impl<A: Allocator + Copy> reader::ReadNested<A> for Certificate<A> {
     ghost TAG = { 0x420013 };
 
@@ -594,7 +539,7 @@ impl<A: Allocator + Copy> reader::ReadNested<A> for Certificate<A> {
 }
 
 /// What a server keeps.
-#[derive_where(Clone, Copy, Debug)]
+#[derive_where(Clone, Copy)]
 pub enum ManagedObject<'a, A: Allocator = Global> {
     /// A certificate.
     Certificate(&'a Certificate<A>),

@@ -88,7 +88,7 @@ impl<A: Allocator + Copy> reader::ReadItem<A> for Operation {
 
 /// What is to be known of an object.
 #[derive(Drop)]
-#[derive_where(Debug, PartialEq)]
+#[derive_where(PartialEq)]
 pub struct TemplateAttribute<A: Allocator = Global> {
     /// One or more.
     pub attributes: Vec<Attribute<A>, A>,
@@ -126,17 +126,6 @@ impl<A: Allocator + Copy> reader::ReadStructure<A> for TemplateAttribute<A> {
     }
 }
 
-impl<A: Allocator + Copy> Decode<A> for TemplateAttribute<A> {
-    ghost form = { template_attribute_form };
-
-    ghost is_value = { λ v x. v ≡ read_template_attribute x };
-
-    #[tactic(auto, unfolding(kmip_ttlv_types::specs::Digits::six_digits, crate::specs::Requests::read_template_attribute))]
-    fn decode(alloc: A, bytes: &[u8]) -> Result<Self, error::Error<A>> {
-        reader::read_message(alloc, bytes)
-    }
-}
-
 impl<A: Allocator + Copy> reader::ReadNested<A> for TemplateAttribute<A> {
     ghost TAG = { 0x420091 };
 
@@ -159,7 +148,7 @@ impl<A: Allocator + Copy> reader::ReadNested<A> for TemplateAttribute<A> {
 
 /// An object that is to be kept.
 #[derive(Drop)]
-#[derive_where(Debug, PartialEq)]
+#[derive_where(PartialEq)]
 pub struct RegisterPayload<A: Allocator = Global> {
     /// What it is.
     pub object_type: ObjectType,
@@ -246,17 +235,6 @@ impl<A: Allocator + Copy> reader::ReadStructure<A> for RegisterPayload<A> {
     }
 }
 
-impl<A: Allocator + Copy> Decode<A> for RegisterPayload<A> {
-    ghost form = { register_payload_form };
-
-    ghost is_value = { λ v x. v ≡ read_register_payload x };
-
-    #[tactic(auto, unfolding(kmip_ttlv_types::specs::Digits::six_digits, crate::specs::Requests::read_register_payload))]
-    fn decode(alloc: A, bytes: &[u8]) -> Result<Self, error::Error<A>> {
-        reader::read_message(alloc, bytes)
-    }
-}
-
 impl<A: Allocator + Copy> reader::ReadNested<A> for RegisterPayload<A> {
     ghost TAG = { 0x420079 };
 
@@ -278,7 +256,7 @@ impl<A: Allocator + Copy> reader::ReadNested<A> for RegisterPayload<A> {
 }
 
 /// How many objects are named at most.
-#[derive(Clone, Copy, Debug, PartialEq, Eq)]
+#[derive(Clone, Copy, PartialEq, Eq)]
 pub struct MaximumItems {
     /// What it holds.
     pub count: i32,
@@ -312,7 +290,7 @@ impl<A: Allocator + Copy> reader::ReadItem<A> for MaximumItems {
 
 /// Which objects are sought.
 #[derive(Drop)]
-#[derive_where(Debug, PartialEq)]
+#[derive_where(PartialEq)]
 pub struct LocatePayload<A: Allocator = Global> {
     /// How many at most.
     pub maximum_items: Option<MaximumItems>,
@@ -359,17 +337,6 @@ impl<A: Allocator + Copy> reader::ReadStructure<A> for LocatePayload<A> {
     }
 }
 
-impl<A: Allocator + Copy> Decode<A> for LocatePayload<A> {
-    ghost form = { locate_payload_form };
-
-    ghost is_value = { λ v x. v ≡ read_locate_payload x };
-
-    #[tactic(auto, unfolding(kmip_ttlv_types::specs::Digits::six_digits, crate::specs::Requests::read_locate_payload))]
-    fn decode(alloc: A, bytes: &[u8]) -> Result<Self, error::Error<A>> {
-        reader::read_message(alloc, bytes)
-    }
-}
-
 impl<A: Allocator + Copy> reader::ReadNested<A> for LocatePayload<A> {
     ghost TAG = { 0x420079 };
 
@@ -392,7 +359,7 @@ impl<A: Allocator + Copy> reader::ReadNested<A> for LocatePayload<A> {
 
 /// Which attributes are asked for.
 #[derive(Drop)]
-#[derive_where(Debug, PartialEq)]
+#[derive_where(PartialEq)]
 pub struct GetAttributesPayload<A: Allocator = Global> {
     /// Of which object: the last one, where it is absent.
     pub unique_identifier: Option<UniqueIdentifier<A>>,
@@ -436,17 +403,6 @@ impl<A: Allocator + Copy> reader::ReadStructure<A> for GetAttributesPayload<A> {
             unique_identifier,
             names,
         }
-    }
-}
-
-impl<A: Allocator + Copy> Decode<A> for GetAttributesPayload<A> {
-    ghost form = { get_attributes_payload_form };
-
-    ghost is_value = { λ v x. v ≡ read_get_attributes_payload x };
-
-    #[tactic(auto, unfolding(kmip_ttlv_types::specs::Digits::six_digits, crate::specs::Requests::read_get_attributes_payload))]
-    fn decode(alloc: A, bytes: &[u8]) -> Result<Self, error::Error<A>> {
-        reader::read_message(alloc, bytes)
     }
 }
 
@@ -553,7 +509,7 @@ impl<A: Allocator + Copy> reader::ReadItem<A> for QueryFunction {
 
 /// What is asked about a server.
 #[derive(Drop)]
-#[derive_where(Debug, PartialEq)]
+#[derive_where(PartialEq)]
 pub struct QueryPayload<A: Allocator = Global> {
     /// One or more.
     pub functions: Vec<QueryFunction, A>,
@@ -591,17 +547,6 @@ impl<A: Allocator + Copy> reader::ReadStructure<A> for QueryPayload<A> {
     }
 }
 
-impl<A: Allocator + Copy> Decode<A> for QueryPayload<A> {
-    ghost form = { query_payload_form };
-
-    ghost is_value = { λ v x. v ≡ read_query_payload x };
-
-    #[tactic(auto, unfolding(kmip_ttlv_types::specs::Digits::six_digits, crate::specs::Requests::read_query_payload))]
-    fn decode(alloc: A, bytes: &[u8]) -> Result<Self, error::Error<A>> {
-        reader::read_message(alloc, bytes)
-    }
-}
-
 impl<A: Allocator + Copy> reader::ReadNested<A> for QueryPayload<A> {
     ghost TAG = { 0x420079 };
 
@@ -624,7 +569,7 @@ impl<A: Allocator + Copy> reader::ReadNested<A> for QueryPayload<A> {
 
 /// What an operation needs.
 #[derive(Drop)]
-#[derive_where(Debug, PartialEq)]
+#[derive_where(PartialEq)]
 pub enum RequestPayload<A: Allocator = Global> {
     /// An object is to be kept.
     Register(RegisterPayload<A>),
@@ -794,7 +739,7 @@ impl<A: Allocator + Copy> reader::ReadItem<A> for RequestPayload<A> {
 
 /// One thing that is asked for.
 #[derive(Drop)]
-#[derive_where(Debug, PartialEq)]
+#[derive_where(PartialEq)]
 pub struct RequestItem<A: Allocator = Global> {
     /// What is asked for.
     pub operation: Operation,
@@ -838,17 +783,6 @@ impl<A: Allocator + Copy> reader::ReadStructure<A> for RequestItem<A> {
     }
 }
 
-impl<A: Allocator + Copy> Decode<A> for RequestItem<A> {
-    ghost form = { request_item_form };
-
-    ghost is_value = { λ v x. v ≡ read_request_item x };
-
-    #[tactic(auto, unfolding(kmip_ttlv_types::specs::Digits::six_digits, crate::specs::Requests::read_request_item))]
-    fn decode(alloc: A, bytes: &[u8]) -> Result<Self, error::Error<A>> {
-        reader::read_message(alloc, bytes)
-    }
-}
-
 impl<A: Allocator + Copy> reader::ReadNested<A> for RequestItem<A> {
     ghost TAG = { 0x42000F };
 
@@ -871,7 +805,7 @@ impl<A: Allocator + Copy> reader::ReadNested<A> for RequestItem<A> {
 
 /// A request.
 #[derive(Drop)]
-#[derive_where(Debug, PartialEq)]
+#[derive_where(PartialEq)]
 pub struct Request<A: Allocator = Global> {
     /// What it begins with.
     pub header: RequestHeader,
@@ -923,25 +857,5 @@ impl<A: Allocator + Copy> Decode<A> for Request<A> {
     #[tactic(auto, unfolding(kmip_ttlv_types::specs::Digits::six_digits, crate::specs::Requests::read_request))]
     fn decode(alloc: A, bytes: &[u8]) -> Result<Self, error::Error<A>> {
         reader::read_message(alloc, bytes)
-    }
-}
-
-impl<A: Allocator + Copy> reader::ReadNested<A> for Request<A> {
-    ghost TAG = { 0x420078 };
-
-    ghost fields = { struct_fields request_form };
-
-    ghost denies_unknown = { false };
-
-    ghost values = { λ x. fields_in (read_request x) };
-
-    const TAG: u32 = 0x420078;
-
-    #[tactic(auto, unfolding(kmip_ttlv_types::specs::Digits::six_digits, crate::specs::Requests::read_request))]
-    fn read_nested<'b>(
-        scope: &reader::Scope<'b, A>,
-        cursor: &mut reader::Cursor<'b, A>,
-    ) -> reader::Step<Self, A> {
-        reader::read_form(scope, cursor)
     }
 }

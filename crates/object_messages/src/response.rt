@@ -5,13 +5,11 @@ ghost use Rattle.std.specs.Prelude.{◌≡◌, ◌↔◌, ◌==◌, refl, IsTrue
 ghost use Rattle.std.proofs.Common.{rules};
 ghost use Rattle.std.specs.Cmp.Rules.{comparing};
 ghost use Rattle.std.specs.Ordering.{on};
-ghost use Rattle.kmip_ttlv.specs.Forms.{enum, no_variants, unit, variant};
 ghost use Rattle.kmip_ttlv.specs.MessageParts.{sequence};
 ghost use Rattle.kmip_ttlv.specs.Spots.{fields_in, struct_fields};
-ghost use Rattle.kmip_ttlv.specs.Values.{unit_variant_value};
 ghost use Rattle.kmip_ttlv.specs.Visits.{Tells};
 ghost use Rattle.object_messages.specs.Attributes.{written_object_type};
-ghost use Rattle.object_messages.specs.Responses.{registered_form, registered_value, located_form, written_located, read_located, got_attributes_form, written_got_attributes, read_got_attributes, any_operation_form, written_any_operation, read_any_operation, any_operation_number, any_operation_read_number, answered_form, written_answered, read_answered, response_payload_form, written_response_payload, read_response_payload, ChoosesResponsePayload, response_item_form, written_response_item, read_response_item, response_form, written_response, read_response};
+ghost use Rattle.object_messages.specs.Responses.{registered_form, registered_value, located_form, written_located, read_located, got_attributes_form, written_got_attributes, read_got_attributes, any_operation_form, written_any_operation, read_any_operation, any_operation_number, any_operation_read_number, answered_form, written_answered, read_answered, response_payload_form, written_response_payload, read_response_payload, ChoosesResponsePayload, result_status_form, written_result_status, read_result_status, result_status_number, result_status_read_number, result_reason_form, written_result_reason, read_result_reason, result_reason_number, result_reason_read_number, response_item_form, written_response_item, read_response_item, response_form, written_response, read_response};
 
 use crate::attribute::{Attribute, ObjectType, UniqueIdentifier};
 use crate::request::Operation;
@@ -24,7 +22,7 @@ use std::alloc::{AllocError, Allocator, Global};
 
 /// The object is kept.
 #[derive(Drop)]
-#[derive_where(Debug, PartialEq)]
+#[derive_where(PartialEq)]
 pub struct Registered<A: Allocator = Global> {
     /// Its identifier.
     pub unique_identifier: UniqueIdentifier<A>,
@@ -62,17 +60,6 @@ impl<A: Allocator + Copy> reader::ReadStructure<A> for Registered<A> {
     }
 }
 
-impl<A: Allocator + Copy> Decode<A> for Registered<A> {
-    ghost form = { registered_form };
-
-    ghost is_value = { λ v x. v ≡ registered_value x };
-
-    #[tactic(auto, unfolding(kmip_ttlv_types::specs::Digits::six_digits, crate::specs::Responses::registered_value))]
-    fn decode(alloc: A, bytes: &[u8]) -> Result<Self, error::Error<A>> {
-        reader::read_message(alloc, bytes)
-    }
-}
-
 impl<A: Allocator + Copy> reader::ReadNested<A> for Registered<A> {
     ghost TAG = { 0x42007C };
 
@@ -95,7 +82,7 @@ impl<A: Allocator + Copy> reader::ReadNested<A> for Registered<A> {
 
 /// Which objects were found.
 #[derive(Drop)]
-#[derive_where(Debug, PartialEq)]
+#[derive_where(PartialEq)]
 pub struct Located<A: Allocator = Global> {
     /// Their identifiers.
     pub unique_identifiers: Vec<UniqueIdentifier<A>, A>,
@@ -136,17 +123,6 @@ impl<A: Allocator + Copy> reader::ReadStructure<A> for Located<A> {
     }
 }
 
-impl<A: Allocator + Copy> Decode<A> for Located<A> {
-    ghost form = { located_form };
-
-    ghost is_value = { λ v x. v ≡ read_located x };
-
-    #[tactic(auto, unfolding(kmip_ttlv_types::specs::Digits::six_digits, crate::specs::Responses::read_located))]
-    fn decode(alloc: A, bytes: &[u8]) -> Result<Self, error::Error<A>> {
-        reader::read_message(alloc, bytes)
-    }
-}
-
 impl<A: Allocator + Copy> reader::ReadNested<A> for Located<A> {
     ghost TAG = { 0x42007C };
 
@@ -169,7 +145,7 @@ impl<A: Allocator + Copy> reader::ReadNested<A> for Located<A> {
 
 /// What is known of an object.
 #[derive(Drop)]
-#[derive_where(Debug, PartialEq)]
+#[derive_where(PartialEq)]
 pub struct GotAttributes<A: Allocator = Global> {
     /// Its identifier.
     pub unique_identifier: UniqueIdentifier<A>,
@@ -213,17 +189,6 @@ impl<A: Allocator + Copy> reader::ReadStructure<A> for GotAttributes<A> {
             unique_identifier,
             attributes,
         }
-    }
-}
-
-impl<A: Allocator + Copy> Decode<A> for GotAttributes<A> {
-    ghost form = { got_attributes_form };
-
-    ghost is_value = { λ v x. v ≡ read_got_attributes x };
-
-    #[tactic(auto, unfolding(kmip_ttlv_types::specs::Digits::six_digits, crate::specs::Responses::read_got_attributes))]
-    fn decode(alloc: A, bytes: &[u8]) -> Result<Self, error::Error<A>> {
-        reader::read_message(alloc, bytes)
     }
 }
 
@@ -342,7 +307,7 @@ impl<A: Allocator + Copy> reader::ReadItem<A> for AnyOperation {
 
 /// What the server can do: of each only what was asked for.
 #[derive(Drop)]
-#[derive_where(Debug, PartialEq)]
+#[derive_where(PartialEq)]
 pub struct Answered<A: Allocator = Global> {
     /// Its operations.
     pub operations: Vec<AnyOperation, A>,
@@ -421,17 +386,6 @@ impl<A: Allocator + Copy> reader::ReadStructure<A> for Answered<A> {
     }
 }
 
-impl<A: Allocator + Copy> Decode<A> for Answered<A> {
-    ghost form = { answered_form };
-
-    ghost is_value = { λ v x. v ≡ read_answered x };
-
-    #[tactic(auto, unfolding(kmip_ttlv_types::specs::Digits::six_digits, crate::specs::Responses::read_answered))]
-    fn decode(alloc: A, bytes: &[u8]) -> Result<Self, error::Error<A>> {
-        reader::read_message(alloc, bytes)
-    }
-}
-
 impl<A: Allocator + Copy> reader::ReadNested<A> for Answered<A> {
     ghost TAG = { 0x42007C };
 
@@ -454,7 +408,7 @@ impl<A: Allocator + Copy> reader::ReadNested<A> for Answered<A> {
 
 /// What was done.
 #[derive(Drop)]
-#[derive_where(Debug, PartialEq)]
+#[derive_where(PartialEq)]
 pub enum ResponsePayload<A: Allocator = Global> {
     /// The object is kept.
     Register(Registered<A>),
@@ -622,25 +576,199 @@ impl<A: Allocator + Copy> reader::ReadItem<A> for ResponsePayload<A> {
     }
 }
 
-/// One thing that was done.
+/// What became of an operation.
+#[derive(Clone, Copy, Debug)]
+pub enum ResultStatus {
+    /// It is done.
+    Success,
+    /// It failed.
+    Failed,
+    /// It goes on.
+    Pending,
+    /// It was undone.
+    Undone,
+    /// Any other number. One that has a name is encoded as it is, and decoded by its name, to which it is equal.
+    Other(u32),
+}
+
+impl ResultStatus {
+    /// Its number.
+    pub fn number(self) -> u32
+        ensures { result ≡ result_status_number self }
+    {
+        match self {
+            ResultStatus::Success => 0x00000000,
+            ResultStatus::Failed => 0x00000001,
+            ResultStatus::Pending => 0x00000002,
+            ResultStatus::Undone => 0x00000003,
+            ResultStatus::Other(number) => number,
+        }
+    }
+
+    /// The one of a number: by its name, if it has one.
+    pub fn from_number(number: u32) -> ResultStatus
+        ensures { result_status_read_number result ≡ Some number }
+    {
+        match number {
+            0x00000000 => ResultStatus::Success,
+            0x00000001 => ResultStatus::Failed,
+            0x00000002 => ResultStatus::Pending,
+            0x00000003 => ResultStatus::Undone,
+            _ => ResultStatus::Other(number),
+        }
+    }
+}
+
+/// By their numbers.
+impl PartialEq for ResultStatus {
+    ghost eq = { on result_status_number ◌==◌ };
+
+    ghost laws = { Prim.search (comparing, rules) };
+
+    fn eq(&self, other: &ResultStatus) -> bool {
+        self.number() == other.number()
+    }
+}
+
+impl Eq for ResultStatus {
+    ghost laws = { Prim.search (comparing, rules) };
+}
+
+impl Serialize for ResultStatus {
+    ghost stated = { written_result_status };
+
+    #[tactic(auto, unfolding(crate::specs::Responses::written_result_status))]
+    fn visit<V: Visitor>(&self, visitor: &mut V) -> Result<(), AllocError> {
+        writing::enumeration(visitor, "Transparent:0x42007F", self.number())?;
+        Ok(())
+    }
+}
+
+impl<A: Allocator + Copy> reader::ReadItem<A> for ResultStatus {
+    ghost form = { result_status_form };
+
+    ghost value = { read_result_status };
+
+    ghost plain = { (refl, refl) };
+
+    #[tactic(auto, unfolding(kmip_ttlv_types::specs::Digits::six_digits, crate::specs::Responses::read_result_status))]
+    fn read_item<'b>(
+        scope: &reader::Scope<'b, A>,
+        cursor: &mut reader::Cursor<'b, A>,
+    ) -> reader::Step<Self, A> {
+        let number: u32 = cursor.wrapped_leaf(scope, 0x42007F)?;
+        Ok(ResultStatus::from_number(number))
+    }
+}
+
+/// Why an operation failed.
+#[derive(Clone, Copy, Debug)]
+pub enum ResultReason {
+    /// There is no such object.
+    ItemNotFound,
+    /// The server doesn't have the operation.
+    OperationNotSupported,
+    /// Anything that has no other reason.
+    GeneralFailure,
+    /// Any other number. One that has a name is encoded as it is, and decoded by its name, to which it is equal.
+    Other(u32),
+}
+
+impl ResultReason {
+    /// Its number.
+    pub fn number(self) -> u32
+        ensures { result ≡ result_reason_number self }
+    {
+        match self {
+            ResultReason::ItemNotFound => 0x00000001,
+            ResultReason::OperationNotSupported => 0x00000005,
+            ResultReason::GeneralFailure => 0x00000100,
+            ResultReason::Other(number) => number,
+        }
+    }
+
+    /// The one of a number: by its name, if it has one.
+    pub fn from_number(number: u32) -> ResultReason
+        ensures { result_reason_read_number result ≡ Some number }
+    {
+        match number {
+            0x00000001 => ResultReason::ItemNotFound,
+            0x00000005 => ResultReason::OperationNotSupported,
+            0x00000100 => ResultReason::GeneralFailure,
+            _ => ResultReason::Other(number),
+        }
+    }
+}
+
+/// By their numbers.
+impl PartialEq for ResultReason {
+    ghost eq = { on result_reason_number ◌==◌ };
+
+    ghost laws = { Prim.search (comparing, rules) };
+
+    fn eq(&self, other: &ResultReason) -> bool {
+        self.number() == other.number()
+    }
+}
+
+impl Eq for ResultReason {
+    ghost laws = { Prim.search (comparing, rules) };
+}
+
+impl Serialize for ResultReason {
+    ghost stated = { written_result_reason };
+
+    #[tactic(auto, unfolding(crate::specs::Responses::written_result_reason))]
+    fn visit<V: Visitor>(&self, visitor: &mut V) -> Result<(), AllocError> {
+        writing::enumeration(visitor, "Transparent:0x42007E", self.number())?;
+        Ok(())
+    }
+}
+
+impl<A: Allocator + Copy> reader::ReadItem<A> for ResultReason {
+    ghost form = { result_reason_form };
+
+    ghost value = { read_result_reason };
+
+    ghost plain = { (refl, refl) };
+
+    #[tactic(auto, unfolding(kmip_ttlv_types::specs::Digits::six_digits, crate::specs::Responses::read_result_reason))]
+    fn read_item<'b>(
+        scope: &reader::Scope<'b, A>,
+        cursor: &mut reader::Cursor<'b, A>,
+    ) -> reader::Step<Self, A> {
+        let number: u32 = cursor.wrapped_leaf(scope, 0x42007E)?;
+        Ok(ResultReason::from_number(number))
+    }
+}
+
+/// What became of one thing that was asked for.
 #[derive(Drop)]
-#[derive_where(Debug, PartialEq)]
+#[derive_where(PartialEq)]
 pub struct ResponseItem<A: Allocator = Global> {
     /// What was asked for.
-    pub operation: Operation,
-    /// What was done.
-    pub payload: ResponsePayload<A>,
+    pub operation: Option<Operation>,
+    /// What became of it.
+    pub result_status: ResultStatus,
+    /// Why it failed, if it did.
+    pub result_reason: Option<ResultReason>,
+    /// What a person is told.
+    pub result_message: Option<String<A>>,
+    /// What was done, if it was.
+    pub payload: Option<ResponsePayload<A>>,
 }
 
 impl<B: Allocator> Serialize for ResponseItem<B> {
     ghost stated = { written_response_item };
 
-    #[tactic(auto, unfolding(crate::specs::Responses::written_response_item))]
+    #[tactic(auto, using(kmip_ttlv_base::proofs::Visiting::visited_joined), unfolding(crate::specs::Responses::written_response_item))]
     fn visit<V: Visitor>(&self, visitor: &mut V) -> Result<(), AllocError> {
         writing::begin_struct(visitor, "0x42000F")?;
-        self.operation.visit(visitor)?;
-        writing::unit_variant(visitor, "0x42007F", "0x00000000")?;
-        self.payload.visit(visitor)?;
+        writing::option(visitor, &self.operation)?;
+        self.result_status.visit(visitor)?;
+        writing::option(visitor, &self.result_reason)?;
+        writing::optional_text_string(visitor, "Transparent:0x42007D", &self.result_message)?;
+        writing::option(visitor, &self.payload)?;
         writing::end_struct(visitor, "0x42000F")?;
         Ok(())
     }
@@ -653,13 +781,13 @@ impl<A: Allocator + Copy> reader::ReadStructure<A> for ResponseItem<A> {
 
     ghost values = { λ x. fields_in (read_response_item x) };
 
-    type Fields = (
-        reader::Item<Operation, 0x42005C>,
-        (
-            reader::Item<ResponseItemResultStatus, 0x42007F>,
-            (reader::Item<ResponsePayload<A>, 0x42007C>, ()),
-        ),
-    );
+    type Fields = reader::Four<
+        reader::OptionalItem<Operation, 0x42005C>,
+        reader::Item<ResultStatus, 0x42007F>,
+        reader::OptionalItem<ResultReason, 0x42007E>,
+        reader::OptionalLeaf<String<A>, 0x42007D>,
+        (reader::OptionalItem<ResponsePayload<A>, 0x42007C>, ()),
+    >;
 
     const TAG: u32 = 0x42000F;
 
@@ -668,23 +796,24 @@ impl<A: Allocator + Copy> reader::ReadStructure<A> for ResponseItem<A> {
     #[tactic(auto, unfolding(kmip_ttlv_types::specs::Digits::six_digits, crate::specs::Responses::read_response_item))]
     fn from_fields(
         fields: (
-            Operation,
-            (ResponseItemResultStatus, (ResponsePayload<A>, ())),
+            Option<Operation>,
+            (
+                ResultStatus,
+                (
+                    Option<ResultReason>,
+                    (Option<String<A>>, (Option<ResponsePayload<A>>, ())),
+                ),
+            ),
         ),
     ) -> Self {
-        let (operation, (_, (payload, ()))) = fields;
-        ResponseItem { operation, payload }
-    }
-}
-
-impl<A: Allocator + Copy> Decode<A> for ResponseItem<A> {
-    ghost form = { response_item_form };
-
-    ghost is_value = { λ v x. v ≡ read_response_item x };
-
-    #[tactic(auto, unfolding(kmip_ttlv_types::specs::Digits::six_digits, crate::specs::Responses::read_response_item))]
-    fn decode(alloc: A, bytes: &[u8]) -> Result<Self, error::Error<A>> {
-        reader::read_message(alloc, bytes)
+        let (operation, (result_status, (result_reason, (result_message, (payload, ()))))) = fields;
+        ResponseItem {
+            operation,
+            result_status,
+            result_reason,
+            result_message,
+            payload,
+        }
     }
 }
 
@@ -708,36 +837,9 @@ impl<A: Allocator + Copy> reader::ReadNested<A> for ResponseItem<A> {
     }
 }
 
-/// What `result_status` of a `ResponseItem` always is.
-#[derive(Clone, Copy, Debug, PartialEq, Eq)]
-pub struct ResponseItemResultStatus;
-
-impl reader::Listed for ResponseItemResultStatus {
-    ghost own = { codes "0x42007F" };
-
-    ghost variants = { variant (codes "0x00000000") unit no_variants };
-
-    ghost value = { λ _. unit_variant_value (codes "0x42007F") (codes "0x00000000") };
-}
-
-impl<A: Allocator + Copy> reader::ReadItem<A> for ResponseItemResultStatus {
-    ghost form = { enum (codes "0x42007F") (variant (codes "0x00000000") unit no_variants) };
-
-    ghost value = { λ _. unit_variant_value (codes "0x42007F") (codes "0x00000000") };
-
-    ghost plain = { (refl, refl) };
-
-    fn read_item<'b>(
-        scope: &reader::Scope<'b, A>,
-        cursor: &mut reader::Cursor<'b, A>,
-    ) -> reader::Step<Self, A> {
-        cursor.listed(scope, &[("0x00000000", ResponseItemResultStatus)])
-    }
-}
-
 /// A response.
 #[derive(Drop)]
-#[derive_where(Debug, PartialEq)]
+#[derive_where(PartialEq)]
 pub struct Response<A: Allocator = Global> {
     /// What it begins with.
     pub header: ResponseHeader,
@@ -789,25 +891,5 @@ impl<A: Allocator + Copy> Decode<A> for Response<A> {
     #[tactic(auto, unfolding(kmip_ttlv_types::specs::Digits::six_digits, crate::specs::Responses::read_response))]
     fn decode(alloc: A, bytes: &[u8]) -> Result<Self, error::Error<A>> {
         reader::read_message(alloc, bytes)
-    }
-}
-
-impl<A: Allocator + Copy> reader::ReadNested<A> for Response<A> {
-    ghost TAG = { 0x42007B };
-
-    ghost fields = { struct_fields response_form };
-
-    ghost denies_unknown = { false };
-
-    ghost values = { λ x. fields_in (read_response x) };
-
-    const TAG: u32 = 0x42007B;
-
-    #[tactic(auto, unfolding(kmip_ttlv_types::specs::Digits::six_digits, crate::specs::Responses::read_response))]
-    fn read_nested<'b>(
-        scope: &reader::Scope<'b, A>,
-        cursor: &mut reader::Cursor<'b, A>,
-    ) -> reader::Step<Self, A> {
-        reader::read_form(scope, cursor)
     }
 }

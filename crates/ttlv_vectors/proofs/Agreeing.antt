@@ -1,19 +1,23 @@
 -- Written by codegen from types.table: change that, and run codegen/codegen.
 -- The types agree with their forms: one line for each part.
-use Rattle.kmip_ttlv.specs.Agreements.{MessageAgrees}
-use Rattle.kmip_ttlv.specs.Names.{number, tag_of, transparent_name}
+use Rattle.kmip_ttlv.specs.Agreements.{MessageAgrees, first_variant, is_run, later_variant, variant_wraps}
+use Rattle.kmip_ttlv.specs.Names.{number, override_name, tag_of, transparent_name}
 use Rattle.kmip_ttlv.specs.Returns.{as_boolean, as_date_time, as_int32, as_int64, as_interval, as_number, as_octets}
 use Rattle.kmip_ttlv.specs.Returns.{as_text}
-use Rattle.kmip_ttlv.specs.Rules.{rule}
+use Rattle.kmip_ttlv.specs.Rules.{at_least, equal, in_brackets, member, rule, sides}
 use Rattle.kmip_ttlv.specs.Values.{big_integer_value, boolean_value, bytes_value, interval_value, newtype_value}
 use Rattle.kmip_ttlv.specs.Values.{text_value}
-use Rattle.kmip_ttlv.specs.WrittenItems.{take_tag}
+use Rattle.kmip_ttlv.specs.WrittenItems.{held_over, is_wrapper, take_tag}
 use Rattle.kmip_ttlv_laws.proofs.MessageParts.{IsUnit, PartAgrees, a_structure, all_agree, any_then, as_whole}
 use Rattle.kmip_ttlv_laws.proofs.MessageParts.{enumeration_part, every_agrees, first_of, head_or, if_present, leaf_part}
 use Rattle.kmip_ttlv_laws.proofs.MessageParts.{leaf_then, message, neither_named, nothing_left, optional_then}
-use Rattle.kmip_ttlv_laws.proofs.MessageParts.{part_then, present, structure, text_is_utf8}
-use Rattle.std.proofs.Common.{refl}
-use Rattle.std.specs.Prelude.{None, codes, string_bytes}
+use Rattle.kmip_ttlv_laws.proofs.MessageParts.{part_then, present, present_as, structure, text_is_utf8}
+use Rattle.kmip_ttlv_laws.proofs.MessageRules.{PartAfter, any_choice_then, chosen_after, chosen_by_type, kept_then}
+use Rattle.kmip_ttlv_laws.proofs.MessageRules.{optional_choice_then, overridden_leaf, text_kept, typ_or}
+use Rattle.std.proofs.Common.{ap, inl, inr, refl, ◌∙◌}
+use Rattle.std.specs.Prelude.{List, None, Some, codes, false, string_bytes, ℕ, ◌≡◌}
+use Rattle.std.specs.Str.{chars, trim_end, trim_start}
+use lib.Utf8.{encode}
 use Rattle.kmip_ttlv.specs.declared.types.TtlvType.{TtlvType}
 use Rattle.kmip_ttlv.specs.declared.types.TtlvType.TheVariants as types
 use Rattle.ttlv_vectors.specs.Leaves.{numbers_form, numbers_value}
@@ -31,6 +35,31 @@ use Rattle.ttlv_vectors.specs.declared.leaves.OptionalContents.{OptionalContents
 use Rattle.ttlv_vectors.specs.Leaves.{kind_form, kind_value, kind_number, kind_variants}
 use Rattle.ttlv_vectors.specs.declared.leaves.Kind.{Kind}
 use Rattle.ttlv_vectors.specs.declared.leaves.Kind.TheVariants as kind
+use Rattle.ttlv_vectors.specs.Chosens.{word_form, word_value}
+use Rattle.ttlv_vectors.specs.declared.chosen.Word.{Word}
+use Rattle.ttlv_vectors.specs.Chosens.{line_form, line_value}
+use Rattle.ttlv_vectors.specs.declared.chosen.Line.{Line}
+use Rattle.ttlv_vectors.specs.Chosens.{count_form, count_value}
+use Rattle.ttlv_vectors.specs.Soundness.{IsCount}
+use Rattle.ttlv_vectors.specs.declared.chosen.Count.{Count}
+use Rattle.ttlv_vectors.specs.Chosens.{said_form, written_said, read_said, said_content}
+use Rattle.ttlv_vectors.specs.Soundness.{IsSaid}
+use Rattle.ttlv_vectors.specs.declared.chosen.Said.{Said}
+use Rattle.ttlv_vectors.specs.declared.chosen.Said.TheVariants as said
+use Rattle.ttlv_vectors.specs.Chosens.{named_form, written_named, read_named, ChoosesNamed, named_content}
+use Rattle.ttlv_vectors.specs.Soundness.{IsNamed}
+use Rattle.ttlv_vectors.specs.declared.chosen.Named.{Named}
+use Rattle.ttlv_vectors.specs.declared.chosen.Named.TheVariants as named
+use Rattle.ttlv_vectors.specs.Chosens.{label_form, label_value}
+use Rattle.ttlv_vectors.specs.declared.chosen.Label.{Label}
+use Rattle.ttlv_vectors.specs.Chosens.{address_form, address_value}
+use Rattle.ttlv_vectors.specs.declared.chosen.Address.{Address}
+use Rattle.ttlv_vectors.specs.Chosens.{place_form, written_place, read_place, ChoosesPlace}
+use Rattle.ttlv_vectors.specs.declared.chosen.Place.{Place}
+use Rattle.ttlv_vectors.specs.declared.chosen.Place.TheVariants as place
+use Rattle.ttlv_vectors.specs.Chosens.{chosen_form, written_chosen, read_chosen}
+use Rattle.ttlv_vectors.specs.Soundness.{IsChosen}
+use Rattle.ttlv_vectors.specs.declared.chosen.Chosen.{Chosen}
 use Rattle.ttlv_vectors.specs.Queries.{maximum_items_form, maximum_items_value}
 use Rattle.ttlv_vectors.specs.Soundness.{IsMaximumItems}
 use Rattle.ttlv_vectors.specs.declared.query.MaximumItems.{MaximumItems}
@@ -116,6 +145,116 @@ pub kind_agrees : (x : Kind)
     (kind_value x)
 unfolding take_tag tag_of number kind_value
 kind_agrees x = enumeration_part refl (kind_is_unit x)
+
+pub word_agrees : {A : Type 0} (x : Word A)
+    → PartAgrees word_form
+    (word_value x) record { tag = 0x540070; typ = types.TextString }
+    (word_value x)
+unfolding take_tag tag_of number transparent_name
+word_agrees x =
+    leaf_part refl refl (as_text (text_is_utf8 x.text))
+
+pub line_agrees : {A : Type 0} (x : Line A)
+    → PartAgrees line_form
+    (line_value x) record { tag = 0x540071; typ = types.TextString }
+    (line_value x)
+unfolding take_tag tag_of number transparent_name
+line_agrees x =
+    leaf_part refl refl (as_text (text_is_utf8 x.text))
+
+pub count_agrees : (x : Count) → IsCount x
+    → PartAgrees count_form
+    (count_value x) record { tag = 0x540071; typ = types.Integer }
+    (count_value x)
+unfolding take_tag tag_of number transparent_name
+count_agrees x is =
+    leaf_part refl refl (as_int32 is)
+
+-- the type of the item of a `Said`
+abbrev pub said_typ : {A : Type 0} → Said A → TtlvType
+said_typ (said.Line x) = types.TextString
+said_typ (said.Count x) = types.Integer
+
+pub said_single : {A : Type 0} (x : Said A) → is_run (read_said x) ≡ false
+unfolding said_content written_said read_said
+said_single (said.Line x) = refl
+said_single (said.Count x) = refl
+
+pub said_agrees : {A : Type 0} (x : Said A) → IsSaid x
+    → PartAgrees said_form
+    (written_said x) record { tag = 0x540071; typ = said_typ x }
+    (read_said x)
+unfolding take_tag tag_of number transparent_name override_name held_over is_wrapper rule sides equal at_least member in_brackets trim_end chars trim_start encode said_content written_said read_said
+said_agrees (said.Line x) is =
+    chosen_by_type first_variant (λ k. refl) (overridden_leaf (variant_wraps refl refl) refl refl (as_text (text_is_utf8 x.text)))
+said_agrees (said.Count x) is =
+    chosen_by_type (later_variant first_variant) (λ k. refl) (overridden_leaf (variant_wraps refl refl) refl refl (as_int32 is))
+
+-- the type of the item of a `Named`
+abbrev pub named_typ : {A : Type 0} → Named A → TtlvType
+named_typ (named.Line x) = types.TextString
+named_typ (named.Count x) = types.Integer
+
+pub named_single : {A : Type 0} (x : Named A) → is_run (read_named x) ≡ false
+unfolding named_content written_named read_named
+named_single (named.Line x) = refl
+named_single (named.Count x) = refl
+
+pub named_agrees : {A : Type 0} (said : List ℕ) (x : Named A) → ChoosesNamed said x → IsNamed x
+    → PartAfter 0x540070 said named_form
+    (written_named x) record { tag = 0x540072; typ = named_typ x }
+    (read_named x)
+unfolding take_tag tag_of number transparent_name override_name held_over is_wrapper rule sides equal at_least member in_brackets trim_end chars trim_start encode named_content written_named read_named
+named_agrees said (named.Line x) (inl chooses) is =
+    chosen_after first_variant (λ k found. rw (found ∙ ap Some chooses) refl) (overridden_leaf (variant_wraps refl refl) refl refl (as_text (text_is_utf8 x.text)))
+named_agrees said (named.Line x) (inr chooses) is =
+    chosen_after first_variant (λ k found. rw (found ∙ ap Some chooses) refl) (overridden_leaf (variant_wraps refl refl) refl refl (as_text (text_is_utf8 x.text)))
+named_agrees said (named.Count x) chooses is =
+    chosen_after (later_variant first_variant) (λ k found. rw (found ∙ ap Some chooses) refl) (overridden_leaf (variant_wraps refl refl) refl refl (as_int32 is))
+
+pub label_agrees : {A : Type 0} (x : Label A)
+    → PartAgrees label_form
+    (label_value x) record { tag = 0x540073; typ = types.TextString }
+    (label_value x)
+unfolding take_tag tag_of number transparent_name
+label_agrees x =
+    leaf_part refl refl (as_text (text_is_utf8 x.text))
+
+pub address_agrees : {A : Type 0} (x : Address A)
+    → PartAgrees address_form
+    (address_value x) record { tag = 0x540073; typ = types.TextString }
+    (address_value x)
+unfolding take_tag tag_of number transparent_name
+address_agrees x =
+    leaf_part refl refl (as_text (text_is_utf8 x.text))
+
+pub place_single : {A : Type 0} (x : Place A) → is_run (read_place x) ≡ false
+unfolding written_place read_place
+place_single (place.Label x) = refl
+place_single (place.Address x) = refl
+
+pub place_agrees : {A : Type 0} (said : List ℕ) (x : Place A) → ChoosesPlace said x
+    → PartAfter 0x540070 said place_form
+    (written_place x) record { tag = 0x540073; typ = types.TextString }
+    (read_place x)
+unfolding take_tag tag_of number transparent_name override_name held_over is_wrapper rule sides equal at_least member in_brackets trim_end chars trim_start encode written_place read_place
+place_agrees said (place.Label x) chooses =
+    chosen_after first_variant (λ k found. rw (found ∙ ap Some chooses) refl) (label_agrees x)
+place_agrees said (place.Address x) chooses =
+    chosen_after (later_variant first_variant) (λ k found. rw (found ∙ ap Some chooses) refl) (address_agrees x)
+
+pub chosen_agrees : {A : Type 0} (x : Chosen A) → IsChosen x
+    → MessageAgrees chosen_form
+    (written_chosen x)
+    (read_chosen x)
+unfolding take_tag tag_of number transparent_name rule written_chosen read_chosen
+chosen_agrees x is =
+    message (structure refl refl (
+    kept_then refl refl (text_kept refl refl (text_is_utf8 x.word.text)) (
+    part_then refl (said_single x.said) (said_agrees x.said is.0) (
+    optional_choice_then {C = ChoosesNamed} written_named read_named (λ o. record { tag = 0x540072; typ = typ_or named_typ o }) x.named (λ z. z) (Some (string_bytes x.word.text)) refl refl (neither_named (codes "0x540072") x.more record { tag = 0x540071; typ = typ_or said_typ x.more } (head_or (first_of x.places.items) record { tag = 0x540073; typ = types.TextString } None) refl (neither_named (codes "0x540072") (first_of x.places.items) record { tag = 0x540073; typ = types.TextString } None refl refl)) (λ z y chooses is. named_agrees z y chooses is) named_single is.1 is.2 (
+    optional_then written_said read_said record { tag = 0x540071; typ = typ_or said_typ x.more } x.more refl (neither_named (codes "0x540071") (first_of x.places.items) record { tag = 0x540073; typ = types.TextString } None refl refl) (present_as (λ o. record { tag = 0x540071; typ = typ_or said_typ o }) said_agrees said_single x.more is.3) (
+    any_choice_then {P = λ y. ChoosesPlace (string_bytes x.word.text) y} written_place read_place record { tag = 0x540073; typ = types.TextString } x.places.items refl refl refl refl (λ y chooses is. place_agrees (string_bytes x.word.text) y chooses) place_single is.4 is.4 nothing_left))))))
 
 pub maximum_items_agrees : (x : MaximumItems) → IsMaximumItems x
     → PartAgrees maximum_items_form

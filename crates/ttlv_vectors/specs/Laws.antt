@@ -4,9 +4,20 @@ use Rattle.std.specs.Prelude.{◌≡◌, ◌↔◌, List, ℕ}
 use Rattle.kmip_ttlv.specs.Values.{Value}
 use Rattle.kmip_ttlv.specs.WriteAnswers.{IsWrittenAs}
 use Rattle.kmip_ttlv.specs.Reads.{Begins}
+use Rattle.ttlv_vectors.specs.Chosens.{chosen_form, written_chosen, read_chosen}
+use Rattle.ttlv_vectors.specs.Soundness.{IsChosen}
+use Rattle.ttlv_vectors.specs.declared.chosen.Chosen.{Chosen}
 use Rattle.ttlv_vectors.specs.Queries.{failed_item_form, written_failed_item, read_failed_item, returned_failed_item}
 use Rattle.ttlv_vectors.specs.Soundness.{IsFailedItem}
 use Rattle.ttlv_vectors.specs.declared.query.FailedItem.{FailedItem}
+
+-- the bytes of a `Chosen`, behind any others, begin by its form with its own value and with no other
+abbrev pub ChosensComeBack : Type 0 → Type 0
+ChosensComeBack A =
+    (x : Chosen A) (n : ℕ) (written : List ℕ) (v : Value)
+    → IsChosen x
+    → IsWrittenAs (written_chosen x) n written
+    → Begins chosen_form written v ↔ (v ≡ read_chosen x)
 
 -- the bytes of a `FailedItem`, behind any others, begin by its form with its own value and with no other
 abbrev pub FailedItemsComeBack : Type 0 → Type 0

@@ -2,6 +2,7 @@ pub mod Samples
 pub mod Requests
 pub mod AttributeRequests
 pub mod Choices
+pub mod Chosens
 pub mod Leaves
 pub mod Messages
 pub mod Numbers

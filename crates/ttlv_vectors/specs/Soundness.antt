@@ -1,17 +1,24 @@
 -- Written by codegen from types.table: change that, and run codegen/codegen.
 -- Which values of each type are sound: what was encoded of them is decoded again.
 use Rattle.std.specs.Int.{w32, w64}
-use Rattle.std.specs.Prelude.{All, FitsSigned, IfSome, length, ◌%◌, ◌<◌, ◌^◌, ◌≡◌}
+use Rattle.std.specs.Prelude.{All, FitsSigned, IfSome, length, string_bytes, ◌%◌, ◌<◌, ◌^◌, ◌≡◌}
 use Rattle.ttlv_vectors.specs.declared.leaves.Numbers.{Numbers}
 use Rattle.ttlv_vectors.specs.declared.leaves.Moments.{Moments}
 use Rattle.ttlv_vectors.specs.declared.leaves.Contents.{Contents}
 use Rattle.ttlv_vectors.specs.declared.leaves.OptionalContents.{OptionalContents}
+use Rattle.ttlv_vectors.specs.declared.chosen.Count.{Count}
+use Rattle.ttlv_vectors.specs.declared.chosen.Said.{Said}
+use Rattle.ttlv_vectors.specs.declared.chosen.Said.TheVariants as said
+use Rattle.ttlv_vectors.specs.declared.chosen.Named.{Named}
+use Rattle.ttlv_vectors.specs.declared.chosen.Named.TheVariants as named
+use Rattle.ttlv_vectors.specs.declared.chosen.Chosen.{Chosen}
 use Rattle.ttlv_vectors.specs.declared.query.MaximumItems.{MaximumItems}
 use Rattle.ttlv_vectors.specs.declared.query.LocateRequestPayload.{LocateRequestPayload}
 use Rattle.ttlv_vectors.specs.declared.query.Operation.{Operation}
 use Rattle.ttlv_vectors.specs.declared.query.QueryResponsePayload.{QueryResponsePayload}
 use Rattle.ttlv_vectors.specs.declared.query.ResultReason.{ResultReason}
 use Rattle.ttlv_vectors.specs.declared.query.FailedItem.{FailedItem}
+use Rattle.ttlv_vectors.specs.Chosens.{ChoosesNamed, ChoosesPlace}
 use Rattle.ttlv_vectors.specs.Queries.{operation_number, result_reason_number}
 
 -- which values of `Numbers` are sound
@@ -36,6 +43,30 @@ abbrev pub IsOptionalContents : {A : Type 0} → OptionalContents A → Type 0
 IsOptionalContents x =
     IfSome x.seconds (λ y. (y < 2 ^ 32))
     × IfSome x.big (λ y. (length y.items % 8 ≡ 0))
+
+-- which values of `Count` are sound
+abbrev pub IsCount : Count → Type 0
+IsCount x =
+    FitsSigned w32 x.number
+
+-- which values of `Said` are sound
+abbrev pub IsSaid : {A : Type 0} → Said A → Type 0
+IsSaid (said.Line x) = Unit {0}
+IsSaid (said.Count x) = IsCount x
+
+-- which values of `Named` are sound
+abbrev pub IsNamed : {A : Type 0} → Named A → Type 0
+IsNamed (named.Line x) = Unit {0}
+IsNamed (named.Count x) = IsCount x
+
+-- which values of `Chosen` are sound
+abbrev pub IsChosen : {A : Type 0} → Chosen A → Type 0
+IsChosen x =
+    IsSaid x.said
+    × IfSome x.named (λ y. ChoosesNamed (string_bytes x.word.text) y)
+    × IfSome x.named IsNamed
+    × IfSome x.more IsSaid
+    × All (λ y. ChoosesPlace (string_bytes x.word.text) y) x.places.items
 
 -- which values of `MaximumItems` are sound
 abbrev pub IsMaximumItems : MaximumItems → Type 0

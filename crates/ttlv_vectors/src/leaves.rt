@@ -6,13 +6,13 @@ ghost use Rattle.kmip_ttlv.specs.Spots.{fields_in, struct_fields};
 ghost use Rattle.ttlv_vectors.specs.Leaves.{numbers_form, numbers_value, moments_form, moments_value, contents_form, contents_value, optional_contents_form, written_optional_contents, read_optional_contents, kind_form, kind_value, kind_number, kind_variants};
 
 use kmip_ttlv::messages::writing;
-use kmip_ttlv::shape::{Decode, Serialize};
+use kmip_ttlv::reader;
+use kmip_ttlv::shape::Serialize;
 use kmip_ttlv::visit::Visitor;
-use kmip_ttlv::{error, reader};
 use std::alloc::{AllocError, Allocator, Global};
 
 /// Numbers with a sign.
-#[derive(Clone, Copy, Debug, PartialEq, Eq)]
+#[derive(Clone, Copy, PartialEq, Eq)]
 pub struct Numbers {
     /// A number with a sign, in 32 bits.
     pub count: i32,
@@ -56,17 +56,6 @@ impl<A: Allocator + Copy> reader::ReadStructure<A> for Numbers {
     }
 }
 
-impl<A: Allocator + Copy> Decode<A> for Numbers {
-    ghost form = { numbers_form };
-
-    ghost is_value = { λ v x. v ≡ numbers_value x };
-
-    #[tactic(auto, unfolding(kmip_ttlv_types::specs::Digits::six_digits, crate::specs::Leaves::numbers_value))]
-    fn decode(alloc: A, bytes: &[u8]) -> Result<Self, error::Error<A>> {
-        reader::read_message(alloc, bytes)
-    }
-}
-
 impl<A: Allocator + Copy> reader::ReadNested<A> for Numbers {
     ghost TAG = { 0x540001 };
 
@@ -88,7 +77,7 @@ impl<A: Allocator + Copy> reader::ReadNested<A> for Numbers {
 }
 
 /// Times, and truth.
-#[derive(Clone, Copy, Debug, PartialEq, Eq)]
+#[derive(Clone, Copy, PartialEq, Eq)]
 pub struct Moments {
     /// A date, in seconds since 1970.
     pub date: i64,
@@ -142,17 +131,6 @@ impl<A: Allocator + Copy> reader::ReadStructure<A> for Moments {
     }
 }
 
-impl<A: Allocator + Copy> Decode<A> for Moments {
-    ghost form = { moments_form };
-
-    ghost is_value = { λ v x. v ≡ moments_value x };
-
-    #[tactic(auto, unfolding(kmip_ttlv_types::specs::Digits::six_digits, crate::specs::Leaves::moments_value))]
-    fn decode(alloc: A, bytes: &[u8]) -> Result<Self, error::Error<A>> {
-        reader::read_message(alloc, bytes)
-    }
-}
-
 impl<A: Allocator + Copy> reader::ReadNested<A> for Moments {
     ghost TAG = { 0x540009 };
 
@@ -175,7 +153,7 @@ impl<A: Allocator + Copy> reader::ReadNested<A> for Moments {
 
 /// Texts and bytes of every kind.
 #[derive(Drop)]
-#[derive_where(Debug, PartialEq)]
+#[derive_where(PartialEq)]
 pub struct Contents<A: Allocator = Global> {
     /// A text.
     pub text: String<A>,
@@ -191,7 +169,7 @@ impl<B: Allocator> Serialize for Contents<B> {
     #[tactic(auto, unfolding(crate::specs::Leaves::contents_value))]
     fn visit<V: Visitor>(&self, visitor: &mut V) -> Result<(), AllocError> {
         writing::begin_struct(visitor, "0x540020")?;
-        writing::text_string(visitor, "Transparent:0x540021", self.text.as_str())?;
+        writing::string(visitor, "Transparent:0x540021", &self.text)?;
         writing::byte_string(visitor, "Transparent:0x540022", self.bytes.as_slice())?;
         writing::big_integer(visitor, "Transparent:0x540023", self.big.as_slice())?;
         writing::end_struct(visitor, "0x540020")?;
@@ -229,17 +207,6 @@ impl<A: Allocator + Copy> reader::ReadStructure<A> for Contents<A> {
     }
 }
 
-impl<A: Allocator + Copy> Decode<A> for Contents<A> {
-    ghost form = { contents_form };
-
-    ghost is_value = { λ v x. v ≡ contents_value x };
-
-    #[tactic(auto, unfolding(kmip_ttlv_types::specs::Digits::six_digits, crate::specs::Leaves::contents_value))]
-    fn decode(alloc: A, bytes: &[u8]) -> Result<Self, error::Error<A>> {
-        reader::read_message(alloc, bytes)
-    }
-}
-
 impl<A: Allocator + Copy> reader::ReadNested<A> for Contents<A> {
     ghost TAG = { 0x540020 };
 
@@ -262,7 +229,7 @@ impl<A: Allocator + Copy> reader::ReadNested<A> for Contents<A> {
 
 /// Parts, each of which may be absent.
 #[derive(Drop)]
-#[derive_where(Debug, PartialEq)]
+#[derive_where(PartialEq)]
 pub struct OptionalContents<A: Allocator = Global> {
     /// Truth.
     pub truth: Option<bool>,
@@ -338,17 +305,6 @@ impl<A: Allocator + Copy> reader::ReadStructure<A> for OptionalContents<A> {
                 None => None
             },
         }
-    }
-}
-
-impl<A: Allocator + Copy> Decode<A> for OptionalContents<A> {
-    ghost form = { optional_contents_form };
-
-    ghost is_value = { λ v x. v ≡ read_optional_contents x };
-
-    #[tactic(auto, unfolding(kmip_ttlv_types::specs::Digits::six_digits, crate::specs::Leaves::read_optional_contents))]
-    fn decode(alloc: A, bytes: &[u8]) -> Result<Self, error::Error<A>> {
-        reader::read_message(alloc, bytes)
     }
 }
 

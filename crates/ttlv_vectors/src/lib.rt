@@ -3,15 +3,18 @@
 //! proves their laws. Reading by other shapes is tested in reading_vectors, printing in
 //! printing_vectors, and the low-level calls in types_vectors.
 //!
-//! `message` has a part of every kind, `leaves` the leaves, and `query` sequences that may be empty and open Enumerations: these
-//! are what `codegen/codegen` writes of `types.table`.
-//! `numbers` has the parts that are written by hand, `choice` and `samples` types with a shape. `key_gets` and
-//! `key_messages` are tests of the crates get_messages and create_destroy.
+//! `message` has a part of every kind, `leaves` the leaves, `chosen` choices, and `query` sequences that may be empty and open
+//! Enumerations: these are what `codegen/codegen` writes of `types.table`.
+//! `numbers` has the parts that are written by hand, `choice` and `samples` types with a shape. `key_gets`, `key_messages` and
+//! `object_rereads` are tests of the crates get_messages, create_destroy and object_messages.
 #![tactic(auto)]
 
 #[cfg(test)]
 mod bytes;
 pub mod choice;
+#[cfg(test)]
+mod choosing;
+pub mod chosen;
 pub mod data;
 #[cfg(test)]
 mod get_attributes;
@@ -27,6 +30,8 @@ pub mod message;
 #[cfg(test)]
 mod nesting;
 pub mod numbers;
+#[cfg(test)]
+mod object_rereads;
 #[cfg(test)]
 mod parts_read;
 #[cfg(test)]

@@ -3,7 +3,7 @@
 
 ghost use Rattle.std.specs.Prelude.{◌≡◌, refl, codes, false};
 ghost use Rattle.kmip_ttlv.specs.Forms.{enum, no_variants, unit, variant};
-ghost use Rattle.kmip_ttlv.specs.Spots.{fields_in, struct_fields};
+ghost use Rattle.kmip_ttlv.specs.Spots.{fields_in};
 ghost use Rattle.kmip_ttlv.specs.Values.{unit_variant_value};
 ghost use Rattle.ttlv_vectors.specs.Messages.{every_form, written_every, read_every};
 
@@ -17,7 +17,7 @@ use std::alloc::{AllocError, Allocator, Global};
 
 /// A message with every kind of part.
 #[derive(Drop)]
-#[derive_where(Debug, PartialEq)]
+#[derive_where(PartialEq)]
 pub struct Every<A: Allocator = Global> {
     /// One of two.
     pub kind: Kind,
@@ -134,28 +134,8 @@ impl<A: Allocator + Copy> Decode<A> for Every<A> {
     }
 }
 
-impl<A: Allocator + Copy> reader::ReadNested<A> for Every<A> {
-    ghost TAG = { 0x540060 };
-
-    ghost fields = { struct_fields every_form };
-
-    ghost denies_unknown = { false };
-
-    ghost values = { λ x. fields_in (read_every x) };
-
-    const TAG: u32 = 0x540060;
-
-    #[tactic(auto, unfolding(kmip_ttlv_types::specs::Digits::six_digits, crate::specs::Messages::read_every))]
-    fn read_nested<'b>(
-        scope: &reader::Scope<'b, A>,
-        cursor: &mut reader::Cursor<'b, A>,
-    ) -> reader::Step<Self, A> {
-        reader::read_form(scope, cursor)
-    }
-}
-
 /// What `constant` of a `Every` always is.
-#[derive(Clone, Copy, Debug, PartialEq, Eq)]
+#[derive(Clone, Copy)]
 pub struct EveryConstant;
 
 impl reader::Listed for EveryConstant {

@@ -10,6 +10,7 @@ use crate::leaves::{Contents, Kind, Moments, Numbers, OptionalContents};
 use crate::message::Every;
 use crate::numbers::{Many, Named, OptionalNumbers, Reasons};
 use kmip_ttlv::error::ErrorKind;
+use kmip_ttlv::reader::read_message;
 use kmip_ttlv::shape::Data;
 use kmip_ttlv::{from_slice, to_vec};
 use kmip_ttlv_memory::BoundedAllocator;
@@ -147,7 +148,7 @@ fn parts_that_are_absent(rt: HostRuntime) -> Result<(), Fail> {
         )
     );
     let bytes = joined(alloc, &["5400300100000000"])?;
-    let read: kmip_ttlv::error::Result<OptionalContents> = from_slice(alloc, bytes.as_slice());
+    let read: kmip_ttlv::error::Result<OptionalContents> = read_message(alloc, bytes.as_slice());
     let Ok(contents) = read else {
         assert!(rt; false);
         return Ok(());

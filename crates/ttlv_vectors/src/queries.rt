@@ -7,8 +7,9 @@ use crate::query::{
     QueryResponsePayload, ResultReason, ResultStatus, TextAttribute,
 };
 use kmip_ttlv::error::ErrorKind;
-use kmip_ttlv::shape::{Decode, Serialize};
-use kmip_ttlv::{from_slice, to_vec};
+use kmip_ttlv::reader::{ReadStructure, read_message};
+use kmip_ttlv::shape::Serialize;
+use kmip_ttlv::to_vec;
 use kmip_ttlv_memory::BoundedAllocator;
 use std::alloc::Global;
 use std::test::Fail;
@@ -45,7 +46,7 @@ fn groups(alloc: Global, count: usize) -> Result<Vec<TextAttribute>, Fail> {
 }
 
 // Whether a value is written as these bytes, and these are read as it.
-fn is_both_ways<T: Serialize + Decode<Global> + PartialEq + Drop>(
+fn is_both_ways<T: Serialize + ReadStructure<Global> + PartialEq + Drop>(
     alloc: Global,
     value: &T,
     parts: &[&str],
@@ -55,7 +56,7 @@ fn is_both_ways<T: Serialize + Decode<Global> + PartialEq + Drop>(
         Ok(bytes) => bytes == wanted,
         Err(_) => false,
     };
-    let found: kmip_ttlv::error::Result<T> = from_slice(alloc, wanted.as_slice());
+    let found: kmip_ttlv::error::Result<T> = read_message(alloc, wanted.as_slice());
     match &found {
         Ok(read) => Ok(is_written && *read == *value),
         Err(_) => Ok(false),
@@ -140,9 +141,9 @@ fn a_whole_answer(rt: HostRuntime) -> Result<(), Fail> {
 }
 
 // What is said of bytes that are no such payload; "read" of one.
-fn error_of<T: Decode<Global> + Drop>(alloc: Global, text: &str) -> Result<String, Fail> {
+fn error_of<T: ReadStructure<Global> + Drop>(alloc: Global, text: &str) -> Result<String, Fail> {
     let bytes = joined(alloc, &[text])?;
-    let found: kmip_ttlv::error::Result<T> = from_slice(alloc, bytes.as_slice());
+    let found: kmip_ttlv::error::Result<T> = read_message(alloc, bytes.as_slice());
     let Err(error) = &found else {
         return Ok(String::from_str(alloc, "read")?);
     };
@@ -196,7 +197,10 @@ const NO_ANSWERS: [(&str, &str); 6] = [
     ),
 ];
 
-fn check_rows<T: Decode<Global> + Drop>(alloc: Global, rows: &[(&str, &str)]) -> Result<(), Fail> {
+fn check_rows<T: ReadStructure<Global> + Drop>(
+    alloc: Global,
+    rows: &[(&str, &str)],
+) -> Result<(), Fail> {
     for row in rows {
         let (message, wanted) = *row;
         let found = error_of::<T>(alloc, message)?;
@@ -276,7 +280,7 @@ fn a_number_with_a_name_is_read_as_that(rt: HostRuntime) -> Result<(), Fail> {
     let wanted = joined(heap, &["42000F0100000020", LOCATE, FAILED])?;
     let item = failed(heap, Operation::Other(8), None, None)?;
     assert!(rt; matches!(&to_vec(heap, &item), Ok(bytes) if *bytes == wanted));
-    let found: kmip_ttlv::error::Result<FailedItem> = from_slice(heap, wanted.as_slice());
+    let found: kmip_ttlv::error::Result<FailedItem> = read_message(heap, wanted.as_slice());
     assert!(rt; matches!(&found, Ok(item) if item.operation == Operation::Locate));
     Ok(())
 }
@@ -305,7 +309,7 @@ fn each_growth_is_refused(rt: HostRuntime) -> Result<(), Fail> {
     let bytes = joined(rt.alloc(), &["42007901000000A0", TEN, GROUP, GROUP, GROUP])?;
     for before in 0..100u64 {
         let heap = BoundedAllocator::failing_after(rt.alloc(), before);
-        let read: kmip_ttlv::error::Result<LocateRequestPayload<_>, _> = from_slice(
+        let read: kmip_ttlv::error::Result<LocateRequestPayload<_>, _> = read_message(
             &heap,
             bytes.as_slice(),
         );

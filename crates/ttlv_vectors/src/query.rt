@@ -17,7 +17,7 @@ use kmip_ttlv::{error, reader};
 use std::alloc::{AllocError, Allocator, Global};
 
 /// How many objects are named at most.
-#[derive(Clone, Copy, Debug, PartialEq, Eq)]
+#[derive(Clone, Copy, PartialEq, Eq)]
 pub struct MaximumItems {
     /// What it holds.
     pub count: i32,
@@ -51,7 +51,7 @@ impl<A: Allocator + Copy> reader::ReadItem<A> for MaximumItems {
 
 /// An attribute whose value is a text.
 #[derive(Drop)]
-#[derive_where(Debug, PartialEq)]
+#[derive_where(PartialEq)]
 pub struct TextAttribute<A: Allocator = Global> {
     /// Its name.
     pub name: String<A>,
@@ -65,8 +65,8 @@ impl<B: Allocator> Serialize for TextAttribute<B> {
     #[tactic(auto, unfolding(crate::specs::Queries::text_attribute_value))]
     fn visit<V: Visitor>(&self, visitor: &mut V) -> Result<(), AllocError> {
         writing::begin_struct(visitor, "0x420008")?;
-        writing::text_string(visitor, "Transparent:0x42000A", self.name.as_str())?;
-        writing::text_string(visitor, "Transparent:0x42000B", self.value.as_str())?;
+        writing::string(visitor, "Transparent:0x42000A", &self.name)?;
+        writing::string(visitor, "Transparent:0x42000B", &self.value)?;
         writing::end_struct(visitor, "0x420008")?;
         Ok(())
     }
@@ -95,17 +95,6 @@ impl<A: Allocator + Copy> reader::ReadStructure<A> for TextAttribute<A> {
     }
 }
 
-impl<A: Allocator + Copy> Decode<A> for TextAttribute<A> {
-    ghost form = { text_attribute_form };
-
-    ghost is_value = { λ v x. v ≡ text_attribute_value x };
-
-    #[tactic(auto, unfolding(kmip_ttlv_types::specs::Digits::six_digits, crate::specs::Queries::text_attribute_value))]
-    fn decode(alloc: A, bytes: &[u8]) -> Result<Self, error::Error<A>> {
-        reader::read_message(alloc, bytes)
-    }
-}
-
 impl<A: Allocator + Copy> reader::ReadNested<A> for TextAttribute<A> {
     ghost TAG = { 0x420008 };
 
@@ -128,7 +117,7 @@ impl<A: Allocator + Copy> reader::ReadNested<A> for TextAttribute<A> {
 
 /// Which objects are sought.
 #[derive(Drop)]
-#[derive_where(Debug, PartialEq)]
+#[derive_where(PartialEq)]
 pub struct LocateRequestPayload<A: Allocator = Global> {
     /// How many at most.
     pub maximum_items: Option<MaximumItems>,
@@ -172,17 +161,6 @@ impl<A: Allocator + Copy> reader::ReadStructure<A> for LocateRequestPayload<A> {
             maximum_items,
             attributes,
         }
-    }
-}
-
-impl<A: Allocator + Copy> Decode<A> for LocateRequestPayload<A> {
-    ghost form = { locate_request_payload_form };
-
-    ghost is_value = { λ v x. v ≡ read_locate_request_payload x };
-
-    #[tactic(auto, unfolding(kmip_ttlv_types::specs::Digits::six_digits, crate::specs::Queries::read_locate_request_payload))]
-    fn decode(alloc: A, bytes: &[u8]) -> Result<Self, error::Error<A>> {
-        reader::read_message(alloc, bytes)
     }
 }
 
@@ -350,7 +328,7 @@ impl<A: Allocator + Copy> reader::ReadItem<A> for ObjectType {
 
 /// A namespace that applications name objects in.
 #[derive(Drop)]
-#[derive_where(Debug, PartialEq)]
+#[derive_where(PartialEq)]
 pub struct ApplicationNamespace<A: Allocator = Global> {
     /// What it holds.
     pub name: String<A>,
@@ -360,7 +338,7 @@ impl<B: Allocator> Serialize for ApplicationNamespace<B> {
     ghost stated = { application_namespace_value };
 
     fn visit<V: Visitor>(&self, visitor: &mut V) -> Result<(), AllocError> {
-        writing::text_string(visitor, "Transparent:0x420003", self.name.as_str())?;
+        writing::string(visitor, "Transparent:0x420003", &self.name)?;
         Ok(())
     }
 }
@@ -384,7 +362,7 @@ impl<A: Allocator + Copy> reader::ReadItem<A> for ApplicationNamespace<A> {
 
 /// What a server can do: of each only what the request asked for.
 #[derive(Drop)]
-#[derive_where(Debug, PartialEq)]
+#[derive_where(PartialEq)]
 pub struct QueryResponsePayload<A: Allocator = Global> {
     /// The operations that it has.
     pub operations: Vec<Operation, A>,
@@ -476,17 +454,6 @@ impl<A: Allocator + Copy> reader::ReadStructure<A> for QueryResponsePayload<A> {
             vendor,
             namespaces,
         }
-    }
-}
-
-impl<A: Allocator + Copy> Decode<A> for QueryResponsePayload<A> {
-    ghost form = { query_response_payload_form };
-
-    ghost is_value = { λ v x. v ≡ read_query_response_payload x };
-
-    #[tactic(auto, unfolding(kmip_ttlv_types::specs::Digits::six_digits, crate::specs::Queries::read_query_response_payload))]
-    fn decode(alloc: A, bytes: &[u8]) -> Result<Self, error::Error<A>> {
-        reader::read_message(alloc, bytes)
     }
 }
 
@@ -658,7 +625,7 @@ impl<A: Allocator + Copy> reader::ReadItem<A> for ResultStatus {
 
 /// An item of a response, whose operation didn't succeed (KMIP 1.0, section 7).
 #[derive(Drop)]
-#[derive_where(Debug, PartialEq)]
+#[derive_where(PartialEq)]
 pub struct FailedItem<A: Allocator = Global> {
     /// What was asked for.
     pub operation: Operation,
@@ -732,25 +699,5 @@ impl<A: Allocator + Copy> Decode<A> for FailedItem<A> {
     #[tactic(auto, unfolding(kmip_ttlv_types::specs::Digits::six_digits, crate::specs::Queries::read_failed_item))]
     fn decode(alloc: A, bytes: &[u8]) -> Result<Self, error::Error<A>> {
         reader::read_message(alloc, bytes)
-    }
-}
-
-impl<A: Allocator + Copy> reader::ReadNested<A> for FailedItem<A> {
-    ghost TAG = { 0x42000F };
-
-    ghost fields = { struct_fields failed_item_form };
-
-    ghost denies_unknown = { false };
-
-    ghost values = { λ x. fields_in (read_failed_item x) };
-
-    const TAG: u32 = 0x42000F;
-
-    #[tactic(auto, unfolding(kmip_ttlv_types::specs::Digits::six_digits, crate::specs::Queries::read_failed_item))]
-    fn read_nested<'b>(
-        scope: &reader::Scope<'b, A>,
-        cursor: &mut reader::Cursor<'b, A>,
-    ) -> reader::Step<Self, A> {
-        reader::read_form(scope, cursor)
     }
 }

@@ -13,13 +13,21 @@ use kmip_ttlv::memory::BoundedAllocator;
 use std::alloc::{Allocator, Global};
 use std::test::Fail;
 
-// Whether a message is decoded, is sound, and comes back equal.
-fn comes_back<T: Message<Global>>(alloc: Global, digits: &str) -> bool {
+// A message, decoded.
+pub(crate) fn decoded<T: Message<Global>>(alloc: Global, digits: &str) -> Option<T> {
     let Ok(bytes) = hex::decode(alloc, digits) else {
-        return false;
+        return None;
     };
     let read: Result<T, Error> = from_slice(alloc, bytes.as_slice());
-    let Ok(message) = read else {
+    match read {
+        Ok(message) => Some(message),
+        Err(_) => None,
+    }
+}
+
+// Whether a message is decoded, is sound, and comes back equal.
+pub(crate) fn comes_back<T: Message<Global>>(alloc: Global, digits: &str) -> bool {
+    let Some(message) = decoded::<T>(alloc, digits) else {
         return false;
     };
     match reread(alloc, &message) {

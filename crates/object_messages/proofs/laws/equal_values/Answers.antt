@@ -9,11 +9,11 @@ use Rattle.kmip_ttlv_laws.proofs.Equal.{row_of, sequences_equal, signed_equal, t
 use Rattle.std.proofs.Common.{refl}
 use Rattle.std.specs.Prelude.{List, Some, [], codes, length, map, string_bytes, ℕ, ◌∷◌, ◌≡◌}
 use denote.Enum.Bare.{true_same}
-use Rattle.object_messages.specs.Attributes.{object_type_number, object_type_numbers, object_type_read_number, written_object_type, read_object_type, cryptographic_algorithm_number, cryptographic_algorithm_numbers, cryptographic_algorithm_read_number, written_cryptographic_algorithm, read_cryptographic_algorithm, object_state_number, object_state_value, unique_identifier_value, attribute_name_value, attribute_index_value, attribute_number_value, attribute_date_value, attribute_text_value, returned_attribute_value, read_attribute_value, returned_attribute, read_attribute}
+use Rattle.object_messages.specs.Attributes.{object_type_number, object_type_numbers, object_type_read_number, written_object_type, read_object_type, cryptographic_algorithm_number, cryptographic_algorithm_numbers, cryptographic_algorithm_read_number, written_cryptographic_algorithm, read_cryptographic_algorithm, object_state_number, object_state_value, unique_identifier_value, attribute_name_value, attribute_index_value, attribute_number_value, attribute_date_value, attribute_text_value, name_type_number, name_type_numbers, name_type_read_number, written_name_type, read_name_type, name_text_value, returned_name, read_name, returned_attribute_value, read_attribute_value, returned_attribute, read_attribute}
 use Rattle.object_messages.specs.Objects.{key_format_type_number, key_format_type_numbers, key_format_type_read_number, written_key_format_type, read_key_format_type, cryptographic_length_value, key_value_value, returned_key_block, read_key_block, returned_symmetric_key, read_symmetric_key, returned_public_key, read_public_key, certificate_type_number, certificate_type_numbers, certificate_type_read_number, written_certificate_type, read_certificate_type, returned_certificate, read_certificate}
 use Rattle.object_messages.specs.Requests.{operation_number, operation_value, returned_template_attribute, read_template_attribute, returned_register_payload, read_register_payload, maximum_items_value, returned_locate_payload, read_locate_payload, read_get_attributes_payload, query_function_number, query_function_numbers, query_function_read_number, written_query_function, read_query_function, returned_query_payload, read_query_payload, returned_request_payload, read_request_payload, returned_request_item, read_request_item, returned_request, read_request}
 use Rattle.get_messages.specs.Headers.{request_header_value, response_header_value}
-use Rattle.object_messages.specs.Responses.{registered_value, read_located, returned_got_attributes, read_got_attributes, any_operation_number, any_operation_numbers, any_operation_read_number, written_any_operation, read_any_operation, returned_answered, read_answered, returned_response_payload, read_response_payload, returned_response_item, read_response_item, returned_response, read_response}
+use Rattle.object_messages.specs.Responses.{registered_value, read_located, returned_got_attributes, read_got_attributes, any_operation_number, any_operation_numbers, any_operation_read_number, written_any_operation, read_any_operation, returned_answered, read_answered, returned_response_payload, read_response_payload, result_status_number, result_status_numbers, result_status_read_number, written_result_status, read_result_status, result_reason_number, result_reason_numbers, result_reason_read_number, written_result_reason, read_result_reason, returned_response_item, read_response_item, returned_response, read_response}
 use Rattle.object_messages.specs.declared.attribute.ObjectType.{ObjectType}
 use Rattle.object_messages.specs.declared.attribute.ObjectType.TheVariants as object_type
 use Rattle.object_messages.specs.declared.attribute.CryptographicAlgorithm.{CryptographicAlgorithm}
@@ -21,6 +21,8 @@ use Rattle.object_messages.specs.declared.attribute.CryptographicAlgorithm.TheVa
 use Rattle.object_messages.specs.declared.attribute.ObjectState.{ObjectState}
 use Rattle.object_messages.specs.declared.attribute.ObjectState.TheVariants as object_state
 use Rattle.object_messages.specs.contracts.attribute.ObjectState as object_state_contract
+use Rattle.object_messages.specs.declared.attribute.NameType.{NameType}
+use Rattle.object_messages.specs.declared.attribute.NameType.TheVariants as name_type
 use Rattle.object_messages.specs.declared.attribute.AttributeValue.{AttributeValue}
 use Rattle.object_messages.specs.declared.attribute.AttributeValue.TheVariants as attribute_value
 use Rattle.object_messages.specs.declared.object.KeyFormatType.{KeyFormatType}
@@ -38,6 +40,10 @@ use Rattle.object_messages.specs.declared.response.AnyOperation.{AnyOperation}
 use Rattle.object_messages.specs.declared.response.AnyOperation.TheVariants as any_operation
 use Rattle.object_messages.specs.declared.response.ResponsePayload.{ResponsePayload}
 use Rattle.object_messages.specs.declared.response.ResponsePayload.TheVariants as response_payload
+use Rattle.object_messages.specs.declared.response.ResultStatus.{ResultStatus}
+use Rattle.object_messages.specs.declared.response.ResultStatus.TheVariants as result_status
+use Rattle.object_messages.specs.declared.response.ResultReason.{ResultReason}
+use Rattle.object_messages.specs.declared.response.ResultReason.TheVariants as result_reason
 use Rattle.object_messages.proofs.laws.equal_values.Goals as goal
 
 pub returns-clause-object_type : goal.returns-clause-object_type
@@ -104,6 +110,27 @@ returns-clause-attribute_text g c x y e =
     let text : (string_bytes x.text) ≡ (string_bytes y.text) = cc in
     texts_equal x.text y.text text
 
+pub returns-clause-name_type : goal.returns-clause-name_type
+unfolding written_name_type read_name_type
+returns-clause-name_type g c x (name_type.Other n) e =
+    let same : u32_value (name_type_number x) ≡ numbered_value (other_number name_type_numbers n) = cc in
+    unsigned_equal (name_type_number x) n (other_same name_type_numbers (name_type_number x) n same)
+returns-clause-name_type g c x y e =
+    let same : name_type_number x ≡ name_type_number y = cc in
+    unsigned_equal (name_type_number x) (name_type_number y) same
+
+pub returns-clause-name_text : goal.returns-clause-name_text
+returns-clause-name_text g c x y e =
+    let text : (string_bytes x.text) ≡ (string_bytes y.text) = cc in
+    texts_equal x.text y.text text
+
+pub returns-clause-name : goal.returns-clause-name
+unfolding returned_name read_name
+returns-clause-name g c x y e =
+    let text : name_text_value x.text ≡ name_text_value y.text = cc in
+    let name_type : written_name_type x.name_type ≡ read_name_type y.name_type = cc in
+    both (returns-clause-name_text g c x.text y.text text) (returns-clause-name_type g c x.name_type y.name_type name_type)
+
 pub returns-clause-attribute_value : goal.returns-clause-attribute_value
 unfolding returned_attribute_value read_attribute_value
 returns-clause-attribute_value g c (attribute_value.Type x) (attribute_value.Type y) e =
@@ -124,6 +151,9 @@ returns-clause-attribute_value g c (attribute_value.Date x) (attribute_value.Dat
 returns-clause-attribute_value g c (attribute_value.Text x) (attribute_value.Text y) e =
     let same : attribute_text_value x ≡ attribute_text_value y = cc in
     returns-clause-attribute_text g c x y same
+returns-clause-attribute_value g c (attribute_value.Name x) (attribute_value.Name y) e =
+    let same : returned_name x ≡ read_name y = cc in
+    returns-clause-name g c x y same
 returns-clause-attribute_value g c x y e = absurd (apart e refl)
 
 pub returns-clause-attribute : goal.returns-clause-attribute
@@ -343,12 +373,33 @@ returns-clause-response_payload g c (response_payload.Query x) (response_payload
     returns-clause-answered g c x y same
 returns-clause-response_payload g c x y e = absurd (apart e refl)
 
+pub returns-clause-result_status : goal.returns-clause-result_status
+unfolding written_result_status read_result_status
+returns-clause-result_status g c x (result_status.Other n) e =
+    let same : u32_value (result_status_number x) ≡ numbered_value (other_number result_status_numbers n) = cc in
+    unsigned_equal (result_status_number x) n (other_same result_status_numbers (result_status_number x) n same)
+returns-clause-result_status g c x y e =
+    let same : result_status_number x ≡ result_status_number y = cc in
+    unsigned_equal (result_status_number x) (result_status_number y) same
+
+pub returns-clause-result_reason : goal.returns-clause-result_reason
+unfolding written_result_reason read_result_reason
+returns-clause-result_reason g c x (result_reason.Other n) e =
+    let same : u32_value (result_reason_number x) ≡ numbered_value (other_number result_reason_numbers n) = cc in
+    unsigned_equal (result_reason_number x) n (other_same result_reason_numbers (result_reason_number x) n same)
+returns-clause-result_reason g c x y e =
+    let same : result_reason_number x ≡ result_reason_number y = cc in
+    unsigned_equal (result_reason_number x) (result_reason_number y) same
+
 pub returns-clause-response_item : goal.returns-clause-response_item
 unfolding returned_response_item read_response_item
 returns-clause-response_item g c x y e =
-    let operation : operation_value x.operation ≡ operation_value y.operation = cc in
-    let payload : returned_response_payload x.payload ≡ read_response_payload y.payload = cc in
-    both (returns-clause-operation g c x.operation y.operation operation) (returns-clause-response_payload g c x.payload y.payload payload)
+    let operation : optional operation_value x.operation ≡ optional operation_value y.operation = cc in
+    let result_status : written_result_status x.result_status ≡ read_result_status y.result_status = cc in
+    let result_reason : optional written_result_reason x.result_reason ≡ optional read_result_reason y.result_reason = cc in
+    let result_message : optional (λ y. newtype_value (codes "Transparent:0x42007D") (text_value (string_bytes y))) x.result_message ≡ optional (λ y. newtype_value (codes "Transparent:0x42007D") (text_value (string_bytes y))) y.result_message = cc in
+    let payload : optional returned_response_payload x.payload ≡ optional read_response_payload y.payload = cc in
+    both (options_equal operation_value operation_value _ (returns-clause-operation g c) x.operation y.operation operation) (both (returns-clause-result_status g c x.result_status y.result_status result_status) (both (options_equal written_result_reason read_result_reason _ (returns-clause-result_reason g c) x.result_reason y.result_reason result_reason) (both (options_equal (λ y. newtype_value (codes "Transparent:0x42007D") (text_value (string_bytes y))) (λ y. newtype_value (codes "Transparent:0x42007D") (text_value (string_bytes y))) _ (λ a b e. let same : (string_bytes a) ≡ (string_bytes b) = cc in texts_equal a b same) x.result_message y.result_message result_message) (options_equal returned_response_payload read_response_payload _ (returns-clause-response_payload g c) x.payload y.payload payload))))
 
 pub returns-clause-response : goal.returns-clause-response
 unfolding returned_response read_response

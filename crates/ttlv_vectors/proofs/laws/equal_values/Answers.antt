@@ -2,19 +2,27 @@
 -- Values of a type are equal if they stand for the same: each part is, and numbers tell the variants of an Enumeration.
 use Rattle.kmip_ttlv.specs.Forms.{text}
 use Rattle.kmip_ttlv.specs.MessageParts.{numbered_value, optional, optional_sequence, other_number}
+use Rattle.kmip_ttlv.specs.Names.{number}
 use Rattle.kmip_ttlv.specs.Values.{big_integer_value, boolean_value, bytes_value, interval_value, newtype_value}
 use Rattle.kmip_ttlv.specs.Values.{text_value, u32_value, value}
-use Rattle.kmip_ttlv_laws.proofs.Equal.{any_equal, booleans_equal, both, bytes_equal, found_same, options_equal}
+use Rattle.kmip_ttlv_laws.proofs.Equal.{any_equal, apart, booleans_equal, both, bytes_equal, found_same, options_equal}
 use Rattle.kmip_ttlv_laws.proofs.Equal.{other_same, row_of, signed_equal, texts_equal, unsigned_equal}
 use Rattle.kmip_ttlv_laws.proofs.MessageParts.{message}
 use Rattle.std.proofs.Common.{refl}
 use Rattle.std.specs.Prelude.{List, Some, [], codes, string_bytes, ℕ, ◌∷◌, ◌≡◌}
 use denote.Enum.Bare.{true_same}
 use Rattle.ttlv_vectors.specs.Leaves.{numbers_value, moments_value, contents_value, read_optional_contents, kind_number, kind_value}
+use Rattle.ttlv_vectors.specs.Chosens.{word_value, line_value, count_value, read_said, read_named, label_value, address_value, read_place, read_chosen}
 use Rattle.ttlv_vectors.specs.Queries.{maximum_items_value, text_attribute_value, read_locate_request_payload, operation_number, operation_numbers, operation_read_number, written_operation, read_operation, object_type_number, object_type_value, application_namespace_value, returned_query_response_payload, read_query_response_payload, result_reason_number, result_reason_numbers, result_reason_read_number, written_result_reason, read_result_reason, result_status_number, result_status_value, returned_failed_item, read_failed_item}
 use Rattle.ttlv_vectors.specs.declared.leaves.Kind.{Kind}
 use Rattle.ttlv_vectors.specs.declared.leaves.Kind.TheVariants as kind
 use Rattle.ttlv_vectors.specs.contracts.leaves.Kind as kind_contract
+use Rattle.ttlv_vectors.specs.declared.chosen.Said.{Said}
+use Rattle.ttlv_vectors.specs.declared.chosen.Said.TheVariants as said
+use Rattle.ttlv_vectors.specs.declared.chosen.Named.{Named}
+use Rattle.ttlv_vectors.specs.declared.chosen.Named.TheVariants as named
+use Rattle.ttlv_vectors.specs.declared.chosen.Place.{Place}
+use Rattle.ttlv_vectors.specs.declared.chosen.Place.TheVariants as place
 use Rattle.ttlv_vectors.specs.declared.query.Operation.{Operation}
 use Rattle.ttlv_vectors.specs.declared.query.Operation.TheVariants as operation
 use Rattle.ttlv_vectors.specs.declared.query.ObjectType.{ObjectType}
@@ -75,6 +83,71 @@ unfolding kind_value
 returns-clause-kind g c x y e =
     let same : kind_number x ≡ kind_number y = cc in
     true_same kind_contract.the_type x y (found_same kind_number kind_rows kind_found x y same)
+
+pub returns-clause-word : goal.returns-clause-word
+returns-clause-word g c x y e =
+    let text : (string_bytes x.text) ≡ (string_bytes y.text) = cc in
+    texts_equal x.text y.text text
+
+pub returns-clause-line : goal.returns-clause-line
+returns-clause-line g c x y e =
+    let text : (string_bytes x.text) ≡ (string_bytes y.text) = cc in
+    texts_equal x.text y.text text
+
+pub returns-clause-count : goal.returns-clause-count
+returns-clause-count g c x y e =
+    let number : x.number ≡ y.number = cc in
+    signed_equal x.number y.number number
+
+pub returns-clause-said : goal.returns-clause-said
+unfolding read_said
+returns-clause-said g c (said.Line x) (said.Line y) e =
+    let same : line_value x ≡ line_value y = cc in
+    returns-clause-line g c x y same
+returns-clause-said g c (said.Count x) (said.Count y) e =
+    let same : count_value x ≡ count_value y = cc in
+    returns-clause-count g c x y same
+returns-clause-said g c x y e = absurd (apart e refl)
+
+pub returns-clause-named : goal.returns-clause-named
+unfolding read_named
+returns-clause-named g c (named.Line x) (named.Line y) e =
+    let same : line_value x ≡ line_value y = cc in
+    returns-clause-line g c x y same
+returns-clause-named g c (named.Count x) (named.Count y) e =
+    let same : count_value x ≡ count_value y = cc in
+    returns-clause-count g c x y same
+returns-clause-named g c x y e = absurd (apart e refl)
+
+pub returns-clause-label : goal.returns-clause-label
+returns-clause-label g c x y e =
+    let text : (string_bytes x.text) ≡ (string_bytes y.text) = cc in
+    texts_equal x.text y.text text
+
+pub returns-clause-address : goal.returns-clause-address
+returns-clause-address g c x y e =
+    let text : (string_bytes x.text) ≡ (string_bytes y.text) = cc in
+    texts_equal x.text y.text text
+
+pub returns-clause-place : goal.returns-clause-place
+unfolding read_place
+returns-clause-place g c (place.Label x) (place.Label y) e =
+    let same : label_value x ≡ label_value y = cc in
+    returns-clause-label g c x y same
+returns-clause-place g c (place.Address x) (place.Address y) e =
+    let same : address_value x ≡ address_value y = cc in
+    returns-clause-address g c x y same
+returns-clause-place g c x y e = absurd (apart e refl)
+
+pub returns-clause-chosen : goal.returns-clause-chosen
+unfolding read_chosen
+returns-clause-chosen g c x y e =
+    let word : word_value x.word ≡ word_value y.word = cc in
+    let said : read_said x.said ≡ read_said y.said = cc in
+    let named : optional read_named x.named ≡ optional read_named y.named = cc in
+    let more : optional read_said x.more ≡ optional read_said y.more = cc in
+    let places : optional_sequence read_place x.places.items ≡ optional_sequence read_place y.places.items = cc in
+    both (returns-clause-word g c x.word y.word word) (both (returns-clause-said g c x.said y.said said) (both (options_equal read_named read_named _ (returns-clause-named g c) x.named y.named named) (both (options_equal read_said read_said _ (returns-clause-said g c) x.more y.more more) (any_equal read_place read_place _ (returns-clause-place g c) x.places.items y.places.items places))))
 
 pub returns-clause-maximum_items : goal.returns-clause-maximum_items
 returns-clause-maximum_items g c x y e =

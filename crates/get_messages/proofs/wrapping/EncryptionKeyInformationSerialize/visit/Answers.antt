@@ -1,5 +1,5 @@
--- The text that is told is the identifier's; then a line for each call, which tells its part behind what was told before.
-use Rattle.std.proofs.Common.{sym, subst}
+-- A line for each call, which tells its part behind what was told before.
+use Rattle.std.proofs.Common.{sym, subst, string_bytes}
 use Rattle.std.specs.Prelude.{codes, option_map}
 use Rattle.kmip_ttlv_base.proofs.Visiting.{visited_joined}
 use Rattle.kmip_ttlv_base.specs.Values.{newtype_value, no_values, text_value}
@@ -12,11 +12,10 @@ unfolding written_encryption_key_information
 returns-clause-told g c = λ s known.
     let step = g.V.Visitor.step in
     let inside = step (begun (a_struct (codes "0x420036"))) s in
-    let text = visited step (newtype_value (codes "Transparent:0x420094") (text_value c.as_str.result.now)) inside in
+    let text = visited step (newtype_value (codes "Transparent:0x420094") (text_value (string_bytes c.args.self.now.unique_identifier))) inside in
     let parameters = optional (option_map written_cryptographic_parameters c.args.self.now.cryptographic_parameters) in
-    rw (sym c.as_str.ensures.value) (
     subst (λ all. g.V.Visitor.knows c.end_struct.new.visitor (step (ended (a_struct (codes "0x420036"))) all)) (sym (visited_joined step parameters no_values text)) (
     c.in_ok-end_struct.ensures.told _ (
     c.in_ok-option.ensures.told _ (
-    c.in_ok-text_string.ensures.told _ (
-    c.in_ok-begin_struct.ensures.told s known)))))
+    c.in_ok-string.ensures.told _ (
+    c.in_ok-begin_struct.ensures.told s known))))

@@ -1,19 +1,20 @@
-//! Messages come back: encoded and decoded again they are equal; and which are sound. Their bytes are made of items by hand, as KMIP
-//! 1.0, section 9.1, has them.
+//! Messages of object_messages come back: encoded and decoded again they are equal; and which are sound. Their bytes are made of
+//! items by hand, as KMIP 1.0, section 9.1, has them.
 
-use crate::attribute::{Attribute, AttributeName, AttributeValue, ObjectState, ObjectType};
-use crate::object::ManagedObject;
-use crate::request::{LocatePayload, Operation, Request, RequestItem, RequestPayload};
-use crate::response::Response;
+use crate::rereads::{comes_back, decoded};
 use get_messages::header::{ProtocolVersion, RequestHeader};
-use kmip_ttlv::error::Error;
-use kmip_ttlv::from_slice;
 use kmip_ttlv::laws::{Message, Sound, reread};
+use object_messages::attribute::{
+    Attribute, AttributeName, AttributeValue, ObjectState, ObjectType,
+};
+use object_messages::object::ManagedObject;
+use object_messages::request::{LocatePayload, Operation, Request, RequestItem, RequestPayload};
+use object_messages::response::{Response, ResultStatus};
 use std::alloc::Global;
 use std::test::Fail;
 
 // Requests.
-const REQUESTS: [(&str, &str); 5] = [
+const REQUESTS: [(&str, &str); 6] = [
     (
         "a symmetric key is registered",
         "42007801000001484200770100000038420069010000002042006A0200000004000000010000000042006B0200000004000000000000000042000D0200000004000000010000000042000F010000010042005C0500000004000000030000000042007901000000E8420057050000000400000002000000004200910100000070420008010000003042000A070000001843727970746F67726170686963205573616765204D61736B42000B02000000040000000C00000000420008010000003042000A070000001743727970746F6772617068696320416C676F726974686D0042000B0500000004000000030000000042008F0100000058420040010000005042004205000000040000000100000000420045010000001842004308000000100123456789ABCDEF0123456789ABCDEF4200280500000004000000030000000042002A02000000040000008000000000",
@@ -34,10 +35,14 @@ const REQUESTS: [(&str, &str); 5] = [
         "any objects are sought, and all attributes of the last one",
         "42007801000000804200770100000038420069010000002042006A0200000004000000010000000042006B0200000004000000000000000042000D0200000004000000020000000042000F010000001842005C05000000040000000800000000420079010000000042000F010000001842005C05000000040000000B000000004200790100000000",
     ),
+    (
+        "objects are sought by their name, a URI",
+        "42007801000000B04200770100000038420069010000002042006A0200000004000000010000000042006B0200000004000000000000000042000D0200000004000000010000000042000F010000006842005C050000000400000008000000004200790100000050420008010000004842000A07000000044E616D650000000042000B0100000030420055070000001868747470733A2F2F782E6578616D706C652F6B6579732F3142005405000000040000000200000000",
+    ),
 ];
 
 // Responses.
-const RESPONSES: [(&str, &str); 4] = [
+const RESPONSES: [(&str, &str); 8] = [
     (
         "the identifier of what was registered",
         "42007B01000000B042007A0100000048420069010000002042006A0200000004000000010000000042006B020000000400000000000000004200920900000008000000004AFBE7C242000D0200000004000000010000000042000F010000005842005C0500000004000000030000000042007F0500000004000000000000000042007C0100000030420094070000002434396131636138382D366265612D346662322D623435302D37653538383032633330333800000000",
@@ -54,7 +59,27 @@ const RESPONSES: [(&str, &str); 4] = [
         "operations and objects, some without a name here, and who made the server",
         "42007B01000000E042007A0100000048420069010000002042006A0200000004000000010000000042006B020000000400000000000000004200920900000008000000004AFBE7C242000D0200000004000000010000000042000F010000008842005C0500000004000000180000000042007F0500000004000000000000000042007C010000006042005C0500000004000000010000000042005C0500000004000000180000000042005C05000000040000000900000000420057050000000400000002000000004200570500000004000000080000000042009D070000000441434D4500000000",
     ),
+    (
+        "a name",
+        "42007B01000000D042007A0100000048420069010000002042006A0200000004000000010000000042006B020000000400000000000000004200920900000008000000004AFBE7C242000D0200000004000000010000000042000F010000007842005C05000000040000000B0000000042007F0500000004000000000000000042007C010000005042009407000000083439613163613838420008010000003842000A07000000044E616D650000000042000B010000002042005507000000054B6579203100000042005405000000040000000100000000",
+    ),
+    (
+        "an item that failed, and one that didn't",
+        "42007B01000000E042007A0100000048420069010000002042006A0200000004000000010000000042006B020000000400000000000000004200920900000008000000004AFBE7C242000D0200000004000000020000000042000F010000004842005C05000000040000000B0000000042007F0500000004000000010000000042007E0500000004000000010000000042007D070000000E4E6F2073756368206F626A656374000042000F010000003842005C0500000004000000080000000042007F0500000004000000000000000042007C010000001042009407000000083439613163613838",
+    ),
+    (
+        "an item without an operation, for a reason that has no name here",
+        "42007B010000007842007A0100000048420069010000002042006A0200000004000000010000000042006B020000000400000000000000004200920900000008000000004AFBE7C242000D0200000004000000010000000042000F010000002042007F0500000004000000010000000042007E05000000040000000400000000",
+    ),
+    (
+        "an item that goes on",
+        "42007B010000007842007A0100000048420069010000002042006A0200000004000000010000000042006B020000000400000000000000004200920900000008000000004AFBE7C242000D0200000004000000010000000042000F010000002042005C0500000004000000030000000042007F05000000040000000200000000",
+    ),
 ];
+
+// Two items: the second has no operation, but a payload, which is decoded by the operation of the first.
+const NO_OPERATION: &str =
+    "42007B01000000A042007A0100000048420069010000002042006A0200000004000000010000000042006B020000000400000000000000004200920900000008000000004AFBE7C242000D0200000004000000020000000042000F010000002842005C0500000004000000080000000042007F0500000004000000000000000042007C010000000042000F010000001842007F0500000004000000000000000042007C0100000000";
 
 // A key and a public key are registered at once, and nothing is.
 const TWO_OBJECTS: &str =
@@ -62,29 +87,6 @@ const TWO_OBJECTS: &str =
 
 const NO_OBJECT: &str =
     "42007801000000A04200770100000038420069010000002042006A0200000004000000010000000042006B0200000004000000000000000042000D0200000004000000010000000042000F010000005842005C050000000400000003000000004200790100000040420057050000000400000002000000004200910100000028420008010000002042000A0700000005537461746500000042000B05000000040000000100000000";
-
-// A message, decoded.
-fn decoded<T: Message<Global>>(alloc: Global, digits: &str) -> Option<T> {
-    let Ok(bytes) = hex::decode(alloc, digits) else {
-        return None;
-    };
-    let read: Result<T, Error> = from_slice(alloc, bytes.as_slice());
-    match read {
-        Ok(message) => Some(message),
-        Err(_) => None,
-    }
-}
-
-// Whether a message is decoded, is sound, and comes back equal.
-fn comes_back<T: Message<Global>>(alloc: Global, digits: &str) -> bool {
-    let Some(message) = decoded::<T>(alloc, digits) else {
-        return false;
-    };
-    match reread(alloc, &message) {
-        Ok(other) => message.is_sound() && message == other,
-        Err(_) => false,
-    }
-}
 
 #[test]
 fn messages_come_back(rt: HostRuntime) -> Result<(), Fail> {
@@ -97,18 +99,43 @@ fn messages_come_back(rt: HostRuntime) -> Result<(), Fail> {
     Ok(())
 }
 
-// Whether a request is decoded, and is not sound.
-fn is_unsound(alloc: Global, digits: &str) -> bool {
-    match decoded::<Request>(alloc, digits) {
-        Some(request) => !request.is_sound(),
+// Whether a message is decoded, and is not sound.
+fn is_unsound<T: Message<Global>>(alloc: Global, digits: &str) -> bool {
+    match decoded::<T>(alloc, digits) {
+        Some(message) => !message.is_sound(),
         None => false,
     }
 }
 
 #[test]
 fn one_object_is_registered(rt: HostRuntime) -> Result<(), Fail> {
-    assert!(rt; is_unsound(rt.alloc(), TWO_OBJECTS));
-    assert!(rt; is_unsound(rt.alloc(), NO_OBJECT));
+    assert!(rt; is_unsound::<Request>(rt.alloc(), TWO_OBJECTS));
+    assert!(rt; is_unsound::<Request>(rt.alloc(), NO_OBJECT));
+    Ok(())
+}
+
+#[test]
+fn a_payload_has_its_operation(rt: HostRuntime) -> Result<(), Fail> {
+    assert!(rt; is_unsound::<Response>(rt.alloc(), NO_OPERATION));
+    Ok(())
+}
+
+// How many items failed, without a payload.
+fn failures(response: &Response) -> usize {
+    response
+        .items
+        .iter()
+        .filter(|item| item.result_status == ResultStatus::Failed && item.payload.is_none())
+        .count()
+}
+
+#[test]
+fn a_failed_item_has_no_payload(rt: HostRuntime) -> Result<(), Fail> {
+    let (_, digits) = RESPONSES[5];
+    let Some(response) = decoded::<Response>(rt.alloc(), digits) else {
+        return Err(Fail::new("no response"));
+    };
+    assert!(rt; failures(&response) == 1);
     Ok(())
 }
 
