@@ -251,7 +251,7 @@ impl<A: Allocator> Template<A> {
         ensures stopped { OnErr result (V.stopped visitor.new) }
     {
         writing::begin_newtype(visitor, "0x420091")?;
-        writing::seq(visitor, attributes.as_slice())?;
+        writing::several(visitor, attributes)?;
         writing::end_newtype(visitor, "0x420091")?;
         Ok(())
     }

@@ -420,7 +420,7 @@ impl<B: Allocator> Serialize for Request<B> {
     fn visit<V: Visitor>(&self, visitor: &mut V) -> Result<(), AllocError> {
         writing::begin_struct(visitor, "0x420078")?;
         self.tell_header(visitor)?;
-        writing::seq(visitor, self.items.as_slice())?;
+        writing::several(visitor, &self.items)?;
         writing::end_struct(visitor, "0x420078")?;
         Ok(())
     }

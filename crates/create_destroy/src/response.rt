@@ -320,7 +320,6 @@ pub struct ResponseItem<A: Allocator = Global> {
 impl<B: Allocator> Serialize for ResponseItem<B> {
     ghost stated = { written_response_item };
 
-    #[tactic(auto, unfolding(crate::specs::Responses::written_response_item))]
     fn visit<V: Visitor>(&self, visitor: &mut V) -> Result<(), AllocError> {
         writing::begin_struct(visitor, "0x42000F")?;
         self.operation.visit(visitor)?;
@@ -471,7 +470,7 @@ impl<B: Allocator> Serialize for Response<B> {
     fn visit<V: Visitor>(&self, visitor: &mut V) -> Result<(), AllocError> {
         writing::begin_struct(visitor, "0x42007B")?;
         self.tell_header(visitor)?;
-        writing::seq(visitor, self.items.as_slice())?;
+        writing::several(visitor, &self.items)?;
         writing::end_struct(visitor, "0x42007B")?;
         Ok(())
     }

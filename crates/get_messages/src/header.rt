@@ -23,7 +23,6 @@ pub struct ProtocolVersion {
 impl Serialize for ProtocolVersion {
     ghost stated = { protocol_version_value };
 
-    #[tactic(auto, unfolding(crate::specs::Headers::protocol_version_value))]
     fn visit<V: Visitor>(&self, visitor: &mut V) -> Result<(), AllocError> {
         writing::begin_struct(visitor, "0x420069")?;
         writing::integer(visitor, "Transparent:0x42006A", self.major)?;
@@ -158,7 +157,6 @@ pub struct ResponseHeader {
 impl Serialize for ResponseHeader {
     ghost stated = { response_header_value };
 
-    #[tactic(auto, unfolding(crate::specs::Headers::response_header_value))]
     fn visit<V: Visitor>(&self, visitor: &mut V) -> Result<(), AllocError> {
         writing::begin_struct(visitor, "0x42007A")?;
         self.version.visit(visitor)?;

@@ -28,11 +28,7 @@ impl<B: Allocator> Serialize for KeyValue<B> {
     #[tactic(auto, unfolding(crate::specs::Keys::key_value_value))]
     fn visit<V: Visitor>(&self, visitor: &mut V) -> Result<(), AllocError> {
         writing::begin_struct(visitor, "0x420045")?;
-        writing::byte_string(
-            visitor,
-            "Transparent:0x420043",
-            self.key_material.as_slice(),
-        )?;
+        writing::bytes(visitor, "Transparent:0x420043", &self.key_material)?;
         writing::end_struct(visitor, "0x420045")?;
         Ok(())
     }
@@ -126,7 +122,6 @@ pub struct KeyBlock<A: Allocator = Global> {
 impl<B: Allocator> Serialize for KeyBlock<B> {
     ghost stated = { written_key_block };
 
-    #[tactic(auto, using(kmip_ttlv_base::proofs::Visiting::visited_joined), unfolding(crate::specs::Keys::written_key_block))]
     fn visit<V: Visitor>(&self, visitor: &mut V) -> Result<(), AllocError> {
         writing::begin_struct(visitor, "0x420040")?;
         writing::unit_variant(visitor, "0x420042", "0x00000001")?;

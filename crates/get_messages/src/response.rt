@@ -28,7 +28,6 @@ pub struct GetResponsePayload<A: Allocator = Global> {
 impl<B: Allocator> Serialize for GetResponsePayload<B> {
     ghost stated = { written_get_response_payload };
 
-    #[tactic(auto, unfolding(crate::specs::Responses::written_get_response_payload))]
     fn visit<V: Visitor>(&self, visitor: &mut V) -> Result<(), AllocError> {
         writing::begin_struct(visitor, "0x42007C")?;
         writing::unit_variant(visitor, "0x420057", "0x00000002")?;
@@ -131,7 +130,6 @@ pub struct GetResponseItem<A: Allocator = Global> {
 impl<B: Allocator> Serialize for GetResponseItem<B> {
     ghost stated = { written_get_response_item };
 
-    #[tactic(auto, unfolding(crate::specs::Responses::written_get_response_item))]
     fn visit<V: Visitor>(&self, visitor: &mut V) -> Result<(), AllocError> {
         writing::begin_struct(visitor, "0x42000F")?;
         writing::unit_variant(visitor, "0x42005C", "0x0000000A")?;

@@ -536,7 +536,6 @@ pub struct CryptographicParameters {
 impl Serialize for CryptographicParameters {
     ghost stated = { written_cryptographic_parameters };
 
-    #[tactic(auto, using(kmip_ttlv_base::proofs::Visiting::visited_joined), unfolding(crate::specs::Wrappings::written_cryptographic_parameters))]
     fn visit<V: Visitor>(&self, visitor: &mut V) -> Result<(), AllocError> {
         writing::begin_struct(visitor, "0x42002B")?;
         writing::option(visitor, &self.block_cipher_mode)?;
@@ -620,7 +619,6 @@ pub struct EncryptionKeyInformation<A: Allocator = Global> {
 impl<B: Allocator> Serialize for EncryptionKeyInformation<B> {
     ghost stated = { written_encryption_key_information };
 
-    #[tactic(auto, using(kmip_ttlv_base::proofs::Visiting::visited_joined), unfolding(crate::specs::Wrappings::written_encryption_key_information))]
     fn visit<V: Visitor>(&self, visitor: &mut V) -> Result<(), AllocError> {
         writing::begin_struct(visitor, "0x420036")?;
         writing::string(visitor, "Transparent:0x420094", &self.unique_identifier)?;
@@ -689,7 +687,6 @@ pub struct MacSignatureKeyInformation<A: Allocator = Global> {
 impl<B: Allocator> Serialize for MacSignatureKeyInformation<B> {
     ghost stated = { written_mac_signature_key_information };
 
-    #[tactic(auto, using(kmip_ttlv_base::proofs::Visiting::visited_joined), unfolding(crate::specs::Wrappings::written_mac_signature_key_information))]
     fn visit<V: Visitor>(&self, visitor: &mut V) -> Result<(), AllocError> {
         writing::begin_struct(visitor, "0x42004E")?;
         writing::string(visitor, "Transparent:0x420094", &self.unique_identifier)?;
@@ -764,7 +761,6 @@ pub struct KeyWrappingData<A: Allocator = Global> {
 impl<B: Allocator> Serialize for KeyWrappingData<B> {
     ghost stated = { written_key_wrapping_data };
 
-    #[tactic(auto, using(kmip_ttlv_base::proofs::Visiting::visited_joined), unfolding(crate::specs::Wrappings::written_key_wrapping_data))]
     fn visit<V: Visitor>(&self, visitor: &mut V) -> Result<(), AllocError> {
         writing::begin_struct(visitor, "0x420046")?;
         self.wrapping_method.visit(visitor)?;

@@ -9,16 +9,64 @@ use Rattle.std.specs.Cmp.{booleans_Decides}
 use Rattle.std.proofs.lemmas.Bool.{false≢true}
 use Rattle.std.proofs.lemmas.Bool.Decides.{Decides-eqb, Decides-int_eq}
 use Rattle.std.proofs.lemmas.Slice.Eq.{bytes_eq-Decides, slice_eq-Decides}
-use Rattle.kmip_ttlv_messages.specs.MessageParts.{is_listed, numbered_value, optional, optional_sequence, other_number}
+use Rattle.kmip_ttlv_messages.specs.MessageParts.{is_listed, numbered_value, optional, optional_sequence, other_number, sequence}
 use Rattle.std.specs.Str.{bytes_eq}
 use Rattle.std.specs.Cmp.Lexicographic.{pointwise}
 use Rattle.kmip_ttlv_base.specs.Forms.{Form}
-use Rattle.kmip_ttlv_base.specs.Values.{Value, newtype_variant_value, u32_value, values_of}
+use Rattle.kmip_ttlv_base.specs.Values.{Value, Values, struct_value, value, newtype_value, newtype_variant_value, unit_variant_value, values_of}
+use Rattle.kmip_ttlv_base.specs.Values.{big_integer_value, boolean_value, bytes_value, date_time_value, i32_value, i64_value, interval_value, text_value, u32_value}
 use Rattle.kmip_ttlv_reader.specs.Reads.{is_root}
 use Rattle.kmip_ttlv_laws.specs.Agreements.{MessageAgrees}
 use Rattle.kmip_ttlv_laws.specs.Equal.{ReturnsEqual}
 use Rattle.kmip_ttlv_laws.specs.Rereads.{Rereads}
 use Rattle.kmip_ttlv_laws.proofs.Agreeing.{agreeing_is_read, agreeing_is_written}
+
+-- what is in values that are the same is the same: in structures, newtypes and variants
+pub in_structure : {n m : List ℕ} {vs ws : Values} → struct_value n vs ≡ struct_value m ws → vs ≡ ws
+in_structure e = cc
+
+pub first_same : {v w : Value} {vs ws : Values} → value v vs ≡ value w ws → v ≡ w
+first_same e = cc
+
+pub later_same : {v w : Value} {vs ws : Values} → value v vs ≡ value w ws → vs ≡ ws
+later_same e = cc
+
+pub in_newtype : {n m : List ℕ} {v w : Value} → newtype_value n v ≡ newtype_value m w → v ≡ w
+in_newtype e = cc
+
+pub in_variant : {n m a b : List ℕ} {v w : Value} → newtype_variant_value n a v ≡ newtype_variant_value m b w → v ≡ w
+in_variant e = cc
+
+pub in_unit : {n m a b : List ℕ} → unit_variant_value n a ≡ unit_variant_value m b → a ≡ b
+in_unit e = cc
+
+-- and in leaves
+pub in_integer : {x y : ℤ} → i32_value x ≡ i32_value y → x ≡ y
+in_integer e = cc
+
+pub in_long_integer : {x y : ℤ} → i64_value x ≡ i64_value y → x ≡ y
+in_long_integer e = cc
+
+pub in_date_time : {x y : ℤ} → date_time_value x ≡ date_time_value y → x ≡ y
+in_date_time e = cc
+
+pub in_number : {x y : ℕ} → u32_value x ≡ u32_value y → x ≡ y
+in_number e = cc
+
+pub in_interval : {x y : ℕ} → interval_value x ≡ interval_value y → x ≡ y
+in_interval e = cc
+
+pub in_boolean : {x y : Bool} → boolean_value x ≡ boolean_value y → x ≡ y
+in_boolean e = cc
+
+pub in_text : {x y : List ℕ} → text_value x ≡ text_value y → x ≡ y
+in_text e = cc
+
+pub in_bytes : {x y : List ℕ} → bytes_value x ≡ bytes_value y → x ≡ y
+in_bytes e = cc
+
+pub in_big_integer : {x y : List ℕ} → big_integer_value x ≡ big_integer_value y → x ≡ y
+in_big_integer e = cc
 
 -- parts that are equal each
 pub both : {a b : Bool} → a ≡ true → b ≡ true → a && b ≡ true
@@ -55,7 +103,7 @@ options_equal f g E equal (Some x) None e = absurd cc
 options_equal f g E equal (Some x) (Some y) e = let same : f x ≡ g y = cc in equal x y same
 
 -- elements of a sequence
-pub sequences_equal :
+sequences_equal :
     {T : Type 0} (f g : T → Value) (E : T → T → Bool)
     → ReturnsEqual f g E
     → (xs ys : List T)
@@ -68,6 +116,16 @@ sequences_equal f g E equal (x ∷ xs) (y ∷ ys) e =
     let head : f x ≡ g y = cc in
     let rest : values_of (map f xs) ≡ values_of (map g ys) = cc in
     rw (equal x y head) (sequences_equal f g E equal xs ys rest)
+
+pub several_equal :
+    {T : Type 0} (f g : T → Value) (E : T → T → Bool)
+    → ReturnsEqual f g E
+    → (xs ys : List T)
+    → sequence f xs ≡ sequence g ys
+    → pointwise E xs ys ≡ true
+several_equal f g E equal xs ys e =
+    let same : values_of (map f xs) ≡ values_of (map g ys) = cc in
+    sequences_equal f g E equal xs ys same
 
 -- those of a sequence that may be empty
 pub any_equal :

@@ -1,5 +1,5 @@
-//! Telling leaves that may be absent, and Date-Times. All else that a `visit` is made of is that of `kmip_ttlv_base::parts`,
-//! which is reexported here.
+//! Telling leaves that may be absent, those of a `String` or a `Vec`, the items of a `Vec`, and Date-Times. All else that a
+//! `visit` is made of is that of `kmip_ttlv_base::parts`, which is reexported here.
 //!
 //! Of a number with a sign in an option the prover doesn't know that it fits its type. So what is told of one
 //! is stated by its bits, which are those of the number itself where it fits.
@@ -8,7 +8,7 @@ ghost use Rattle.std.specs.Prelude.{OnOk, OnErr, option_map, string_bytes};
 ghost use Rattle.std.specs.Int.{w32, w64};
 ghost use Rattle.kmip_ttlv_base.specs.Values.{newtype_value, boolean_value, i32_value, u32_value, i64_value, date_time_value, interval_value, text_value, bytes_value, big_integer_value};
 ghost use Rattle.kmip_ttlv_base.specs.Visits.{Tells, TellsEach, optional};
-ghost use Rattle.kmip_ttlv_messages.specs.MessageParts.{by_bits};
+ghost use Rattle.kmip_ttlv_messages.specs.MessageParts.{by_bits, sequence};
 
 use kmip_ttlv_base::parts;
 pub use kmip_ttlv_base::parts::{
@@ -17,6 +17,7 @@ pub use kmip_ttlv_base::parts::{
     end_tuple_variant, enumeration, integer, interval, long_integer, newtype, newtype_variant,
     option, seq, text_string, unit_variant,
 };
+use kmip_ttlv_base::shape::Serialize;
 use kmip_ttlv_base::visit::{Group, Leaf, Visitor};
 use std::alloc::{AllocError, Allocator};
 
@@ -54,6 +55,56 @@ pub fn string<V: Visitor, A: Allocator>(
     ensures stopped { OnErr result (V.stopped visitor.new) }
 {
     parts::text_string(visitor, name, text.as_str())
+}
+
+/// A Byte String, of a vector, in a newtype of this name.
+///
+/// ```
+/// bytes(visitor, "Transparent:0x420020", &value)?; // of 1, 2 and 3: 42002008 00000003 01020300 00000000
+/// ```
+#[inline(always)]
+pub fn bytes<V: Visitor, A: Allocator>(
+    visitor: &mut V,
+    name: &'static str,
+    value: &Vec<u8, A>,
+) -> Result<(), AllocError>
+    ensures told { OnOk result (Tells V.knows V.step (newtype_value name.now (bytes_value value.now.items)) visitor.old visitor.new) }
+    ensures stopped { OnErr result (V.stopped visitor.new) }
+{
+    parts::byte_string(visitor, name, value.as_slice())
+}
+
+/// A Big Integer, of a vector, the highest byte first, in a newtype of this name.
+///
+/// ```
+/// big_integer_bytes(visitor, "Transparent:0xAABBCC", &value)?; // of 0x80 alone: AABBCC04 00000008 FFFFFFFF FFFFFF80
+/// ```
+#[inline(always)]
+pub fn big_integer_bytes<V: Visitor, A: Allocator>(
+    visitor: &mut V,
+    name: &'static str,
+    value: &Vec<u8, A>,
+) -> Result<(), AllocError>
+    ensures told { OnOk result (Tells V.knows V.step (newtype_value name.now (big_integer_value value.now.items)) visitor.old visitor.new) }
+    ensures stopped { OnErr result (V.stopped visitor.new) }
+{
+    parts::big_integer(visitor, name, value.as_slice())
+}
+
+/// The items of a vector, one after the other.
+///
+/// ```
+/// several(visitor, &attributes)?;
+/// ```
+#[inline(always)]
+pub fn several<V: Visitor, T: Serialize, A: Allocator>(
+    visitor: &mut V,
+    items: &Vec<T, A>,
+) -> Result<(), AllocError>
+    ensures told { OnOk result (Tells V.knows V.step (sequence T.stated items.now.items) visitor.old visitor.new) }
+    ensures stopped { OnErr result (V.stopped visitor.new) }
+{
+    parts::seq(visitor, items.as_slice())
 }
 
 /// An Integer, in a newtype of this name. Where it is absent, nothing is told.

@@ -515,14 +515,13 @@ pub struct Chosen<A: Allocator = Global> {
 impl<B: Allocator> Serialize for Chosen<B> {
     ghost stated = { written_chosen };
 
-    #[tactic(auto, using(kmip_ttlv_base::proofs::Visiting::visited_joined), unfolding(crate::specs::Chosens::written_chosen))]
     fn visit<V: Visitor>(&self, visitor: &mut V) -> Result<(), AllocError> {
         writing::begin_struct(visitor, "0x540074")?;
         self.word.visit(visitor)?;
         self.said.visit(visitor)?;
         writing::option(visitor, &self.named)?;
         writing::option(visitor, &self.more)?;
-        writing::seq(visitor, self.places.as_slice())?;
+        writing::several(visitor, &self.places)?;
         writing::end_struct(visitor, "0x540074")?;
         Ok(())
     }

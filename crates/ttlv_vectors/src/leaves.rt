@@ -23,7 +23,6 @@ pub struct Numbers {
 impl Serialize for Numbers {
     ghost stated = { numbers_value };
 
-    #[tactic(auto, unfolding(crate::specs::Leaves::numbers_value))]
     fn visit<V: Visitor>(&self, visitor: &mut V) -> Result<(), AllocError> {
         writing::begin_struct(visitor, "0x540001")?;
         writing::integer(visitor, "Transparent:0x540002", self.count)?;
@@ -90,7 +89,6 @@ pub struct Moments {
 impl Serialize for Moments {
     ghost stated = { moments_value };
 
-    #[tactic(auto, unfolding(crate::specs::Leaves::moments_value))]
     fn visit<V: Visitor>(&self, visitor: &mut V) -> Result<(), AllocError> {
         writing::begin_struct(visitor, "0x540009")?;
         writing::date_time(visitor, "Transparent:0x540004", self.date)?;
@@ -166,12 +164,11 @@ pub struct Contents<A: Allocator = Global> {
 impl<B: Allocator> Serialize for Contents<B> {
     ghost stated = { contents_value };
 
-    #[tactic(auto, unfolding(crate::specs::Leaves::contents_value))]
     fn visit<V: Visitor>(&self, visitor: &mut V) -> Result<(), AllocError> {
         writing::begin_struct(visitor, "0x540020")?;
         writing::string(visitor, "Transparent:0x540021", &self.text)?;
-        writing::byte_string(visitor, "Transparent:0x540022", self.bytes.as_slice())?;
-        writing::big_integer(visitor, "Transparent:0x540023", self.big.as_slice())?;
+        writing::bytes(visitor, "Transparent:0x540022", &self.bytes)?;
+        writing::big_integer_bytes(visitor, "Transparent:0x540023", &self.big)?;
         writing::end_struct(visitor, "0x540020")?;
         Ok(())
     }
@@ -246,7 +243,6 @@ pub struct OptionalContents<A: Allocator = Global> {
 impl<B: Allocator> Serialize for OptionalContents<B> {
     ghost stated = { written_optional_contents };
 
-    #[tactic(auto, using(kmip_ttlv_base::proofs::Visiting::visited_joined), unfolding(crate::specs::Leaves::written_optional_contents))]
     fn visit<V: Visitor>(&self, visitor: &mut V) -> Result<(), AllocError> {
         writing::begin_struct(visitor, "0x540030")?;
         writing::optional_boolean(visitor, "Transparent:0x540005", &self.truth)?;

@@ -5,8 +5,8 @@
 //!
 //! `message` has a part of every kind, `leaves` the leaves, `chosen` choices, and `query` sequences that may be empty and open
 //! Enumerations: these are what `codegen/codegen` writes of `types.table`.
-//! `numbers` has the parts that are written by hand, `choice` and `samples` types with a shape. `key_gets`, `key_messages` and
-//! `object_rereads` are tests of the crates get_messages, create_destroy and object_messages.
+//! `numbers` has the parts that are written by hand, `choice` and `samples` types with a shape. `key_gets`, `key_messages`,
+//! `object_rereads` and `registering` are tests of the crates get_messages, create_destroy and object_messages.
 #![tactic(auto)]
 
 #[cfg(test)]
@@ -41,6 +41,8 @@ mod queries;
 pub mod query;
 #[cfg(test)]
 mod reading;
+#[cfg(test)]
+mod registering;
 #[cfg(test)]
 mod request;
 #[cfg(test)]

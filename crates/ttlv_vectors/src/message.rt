@@ -38,7 +38,6 @@ pub struct Every<A: Allocator = Global> {
 impl<B: Allocator> Serialize for Every<B> {
     ghost stated = { written_every };
 
-    #[tactic(auto, using(kmip_ttlv_base::proofs::Visiting::visited_joined), unfolding(crate::specs::Messages::written_every))]
     fn visit<V: Visitor>(&self, visitor: &mut V) -> Result<(), AllocError> {
         writing::begin_struct(visitor, "0x540060")?;
         writing::unit_variant(visitor, "0x540061", "0x00000001")?;
@@ -48,7 +47,7 @@ impl<B: Allocator> Serialize for Every<B> {
         writing::option(visitor, &self.optional_numbers)?;
         writing::option(visitor, &self.optional_contents)?;
         self.reasons.visit(visitor)?;
-        writing::seq(visitor, self.contents.as_slice())?;
+        writing::several(visitor, &self.contents)?;
         writing::end_struct(visitor, "0x540060")?;
         Ok(())
     }

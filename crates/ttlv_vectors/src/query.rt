@@ -1,13 +1,11 @@
 // Written by codegen from types.table: change that, and run codegen/codegen.
 //! A search for objects, what a server can do, and what failed (KMIP 1.0, sections 4.8, 4.24 and 7).
 
-ghost use Rattle.std.specs.Prelude.{◌≡◌, ◌==◌, refl, OnErr, OnOk, Some, codes, false};
+ghost use Rattle.std.specs.Prelude.{◌≡◌, ◌==◌, refl, Some, codes, false};
 ghost use Rattle.std.proofs.Common.{rules};
 ghost use Rattle.std.specs.Cmp.Rules.{comparing};
 ghost use Rattle.std.specs.Ordering.{on};
-ghost use Rattle.kmip_ttlv.specs.MessageParts.{sequence};
 ghost use Rattle.kmip_ttlv.specs.Spots.{fields_in, struct_fields};
-ghost use Rattle.kmip_ttlv.specs.Visits.{Tells};
 ghost use Rattle.ttlv_vectors.specs.Queries.{maximum_items_form, maximum_items_value, text_attribute_form, text_attribute_value, locate_request_payload_form, written_locate_request_payload, read_locate_request_payload, operation_form, written_operation, read_operation, operation_number, operation_read_number, object_type_form, object_type_value, object_type_number, object_type_variants, application_namespace_form, application_namespace_value, query_response_payload_form, written_query_response_payload, read_query_response_payload, result_reason_form, written_result_reason, read_result_reason, result_reason_number, result_reason_read_number, result_status_form, result_status_value, result_status_number, result_status_variants, failed_item_form, written_failed_item, read_failed_item};
 
 use kmip_ttlv::messages::writing;
@@ -128,11 +126,10 @@ pub struct LocateRequestPayload<A: Allocator = Global> {
 impl<B: Allocator> Serialize for LocateRequestPayload<B> {
     ghost stated = { written_locate_request_payload };
 
-    #[tactic(auto, using(kmip_ttlv_base::proofs::Visiting::visited_joined), unfolding(crate::specs::Queries::written_locate_request_payload))]
     fn visit<V: Visitor>(&self, visitor: &mut V) -> Result<(), AllocError> {
         writing::begin_struct(visitor, "0x420079")?;
         writing::option(visitor, &self.maximum_items)?;
-        writing::seq(visitor, self.attributes.as_slice())?;
+        writing::several(visitor, &self.attributes)?;
         writing::end_struct(visitor, "0x420079")?;
         Ok(())
     }
@@ -374,45 +371,15 @@ pub struct QueryResponsePayload<A: Allocator = Global> {
     pub namespaces: Vec<ApplicationNamespace<A>, A>,
 }
 
-impl<A: Allocator> QueryResponsePayload<A> {
-    // Tells `operations`.
-    fn tell_operations<V: Visitor>(&self, visitor: &mut V) -> Result<(), AllocError>
-        ensures told { OnOk result (Tells V.knows V.step (sequence written_operation self.now.operations.items) visitor.old visitor.new) }
-        ensures stopped { OnErr result (V.stopped visitor.new) }
-    {
-        writing::seq(visitor, self.operations.as_slice())?;
-        Ok(())
-    }
-
-    // Tells `object_types`.
-    fn tell_object_types<V: Visitor>(&self, visitor: &mut V) -> Result<(), AllocError>
-        ensures told { OnOk result (Tells V.knows V.step (sequence object_type_value self.now.object_types.items) visitor.old visitor.new) }
-        ensures stopped { OnErr result (V.stopped visitor.new) }
-    {
-        writing::seq(visitor, self.object_types.as_slice())?;
-        Ok(())
-    }
-
-    // Tells `namespaces`.
-    fn tell_namespaces<V: Visitor>(&self, visitor: &mut V) -> Result<(), AllocError>
-        ensures told { OnOk result (Tells V.knows V.step (sequence application_namespace_value self.now.namespaces.items) visitor.old visitor.new) }
-        ensures stopped { OnErr result (V.stopped visitor.new) }
-    {
-        writing::seq(visitor, self.namespaces.as_slice())?;
-        Ok(())
-    }
-}
-
 impl<B: Allocator> Serialize for QueryResponsePayload<B> {
     ghost stated = { written_query_response_payload };
 
-    #[tactic(auto, using(kmip_ttlv_base::proofs::Visiting::visited_joined), unfolding(crate::specs::Queries::written_query_response_payload))]
     fn visit<V: Visitor>(&self, visitor: &mut V) -> Result<(), AllocError> {
         writing::begin_struct(visitor, "0x42007C")?;
-        self.tell_operations(visitor)?;
-        self.tell_object_types(visitor)?;
+        writing::several(visitor, &self.operations)?;
+        writing::several(visitor, &self.object_types)?;
         writing::optional_text_string(visitor, "Transparent:0x42009D", &self.vendor)?;
-        self.tell_namespaces(visitor)?;
+        writing::several(visitor, &self.namespaces)?;
         writing::end_struct(visitor, "0x42007C")?;
         Ok(())
     }
@@ -640,7 +607,6 @@ pub struct FailedItem<A: Allocator = Global> {
 impl<B: Allocator> Serialize for FailedItem<B> {
     ghost stated = { written_failed_item };
 
-    #[tactic(auto, using(kmip_ttlv_base::proofs::Visiting::visited_joined), unfolding(crate::specs::Queries::written_failed_item))]
     fn visit<V: Visitor>(&self, visitor: &mut V) -> Result<(), AllocError> {
         writing::begin_struct(visitor, "0x42000F")?;
         self.operation.visit(visitor)?;

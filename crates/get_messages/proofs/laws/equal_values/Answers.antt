@@ -1,10 +1,11 @@
 -- Written by codegen from types.table: change that, and run codegen/codegen.
 -- Values of a type are equal if they stand for the same: each part is, and numbers tell the variants of an Enumeration.
-use Rattle.kmip_ttlv.specs.MessageParts.{optional}
 use Rattle.kmip_ttlv.specs.Values.{bytes_value, newtype_value}
-use Rattle.kmip_ttlv_laws.proofs.Equal.{both, bytes_equal, found_same, options_equal, row_of, signed_equal, texts_equal}
+use Rattle.kmip_ttlv_laws.proofs.Equal.{both, bytes_equal, first_same, found_same, in_bytes, in_date_time, in_integer}
+use Rattle.kmip_ttlv_laws.proofs.Equal.{in_newtype, in_structure, in_text, in_unit, later_same, options_equal, row_of}
+use Rattle.kmip_ttlv_laws.proofs.Equal.{signed_equal, texts_equal}
 use Rattle.std.proofs.Common.{refl}
-use Rattle.std.specs.Prelude.{List, Some, [], codes, string_bytes, ℕ, ◌∷◌, ◌≡◌}
+use Rattle.std.specs.Prelude.{List, Some, [], codes, ℕ, ◌∷◌, ◌≡◌}
 use denote.Enum.Bare.{true_same}
 use Rattle.get_messages.specs.Headers.{protocol_version_value, request_header_value, response_header_value}
 use Rattle.get_messages.specs.Wrappings.{wrapping_method_number, wrapping_method_value, block_cipher_mode_number, block_cipher_mode_value, padding_method_number, padding_method_value, hashing_algorithm_number, hashing_algorithm_value, role_type_number, role_type_value, read_cryptographic_parameters, read_encryption_key_information, read_mac_signature_key_information, read_key_wrapping_data}
@@ -31,24 +32,28 @@ use Rattle.get_messages.proofs.laws.equal_values.Goals as goal
 pub returns-clause-protocol_version : goal.returns-clause-protocol_version
 unfolding protocol_version_value
 returns-clause-protocol_version g c x y e =
-    let major : x.major ≡ y.major = cc in
-    let minor : x.minor ≡ y.minor = cc in
-    both (signed_equal x.major y.major major) (signed_equal x.minor y.minor minor)
+    let e = in_structure e in
+    both (signed_equal x.major y.major (in_integer (in_newtype (first_same e)))) (
+    let e = later_same e in
+    signed_equal x.minor y.minor (in_integer (in_newtype (first_same e))))
 
 pub returns-clause-request_header : goal.returns-clause-request_header
 unfolding request_header_value
 returns-clause-request_header g c x y e =
-    let version : protocol_version_value x.version ≡ protocol_version_value y.version = cc in
-    let batch_count : x.batch_count ≡ y.batch_count = cc in
-    both (returns-clause-protocol_version g c x.version y.version version) (signed_equal x.batch_count y.batch_count batch_count)
+    let e = in_structure e in
+    both (returns-clause-protocol_version g c x.version y.version (first_same e)) (
+    let e = later_same e in
+    signed_equal x.batch_count y.batch_count (in_integer (in_newtype (first_same e))))
 
 pub returns-clause-response_header : goal.returns-clause-response_header
 unfolding response_header_value
 returns-clause-response_header g c x y e =
-    let version : protocol_version_value x.version ≡ protocol_version_value y.version = cc in
-    let time_stamp : x.time_stamp ≡ y.time_stamp = cc in
-    let batch_count : x.batch_count ≡ y.batch_count = cc in
-    both (returns-clause-protocol_version g c x.version y.version version) (both (signed_equal x.time_stamp y.time_stamp time_stamp) (signed_equal x.batch_count y.batch_count batch_count))
+    let e = in_structure e in
+    both (returns-clause-protocol_version g c x.version y.version (first_same e)) (
+    let e = later_same e in
+    both (signed_equal x.time_stamp y.time_stamp (in_date_time (in_newtype (first_same e)))) (
+    let e = later_same e in
+    signed_equal x.batch_count y.batch_count (in_integer (in_newtype (first_same e)))))
 
 abbrev wrapping_method_rows : List (List ℕ × WrappingMethod)
 wrapping_method_rows =
@@ -69,8 +74,7 @@ wrapping_method_found wrapping_method.Tr31 = refl
 pub returns-clause-wrapping_method : goal.returns-clause-wrapping_method
 unfolding wrapping_method_value
 returns-clause-wrapping_method g c x y e =
-    let same : wrapping_method_number x ≡ wrapping_method_number y = cc in
-    true_same wrapping_method_contract.the_type x y (found_same wrapping_method_number wrapping_method_rows wrapping_method_found x y same)
+    true_same wrapping_method_contract.the_type x y (found_same wrapping_method_number wrapping_method_rows wrapping_method_found x y (in_unit e))
 
 abbrev block_cipher_mode_rows : List (List ℕ × BlockCipherMode)
 block_cipher_mode_rows =
@@ -115,8 +119,7 @@ block_cipher_mode_found block_cipher_mode.X9102Akw2 = refl
 pub returns-clause-block_cipher_mode : goal.returns-clause-block_cipher_mode
 unfolding block_cipher_mode_value
 returns-clause-block_cipher_mode g c x y e =
-    let same : block_cipher_mode_number x ≡ block_cipher_mode_number y = cc in
-    true_same block_cipher_mode_contract.the_type x y (found_same block_cipher_mode_number block_cipher_mode_rows block_cipher_mode_found x y same)
+    true_same block_cipher_mode_contract.the_type x y (found_same block_cipher_mode_number block_cipher_mode_rows block_cipher_mode_found x y (in_unit e))
 
 abbrev padding_method_rows : List (List ℕ × PaddingMethod)
 padding_method_rows =
@@ -147,8 +150,7 @@ padding_method_found padding_method.Pss = refl
 pub returns-clause-padding_method : goal.returns-clause-padding_method
 unfolding padding_method_value
 returns-clause-padding_method g c x y e =
-    let same : padding_method_number x ≡ padding_method_number y = cc in
-    true_same padding_method_contract.the_type x y (found_same padding_method_number padding_method_rows padding_method_found x y same)
+    true_same padding_method_contract.the_type x y (found_same padding_method_number padding_method_rows padding_method_found x y (in_unit e))
 
 abbrev hashing_algorithm_rows : List (List ℕ × HashingAlgorithm)
 hashing_algorithm_rows =
@@ -175,8 +177,7 @@ hashing_algorithm_found hashing_algorithm.Sha512 = refl
 pub returns-clause-hashing_algorithm : goal.returns-clause-hashing_algorithm
 unfolding hashing_algorithm_value
 returns-clause-hashing_algorithm g c x y e =
-    let same : hashing_algorithm_number x ≡ hashing_algorithm_number y = cc in
-    true_same hashing_algorithm_contract.the_type x y (found_same hashing_algorithm_number hashing_algorithm_rows hashing_algorithm_found x y same)
+    true_same hashing_algorithm_contract.the_type x y (found_same hashing_algorithm_number hashing_algorithm_rows hashing_algorithm_found x y (in_unit e))
 
 abbrev role_type_rows : List (List ℕ × RoleType)
 role_type_rows =
@@ -229,102 +230,119 @@ role_type_found role_type.Pvkoth = refl
 pub returns-clause-role_type : goal.returns-clause-role_type
 unfolding role_type_value
 returns-clause-role_type g c x y e =
-    let same : role_type_number x ≡ role_type_number y = cc in
-    true_same role_type_contract.the_type x y (found_same role_type_number role_type_rows role_type_found x y same)
+    true_same role_type_contract.the_type x y (found_same role_type_number role_type_rows role_type_found x y (in_unit e))
 
 pub returns-clause-cryptographic_parameters : goal.returns-clause-cryptographic_parameters
 unfolding read_cryptographic_parameters
 returns-clause-cryptographic_parameters g c x y e =
-    let block_cipher_mode : optional block_cipher_mode_value x.block_cipher_mode ≡ optional block_cipher_mode_value y.block_cipher_mode = cc in
-    let padding_method : optional padding_method_value x.padding_method ≡ optional padding_method_value y.padding_method = cc in
-    let hashing_algorithm : optional hashing_algorithm_value x.hashing_algorithm ≡ optional hashing_algorithm_value y.hashing_algorithm = cc in
-    let role_type : optional role_type_value x.role_type ≡ optional role_type_value y.role_type = cc in
-    both (options_equal block_cipher_mode_value block_cipher_mode_value _ (returns-clause-block_cipher_mode g c) x.block_cipher_mode y.block_cipher_mode block_cipher_mode) (both (options_equal padding_method_value padding_method_value _ (returns-clause-padding_method g c) x.padding_method y.padding_method padding_method) (both (options_equal hashing_algorithm_value hashing_algorithm_value _ (returns-clause-hashing_algorithm g c) x.hashing_algorithm y.hashing_algorithm hashing_algorithm) (options_equal role_type_value role_type_value _ (returns-clause-role_type g c) x.role_type y.role_type role_type)))
+    let e = in_structure e in
+    both (options_equal block_cipher_mode_value block_cipher_mode_value _ (returns-clause-block_cipher_mode g c) x.block_cipher_mode y.block_cipher_mode (first_same e)) (
+    let e = later_same e in
+    both (options_equal padding_method_value padding_method_value _ (returns-clause-padding_method g c) x.padding_method y.padding_method (first_same e)) (
+    let e = later_same e in
+    both (options_equal hashing_algorithm_value hashing_algorithm_value _ (returns-clause-hashing_algorithm g c) x.hashing_algorithm y.hashing_algorithm (first_same e)) (
+    let e = later_same e in
+    options_equal role_type_value role_type_value _ (returns-clause-role_type g c) x.role_type y.role_type (first_same e))))
 
 pub returns-clause-encryption_key_information : goal.returns-clause-encryption_key_information
 unfolding read_encryption_key_information
 returns-clause-encryption_key_information g c x y e =
-    let unique_identifier : (string_bytes x.unique_identifier) ≡ (string_bytes y.unique_identifier) = cc in
-    let cryptographic_parameters : optional read_cryptographic_parameters x.cryptographic_parameters ≡ optional read_cryptographic_parameters y.cryptographic_parameters = cc in
-    both (texts_equal x.unique_identifier y.unique_identifier unique_identifier) (options_equal read_cryptographic_parameters read_cryptographic_parameters _ (returns-clause-cryptographic_parameters g c) x.cryptographic_parameters y.cryptographic_parameters cryptographic_parameters)
+    let e = in_structure e in
+    both (texts_equal x.unique_identifier y.unique_identifier (in_text (in_newtype (first_same e)))) (
+    let e = later_same e in
+    options_equal read_cryptographic_parameters read_cryptographic_parameters _ (returns-clause-cryptographic_parameters g c) x.cryptographic_parameters y.cryptographic_parameters (first_same e))
 
 pub returns-clause-mac_signature_key_information : goal.returns-clause-mac_signature_key_information
 unfolding read_mac_signature_key_information
 returns-clause-mac_signature_key_information g c x y e =
-    let unique_identifier : (string_bytes x.unique_identifier) ≡ (string_bytes y.unique_identifier) = cc in
-    let cryptographic_parameters : optional read_cryptographic_parameters x.cryptographic_parameters ≡ optional read_cryptographic_parameters y.cryptographic_parameters = cc in
-    both (texts_equal x.unique_identifier y.unique_identifier unique_identifier) (options_equal read_cryptographic_parameters read_cryptographic_parameters _ (returns-clause-cryptographic_parameters g c) x.cryptographic_parameters y.cryptographic_parameters cryptographic_parameters)
+    let e = in_structure e in
+    both (texts_equal x.unique_identifier y.unique_identifier (in_text (in_newtype (first_same e)))) (
+    let e = later_same e in
+    options_equal read_cryptographic_parameters read_cryptographic_parameters _ (returns-clause-cryptographic_parameters g c) x.cryptographic_parameters y.cryptographic_parameters (first_same e))
 
 pub returns-clause-key_wrapping_data : goal.returns-clause-key_wrapping_data
 unfolding read_key_wrapping_data
 returns-clause-key_wrapping_data g c x y e =
-    let wrapping_method : wrapping_method_value x.wrapping_method ≡ wrapping_method_value y.wrapping_method = cc in
-    let encryption_key_information : optional read_encryption_key_information x.encryption_key_information ≡ optional read_encryption_key_information y.encryption_key_information = cc in
-    let mac_signature_key_information : optional read_mac_signature_key_information x.mac_signature_key_information ≡ optional read_mac_signature_key_information y.mac_signature_key_information = cc in
-    let mac_signature : optional (λ y. newtype_value (codes "Transparent:0x42004D") (bytes_value y.items)) x.mac_signature ≡ optional (λ y. newtype_value (codes "Transparent:0x42004D") (bytes_value y.items)) y.mac_signature = cc in
-    let iv_counter_nonce : optional (λ y. newtype_value (codes "Transparent:0x42003D") (bytes_value y.items)) x.iv_counter_nonce ≡ optional (λ y. newtype_value (codes "Transparent:0x42003D") (bytes_value y.items)) y.iv_counter_nonce = cc in
-    both (returns-clause-wrapping_method g c x.wrapping_method y.wrapping_method wrapping_method) (both (options_equal read_encryption_key_information read_encryption_key_information _ (returns-clause-encryption_key_information g c) x.encryption_key_information y.encryption_key_information encryption_key_information) (both (options_equal read_mac_signature_key_information read_mac_signature_key_information _ (returns-clause-mac_signature_key_information g c) x.mac_signature_key_information y.mac_signature_key_information mac_signature_key_information) (both (options_equal (λ y. newtype_value (codes "Transparent:0x42004D") (bytes_value y.items)) (λ y. newtype_value (codes "Transparent:0x42004D") (bytes_value y.items)) _ (λ a b e. let same : a.items ≡ b.items = cc in bytes_equal a.items b.items same) x.mac_signature y.mac_signature mac_signature) (options_equal (λ y. newtype_value (codes "Transparent:0x42003D") (bytes_value y.items)) (λ y. newtype_value (codes "Transparent:0x42003D") (bytes_value y.items)) _ (λ a b e. let same : a.items ≡ b.items = cc in bytes_equal a.items b.items same) x.iv_counter_nonce y.iv_counter_nonce iv_counter_nonce))))
+    let e = in_structure e in
+    both (returns-clause-wrapping_method g c x.wrapping_method y.wrapping_method (first_same e)) (
+    let e = later_same e in
+    both (options_equal read_encryption_key_information read_encryption_key_information _ (returns-clause-encryption_key_information g c) x.encryption_key_information y.encryption_key_information (first_same e)) (
+    let e = later_same e in
+    both (options_equal read_mac_signature_key_information read_mac_signature_key_information _ (returns-clause-mac_signature_key_information g c) x.mac_signature_key_information y.mac_signature_key_information (first_same e)) (
+    let e = later_same e in
+    both (options_equal (λ y. newtype_value (codes "Transparent:0x42004D") (bytes_value y.items)) (λ y. newtype_value (codes "Transparent:0x42004D") (bytes_value y.items)) _ (λ a b e. bytes_equal a.items b.items (in_bytes (in_newtype e))) x.mac_signature y.mac_signature (first_same e)) (
+    let e = later_same e in
+    options_equal (λ y. newtype_value (codes "Transparent:0x42003D") (bytes_value y.items)) (λ y. newtype_value (codes "Transparent:0x42003D") (bytes_value y.items)) _ (λ a b e. bytes_equal a.items b.items (in_bytes (in_newtype e))) x.iv_counter_nonce y.iv_counter_nonce (first_same e)))))
 
 pub returns-clause-key_value : goal.returns-clause-key_value
 unfolding key_value_value
 returns-clause-key_value g c x y e =
-    let key_material : x.key_material.items ≡ y.key_material.items = cc in
-    bytes_equal x.key_material.items y.key_material.items key_material
+    let e = in_structure e in
+    bytes_equal x.key_material.items y.key_material.items (in_bytes (in_newtype (first_same e)))
 
 pub returns-clause-key_length : goal.returns-clause-key_length
-returns-clause-key_length g c x y e =
-    let bits : x.bits ≡ y.bits = cc in
-    signed_equal x.bits y.bits bits
+returns-clause-key_length g c x y e = signed_equal x.bits y.bits (in_integer (in_newtype e))
 
 pub returns-clause-key_block : goal.returns-clause-key_block
 unfolding read_key_block
 returns-clause-key_block g c x y e =
-    let key_value : key_value_value x.key_value ≡ key_value_value y.key_value = cc in
-    let cryptographic_length : key_length_value x.cryptographic_length ≡ key_length_value y.cryptographic_length = cc in
-    let key_wrapping_data : optional read_key_wrapping_data x.key_wrapping_data ≡ optional read_key_wrapping_data y.key_wrapping_data = cc in
-    both (returns-clause-key_value g c x.key_value y.key_value key_value) (both (returns-clause-key_length g c x.cryptographic_length y.cryptographic_length cryptographic_length) (options_equal read_key_wrapping_data read_key_wrapping_data _ (returns-clause-key_wrapping_data g c) x.key_wrapping_data y.key_wrapping_data key_wrapping_data))
+    let e = in_structure e in
+    let e = later_same e in
+    both (returns-clause-key_value g c x.key_value y.key_value (first_same e)) (
+    let e = later_same e in
+    let e = later_same e in
+    both (returns-clause-key_length g c x.cryptographic_length y.cryptographic_length (first_same e)) (
+    let e = later_same e in
+    options_equal read_key_wrapping_data read_key_wrapping_data _ (returns-clause-key_wrapping_data g c) x.key_wrapping_data y.key_wrapping_data (first_same e)))
 
 pub returns-clause-symmetric_key : goal.returns-clause-symmetric_key
 unfolding read_symmetric_key
 returns-clause-symmetric_key g c x y e =
-    let key_block : read_key_block x.key_block ≡ read_key_block y.key_block = cc in
-    returns-clause-key_block g c x.key_block y.key_block key_block
+    let e = in_structure e in
+    returns-clause-key_block g c x.key_block y.key_block (first_same e)
 
 pub returns-clause-get_request_payload : goal.returns-clause-get_request_payload
 unfolding get_request_payload_value
 returns-clause-get_request_payload g c x y e =
-    let unique_identifier : (string_bytes x.unique_identifier) ≡ (string_bytes y.unique_identifier) = cc in
-    texts_equal x.unique_identifier y.unique_identifier unique_identifier
+    let e = in_structure e in
+    texts_equal x.unique_identifier y.unique_identifier (in_text (in_newtype (first_same e)))
 
 pub returns-clause-get_request_item : goal.returns-clause-get_request_item
 unfolding get_request_item_value
 returns-clause-get_request_item g c x y e =
-    let payload : get_request_payload_value x.payload ≡ get_request_payload_value y.payload = cc in
-    returns-clause-get_request_payload g c x.payload y.payload payload
+    let e = in_structure e in
+    let e = later_same e in
+    returns-clause-get_request_payload g c x.payload y.payload (first_same e)
 
 pub returns-clause-get_request : goal.returns-clause-get_request
 unfolding get_request_value
 returns-clause-get_request g c x y e =
-    let header : request_header_value x.header ≡ request_header_value y.header = cc in
-    let item : get_request_item_value x.item ≡ get_request_item_value y.item = cc in
-    both (returns-clause-request_header g c x.header y.header header) (returns-clause-get_request_item g c x.item y.item item)
+    let e = in_structure e in
+    both (returns-clause-request_header g c x.header y.header (first_same e)) (
+    let e = later_same e in
+    returns-clause-get_request_item g c x.item y.item (first_same e))
 
 pub returns-clause-get_response_payload : goal.returns-clause-get_response_payload
 unfolding read_get_response_payload
 returns-clause-get_response_payload g c x y e =
-    let unique_identifier : (string_bytes x.unique_identifier) ≡ (string_bytes y.unique_identifier) = cc in
-    let symmetric_key : read_symmetric_key x.symmetric_key ≡ read_symmetric_key y.symmetric_key = cc in
-    both (texts_equal x.unique_identifier y.unique_identifier unique_identifier) (returns-clause-symmetric_key g c x.symmetric_key y.symmetric_key symmetric_key)
+    let e = in_structure e in
+    let e = later_same e in
+    both (texts_equal x.unique_identifier y.unique_identifier (in_text (in_newtype (first_same e)))) (
+    let e = later_same e in
+    returns-clause-symmetric_key g c x.symmetric_key y.symmetric_key (first_same e))
 
 pub returns-clause-get_response_item : goal.returns-clause-get_response_item
 unfolding read_get_response_item
 returns-clause-get_response_item g c x y e =
-    let payload : read_get_response_payload x.payload ≡ read_get_response_payload y.payload = cc in
-    returns-clause-get_response_payload g c x.payload y.payload payload
+    let e = in_structure e in
+    let e = later_same e in
+    let e = later_same e in
+    returns-clause-get_response_payload g c x.payload y.payload (first_same e)
 
 pub returns-clause-get_response : goal.returns-clause-get_response
 unfolding read_get_response
 returns-clause-get_response g c x y e =
-    let header : response_header_value x.header ≡ response_header_value y.header = cc in
-    let item : read_get_response_item x.item ≡ read_get_response_item y.item = cc in
-    both (returns-clause-response_header g c x.header y.header header) (returns-clause-get_response_item g c x.item y.item item)
+    let e = in_structure e in
+    both (returns-clause-response_header g c x.header y.header (first_same e)) (
+    let e = later_same e in
+    returns-clause-get_response_item g c x.item y.item (first_same e))
