@@ -4,12 +4,12 @@ use Rattle.kmip_ttlv.specs.Agreements.{MessageAgrees, first_variant, is_run, lat
 use Rattle.kmip_ttlv.specs.Names.{number, override_name, tag_of, transparent_name}
 use Rattle.kmip_ttlv.specs.Returns.{as_date_time, as_int32, as_number, as_octets, as_text}
 use Rattle.kmip_ttlv.specs.Rules.{at_least, equal, in_brackets, member, rule, sides}
-use Rattle.kmip_ttlv.specs.Values.{newtype_value, text_value}
+use Rattle.kmip_ttlv.specs.Values.{big_integer_value, newtype_value, text_value}
 use Rattle.kmip_ttlv.specs.WrittenItems.{held_over, is_wrapper, take_tag}
-use Rattle.kmip_ttlv_laws.proofs.MessageParts.{IsUnit, PartAgrees, a_structure, all_agree, any_then, enumeration_part}
-use Rattle.kmip_ttlv_laws.proofs.MessageParts.{every_agrees, first_of, head_or, if_present, leaf_part, leaf_then}
-use Rattle.kmip_ttlv_laws.proofs.MessageParts.{message, neither_named, nothing_left, optional_then, part_then, present}
-use Rattle.kmip_ttlv_laws.proofs.MessageParts.{several_then, structure, text_is_utf8}
+use Rattle.kmip_ttlv_laws.proofs.MessageParts.{IsUnit, PartAgrees, a_structure, all_agree, any_then, as_whole}
+use Rattle.kmip_ttlv_laws.proofs.MessageParts.{enumeration_part, every_agrees, first_of, head_or, if_present, leaf_part}
+use Rattle.kmip_ttlv_laws.proofs.MessageParts.{leaf_then, message, neither_named, nothing_left, optional_then}
+use Rattle.kmip_ttlv_laws.proofs.MessageParts.{part_then, present, several_then, structure, text_is_utf8}
 use Rattle.kmip_ttlv_laws.proofs.MessageRules.{PartAfter, choice_then, chosen_after, enumeration_kept, if_any}
 use Rattle.kmip_ttlv_laws.proofs.MessageRules.{kept_then, optional_choice_then, optional_kept_then}
 use Rattle.kmip_ttlv_laws.proofs.MessageRules.{overridden_enumeration, overridden_leaf, overridden_structure, text_kept}
@@ -79,6 +79,39 @@ use Rattle.object_messages.specs.declared.object.SymmetricKey.{SymmetricKey}
 use Rattle.object_messages.specs.Objects.{public_key_form, written_public_key, read_public_key, returned_public_key}
 use Rattle.object_messages.specs.Soundness.{IsPublicKey}
 use Rattle.object_messages.specs.declared.object.PublicKey.{PublicKey}
+use Rattle.object_messages.specs.Objects.{private_key_form, written_private_key, read_private_key, returned_private_key}
+use Rattle.object_messages.specs.Soundness.{IsPrivateKey}
+use Rattle.object_messages.specs.declared.object.PrivateKey.{PrivateKey}
+use Rattle.object_messages.specs.Objects.{split_key_method_form, written_split_key_method, read_split_key_method, split_key_method_number}
+use Rattle.object_messages.specs.Soundness.{IsSplitKeyMethod}
+use Rattle.object_messages.specs.declared.object.SplitKeyMethod.{SplitKeyMethod}
+use Rattle.object_messages.specs.Objects.{split_key_parts_form, split_key_parts_value}
+use Rattle.object_messages.specs.Soundness.{IsSplitKeyParts}
+use Rattle.object_messages.specs.declared.object.SplitKeyParts.{SplitKeyParts}
+use Rattle.object_messages.specs.Objects.{key_part_identifier_form, key_part_identifier_value}
+use Rattle.object_messages.specs.Soundness.{IsKeyPartIdentifier}
+use Rattle.object_messages.specs.declared.object.KeyPartIdentifier.{KeyPartIdentifier}
+use Rattle.object_messages.specs.Objects.{split_key_threshold_form, split_key_threshold_value}
+use Rattle.object_messages.specs.Soundness.{IsSplitKeyThreshold}
+use Rattle.object_messages.specs.declared.object.SplitKeyThreshold.{SplitKeyThreshold}
+use Rattle.object_messages.specs.Objects.{split_key_form, written_split_key, read_split_key, returned_split_key}
+use Rattle.object_messages.specs.Soundness.{IsSplitKey}
+use Rattle.object_messages.specs.declared.object.SplitKey.{SplitKey}
+use Rattle.object_messages.specs.Objects.{template_form, written_template, read_template, returned_template}
+use Rattle.object_messages.specs.Soundness.{IsTemplate}
+use Rattle.object_messages.specs.declared.object.Template.{Template}
+use Rattle.object_messages.specs.Objects.{secret_data_type_form, written_secret_data_type, read_secret_data_type, secret_data_type_number}
+use Rattle.object_messages.specs.Soundness.{IsSecretDataType}
+use Rattle.object_messages.specs.declared.object.SecretDataType.{SecretDataType}
+use Rattle.object_messages.specs.Objects.{secret_data_form, written_secret_data, read_secret_data, returned_secret_data}
+use Rattle.object_messages.specs.Soundness.{IsSecretData}
+use Rattle.object_messages.specs.declared.object.SecretData.{SecretData}
+use Rattle.object_messages.specs.Objects.{opaque_data_type_form, written_opaque_data_type, read_opaque_data_type, opaque_data_type_number}
+use Rattle.object_messages.specs.Soundness.{IsOpaqueDataType}
+use Rattle.object_messages.specs.declared.object.OpaqueDataType.{OpaqueDataType}
+use Rattle.object_messages.specs.Objects.{opaque_object_form, written_opaque_object, read_opaque_object, returned_opaque_object}
+use Rattle.object_messages.specs.Soundness.{IsOpaqueObject}
+use Rattle.object_messages.specs.declared.object.OpaqueObject.{OpaqueObject}
 use Rattle.object_messages.specs.Objects.{certificate_type_form, written_certificate_type, read_certificate_type, certificate_type_number}
 use Rattle.object_messages.specs.Soundness.{IsCertificateType}
 use Rattle.object_messages.specs.declared.object.CertificateType.{CertificateType}
@@ -362,6 +395,103 @@ public_key_agrees x is =
     structure refl refl (
     part_then refl refl (key_block_agrees x.key_block is) nothing_left)
 
+pub private_key_agrees : {A : Type 0} (x : PrivateKey A) → IsPrivateKey x
+    → PartAgrees private_key_form
+    (written_private_key x) (a_structure 0x420064)
+    (returned_private_key x)
+unfolding take_tag tag_of number transparent_name rule written_private_key returned_private_key returned_key_block
+private_key_agrees x is =
+    structure refl refl (
+    part_then refl refl (key_block_agrees x.key_block is) nothing_left)
+
+pub split_key_method_agrees : (x : SplitKeyMethod) → IsSplitKeyMethod x
+    → PartAgrees split_key_method_form
+    (written_split_key_method x) record { tag = 0x42008A; typ = types.Enumeration }
+    (written_split_key_method x)
+unfolding take_tag tag_of number transparent_name written_split_key_method
+split_key_method_agrees x is = leaf_part refl refl (as_number is)
+
+pub split_key_parts_agrees : (x : SplitKeyParts) → IsSplitKeyParts x
+    → PartAgrees split_key_parts_form
+    (split_key_parts_value x) record { tag = 0x42008B; typ = types.Integer }
+    (split_key_parts_value x)
+unfolding take_tag tag_of number transparent_name
+split_key_parts_agrees x is =
+    leaf_part refl refl (as_int32 is)
+
+pub key_part_identifier_agrees : (x : KeyPartIdentifier) → IsKeyPartIdentifier x
+    → PartAgrees key_part_identifier_form
+    (key_part_identifier_value x) record { tag = 0x420044; typ = types.Integer }
+    (key_part_identifier_value x)
+unfolding take_tag tag_of number transparent_name
+key_part_identifier_agrees x is =
+    leaf_part refl refl (as_int32 is)
+
+pub split_key_threshold_agrees : (x : SplitKeyThreshold) → IsSplitKeyThreshold x
+    → PartAgrees split_key_threshold_form
+    (split_key_threshold_value x) record { tag = 0x42008C; typ = types.Integer }
+    (split_key_threshold_value x)
+unfolding take_tag tag_of number transparent_name
+split_key_threshold_agrees x is =
+    leaf_part refl refl (as_int32 is)
+
+pub split_key_agrees : {A : Type 0} (x : SplitKey A) → IsSplitKey x
+    → PartAgrees split_key_form
+    (written_split_key x) (a_structure 0x420089)
+    (returned_split_key x)
+unfolding take_tag tag_of number transparent_name rule written_split_key returned_split_key written_split_key_method returned_key_block
+split_key_agrees x is =
+    structure refl refl (
+    leaf_then refl refl refl refl (as_int32 is.0) (
+    leaf_then refl refl refl refl (as_int32 is.1) (
+    leaf_then refl refl refl refl (as_int32 is.2) (
+    part_then refl refl (split_key_method_agrees x.method is.3) (
+    optional_then (λ y. newtype_value (codes "Transparent:0x420062") (big_integer_value y.items)) (λ y. newtype_value (codes "Transparent:0x420062") (big_integer_value y.items)) record { tag = 0x420062; typ = types.BigInteger } x.prime_field_size refl refl (if_present (λ y is. leaf_part refl refl (as_whole y.items is)) (λ y. refl) x.prime_field_size is.4) (
+    part_then refl refl (key_block_agrees x.key_block is.5) nothing_left))))))
+
+pub template_agrees : {A : Type 0} (x : Template A) → IsTemplate x
+    → PartAgrees template_form
+    (written_template x) (a_structure 0x420090)
+    (returned_template x)
+unfolding take_tag tag_of number transparent_name rule written_template returned_template returned_attribute
+template_agrees x is =
+    structure refl refl (
+    several_then written_attribute returned_attribute (a_structure 0x420008) x.attributes.items refl refl is.0 (every_agrees attribute_agrees (λ y. refl) x.attributes.items is.1) nothing_left)
+
+pub secret_data_type_agrees : (x : SecretDataType) → IsSecretDataType x
+    → PartAgrees secret_data_type_form
+    (written_secret_data_type x) record { tag = 0x420086; typ = types.Enumeration }
+    (written_secret_data_type x)
+unfolding take_tag tag_of number transparent_name written_secret_data_type
+secret_data_type_agrees x is = leaf_part refl refl (as_number is)
+
+pub secret_data_agrees : {A : Type 0} (x : SecretData A) → IsSecretData x
+    → PartAgrees secret_data_form
+    (written_secret_data x) (a_structure 0x420085)
+    (returned_secret_data x)
+unfolding take_tag tag_of number transparent_name rule written_secret_data returned_secret_data written_secret_data_type returned_key_block
+secret_data_agrees x is =
+    structure refl refl (
+    part_then refl refl (secret_data_type_agrees x.secret_data_type is.0) (
+    part_then refl refl (key_block_agrees x.key_block is.1) nothing_left))
+
+pub opaque_data_type_agrees : (x : OpaqueDataType) → IsOpaqueDataType x
+    → PartAgrees opaque_data_type_form
+    (written_opaque_data_type x) record { tag = 0x420059; typ = types.Enumeration }
+    (written_opaque_data_type x)
+unfolding take_tag tag_of number transparent_name written_opaque_data_type
+opaque_data_type_agrees x is = leaf_part refl refl (as_number is)
+
+pub opaque_object_agrees : {A : Type 0} (x : OpaqueObject A) → IsOpaqueObject x
+    → PartAgrees opaque_object_form
+    (written_opaque_object x) (a_structure 0x42005B)
+    (returned_opaque_object x)
+unfolding take_tag tag_of number transparent_name rule written_opaque_object returned_opaque_object written_opaque_data_type
+opaque_object_agrees x is =
+    structure refl refl (
+    part_then refl refl (opaque_data_type_agrees x.opaque_data_type is) (
+    leaf_then refl refl refl refl (as_octets) nothing_left))
+
 pub certificate_type_agrees : (x : CertificateType) → IsCertificateType x
     → PartAgrees certificate_type_form
     (written_certificate_type x) record { tag = 0x42001D; typ = types.Enumeration }
@@ -406,14 +536,19 @@ pub register_payload_agrees : {A : Type 0} (x : RegisterPayload A) → IsRegiste
     → PartAgrees register_payload_form
     (written_register_payload x) (a_structure 0x420079)
     (returned_register_payload x)
-unfolding take_tag tag_of number transparent_name rule written_register_payload returned_register_payload written_object_type returned_template_attribute returned_certificate returned_symmetric_key returned_public_key
+unfolding take_tag tag_of number transparent_name rule written_register_payload returned_register_payload written_object_type returned_template_attribute returned_certificate returned_symmetric_key returned_public_key returned_private_key returned_split_key returned_template returned_secret_data returned_opaque_object
 register_payload_agrees x is =
     structure refl refl (
     part_then refl refl (object_type_agrees x.object_type is.0) (
-    part_then refl refl (template_attribute_agrees x.template is.1) (
-    optional_then written_certificate returned_certificate (a_structure 0x420013) x.certificate refl (neither_named (codes "0x420013") x.symmetric_key (a_structure 0x42008F) (head_or x.public_key (a_structure 0x42006D) None) refl (neither_named (codes "0x420013") x.public_key (a_structure 0x42006D) None refl refl)) (if_present certificate_agrees (λ y. refl) x.certificate is.2) (
-    optional_then written_symmetric_key returned_symmetric_key (a_structure 0x42008F) x.symmetric_key refl (neither_named (codes "0x42008F") x.public_key (a_structure 0x42006D) None refl refl) (if_present symmetric_key_agrees (λ y. refl) x.symmetric_key is.3) (
-    optional_then written_public_key returned_public_key (a_structure 0x42006D) x.public_key refl refl (if_present public_key_agrees (λ y. refl) x.public_key is.4) nothing_left)))))
+    part_then refl refl (template_attribute_agrees x.template_attribute is.1) (
+    optional_then written_certificate returned_certificate (a_structure 0x420013) x.certificate refl (neither_named (codes "0x420013") x.symmetric_key (a_structure 0x42008F) (head_or x.public_key (a_structure 0x42006D) (head_or x.private_key (a_structure 0x420064) (head_or x.split_key (a_structure 0x420089) (head_or x.template (a_structure 0x420090) (head_or x.secret_data (a_structure 0x420085) (head_or x.opaque_object (a_structure 0x42005B) None)))))) refl (neither_named (codes "0x420013") x.public_key (a_structure 0x42006D) (head_or x.private_key (a_structure 0x420064) (head_or x.split_key (a_structure 0x420089) (head_or x.template (a_structure 0x420090) (head_or x.secret_data (a_structure 0x420085) (head_or x.opaque_object (a_structure 0x42005B) None))))) refl (neither_named (codes "0x420013") x.private_key (a_structure 0x420064) (head_or x.split_key (a_structure 0x420089) (head_or x.template (a_structure 0x420090) (head_or x.secret_data (a_structure 0x420085) (head_or x.opaque_object (a_structure 0x42005B) None)))) refl (neither_named (codes "0x420013") x.split_key (a_structure 0x420089) (head_or x.template (a_structure 0x420090) (head_or x.secret_data (a_structure 0x420085) (head_or x.opaque_object (a_structure 0x42005B) None))) refl (neither_named (codes "0x420013") x.template (a_structure 0x420090) (head_or x.secret_data (a_structure 0x420085) (head_or x.opaque_object (a_structure 0x42005B) None)) refl (neither_named (codes "0x420013") x.secret_data (a_structure 0x420085) (head_or x.opaque_object (a_structure 0x42005B) None) refl (neither_named (codes "0x420013") x.opaque_object (a_structure 0x42005B) None refl refl))))))) (if_present certificate_agrees (λ y. refl) x.certificate is.2) (
+    optional_then written_symmetric_key returned_symmetric_key (a_structure 0x42008F) x.symmetric_key refl (neither_named (codes "0x42008F") x.public_key (a_structure 0x42006D) (head_or x.private_key (a_structure 0x420064) (head_or x.split_key (a_structure 0x420089) (head_or x.template (a_structure 0x420090) (head_or x.secret_data (a_structure 0x420085) (head_or x.opaque_object (a_structure 0x42005B) None))))) refl (neither_named (codes "0x42008F") x.private_key (a_structure 0x420064) (head_or x.split_key (a_structure 0x420089) (head_or x.template (a_structure 0x420090) (head_or x.secret_data (a_structure 0x420085) (head_or x.opaque_object (a_structure 0x42005B) None)))) refl (neither_named (codes "0x42008F") x.split_key (a_structure 0x420089) (head_or x.template (a_structure 0x420090) (head_or x.secret_data (a_structure 0x420085) (head_or x.opaque_object (a_structure 0x42005B) None))) refl (neither_named (codes "0x42008F") x.template (a_structure 0x420090) (head_or x.secret_data (a_structure 0x420085) (head_or x.opaque_object (a_structure 0x42005B) None)) refl (neither_named (codes "0x42008F") x.secret_data (a_structure 0x420085) (head_or x.opaque_object (a_structure 0x42005B) None) refl (neither_named (codes "0x42008F") x.opaque_object (a_structure 0x42005B) None refl refl)))))) (if_present symmetric_key_agrees (λ y. refl) x.symmetric_key is.3) (
+    optional_then written_public_key returned_public_key (a_structure 0x42006D) x.public_key refl (neither_named (codes "0x42006D") x.private_key (a_structure 0x420064) (head_or x.split_key (a_structure 0x420089) (head_or x.template (a_structure 0x420090) (head_or x.secret_data (a_structure 0x420085) (head_or x.opaque_object (a_structure 0x42005B) None)))) refl (neither_named (codes "0x42006D") x.split_key (a_structure 0x420089) (head_or x.template (a_structure 0x420090) (head_or x.secret_data (a_structure 0x420085) (head_or x.opaque_object (a_structure 0x42005B) None))) refl (neither_named (codes "0x42006D") x.template (a_structure 0x420090) (head_or x.secret_data (a_structure 0x420085) (head_or x.opaque_object (a_structure 0x42005B) None)) refl (neither_named (codes "0x42006D") x.secret_data (a_structure 0x420085) (head_or x.opaque_object (a_structure 0x42005B) None) refl (neither_named (codes "0x42006D") x.opaque_object (a_structure 0x42005B) None refl refl))))) (if_present public_key_agrees (λ y. refl) x.public_key is.4) (
+    optional_then written_private_key returned_private_key (a_structure 0x420064) x.private_key refl (neither_named (codes "0x420064") x.split_key (a_structure 0x420089) (head_or x.template (a_structure 0x420090) (head_or x.secret_data (a_structure 0x420085) (head_or x.opaque_object (a_structure 0x42005B) None))) refl (neither_named (codes "0x420064") x.template (a_structure 0x420090) (head_or x.secret_data (a_structure 0x420085) (head_or x.opaque_object (a_structure 0x42005B) None)) refl (neither_named (codes "0x420064") x.secret_data (a_structure 0x420085) (head_or x.opaque_object (a_structure 0x42005B) None) refl (neither_named (codes "0x420064") x.opaque_object (a_structure 0x42005B) None refl refl)))) (if_present private_key_agrees (λ y. refl) x.private_key is.5) (
+    optional_then written_split_key returned_split_key (a_structure 0x420089) x.split_key refl (neither_named (codes "0x420089") x.template (a_structure 0x420090) (head_or x.secret_data (a_structure 0x420085) (head_or x.opaque_object (a_structure 0x42005B) None)) refl (neither_named (codes "0x420089") x.secret_data (a_structure 0x420085) (head_or x.opaque_object (a_structure 0x42005B) None) refl (neither_named (codes "0x420089") x.opaque_object (a_structure 0x42005B) None refl refl))) (if_present split_key_agrees (λ y. refl) x.split_key is.6) (
+    optional_then written_template returned_template (a_structure 0x420090) x.template refl (neither_named (codes "0x420090") x.secret_data (a_structure 0x420085) (head_or x.opaque_object (a_structure 0x42005B) None) refl (neither_named (codes "0x420090") x.opaque_object (a_structure 0x42005B) None refl refl)) (if_present template_agrees (λ y. refl) x.template is.7) (
+    optional_then written_secret_data returned_secret_data (a_structure 0x420085) x.secret_data refl (neither_named (codes "0x420085") x.opaque_object (a_structure 0x42005B) None refl refl) (if_present secret_data_agrees (λ y. refl) x.secret_data is.8) (
+    optional_then written_opaque_object returned_opaque_object (a_structure 0x42005B) x.opaque_object refl refl (if_present opaque_object_agrees (λ y. refl) x.opaque_object is.9) nothing_left))))))))))
 
 pub maximum_items_agrees : (x : MaximumItems) → IsMaximumItems x
     → PartAgrees maximum_items_form

@@ -38,6 +38,11 @@ object_type_numbers =
     0x00000001
     ∷ 0x00000002
     ∷ 0x00000003
+    ∷ 0x00000004
+    ∷ 0x00000005
+    ∷ 0x00000006
+    ∷ 0x00000007
+    ∷ 0x00000008
     ∷ []
 
 -- the number of a `ObjectType`
@@ -45,6 +50,11 @@ abbrev pub object_type_number : ObjectType → ℕ
 object_type_number object_type.Certificate = 0x00000001
 object_type_number object_type.SymmetricKey = 0x00000002
 object_type_number object_type.PublicKey = 0x00000003
+object_type_number object_type.PrivateKey = 0x00000004
+object_type_number object_type.SplitKey = 0x00000005
+object_type_number object_type.Template = 0x00000006
+object_type_number object_type.SecretData = 0x00000007
+object_type_number object_type.OpaqueObject = 0x00000008
 object_type_number (object_type.Other n) = n
 
 -- the number that a `ObjectType` is read from; `Other` with a number that has a name is read from none

@@ -1,9 +1,10 @@
 -- Written by codegen from types.table: change that, and run codegen/codegen.
 -- Forms and values of the types in `object`.
-use Rattle.kmip_ttlv.specs.Forms.{Form, any_number, field, int32, newtype, no_fields, octets, option, struct}
-use Rattle.kmip_ttlv.specs.MessageParts.{numbered_value, optional, other_number}
-use Rattle.kmip_ttlv.specs.Values.{Value, bytes_value, i32_value, newtype_value, no_values, struct_value, u32_value}
-use Rattle.kmip_ttlv.specs.Values.{value}
+use Rattle.kmip_ttlv.specs.Forms.{Form, any_number, big_integer, field, int32, newtype, no_fields, octets, option, seq}
+use Rattle.kmip_ttlv.specs.Forms.{struct}
+use Rattle.kmip_ttlv.specs.MessageParts.{numbered_value, optional, other_number, sequence}
+use Rattle.kmip_ttlv.specs.Values.{Value, big_integer_value, bytes_value, i32_value, newtype_value, no_values}
+use Rattle.kmip_ttlv.specs.Values.{struct_value, u32_value, value}
 use Rattle.kmip_ttlv.specs.Visits.{joined}
 use Rattle.std.specs.Prelude.{List, Option, Some, [], codes, false, option_map, true, ℕ, ◌∷◌}
 use Rattle.kmip_ttlv.specs.Visits as told
@@ -14,10 +15,25 @@ use Rattle.object_messages.specs.declared.object.KeyValue.{KeyValue}
 use Rattle.object_messages.specs.declared.object.KeyBlock.{KeyBlock}
 use Rattle.object_messages.specs.declared.object.SymmetricKey.{SymmetricKey}
 use Rattle.object_messages.specs.declared.object.PublicKey.{PublicKey}
+use Rattle.object_messages.specs.declared.object.PrivateKey.{PrivateKey}
+use Rattle.object_messages.specs.declared.object.SplitKeyMethod.{SplitKeyMethod}
+use Rattle.object_messages.specs.declared.object.SplitKeyMethod.TheVariants as split_key_method
+use Rattle.object_messages.specs.declared.object.SplitKeyParts.{SplitKeyParts}
+use Rattle.object_messages.specs.declared.object.KeyPartIdentifier.{KeyPartIdentifier}
+use Rattle.object_messages.specs.declared.object.SplitKeyThreshold.{SplitKeyThreshold}
+use Rattle.object_messages.specs.declared.object.SplitKey.{SplitKey}
+use Rattle.object_messages.specs.declared.object.Template.{Template}
+use Rattle.object_messages.specs.declared.object.SecretDataType.{SecretDataType}
+use Rattle.object_messages.specs.declared.object.SecretDataType.TheVariants as secret_data_type
+use Rattle.object_messages.specs.declared.object.SecretData.{SecretData}
+use Rattle.object_messages.specs.declared.object.OpaqueDataType.{OpaqueDataType}
+use Rattle.object_messages.specs.declared.object.OpaqueDataType.TheVariants as opaque_data_type
+use Rattle.object_messages.specs.declared.object.OpaqueObject.{OpaqueObject}
 use Rattle.object_messages.specs.declared.object.CertificateType.{CertificateType}
 use Rattle.object_messages.specs.declared.object.CertificateType.TheVariants as certificate_type
 use Rattle.object_messages.specs.declared.object.Certificate.{Certificate}
 use Rattle.object_messages.specs.Attributes.{cryptographic_algorithm_form, written_cryptographic_algorithm, read_cryptographic_algorithm}
+use Rattle.object_messages.specs.Attributes.{attribute_form, written_attribute, read_attribute, returned_attribute}
 
 -- the form of a `KeyFormatType`: any number
 abbrev pub key_format_type_form : Form
@@ -152,6 +168,271 @@ unfoldable pub returned_public_key : {A : Type 0} → PublicKey A → Value
 returned_public_key x =
     struct_value (codes "0x42006D") (
     value (returned_key_block x.key_block) no_values)
+
+-- the form of a `PrivateKey`
+abbrev pub private_key_form : Form
+private_key_form =
+    struct (codes "0x420064") (
+    field (codes "0x420040") key_block_form no_fields) false
+
+-- what is written of a `PrivateKey`
+unfoldable pub written_private_key : {A : Type 0} → PrivateKey A → Value
+written_private_key x =
+    struct_value (codes "0x420064") (
+    value (written_key_block x.key_block) no_values)
+
+-- what is read of a `PrivateKey`
+unfoldable pub read_private_key : {A : Type 0} → PrivateKey A → Value
+read_private_key x =
+    struct_value (codes "0x420064") (
+    value (read_key_block x.key_block) no_values)
+
+-- what is read of the bytes of a `PrivateKey`
+unfoldable pub returned_private_key : {A : Type 0} → PrivateKey A → Value
+returned_private_key x =
+    struct_value (codes "0x420064") (
+    value (returned_key_block x.key_block) no_values)
+
+-- the form of a `SplitKeyMethod`: any number
+abbrev pub split_key_method_form : Form
+split_key_method_form = newtype (codes "Transparent:0x42008A") any_number
+
+-- the numbers that have a name
+abbrev pub split_key_method_numbers : List ℕ
+split_key_method_numbers =
+    0x00000001
+    ∷ 0x00000002
+    ∷ 0x00000003
+    ∷ []
+
+-- the number of a `SplitKeyMethod`
+abbrev pub split_key_method_number : SplitKeyMethod → ℕ
+split_key_method_number split_key_method.Xor = 0x00000001
+split_key_method_number split_key_method.PolynomialGf = 0x00000002
+split_key_method_number split_key_method.PolynomialPrimeField = 0x00000003
+split_key_method_number (split_key_method.Other n) = n
+
+-- the number that a `SplitKeyMethod` is read from; `Other` with a number that has a name is read from none
+abbrev pub split_key_method_read_number : SplitKeyMethod → Option ℕ
+split_key_method_read_number (split_key_method.Other n) = other_number split_key_method_numbers n
+split_key_method_read_number x = Some (split_key_method_number x)
+
+-- what is written of a `SplitKeyMethod`
+unfoldable pub written_split_key_method : SplitKeyMethod → Value
+written_split_key_method x = newtype_value (codes "Transparent:0x42008A") (u32_value (split_key_method_number x))
+
+-- what is read of a `SplitKeyMethod`
+unfoldable pub read_split_key_method : SplitKeyMethod → Value
+read_split_key_method x = newtype_value (codes "Transparent:0x42008A") (numbered_value (split_key_method_read_number x))
+
+-- the form of a `SplitKeyParts`
+abbrev pub split_key_parts_form : Form
+split_key_parts_form = (newtype (codes "Transparent:0x42008B") int32)
+
+-- the value of a `SplitKeyParts`
+abbrev pub split_key_parts_value : SplitKeyParts → Value
+split_key_parts_value x = newtype_value (codes "Transparent:0x42008B") (i32_value x.count)
+
+-- the form of a `KeyPartIdentifier`
+abbrev pub key_part_identifier_form : Form
+key_part_identifier_form = (newtype (codes "Transparent:0x420044") int32)
+
+-- the value of a `KeyPartIdentifier`
+abbrev pub key_part_identifier_value : KeyPartIdentifier → Value
+key_part_identifier_value x = newtype_value (codes "Transparent:0x420044") (i32_value x.number)
+
+-- the form of a `SplitKeyThreshold`
+abbrev pub split_key_threshold_form : Form
+split_key_threshold_form = (newtype (codes "Transparent:0x42008C") int32)
+
+-- the value of a `SplitKeyThreshold`
+abbrev pub split_key_threshold_value : SplitKeyThreshold → Value
+split_key_threshold_value x = newtype_value (codes "Transparent:0x42008C") (i32_value x.count)
+
+-- the form of a `SplitKey`
+abbrev pub split_key_form : Form
+split_key_form =
+    struct (codes "0x420089") (
+    field (codes "0x42008B") split_key_parts_form (
+    field (codes "0x420044") key_part_identifier_form (
+    field (codes "0x42008C") split_key_threshold_form (
+    field (codes "0x42008A") split_key_method_form (
+    field (codes "0x420062") (option (newtype (codes "Transparent:0x420062") big_integer)) (
+    field (codes "0x420040") key_block_form no_fields)))))) false
+
+-- what is written of a `SplitKey`
+unfoldable pub written_split_key : {A : Type 0} → SplitKey A → Value
+written_split_key x =
+    struct_value (codes "0x420089") (
+    value (split_key_parts_value x.parts) (
+    value (key_part_identifier_value x.identifier) (
+    value (split_key_threshold_value x.threshold) (
+    value (written_split_key_method x.method) (
+    joined (told.optional (option_map
+    (λ y. newtype_value (codes "Transparent:0x420062") (big_integer_value y.items)) x.prime_field_size)) (
+    value (written_key_block x.key_block) no_values))))))
+
+-- what is read of a `SplitKey`
+unfoldable pub read_split_key : {A : Type 0} → SplitKey A → Value
+read_split_key x =
+    struct_value (codes "0x420089") (
+    value (split_key_parts_value x.parts) (
+    value (key_part_identifier_value x.identifier) (
+    value (split_key_threshold_value x.threshold) (
+    value (read_split_key_method x.method) (
+    value (optional
+    (λ y. newtype_value (codes "Transparent:0x420062") (big_integer_value y.items)) x.prime_field_size) (
+    value (read_key_block x.key_block) no_values))))))
+
+-- what is read of the bytes of a `SplitKey`
+unfoldable pub returned_split_key : {A : Type 0} → SplitKey A → Value
+returned_split_key x =
+    struct_value (codes "0x420089") (
+    value (split_key_parts_value x.parts) (
+    value (key_part_identifier_value x.identifier) (
+    value (split_key_threshold_value x.threshold) (
+    value (written_split_key_method x.method) (
+    value (optional
+    (λ y. newtype_value (codes "Transparent:0x420062") (big_integer_value y.items)) x.prime_field_size) (
+    value (returned_key_block x.key_block) no_values))))))
+
+-- the form of a `Template`
+abbrev pub template_form : Form
+template_form =
+    struct (codes "0x420090") (
+    field (codes "0x420008") (seq attribute_form) no_fields) false
+
+-- what is written of a `Template`
+unfoldable pub written_template : {A : Type 0} → Template A → Value
+written_template x =
+    struct_value (codes "0x420090") (
+    value (sequence written_attribute x.attributes.items) no_values)
+
+-- what is read of a `Template`
+unfoldable pub read_template : {A : Type 0} → Template A → Value
+read_template x =
+    struct_value (codes "0x420090") (
+    value (sequence read_attribute x.attributes.items) no_values)
+
+-- what is read of the bytes of a `Template`
+unfoldable pub returned_template : {A : Type 0} → Template A → Value
+returned_template x =
+    struct_value (codes "0x420090") (
+    value (sequence returned_attribute x.attributes.items) no_values)
+
+-- the form of a `SecretDataType`: any number
+abbrev pub secret_data_type_form : Form
+secret_data_type_form = newtype (codes "Transparent:0x420086") any_number
+
+-- the numbers that have a name
+abbrev pub secret_data_type_numbers : List ℕ
+secret_data_type_numbers =
+    0x00000001
+    ∷ 0x00000002
+    ∷ []
+
+-- the number of a `SecretDataType`
+abbrev pub secret_data_type_number : SecretDataType → ℕ
+secret_data_type_number secret_data_type.Password = 0x00000001
+secret_data_type_number secret_data_type.Seed = 0x00000002
+secret_data_type_number (secret_data_type.Other n) = n
+
+-- the number that a `SecretDataType` is read from; `Other` with a number that has a name is read from none
+abbrev pub secret_data_type_read_number : SecretDataType → Option ℕ
+secret_data_type_read_number (secret_data_type.Other n) = other_number secret_data_type_numbers n
+secret_data_type_read_number x = Some (secret_data_type_number x)
+
+-- what is written of a `SecretDataType`
+unfoldable pub written_secret_data_type : SecretDataType → Value
+written_secret_data_type x = newtype_value (codes "Transparent:0x420086") (u32_value (secret_data_type_number x))
+
+-- what is read of a `SecretDataType`
+unfoldable pub read_secret_data_type : SecretDataType → Value
+read_secret_data_type x = newtype_value (codes "Transparent:0x420086") (numbered_value (secret_data_type_read_number x))
+
+-- the form of a `SecretData`
+abbrev pub secret_data_form : Form
+secret_data_form =
+    struct (codes "0x420085") (
+    field (codes "0x420086") secret_data_type_form (
+    field (codes "0x420040") key_block_form no_fields)) false
+
+-- what is written of a `SecretData`
+unfoldable pub written_secret_data : {A : Type 0} → SecretData A → Value
+written_secret_data x =
+    struct_value (codes "0x420085") (
+    value (written_secret_data_type x.secret_data_type) (
+    value (written_key_block x.key_block) no_values))
+
+-- what is read of a `SecretData`
+unfoldable pub read_secret_data : {A : Type 0} → SecretData A → Value
+read_secret_data x =
+    struct_value (codes "0x420085") (
+    value (read_secret_data_type x.secret_data_type) (
+    value (read_key_block x.key_block) no_values))
+
+-- what is read of the bytes of a `SecretData`
+unfoldable pub returned_secret_data : {A : Type 0} → SecretData A → Value
+returned_secret_data x =
+    struct_value (codes "0x420085") (
+    value (written_secret_data_type x.secret_data_type) (
+    value (returned_key_block x.key_block) no_values))
+
+-- the form of a `OpaqueDataType`: any number
+abbrev pub opaque_data_type_form : Form
+opaque_data_type_form = newtype (codes "Transparent:0x420059") any_number
+
+-- the numbers that have a name
+abbrev pub opaque_data_type_numbers : List ℕ
+opaque_data_type_numbers =
+    0x80000000
+    ∷ []
+
+-- the number of a `OpaqueDataType`
+abbrev pub opaque_data_type_number : OpaqueDataType → ℕ
+opaque_data_type_number opaque_data_type.Extension = 0x80000000
+opaque_data_type_number (opaque_data_type.Other n) = n
+
+-- the number that a `OpaqueDataType` is read from; `Other` with a number that has a name is read from none
+abbrev pub opaque_data_type_read_number : OpaqueDataType → Option ℕ
+opaque_data_type_read_number (opaque_data_type.Other n) = other_number opaque_data_type_numbers n
+opaque_data_type_read_number x = Some (opaque_data_type_number x)
+
+-- what is written of a `OpaqueDataType`
+unfoldable pub written_opaque_data_type : OpaqueDataType → Value
+written_opaque_data_type x = newtype_value (codes "Transparent:0x420059") (u32_value (opaque_data_type_number x))
+
+-- what is read of a `OpaqueDataType`
+unfoldable pub read_opaque_data_type : OpaqueDataType → Value
+read_opaque_data_type x = newtype_value (codes "Transparent:0x420059") (numbered_value (opaque_data_type_read_number x))
+
+-- the form of a `OpaqueObject`
+abbrev pub opaque_object_form : Form
+opaque_object_form =
+    struct (codes "0x42005B") (
+    field (codes "0x420059") opaque_data_type_form (
+    field (codes "0x42005A") (newtype (codes "Transparent:0x42005A") octets) no_fields)) false
+
+-- what is written of a `OpaqueObject`
+unfoldable pub written_opaque_object : {A : Type 0} → OpaqueObject A → Value
+written_opaque_object x =
+    struct_value (codes "0x42005B") (
+    value (written_opaque_data_type x.opaque_data_type) (
+    value (newtype_value (codes "Transparent:0x42005A") (bytes_value x.value.items)) no_values))
+
+-- what is read of a `OpaqueObject`
+unfoldable pub read_opaque_object : {A : Type 0} → OpaqueObject A → Value
+read_opaque_object x =
+    struct_value (codes "0x42005B") (
+    value (read_opaque_data_type x.opaque_data_type) (
+    value (newtype_value (codes "Transparent:0x42005A") (bytes_value x.value.items)) no_values))
+
+-- what is read of the bytes of a `OpaqueObject`
+unfoldable pub returned_opaque_object : {A : Type 0} → OpaqueObject A → Value
+returned_opaque_object x =
+    struct_value (codes "0x42005B") (
+    value (written_opaque_data_type x.opaque_data_type) (
+    value (newtype_value (codes "Transparent:0x42005A") (bytes_value x.value.items)) no_values))
 
 -- the form of a `CertificateType`: any number
 abbrev pub certificate_type_form : Form

@@ -31,6 +31,11 @@ use Rattle.object_messages.specs.Attributes.{attribute_name_form, attribute_name
 use Rattle.object_messages.specs.Attributes.{attribute_form, written_attribute, read_attribute, returned_attribute}
 use Rattle.object_messages.specs.Objects.{symmetric_key_form, written_symmetric_key, read_symmetric_key, returned_symmetric_key}
 use Rattle.object_messages.specs.Objects.{public_key_form, written_public_key, read_public_key, returned_public_key}
+use Rattle.object_messages.specs.Objects.{private_key_form, written_private_key, read_private_key, returned_private_key}
+use Rattle.object_messages.specs.Objects.{split_key_form, written_split_key, read_split_key, returned_split_key}
+use Rattle.object_messages.specs.Objects.{template_form, written_template, read_template, returned_template}
+use Rattle.object_messages.specs.Objects.{secret_data_form, written_secret_data, read_secret_data, returned_secret_data}
+use Rattle.object_messages.specs.Objects.{opaque_object_form, written_opaque_object, read_opaque_object, returned_opaque_object}
 use Rattle.object_messages.specs.Objects.{certificate_form, written_certificate, read_certificate, returned_certificate}
 
 -- the numbers of a `Operation`
@@ -88,44 +93,69 @@ register_payload_form =
     field (codes "0x420091") template_attribute_form (
     field (codes "0x420013") (option certificate_form) (
     field (codes "0x42008F") (option symmetric_key_form) (
-    field (codes "0x42006D") (option public_key_form) no_fields))))) false
+    field (codes "0x42006D") (option public_key_form) (
+    field (codes "0x420064") (option private_key_form) (
+    field (codes "0x420089") (option split_key_form) (
+    field (codes "0x420090") (option template_form) (
+    field (codes "0x420085") (option secret_data_form) (
+    field (codes "0x42005B") (option opaque_object_form) no_fields)))))))))) false
 
 -- which `object` of a `RegisterPayload` is there, if it is exactly one
 abbrev pub IsRegisterPayloadObject : {A : Type 0} → RegisterPayload A → Option (ManagedObject A) → Type 0
-IsRegisterPayloadObject x None = (there x.certificate + (there x.symmetric_key + there x.public_key) ≡ 1) → ⊥
-IsRegisterPayloadObject x (Some (managed_object.Certificate held)) = (x.certificate ≡ Some held.now) × (x.symmetric_key ≡ None) × (x.public_key ≡ None)
-IsRegisterPayloadObject x (Some (managed_object.SymmetricKey held)) = (x.certificate ≡ None) × (x.symmetric_key ≡ Some held.now) × (x.public_key ≡ None)
-IsRegisterPayloadObject x (Some (managed_object.PublicKey held)) = (x.certificate ≡ None) × (x.symmetric_key ≡ None) × (x.public_key ≡ Some held.now)
+IsRegisterPayloadObject x None = (there x.certificate + (there x.symmetric_key + (there x.public_key + (there x.private_key + (there x.split_key + (there x.template + (there x.secret_data + there x.opaque_object)))))) ≡ 1) → ⊥
+IsRegisterPayloadObject x (Some (managed_object.Certificate held)) = (x.certificate ≡ Some held.now) × (x.symmetric_key ≡ None) × (x.public_key ≡ None) × (x.private_key ≡ None) × (x.split_key ≡ None) × (x.template ≡ None) × (x.secret_data ≡ None) × (x.opaque_object ≡ None)
+IsRegisterPayloadObject x (Some (managed_object.SymmetricKey held)) = (x.certificate ≡ None) × (x.symmetric_key ≡ Some held.now) × (x.public_key ≡ None) × (x.private_key ≡ None) × (x.split_key ≡ None) × (x.template ≡ None) × (x.secret_data ≡ None) × (x.opaque_object ≡ None)
+IsRegisterPayloadObject x (Some (managed_object.PublicKey held)) = (x.certificate ≡ None) × (x.symmetric_key ≡ None) × (x.public_key ≡ Some held.now) × (x.private_key ≡ None) × (x.split_key ≡ None) × (x.template ≡ None) × (x.secret_data ≡ None) × (x.opaque_object ≡ None)
+IsRegisterPayloadObject x (Some (managed_object.PrivateKey held)) = (x.certificate ≡ None) × (x.symmetric_key ≡ None) × (x.public_key ≡ None) × (x.private_key ≡ Some held.now) × (x.split_key ≡ None) × (x.template ≡ None) × (x.secret_data ≡ None) × (x.opaque_object ≡ None)
+IsRegisterPayloadObject x (Some (managed_object.SplitKey held)) = (x.certificate ≡ None) × (x.symmetric_key ≡ None) × (x.public_key ≡ None) × (x.private_key ≡ None) × (x.split_key ≡ Some held.now) × (x.template ≡ None) × (x.secret_data ≡ None) × (x.opaque_object ≡ None)
+IsRegisterPayloadObject x (Some (managed_object.Template held)) = (x.certificate ≡ None) × (x.symmetric_key ≡ None) × (x.public_key ≡ None) × (x.private_key ≡ None) × (x.split_key ≡ None) × (x.template ≡ Some held.now) × (x.secret_data ≡ None) × (x.opaque_object ≡ None)
+IsRegisterPayloadObject x (Some (managed_object.SecretData held)) = (x.certificate ≡ None) × (x.symmetric_key ≡ None) × (x.public_key ≡ None) × (x.private_key ≡ None) × (x.split_key ≡ None) × (x.template ≡ None) × (x.secret_data ≡ Some held.now) × (x.opaque_object ≡ None)
+IsRegisterPayloadObject x (Some (managed_object.OpaqueObject held)) = (x.certificate ≡ None) × (x.symmetric_key ≡ None) × (x.public_key ≡ None) × (x.private_key ≡ None) × (x.split_key ≡ None) × (x.template ≡ None) × (x.secret_data ≡ None) × (x.opaque_object ≡ Some held.now)
 
 -- what is written of a `RegisterPayload`
 unfoldable pub written_register_payload : {A : Type 0} → RegisterPayload A → Value
 written_register_payload x =
     struct_value (codes "0x420079") (
     value (written_object_type x.object_type) (
-    value (written_template_attribute x.template) (
+    value (written_template_attribute x.template_attribute) (
     joined (told.optional (option_map written_certificate x.certificate)) (
     joined (told.optional (option_map written_symmetric_key x.symmetric_key)) (
-    joined (told.optional (option_map written_public_key x.public_key)) no_values)))))
+    joined (told.optional (option_map written_public_key x.public_key)) (
+    joined (told.optional (option_map written_private_key x.private_key)) (
+    joined (told.optional (option_map written_split_key x.split_key)) (
+    joined (told.optional (option_map written_template x.template)) (
+    joined (told.optional (option_map written_secret_data x.secret_data)) (
+    joined (told.optional (option_map written_opaque_object x.opaque_object)) no_values))))))))))
 
 -- what is read of a `RegisterPayload`
 unfoldable pub read_register_payload : {A : Type 0} → RegisterPayload A → Value
 read_register_payload x =
     struct_value (codes "0x420079") (
     value (read_object_type x.object_type) (
-    value (read_template_attribute x.template) (
+    value (read_template_attribute x.template_attribute) (
     value (optional read_certificate x.certificate) (
     value (optional read_symmetric_key x.symmetric_key) (
-    value (optional read_public_key x.public_key) no_values)))))
+    value (optional read_public_key x.public_key) (
+    value (optional read_private_key x.private_key) (
+    value (optional read_split_key x.split_key) (
+    value (optional read_template x.template) (
+    value (optional read_secret_data x.secret_data) (
+    value (optional read_opaque_object x.opaque_object) no_values))))))))))
 
 -- what is read of the bytes of a `RegisterPayload`
 unfoldable pub returned_register_payload : {A : Type 0} → RegisterPayload A → Value
 returned_register_payload x =
     struct_value (codes "0x420079") (
     value (written_object_type x.object_type) (
-    value (returned_template_attribute x.template) (
+    value (returned_template_attribute x.template_attribute) (
     value (optional returned_certificate x.certificate) (
     value (optional returned_symmetric_key x.symmetric_key) (
-    value (optional returned_public_key x.public_key) no_values)))))
+    value (optional returned_public_key x.public_key) (
+    value (optional returned_private_key x.private_key) (
+    value (optional returned_split_key x.split_key) (
+    value (optional returned_template x.template) (
+    value (optional returned_secret_data x.secret_data) (
+    value (optional returned_opaque_object x.opaque_object) no_values))))))))))
 
 -- the form of a `MaximumItems`
 abbrev pub maximum_items_form : Form

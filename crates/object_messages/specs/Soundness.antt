@@ -3,7 +3,7 @@
 use Rattle.kmip_ttlv.specs.MessageParts.{there}
 use Rattle.std.specs.Int.{w32, w64}
 use Rattle.std.specs.Option.{IsSomeAnd}
-use Rattle.std.specs.Prelude.{All, FitsSigned, IfSome, length, string_bytes, ◌+◌, ◌<◌, ◌^◌, ◌≡◌}
+use Rattle.std.specs.Prelude.{All, FitsSigned, IfSome, length, string_bytes, ◌%◌, ◌+◌, ◌<◌, ◌^◌, ◌≡◌}
 use Rattle.object_messages.specs.declared.attribute.ObjectType.{ObjectType}
 use Rattle.object_messages.specs.declared.attribute.CryptographicAlgorithm.{CryptographicAlgorithm}
 use Rattle.object_messages.specs.declared.attribute.AttributeIndex.{AttributeIndex}
@@ -19,6 +19,17 @@ use Rattle.object_messages.specs.declared.object.CryptographicLength.{Cryptograp
 use Rattle.object_messages.specs.declared.object.KeyBlock.{KeyBlock}
 use Rattle.object_messages.specs.declared.object.SymmetricKey.{SymmetricKey}
 use Rattle.object_messages.specs.declared.object.PublicKey.{PublicKey}
+use Rattle.object_messages.specs.declared.object.PrivateKey.{PrivateKey}
+use Rattle.object_messages.specs.declared.object.SplitKeyMethod.{SplitKeyMethod}
+use Rattle.object_messages.specs.declared.object.SplitKeyParts.{SplitKeyParts}
+use Rattle.object_messages.specs.declared.object.KeyPartIdentifier.{KeyPartIdentifier}
+use Rattle.object_messages.specs.declared.object.SplitKeyThreshold.{SplitKeyThreshold}
+use Rattle.object_messages.specs.declared.object.SplitKey.{SplitKey}
+use Rattle.object_messages.specs.declared.object.Template.{Template}
+use Rattle.object_messages.specs.declared.object.SecretDataType.{SecretDataType}
+use Rattle.object_messages.specs.declared.object.SecretData.{SecretData}
+use Rattle.object_messages.specs.declared.object.OpaqueDataType.{OpaqueDataType}
+use Rattle.object_messages.specs.declared.object.OpaqueObject.{OpaqueObject}
 use Rattle.object_messages.specs.declared.object.CertificateType.{CertificateType}
 use Rattle.object_messages.specs.declared.object.Certificate.{Certificate}
 use Rattle.object_messages.specs.declared.request.TemplateAttribute.{TemplateAttribute}
@@ -41,7 +52,7 @@ use Rattle.object_messages.specs.declared.response.ResultReason.{ResultReason}
 use Rattle.object_messages.specs.declared.response.ResponseItem.{ResponseItem}
 use Rattle.object_messages.specs.declared.response.Response.{Response}
 use Rattle.object_messages.specs.Attributes.{object_type_number, cryptographic_algorithm_number, name_type_number, ChoosesAttributeValue}
-use Rattle.object_messages.specs.Objects.{key_format_type_number, certificate_type_number}
+use Rattle.object_messages.specs.Objects.{key_format_type_number, split_key_method_number, secret_data_type_number, opaque_data_type_number, certificate_type_number}
 use Rattle.object_messages.specs.Requests.{query_function_number, ChoosesRequestPayload, operation_number}
 use Rattle.get_messages.specs.Soundness.{IsRequestHeader, IsResponseHeader}
 use Rattle.object_messages.specs.Responses.{any_operation_number, result_status_number, result_reason_number, ChoosesResponsePayload}
@@ -125,6 +136,68 @@ abbrev pub IsPublicKey : {A : Type 0} → PublicKey A → Type 0
 IsPublicKey x =
     IsKeyBlock x.key_block
 
+-- which values of `PrivateKey` are sound
+abbrev pub IsPrivateKey : {A : Type 0} → PrivateKey A → Type 0
+IsPrivateKey x =
+    IsKeyBlock x.key_block
+
+-- which values of `SplitKeyMethod` are sound
+abbrev pub IsSplitKeyMethod : SplitKeyMethod → Type 0
+IsSplitKeyMethod x =
+    (split_key_method_number x < 2 ^ 32)
+
+-- which values of `SplitKeyParts` are sound
+abbrev pub IsSplitKeyParts : SplitKeyParts → Type 0
+IsSplitKeyParts x =
+    FitsSigned w32 x.count
+
+-- which values of `KeyPartIdentifier` are sound
+abbrev pub IsKeyPartIdentifier : KeyPartIdentifier → Type 0
+IsKeyPartIdentifier x =
+    FitsSigned w32 x.number
+
+-- which values of `SplitKeyThreshold` are sound
+abbrev pub IsSplitKeyThreshold : SplitKeyThreshold → Type 0
+IsSplitKeyThreshold x =
+    FitsSigned w32 x.count
+
+-- which values of `SplitKey` are sound
+abbrev pub IsSplitKey : {A : Type 0} → SplitKey A → Type 0
+IsSplitKey x =
+    IsSplitKeyParts x.parts
+    × IsKeyPartIdentifier x.identifier
+    × IsSplitKeyThreshold x.threshold
+    × IsSplitKeyMethod x.method
+    × IfSome x.prime_field_size (λ y. (length y.items % 8 ≡ 0))
+    × IsKeyBlock x.key_block
+
+-- which values of `Template` are sound
+abbrev pub IsTemplate : {A : Type 0} → Template A → Type 0
+IsTemplate x =
+    (0 < length x.attributes.items)
+    × All IsAttribute x.attributes.items
+
+-- which values of `SecretDataType` are sound
+abbrev pub IsSecretDataType : SecretDataType → Type 0
+IsSecretDataType x =
+    (secret_data_type_number x < 2 ^ 32)
+
+-- which values of `SecretData` are sound
+abbrev pub IsSecretData : {A : Type 0} → SecretData A → Type 0
+IsSecretData x =
+    IsSecretDataType x.secret_data_type
+    × IsKeyBlock x.key_block
+
+-- which values of `OpaqueDataType` are sound
+abbrev pub IsOpaqueDataType : OpaqueDataType → Type 0
+IsOpaqueDataType x =
+    (opaque_data_type_number x < 2 ^ 32)
+
+-- which values of `OpaqueObject` are sound
+abbrev pub IsOpaqueObject : {A : Type 0} → OpaqueObject A → Type 0
+IsOpaqueObject x =
+    IsOpaqueDataType x.opaque_data_type
+
 -- which values of `CertificateType` are sound
 abbrev pub IsCertificateType : CertificateType → Type 0
 IsCertificateType x =
@@ -145,11 +218,16 @@ IsTemplateAttribute x =
 abbrev pub IsRegisterPayload : {A : Type 0} → RegisterPayload A → Type 0
 IsRegisterPayload x =
     IsObjectType x.object_type
-    × IsTemplateAttribute x.template
+    × IsTemplateAttribute x.template_attribute
     × IfSome x.certificate IsCertificate
     × IfSome x.symmetric_key IsSymmetricKey
     × IfSome x.public_key IsPublicKey
-    × (there x.certificate + (there x.symmetric_key + there x.public_key) ≡ 1)
+    × IfSome x.private_key IsPrivateKey
+    × IfSome x.split_key IsSplitKey
+    × IfSome x.template IsTemplate
+    × IfSome x.secret_data IsSecretData
+    × IfSome x.opaque_object IsOpaqueObject
+    × (there x.certificate + (there x.symmetric_key + (there x.public_key + (there x.private_key + (there x.split_key + (there x.template + (there x.secret_data + there x.opaque_object)))))) ≡ 1)
 
 -- which values of `MaximumItems` are sound
 abbrev pub IsMaximumItems : MaximumItems → Type 0

@@ -24,6 +24,16 @@ pub enum ObjectType {
     SymmetricKey,
     /// A public key.
     PublicKey,
+    /// A private key.
+    PrivateKey,
+    /// One of the parts that a key was split into.
+    SplitKey,
+    /// Attributes that other objects are made with.
+    Template,
+    /// A secret that is no key.
+    SecretData,
+    /// Bytes that the server doesn't look into.
+    OpaqueObject,
     /// Any other number. One that has a name is encoded as it is, and decoded by its name, to which it is equal.
     Other(u32),
 }
@@ -37,6 +47,11 @@ impl ObjectType {
             ObjectType::Certificate => 0x00000001,
             ObjectType::SymmetricKey => 0x00000002,
             ObjectType::PublicKey => 0x00000003,
+            ObjectType::PrivateKey => 0x00000004,
+            ObjectType::SplitKey => 0x00000005,
+            ObjectType::Template => 0x00000006,
+            ObjectType::SecretData => 0x00000007,
+            ObjectType::OpaqueObject => 0x00000008,
             ObjectType::Other(number) => number,
         }
     }
@@ -49,6 +64,11 @@ impl ObjectType {
             0x00000001 => ObjectType::Certificate,
             0x00000002 => ObjectType::SymmetricKey,
             0x00000003 => ObjectType::PublicKey,
+            0x00000004 => ObjectType::PrivateKey,
+            0x00000005 => ObjectType::SplitKey,
+            0x00000006 => ObjectType::Template,
+            0x00000007 => ObjectType::SecretData,
+            0x00000008 => ObjectType::OpaqueObject,
             _ => ObjectType::Other(number),
         }
     }
@@ -929,7 +949,6 @@ pub struct Attribute<A: Allocator = Global> {
 impl<B: Allocator> Serialize for Attribute<B> {
     ghost stated = { written_attribute };
 
-    #[tactic(auto, using(kmip_ttlv_base::proofs::Visiting::visited_joined), unfolding(crate::specs::Attributes::written_attribute))]
     fn visit<V: Visitor>(&self, visitor: &mut V) -> Result<(), AllocError> {
         writing::begin_struct(visitor, "0x420008")?;
         self.name.visit(visitor)?;

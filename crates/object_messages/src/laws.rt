@@ -7,10 +7,10 @@ ghost use Rattle.object_messages.specs.Responses.{ChoosesResponsePayload};
 ghost use Rattle.object_messages.specs.Requests.{operation_number};
 ghost use Rattle.kmip_ttlv.specs.Equal.{AreEqual, ReturnsEqual};
 ghost use Rattle.object_messages.specs.Attributes.{written_object_type, read_object_type, written_cryptographic_algorithm, read_cryptographic_algorithm, object_state_value, unique_identifier_value, attribute_name_value, attribute_index_value, attribute_number_value, attribute_date_value, attribute_text_value, written_name_type, read_name_type, name_text_value, returned_name, read_name, returned_attribute_value, read_attribute_value, returned_attribute, read_attribute};
-ghost use Rattle.object_messages.specs.Objects.{written_key_format_type, read_key_format_type, cryptographic_length_value, key_value_value, returned_key_block, read_key_block, returned_symmetric_key, read_symmetric_key, returned_public_key, read_public_key, written_certificate_type, read_certificate_type, returned_certificate, read_certificate};
+ghost use Rattle.object_messages.specs.Objects.{written_key_format_type, read_key_format_type, cryptographic_length_value, key_value_value, returned_key_block, read_key_block, returned_symmetric_key, read_symmetric_key, returned_public_key, read_public_key, returned_private_key, read_private_key, written_split_key_method, read_split_key_method, split_key_parts_value, key_part_identifier_value, split_key_threshold_value, returned_split_key, read_split_key, returned_template, read_template, written_secret_data_type, read_secret_data_type, returned_secret_data, read_secret_data, written_opaque_data_type, read_opaque_data_type, returned_opaque_object, read_opaque_object, written_certificate_type, read_certificate_type, returned_certificate, read_certificate};
 ghost use Rattle.object_messages.specs.Requests.{operation_value, returned_template_attribute, read_template_attribute, returned_register_payload, read_register_payload, maximum_items_value, returned_locate_payload, read_locate_payload, read_get_attributes_payload, written_query_function, read_query_function, returned_query_payload, read_query_payload, returned_request_payload, read_request_payload, returned_request_item, read_request_item, returned_request, read_request};
 ghost use Rattle.object_messages.specs.Responses.{registered_value, read_located, returned_got_attributes, read_got_attributes, written_any_operation, read_any_operation, returned_answered, read_answered, returned_response_payload, read_response_payload, written_result_status, read_result_status, written_result_reason, read_result_reason, returned_response_item, read_response_item, returned_response, read_response};
-ghost use Rattle.object_messages.specs.Soundness.{IsObjectType, IsCryptographicAlgorithm, IsAttributeIndex, IsAttributeNumber, IsAttributeDate, IsNameType, IsName, IsAttributeValue, IsAttribute, IsKeyFormatType, IsCryptographicLength, IsKeyBlock, IsSymmetricKey, IsPublicKey, IsCertificateType, IsCertificate, IsTemplateAttribute, IsRegisterPayload, IsMaximumItems, IsLocatePayload, IsQueryFunction, IsQueryPayload, IsRequestPayload, IsRequestItem, IsRequest, IsGotAttributes, IsAnyOperation, IsAnswered, IsResponsePayload, IsResultStatus, IsResultReason, IsResponseItem, IsResponse};
+ghost use Rattle.object_messages.specs.Soundness.{IsObjectType, IsCryptographicAlgorithm, IsAttributeIndex, IsAttributeNumber, IsAttributeDate, IsNameType, IsName, IsAttributeValue, IsAttribute, IsKeyFormatType, IsCryptographicLength, IsKeyBlock, IsSymmetricKey, IsPublicKey, IsPrivateKey, IsSplitKeyMethod, IsSplitKeyParts, IsKeyPartIdentifier, IsSplitKeyThreshold, IsSplitKey, IsTemplate, IsSecretDataType, IsSecretData, IsOpaqueDataType, IsOpaqueObject, IsCertificateType, IsCertificate, IsTemplateAttribute, IsRegisterPayload, IsMaximumItems, IsLocatePayload, IsQueryFunction, IsQueryPayload, IsRequestPayload, IsRequestItem, IsRequest, IsGotAttributes, IsAnyOperation, IsAnswered, IsResponsePayload, IsResultStatus, IsResultReason, IsResponseItem, IsResponse};
 ghost use Rattle.object_messages.specs.Laws.{RequestsComeBack, ResponsesComeBack};
 
 use crate::attribute::{
@@ -19,8 +19,9 @@ use crate::attribute::{
     UniqueIdentifier,
 };
 use crate::object::{
-    Certificate, CertificateType, CryptographicLength, KeyBlock, KeyFormatType, KeyValue,
-    PublicKey, SymmetricKey,
+    Certificate, CertificateType, CryptographicLength, KeyBlock, KeyFormatType, KeyPartIdentifier,
+    KeyValue, OpaqueDataType, OpaqueObject, PrivateKey, PublicKey, SecretData, SecretDataType,
+    SplitKey, SplitKeyMethod, SplitKeyParts, SplitKeyThreshold, SymmetricKey, Template,
 };
 use crate::request::{
     GetAttributesPayload, LocatePayload, MaximumItems, Operation, QueryFunction, QueryPayload,
@@ -30,7 +31,7 @@ use crate::response::{
     Answered, AnyOperation, GotAttributes, Located, Registered, Response, ResponseItem,
     ResponsePayload, ResultReason, ResultStatus,
 };
-use kmip_ttlv::laws::{Message, Sound, agreeing_values_come_back};
+use kmip_ttlv::laws::{Message, Sound, agreeing_values_come_back, is_absent_or_whole};
 use std::alloc::Allocator;
 
 /// The bytes of a `Request` begin with the value that it is read from and with no other,
@@ -71,6 +72,17 @@ pub fn equal_values<A: Allocator>()
     ensures key_block { ReturnsEqual returned_key_block read_key_block ⟦<KeyBlock<A> as PartialEq>⟧.eq }
     ensures symmetric_key { ReturnsEqual returned_symmetric_key read_symmetric_key ⟦<SymmetricKey<A> as PartialEq>⟧.eq }
     ensures public_key { ReturnsEqual returned_public_key read_public_key ⟦<PublicKey<A> as PartialEq>⟧.eq }
+    ensures private_key { ReturnsEqual returned_private_key read_private_key ⟦<PrivateKey<A> as PartialEq>⟧.eq }
+    ensures split_key_method { ReturnsEqual written_split_key_method read_split_key_method ⟦<SplitKeyMethod as PartialEq>⟧.eq }
+    ensures split_key_parts { AreEqual split_key_parts_value ⟦<SplitKeyParts as PartialEq>⟧.eq }
+    ensures key_part_identifier { AreEqual key_part_identifier_value ⟦<KeyPartIdentifier as PartialEq>⟧.eq }
+    ensures split_key_threshold { AreEqual split_key_threshold_value ⟦<SplitKeyThreshold as PartialEq>⟧.eq }
+    ensures split_key { ReturnsEqual returned_split_key read_split_key ⟦<SplitKey<A> as PartialEq>⟧.eq }
+    ensures template { ReturnsEqual returned_template read_template ⟦<Template<A> as PartialEq>⟧.eq }
+    ensures secret_data_type { ReturnsEqual written_secret_data_type read_secret_data_type ⟦<SecretDataType as PartialEq>⟧.eq }
+    ensures secret_data { ReturnsEqual returned_secret_data read_secret_data ⟦<SecretData<A> as PartialEq>⟧.eq }
+    ensures opaque_data_type { ReturnsEqual written_opaque_data_type read_opaque_data_type ⟦<OpaqueDataType as PartialEq>⟧.eq }
+    ensures opaque_object { ReturnsEqual returned_opaque_object read_opaque_object ⟦<OpaqueObject<A> as PartialEq>⟧.eq }
     ensures certificate_type { ReturnsEqual written_certificate_type read_certificate_type ⟦<CertificateType as PartialEq>⟧.eq }
     ensures certificate { ReturnsEqual returned_certificate read_certificate ⟦<Certificate<A> as PartialEq>⟧.eq }
     ensures operation { AreEqual operation_value ⟦<Operation as PartialEq>⟧.eq }
@@ -220,6 +232,99 @@ impl<A: Allocator> Sound for PublicKey<A> {
     }
 }
 
+impl<A: Allocator> Sound for PrivateKey<A> {
+    ghost IsSound = { IsPrivateKey };
+
+    fn is_sound(&self) -> bool {
+        self.key_block.is_sound()
+    }
+}
+
+impl Sound for SplitKeyMethod {
+    ghost IsSound = { IsSplitKeyMethod };
+
+    fn is_sound(&self) -> bool {
+        self.number().is_sound()
+    }
+}
+
+impl Sound for SplitKeyParts {
+    ghost IsSound = { IsSplitKeyParts };
+
+    fn is_sound(&self) -> bool {
+        self.count.is_sound()
+    }
+}
+
+impl Sound for KeyPartIdentifier {
+    ghost IsSound = { IsKeyPartIdentifier };
+
+    fn is_sound(&self) -> bool {
+        self.number.is_sound()
+    }
+}
+
+impl Sound for SplitKeyThreshold {
+    ghost IsSound = { IsSplitKeyThreshold };
+
+    fn is_sound(&self) -> bool {
+        self.count.is_sound()
+    }
+}
+
+impl<A: Allocator> Sound for SplitKey<A> {
+    ghost IsSound = { IsSplitKey };
+
+    fn is_sound(&self) -> bool {
+        self.parts.is_sound()
+            && self.identifier.is_sound()
+            && self.threshold.is_sound()
+            && self.method.is_sound()
+            && is_absent_or_whole(&self.prime_field_size)
+            && self.key_block.is_sound()
+    }
+}
+
+impl<A: Allocator> Sound for Template<A> {
+    ghost IsSound = { IsTemplate };
+
+    fn is_sound(&self) -> bool {
+        !self.attributes.is_empty() && self.attributes.is_sound()
+    }
+}
+
+impl Sound for SecretDataType {
+    ghost IsSound = { IsSecretDataType };
+
+    fn is_sound(&self) -> bool {
+        self.number().is_sound()
+    }
+}
+
+impl<A: Allocator> Sound for SecretData<A> {
+    ghost IsSound = { IsSecretData };
+
+    fn is_sound(&self) -> bool {
+        self.secret_data_type.is_sound() && self.key_block.is_sound()
+    }
+}
+
+impl Sound for OpaqueDataType {
+    ghost IsSound = { IsOpaqueDataType };
+
+    fn is_sound(&self) -> bool {
+        self.number().is_sound()
+    }
+}
+
+impl<A: Allocator> Sound for OpaqueObject<A> {
+    ghost IsSound = { IsOpaqueObject };
+
+    fn is_sound(&self) -> bool {
+        self.opaque_data_type.is_sound()
+    }
+}
+
 impl Sound for CertificateType {
     ghost IsSound = { IsCertificateType };
 
@@ -249,10 +354,15 @@ impl<A: Allocator> Sound for RegisterPayload<A> {
 
     fn is_sound(&self) -> bool {
         self.object_type.is_sound()
-            && self.template.is_sound()
+            && self.template_attribute.is_sound()
             && self.certificate.is_sound()
             && self.symmetric_key.is_sound()
             && self.public_key.is_sound()
+            && self.private_key.is_sound()
+            && self.split_key.is_sound()
+            && self.template.is_sound()
+            && self.secret_data.is_sound()
+            && self.opaque_object.is_sound()
             && self.object().is_some()
     }
 }

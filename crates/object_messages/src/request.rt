@@ -9,7 +9,10 @@ ghost use Rattle.kmip_ttlv.specs.Spots.{fields_in, struct_fields};
 ghost use Rattle.object_messages.specs.Requests.{operation_form, operation_value, operation_number, operation_variants, template_attribute_form, written_template_attribute, read_template_attribute, register_payload_form, written_register_payload, read_register_payload, IsRegisterPayloadObject, maximum_items_form, maximum_items_value, locate_payload_form, written_locate_payload, read_locate_payload, get_attributes_payload_form, written_get_attributes_payload, read_get_attributes_payload, query_function_form, written_query_function, read_query_function, query_function_number, query_function_read_number, query_payload_form, written_query_payload, read_query_payload, request_payload_form, written_request_payload, read_request_payload, ChoosesRequestPayload, request_item_form, written_request_item, read_request_item, request_form, written_request, read_request};
 
 use crate::attribute::{Attribute, AttributeName, ObjectType, UniqueIdentifier};
-use crate::object::{Certificate, ManagedObject, PublicKey, SymmetricKey};
+use crate::object::{
+    Certificate, ManagedObject, OpaqueObject, PrivateKey, PublicKey, SecretData, SplitKey,
+    SymmetricKey, Template,
+};
 use get_messages::header::RequestHeader;
 use kmip_ttlv::messages::writing;
 use kmip_ttlv::shape::{Decode, Serialize};
@@ -100,7 +103,7 @@ impl<B: Allocator> Serialize for TemplateAttribute<B> {
     #[tactic(auto, unfolding(crate::specs::Requests::written_template_attribute))]
     fn visit<V: Visitor>(&self, visitor: &mut V) -> Result<(), AllocError> {
         writing::begin_struct(visitor, "0x420091")?;
-        writing::seq(visitor, self.attributes.as_slice())?;
+        writing::several(visitor, &self.attributes)?;
         writing::end_struct(visitor, "0x420091")?;
         Ok(())
     }
@@ -153,13 +156,23 @@ pub struct RegisterPayload<A: Allocator = Global> {
     /// What it is.
     pub object_type: ObjectType,
     /// What is to be known of it.
-    pub template: TemplateAttribute<A>,
+    pub template_attribute: TemplateAttribute<A>,
     /// A certificate.
     pub certificate: Option<Certificate<A>>,
     /// A symmetric key.
     pub symmetric_key: Option<SymmetricKey<A>>,
     /// A public key.
     pub public_key: Option<PublicKey<A>>,
+    /// A private key.
+    pub private_key: Option<PrivateKey<A>>,
+    /// One of the parts that a key was split into.
+    pub split_key: Option<SplitKey<A>>,
+    /// Attributes that other objects are made with.
+    pub template: Option<Template<A>>,
+    /// A secret that is no key.
+    pub secret_data: Option<SecretData<A>>,
+    /// Bytes that the server doesn't look into.
+    pub opaque_object: Option<OpaqueObject<A>>,
 }
 
 impl<A: Allocator> RegisterPayload<A> {
@@ -167,10 +180,40 @@ impl<A: Allocator> RegisterPayload<A> {
     pub fn object(&self) -> Option<ManagedObject<'_, A>>
         ensures { IsRegisterPayloadObject self.now result }
     {
-        match (&self.certificate, &self.symmetric_key, &self.public_key) {
-            (Some(held), None, None) => Some(ManagedObject::Certificate(held)),
-            (None, Some(held), None) => Some(ManagedObject::SymmetricKey(held)),
-            (None, None, Some(held)) => Some(ManagedObject::PublicKey(held)),
+        match (
+            &self.certificate,
+            &self.symmetric_key,
+            &self.public_key,
+            &self.private_key,
+            &self.split_key,
+            &self.template,
+            &self.secret_data,
+            &self.opaque_object,
+        ) {
+            (Some(held), None, None, None, None, None, None, None) => Some(
+                ManagedObject::Certificate(held),
+            ),
+            (None, Some(held), None, None, None, None, None, None) => Some(
+                ManagedObject::SymmetricKey(held),
+            ),
+            (None, None, Some(held), None, None, None, None, None) => Some(ManagedObject::PublicKey(
+                held,
+            )),
+            (None, None, None, Some(held), None, None, None, None) => Some(
+                ManagedObject::PrivateKey(held),
+            ),
+            (None, None, None, None, Some(held), None, None, None) => Some(ManagedObject::SplitKey(
+                held,
+            )),
+            (None, None, None, None, None, Some(held), None, None) => Some(ManagedObject::Template(
+                held,
+            )),
+            (None, None, None, None, None, None, Some(held), None) => Some(
+                ManagedObject::SecretData(held),
+            ),
+            (None, None, None, None, None, None, None, Some(held)) => Some(
+                ManagedObject::OpaqueObject(held),
+            ),
             _ => None,
         }
     }
@@ -179,14 +222,18 @@ impl<A: Allocator> RegisterPayload<A> {
 impl<B: Allocator> Serialize for RegisterPayload<B> {
     ghost stated = { written_register_payload };
 
-    #[tactic(auto, using(kmip_ttlv_base::proofs::Visiting::visited_joined), unfolding(crate::specs::Requests::written_register_payload))]
     fn visit<V: Visitor>(&self, visitor: &mut V) -> Result<(), AllocError> {
         writing::begin_struct(visitor, "0x420079")?;
         self.object_type.visit(visitor)?;
-        self.template.visit(visitor)?;
+        self.template_attribute.visit(visitor)?;
         writing::option(visitor, &self.certificate)?;
         writing::option(visitor, &self.symmetric_key)?;
         writing::option(visitor, &self.public_key)?;
+        writing::option(visitor, &self.private_key)?;
+        writing::option(visitor, &self.split_key)?;
+        writing::option(visitor, &self.template)?;
+        writing::option(visitor, &self.secret_data)?;
+        writing::option(visitor, &self.opaque_object)?;
         writing::end_struct(visitor, "0x420079")?;
         Ok(())
     }
@@ -204,14 +251,23 @@ impl<A: Allocator + Copy> reader::ReadStructure<A> for RegisterPayload<A> {
         reader::Nested<TemplateAttribute<A>>,
         reader::OptionalNested<Certificate<A>>,
         reader::OptionalNested<SymmetricKey<A>>,
-        (reader::OptionalNested<PublicKey<A>>, ()),
+        reader::Four<
+            reader::OptionalNested<PublicKey<A>>,
+            reader::OptionalNested<PrivateKey<A>>,
+            reader::OptionalNested<SplitKey<A>>,
+            reader::OptionalNested<Template<A>>,
+            (
+                reader::OptionalNested<SecretData<A>>,
+                (reader::OptionalNested<OpaqueObject<A>>, ()),
+            ),
+        >,
     >;
 
     const TAG: u32 = 0x420079;
 
     const DENIES_UNKNOWN: bool = false;
 
-    #[tactic(auto, unfolding(kmip_ttlv_types::specs::Digits::six_digits, crate::specs::Requests::read_register_payload, crate::specs::Requests::read_template_attribute, crate::specs::Objects::read_certificate, crate::specs::Objects::read_symmetric_key, crate::specs::Objects::read_public_key))]
+    #[tactic(auto, unfolding(kmip_ttlv_types::specs::Digits::six_digits, crate::specs::Requests::read_register_payload, crate::specs::Requests::read_template_attribute, crate::specs::Objects::read_certificate, crate::specs::Objects::read_symmetric_key, crate::specs::Objects::read_public_key, crate::specs::Objects::read_private_key, crate::specs::Objects::read_split_key, crate::specs::Objects::read_template, crate::specs::Objects::read_secret_data, crate::specs::Objects::read_opaque_object))]
     fn from_fields(
         fields: (
             ObjectType,
@@ -219,18 +275,56 @@ impl<A: Allocator + Copy> reader::ReadStructure<A> for RegisterPayload<A> {
                 TemplateAttribute<A>,
                 (
                     Option<Certificate<A>>,
-                    (Option<SymmetricKey<A>>, (Option<PublicKey<A>>, ())),
+                    (
+                        Option<SymmetricKey<A>>,
+                        (
+                            Option<PublicKey<A>>,
+                            (
+                                Option<PrivateKey<A>>,
+                                (
+                                    Option<SplitKey<A>>,
+                                    (
+                                        Option<Template<A>>,
+                                        (Option<SecretData<A>>, (Option<OpaqueObject<A>>, ())),
+                                    ),
+                                ),
+                            ),
+                        ),
+                    ),
                 ),
             ),
         ),
     ) -> Self {
-        let (object_type, (template, (certificate, (symmetric_key, (public_key, ()))))) = fields;
+        let (
+            object_type,
+            (
+                template_attribute,
+                (
+                    certificate,
+                    (
+                        symmetric_key,
+                        (
+                            public_key,
+                            (
+                                private_key,
+                                (split_key, (template, (secret_data, (opaque_object, ())))),
+                            ),
+                        ),
+                    ),
+                ),
+            ),
+        ) = fields;
         RegisterPayload {
             object_type,
-            template,
+            template_attribute,
             certificate,
             symmetric_key,
             public_key,
+            private_key,
+            split_key,
+            template,
+            secret_data,
+            opaque_object,
         }
     }
 }
@@ -301,11 +395,10 @@ pub struct LocatePayload<A: Allocator = Global> {
 impl<B: Allocator> Serialize for LocatePayload<B> {
     ghost stated = { written_locate_payload };
 
-    #[tactic(auto, using(kmip_ttlv_base::proofs::Visiting::visited_joined), unfolding(crate::specs::Requests::written_locate_payload))]
     fn visit<V: Visitor>(&self, visitor: &mut V) -> Result<(), AllocError> {
         writing::begin_struct(visitor, "0x420079")?;
         writing::option(visitor, &self.maximum_items)?;
-        writing::seq(visitor, self.attributes.as_slice())?;
+        writing::several(visitor, &self.attributes)?;
         writing::end_struct(visitor, "0x420079")?;
         Ok(())
     }
@@ -370,11 +463,10 @@ pub struct GetAttributesPayload<A: Allocator = Global> {
 impl<B: Allocator> Serialize for GetAttributesPayload<B> {
     ghost stated = { written_get_attributes_payload };
 
-    #[tactic(auto, using(kmip_ttlv_base::proofs::Visiting::visited_joined), unfolding(crate::specs::Requests::written_get_attributes_payload))]
     fn visit<V: Visitor>(&self, visitor: &mut V) -> Result<(), AllocError> {
         writing::begin_struct(visitor, "0x420079")?;
         writing::option(visitor, &self.unique_identifier)?;
-        writing::seq(visitor, self.names.as_slice())?;
+        writing::several(visitor, &self.names)?;
         writing::end_struct(visitor, "0x420079")?;
         Ok(())
     }
@@ -521,7 +613,7 @@ impl<B: Allocator> Serialize for QueryPayload<B> {
     #[tactic(auto, unfolding(crate::specs::Requests::written_query_payload))]
     fn visit<V: Visitor>(&self, visitor: &mut V) -> Result<(), AllocError> {
         writing::begin_struct(visitor, "0x420079")?;
-        writing::seq(visitor, self.functions.as_slice())?;
+        writing::several(visitor, &self.functions)?;
         writing::end_struct(visitor, "0x420079")?;
         Ok(())
     }
@@ -820,7 +912,7 @@ impl<B: Allocator> Serialize for Request<B> {
     fn visit<V: Visitor>(&self, visitor: &mut V) -> Result<(), AllocError> {
         writing::begin_struct(visitor, "0x420078")?;
         self.header.visit(visitor)?;
-        writing::seq(visitor, self.items.as_slice())?;
+        writing::several(visitor, &self.items)?;
         writing::end_struct(visitor, "0x420078")?;
         Ok(())
     }

@@ -1,14 +1,11 @@
 // Written by codegen from types.table: change that, and run codegen/codegen.
 //! What was done.
 
-ghost use Rattle.std.specs.Prelude.{◌≡◌, ◌↔◌, ◌==◌, refl, IsTrue, OnErr, OnOk, Some, codes, false};
+ghost use Rattle.std.specs.Prelude.{◌≡◌, ◌↔◌, ◌==◌, refl, IsTrue, Some, codes, false};
 ghost use Rattle.std.proofs.Common.{rules};
 ghost use Rattle.std.specs.Cmp.Rules.{comparing};
 ghost use Rattle.std.specs.Ordering.{on};
-ghost use Rattle.kmip_ttlv.specs.MessageParts.{sequence};
 ghost use Rattle.kmip_ttlv.specs.Spots.{fields_in, struct_fields};
-ghost use Rattle.kmip_ttlv.specs.Visits.{Tells};
-ghost use Rattle.object_messages.specs.Attributes.{written_object_type};
 ghost use Rattle.object_messages.specs.Responses.{registered_form, registered_value, located_form, written_located, read_located, got_attributes_form, written_got_attributes, read_got_attributes, any_operation_form, written_any_operation, read_any_operation, any_operation_number, any_operation_read_number, answered_form, written_answered, read_answered, response_payload_form, written_response_payload, read_response_payload, ChoosesResponsePayload, result_status_form, written_result_status, read_result_status, result_status_number, result_status_read_number, result_reason_form, written_result_reason, read_result_reason, result_reason_number, result_reason_read_number, response_item_form, written_response_item, read_response_item, response_form, written_response, read_response};
 
 use crate::attribute::{Attribute, ObjectType, UniqueIdentifier};
@@ -94,7 +91,7 @@ impl<B: Allocator> Serialize for Located<B> {
     #[tactic(auto, unfolding(crate::specs::Responses::written_located))]
     fn visit<V: Visitor>(&self, visitor: &mut V) -> Result<(), AllocError> {
         writing::begin_struct(visitor, "0x42007C")?;
-        writing::seq(visitor, self.unique_identifiers.as_slice())?;
+        writing::several(visitor, &self.unique_identifiers)?;
         writing::end_struct(visitor, "0x42007C")?;
         Ok(())
     }
@@ -160,7 +157,7 @@ impl<B: Allocator> Serialize for GotAttributes<B> {
     fn visit<V: Visitor>(&self, visitor: &mut V) -> Result<(), AllocError> {
         writing::begin_struct(visitor, "0x42007C")?;
         self.unique_identifier.visit(visitor)?;
-        writing::seq(visitor, self.attributes.as_slice())?;
+        writing::several(visitor, &self.attributes)?;
         writing::end_struct(visitor, "0x42007C")?;
         Ok(())
     }
@@ -317,34 +314,13 @@ pub struct Answered<A: Allocator = Global> {
     pub vendor: Option<String<A>>,
 }
 
-impl<A: Allocator> Answered<A> {
-    // Tells `operations`.
-    fn tell_operations<V: Visitor>(&self, visitor: &mut V) -> Result<(), AllocError>
-        ensures told { OnOk result (Tells V.knows V.step (sequence written_any_operation self.now.operations.items) visitor.old visitor.new) }
-        ensures stopped { OnErr result (V.stopped visitor.new) }
-    {
-        writing::seq(visitor, self.operations.as_slice())?;
-        Ok(())
-    }
-
-    // Tells `object_types`.
-    fn tell_object_types<V: Visitor>(&self, visitor: &mut V) -> Result<(), AllocError>
-        ensures told { OnOk result (Tells V.knows V.step (sequence written_object_type self.now.object_types.items) visitor.old visitor.new) }
-        ensures stopped { OnErr result (V.stopped visitor.new) }
-    {
-        writing::seq(visitor, self.object_types.as_slice())?;
-        Ok(())
-    }
-}
-
 impl<B: Allocator> Serialize for Answered<B> {
     ghost stated = { written_answered };
 
-    #[tactic(auto, using(kmip_ttlv_base::proofs::Visiting::visited_joined), unfolding(crate::specs::Responses::written_answered))]
     fn visit<V: Visitor>(&self, visitor: &mut V) -> Result<(), AllocError> {
         writing::begin_struct(visitor, "0x42007C")?;
-        self.tell_operations(visitor)?;
-        self.tell_object_types(visitor)?;
+        writing::several(visitor, &self.operations)?;
+        writing::several(visitor, &self.object_types)?;
         writing::optional_text_string(visitor, "Transparent:0x42009D", &self.vendor)?;
         writing::end_struct(visitor, "0x42007C")?;
         Ok(())
@@ -761,7 +737,6 @@ pub struct ResponseItem<A: Allocator = Global> {
 impl<B: Allocator> Serialize for ResponseItem<B> {
     ghost stated = { written_response_item };
 
-    #[tactic(auto, using(kmip_ttlv_base::proofs::Visiting::visited_joined), unfolding(crate::specs::Responses::written_response_item))]
     fn visit<V: Visitor>(&self, visitor: &mut V) -> Result<(), AllocError> {
         writing::begin_struct(visitor, "0x42000F")?;
         writing::option(visitor, &self.operation)?;
@@ -854,7 +829,7 @@ impl<B: Allocator> Serialize for Response<B> {
     fn visit<V: Visitor>(&self, visitor: &mut V) -> Result<(), AllocError> {
         writing::begin_struct(visitor, "0x42007B")?;
         self.header.visit(visitor)?;
-        writing::seq(visitor, self.items.as_slice())?;
+        writing::several(visitor, &self.items)?;
         writing::end_struct(visitor, "0x42007B")?;
         Ok(())
     }
