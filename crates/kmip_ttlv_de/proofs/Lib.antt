@@ -1,3 +1,2 @@
 pub mod FieldTagLemmas
 pub mod RowLemmas
-pub mod StepLemmas

@@ -1,3 +1,2 @@
 pub mod FieldTags
 pub mod ReadRows
-pub mod ReadSteps

@@ -23,12 +23,12 @@ ghost use Rattle.kmip_ttlv_reader.specs.ReadLaws.{AreBytes, Stands};
 
 mod deserialize;
 mod field_tags;
+mod made;
 mod number;
 mod read;
 mod rest;
 mod root;
 mod rows;
-mod steps;
 mod variant;
 
 pub use crate::deserialize::{ByShape, Decode, Deserialize};

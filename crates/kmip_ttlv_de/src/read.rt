@@ -1,32 +1,52 @@
-//! Reading by a shape: one cycle of functions. Each returns the outcome of its form, or runs out of memory. What needs no shape to
-//! be read stands in `steps`, so that the functions of the cycle stay small.
+//! Reading by a shape: one cycle of functions. Each returns the outcome of its form, or runs out of memory.
 
-ghost use Rattle.std.specs.Prelude.{◌≡◌, ◌+◌, ◌≤◌, [], length, IfOk};
+ghost use Rattle.std.specs.Prelude.{◌≡◌, ◌+◌, ◌≤◌, length, IfOk};
 ghost use Rattle.kmip_ttlv_base.specs.Values.{view, views};
 ghost use Rattle.kmip_ttlv_base.specs.Forms.{form_of, forms_of, fields_of, variants_of, content_of};
+ghost use Rattle.kmip_ttlv_reader.specs.Reads.{is_option, is_struct};
 ghost use Rattle.kmip_ttlv_reader.specs.Outcomes.{outcome, fields_outcome, field_outcome, seq_outcome, struct_outcome};
 ghost use Rattle.kmip_ttlv_reader.specs.Outcomes.{all_outcome, enum_outcome, variant_outcome, content_outcome};
 ghost use Rattle.kmip_ttlv_reader.specs.Outcomes.{tuple_outcome, forms_outcome, part_outcome};
 ghost use Rattle.kmip_ttlv_reader.specs.Results.{IsRead};
-ghost use Rattle.kmip_ttlv_reader.specs.Steps.{mapped};
-ghost use Rattle.kmip_ttlv_base.specs.Values.{struct_value, tuple_variant_value};
-ghost use Rattle.kmip_ttlv_de.specs.ReadSteps.{AreRead};
 
+use crate::made::{newtype, newtype_variant, some};
 use crate::number::read_number;
 use crate::rest::read_rest;
-use crate::steps::{Around, add, end_struct, end_tuple, is_there, placed, tuple_there, wrap};
 use crate::variant::{chosen, chosen_unit};
 use kmip_ttlv_base::shape::{Data, FieldShape, Shape, VariantContent, VariantShape};
 use kmip_ttlv_base::types::TtlvType;
-use kmip_ttlv_reader::failure::{Step, in_struct};
-use kmip_ttlv_reader::head::{goes_on, opened, tag_at};
+use kmip_ttlv_reader::cursor::missing_field;
+use kmip_ttlv_reader::failure::{Step, in_struct, within};
+use kmip_ttlv_reader::head::{
+    goes_on, has_tag, inside, length_there, opened, structure_wanted, tag_at, tag_wanted,
+    type_there,
+};
 use kmip_ttlv_reader::keep::KeptTexts;
 use kmip_ttlv_reader::leaf::{Leaf, read_leaf};
 use kmip_ttlv_reader::scope::Scope;
 use std::alloc::Allocator;
 
+#[inline(always)]
+fn is_option<A: Allocator>(shape: &Shape<A>) -> bool
+    ensures { result ≡ is_option (form_of shape.now) }
+{
+    matches!(shape, Shape::Option(_))
+}
+
+// Whether the shape is a struct, newtypes taken off.
+fn is_struct<A: Allocator>(shape: &Shape<A>) -> bool
+    ensures { result ≡ is_struct (form_of shape.now) }
+{
+    match shape {
+        Shape::Struct { .. } => true,
+        Shape::Newtype { inner, .. } => is_struct(inner),
+        _ => false,
+    }
+}
+
 /// What a shape reads from `pos` on.
 #[cycle(reader)]
+#[tactic(auto, unfolding(kmip_ttlv_reader::specs::Outcomes::outcome), using(kmip_ttlv_reader::proofs::Steps::failure_then))]
 pub fn read_shape<'b, A: Allocator + Copy>(
     scope: &Scope<'b, A>,
     shape: &Shape<A>,
@@ -50,41 +70,44 @@ pub fn read_shape<'b, A: Allocator + Copy>(
         Shape::U32 => read_leaf(scope, Leaf::U32, pos, kept),
         Shape::Enum { name, variants } => read_enum(scope, name, variants, pos, kept),
         Shape::Option(inner) => {
-            let read = read_shape(scope, inner, pos, kept);
-            wrap(scope.alloc, Around::Option, read)
+            let (data, next) = read_shape(scope, inner, pos, kept)?;
+            Ok((some(scope.alloc, data)?, next))
         }
         Shape::Newtype { name, inner } => {
-            let read = read_shape(scope, inner, pos, kept);
-            wrap(scope.alloc, Around::Newtype(name), read)
+            let (data, next) = read_shape(scope, inner, pos, kept)?;
+            Ok((newtype(scope.alloc, name, data)?, next))
         }
         Shape::Seq(inner) => {
-            let mut values = Vec::new(scope.alloc);
-            let read = read_seq(scope, inner, pos, kept, &mut values);
-            placed(Data::Seq(values), read)
+            let (all, next) = read_seq(scope, inner, pos, kept)?;
+            Ok((Data::Seq(all), next))
         }
         Shape::Struct {
             name,
             fields,
             deny_unknown,
-        } => read_struct(scope, name, fields, *deny_unknown, pos, kept),
+        } => {
+            let (fields, next) = read_struct(scope, name, fields, *deny_unknown, pos, kept)?;
+            Ok((Data::Struct { name, fields }, next))
+        }
     }
 }
 
 /// A structure: its header, its fields, and its end.
 #[cycle(reader)]
+#[tactic(auto, unfolding(kmip_ttlv_reader::specs::Outcomes::struct_outcome), using(kmip_ttlv_reader::proofs::Steps::failure_then))]
 #[inline(always)]
 fn read_struct<'b, A: Allocator + Copy>(
     scope: &Scope<'b, A>,
-    name: &'static str,
+    name: &str,
     fields: &[FieldShape<A>],
     deny: bool,
     pos: usize,
     kept: &mut KeptTexts<'b, A>,
-) -> Step<(Data<A>, usize), A>
+) -> Step<(Vec<Data<A>, A>, usize), A>
     requires inside { pos ≤ length scope.now.bytes.now }
-    ensures read { IsRead view kept.new
-        (mapped (struct_value name.now) (struct_outcome name.now (fields_of fields.now) deny (fields_outcome (fields_of fields.now))
-        scope.now.bytes.now scope.now.owner kept.old pos scope.now.end)) result }
+    ensures read { IsRead (λ v. views v.items) kept.new
+        (struct_outcome name.now (fields_of fields.now) deny (fields_outcome (fields_of fields.now))
+        scope.now.bytes.now scope.now.owner kept.old pos scope.now.end) result }
     ensures further { IfOk result (λ r. (pos + 8 ≤ r.1) × (r.1 ≤ scope.now.end) × (r.1 ≤ length scope.now.bytes.now)) }
 {
     let stop = opened(scope.alloc, name, scope.bytes, pos)?;
@@ -95,66 +118,72 @@ fn read_struct<'b, A: Allocator + Copy>(
         owner,
         end: stop,
     };
-    let mut values = Vec::with_capacity(scope.alloc, fields.len())?;
-    let all = read_content(&content, fields, deny, pos + 8, kept, &mut values);
-    let read = end_struct(scope, pos, stop, all);
-    placed(
-        Data::Struct {
-            name,
-            fields: values,
-        },
-        read,
-    )
+    match read_content(&content, fields, deny, pos + 8, kept) {
+        Ok((values, stop)) => {
+            inside(
+                scope.alloc,
+                scope.bytes,
+                pos,
+                scope.end,
+                TtlvType::Structure,
+                stop,
+            )?;
+            Ok((values, stop))
+        }
+        Err(failure) => Err(within(owner, failure)),
+    }
 }
 
 /// All that a structure contains: the fields, and what may follow.
 #[cycle(reader)]
+#[tactic(auto, unfolding(kmip_ttlv_reader::specs::Outcomes::all_outcome), using(kmip_ttlv_reader::proofs::Steps::failure_then))]
 pub fn read_content<'b, A: Allocator + Copy>(
     scope: &Scope<'b, A>,
     fields: &[FieldShape<A>],
     deny: bool,
     pos: usize,
     kept: &mut KeptTexts<'b, A>,
-    values: &mut Vec<Data<A>, A>,
-) -> Step<usize, A>
+) -> Step<(Vec<Data<A>, A>, usize), A>
     requires inside { pos ≤ length scope.now.bytes.now }
     requires before { pos ≤ scope.now.end }
-    requires none { values.old.items ≡ [] }
-    ensures read { AreRead (views values.new.items) kept.new
+    ensures read { IsRead (λ v. views v.items) kept.new
         (all_outcome (fields_of fields.now) deny (fields_outcome (fields_of fields.now))
         scope.now.bytes.now scope.now.owner kept.old pos scope.now.end) result }
-    ensures whole { IfOk result (λ q. (q ≡ scope.now.end) × (scope.now.end ≤ length scope.now.bytes.now)) }
+    ensures whole { IfOk result (λ r. (r.1 ≡ scope.now.end) × (scope.now.end ≤ length scope.now.bytes.now)) }
 {
-    let next = read_fields(scope, fields, pos, kept, values)?;
-    read_rest(scope, fields, deny, next)
+    let (values, next) = read_fields(scope, fields, pos, kept)?;
+    let next = read_rest(scope, fields, deny, next)?;
+    Ok((values, next))
 }
 
 /// The fields, one after the other.
 #[cycle(reader)]
+#[tactic(auto, using(kmip_ttlv_reader::proofs::Steps::failure_then))]
 fn read_fields<'b, A: Allocator + Copy>(
     scope: &Scope<'b, A>,
     fields: &[FieldShape<A>],
     pos: usize,
     kept: &mut KeptTexts<'b, A>,
-    values: &mut Vec<Data<A>, A>,
-) -> Step<usize, A>
+) -> Step<(Vec<Data<A>, A>, usize), A>
     requires inside { pos ≤ length scope.now.bytes.now }
     requires before { pos ≤ scope.now.end }
-    requires none { values.old.items ≡ [] }
-    ensures read { AreRead (views values.new.items) kept.new
+    ensures read { IsRead (λ v. views v.items) kept.new
         (fields_outcome (fields_of fields.now) scope.now.bytes.now scope.now.owner kept.old pos scope.now.end) result }
-    ensures further { IfOk result (λ q. (pos ≤ q) × (q ≤ scope.now.end) × (q ≤ length scope.now.bytes.now)) }
+    ensures further { IfOk result (λ r. (pos ≤ r.1) × (r.1 ≤ scope.now.end) × (r.1 ≤ length scope.now.bytes.now)) }
 {
+    let mut values = Vec::with_capacity(scope.alloc, fields.len())?;
     let mut next = pos;
     for field in fields {
-        let read = read_field(scope, field.name, &field.shape, next, kept);
-        next = add(values, read)?;
+        let (value, after) = read_field(scope, field.name, &field.shape, next, kept)?;
+        values.push(value)?;
+        next = after;
     }
-    Ok(next)
+    Ok((values, next))
 }
 
-/// One field, or nothing for one that is left out.
+/// One field: a struct goes by its own name, any other by the field's, and an option may be left out.
 #[cycle(reader)]
+#[tactic(auto, unfolding(kmip_ttlv_reader::specs::Outcomes::field_outcome), using(kmip_ttlv_reader::proofs::Steps::failing))]
 #[inline(always)]
 fn read_field<'b, A: Allocator + Copy>(
     scope: &Scope<'b, A>,
@@ -170,38 +199,54 @@ fn read_field<'b, A: Allocator + Copy>(
         scope.now.bytes.now scope.now.owner kept.old pos scope.now.end) result }
     ensures further { IfOk result (λ r. (pos ≤ r.1) × (r.1 ≤ scope.now.end) × (r.1 ≤ length scope.now.bytes.now)) }
 {
-    if is_there(scope, name, shape, pos)? {
+    if pos == scope.end {
+        if is_option(shape) {
+            return Ok((Data::None, pos));
+        }
+        return Err(missing_field(scope));
+    }
+    if is_struct(shape) {
         return read_shape(scope, shape, pos, kept);
     }
-    Ok((Data::None, pos))
+    let typ = type_there(scope.alloc, scope.bytes, pos)?;
+    if !has_tag(name, tag_at(scope.bytes, pos)) {
+        if is_option(shape) {
+            return Ok((Data::None, pos));
+        }
+        tag_wanted(scope.alloc, name, scope.bytes, pos, typ)?;
+    }
+    read_shape(scope, shape, pos, kept)
 }
 
 /// A sequence: the first item, and then as long as the next has its tag and type.
 #[cycle(reader)]
+#[tactic(auto, unfolding(kmip_ttlv_reader::specs::Outcomes::seq_outcome), using(kmip_ttlv_reader::proofs::Steps::failure_then))]
 fn read_seq<'b, A: Allocator + Copy>(
     scope: &Scope<'b, A>,
     shape: &Shape<A>,
     pos: usize,
     kept: &mut KeptTexts<'b, A>,
-    values: &mut Vec<Data<A>, A>,
-) -> Step<usize, A>
+) -> Step<(Vec<Data<A>, A>, usize), A>
     requires inside { pos ≤ length scope.now.bytes.now }
-    requires none { values.old.items ≡ [] }
-    ensures read { AreRead (views values.new.items) kept.new
+    ensures read { IsRead (λ v. views v.items) kept.new
         (seq_outcome (outcome (form_of shape.now)) scope.now.bytes.now scope.now.owner kept.old pos scope.now.end) result }
-    ensures further { IfOk result (λ q. (pos + 8 ≤ q) × (q ≤ scope.now.end) × (q ≤ length scope.now.bytes.now)) }
+    ensures further { IfOk result (λ r. (pos + 8 ≤ r.1) × (r.1 ≤ scope.now.end) × (r.1 ≤ length scope.now.bytes.now)) }
 {
-    let first = read_shape(scope, shape, pos, kept);
-    let mut next = add(values, first)?;
+    let mut values = Vec::new(scope.alloc);
+    let (first, after) = read_shape(scope, shape, pos, kept)?;
+    values.push(first)?;
+    let mut next = after;
     while goes_on(scope.alloc, scope.bytes, pos, next, scope.end)? {
-        let read = read_shape(scope, shape, next, kept);
-        next = add(values, read)?;
+        let (value, after) = read_shape(scope, shape, next, kept)?;
+        values.push(value)?;
+        next = after;
     }
-    Ok(next)
+    Ok((values, next))
 }
 
 /// An enum, by the rules of its variants, or else by a number.
 #[cycle(reader)]
+#[tactic(auto, unfolding(kmip_ttlv_reader::specs::Outcomes::enum_outcome), using(kmip_ttlv_reader::proofs::Steps::failure_then))]
 #[inline(always)]
 fn read_enum<'b, A: Allocator + Copy>(
     scope: &Scope<'b, A>,
@@ -216,7 +261,8 @@ fn read_enum<'b, A: Allocator + Copy>(
         scope.now.bytes.now scope.now.owner kept.old pos scope.now.end) result }
     ensures further { IfOk result (λ r. (pos + 8 ≤ r.1) × (r.1 ≤ scope.now.end) × (r.1 ≤ length scope.now.bytes.now)) }
 {
-    let (typ, index) = chosen(scope.alloc, variants, kept, scope.bytes, pos)?;
+    let typ = type_there(scope.alloc, scope.bytes, pos)?;
+    let index = chosen(scope.alloc, variants, kept, typ, scope.bytes, pos)?;
     match index {
         Some(i) => read_variant(scope, name, &variants[i], typ, pos, kept),
         None => read_number(scope, name, variants, typ, pos, kept),
@@ -225,6 +271,7 @@ fn read_enum<'b, A: Allocator + Copy>(
 
 /// What a variant contains that a rule chose.
 #[cycle(reader)]
+#[tactic(auto, unfolding(kmip_ttlv_reader::specs::Outcomes::content_outcome), using(kmip_ttlv_reader::proofs::Steps::failing))]
 fn read_variant<'b, A: Allocator + Copy>(
     scope: &Scope<'b, A>,
     name: &'static str,
@@ -239,81 +286,86 @@ fn read_variant<'b, A: Allocator + Copy>(
         scope.now.bytes.now scope.now.owner kept.old pos scope.now.end) result }
     ensures further { IfOk result (λ r. (pos + 8 ≤ r.1) × (r.1 ≤ scope.now.end) × (r.1 ≤ length scope.now.bytes.now)) }
 {
+    let variant = shape.name;
     match &shape.content {
         VariantContent::Unit => { Err(chosen_unit(scope.alloc, scope.bytes, pos, typ)) }
         VariantContent::Newtype(inner) => {
-            let read = read_shape(scope, inner, pos, kept);
-            wrap(scope.alloc, Around::Variant(name, shape.name), read)
+            let (data, next) = read_shape(scope, inner, pos, kept)?;
+            Ok((newtype_variant(scope.alloc, name, variant, data)?, next))
         }
         VariantContent::Tuple(shapes) => {
-            read_tuple(scope, name, shape.name, shapes, typ, pos, kept)
+            let (fields, next) = read_tuple(scope, shapes, typ, pos, kept)?;
+            let data = Data::TupleVariant {
+                name,
+                variant,
+                fields,
+            };
+            Ok((data, next))
         }
     }
 }
 
 /// A structure whose items the shapes use up.
 #[cycle(reader)]
+#[tactic(auto, unfolding(kmip_ttlv_reader::specs::Outcomes::tuple_outcome), using(kmip_ttlv_reader::proofs::Steps::failing))]
 fn read_tuple<'b, A: Allocator + Copy>(
     scope: &Scope<'b, A>,
-    name: &'static str,
-    variant: &'static str,
     shapes: &[Shape<A>],
     typ: TtlvType,
     pos: usize,
     kept: &mut KeptTexts<'b, A>,
-) -> Step<(Data<A>, usize), A>
+) -> Step<(Vec<Data<A>, A>, usize), A>
     requires there { pos + 4 ≤ length scope.now.bytes.now }
-    ensures read { IsRead view kept.new
-        (mapped (tuple_variant_value name.now variant.now) (tuple_outcome typ (forms_outcome (forms_of shapes.now))
-        scope.now.bytes.now scope.now.owner kept.old pos scope.now.end)) result }
+    ensures read { IsRead (λ v. views v.items) kept.new
+        (tuple_outcome typ (forms_outcome (forms_of shapes.now))
+        scope.now.bytes.now scope.now.owner kept.old pos scope.now.end) result }
     ensures further { IfOk result (λ r. (pos + 8 ≤ r.1) × (r.1 ≤ scope.now.end) × (r.1 ≤ length scope.now.bytes.now)) }
 {
-    let stop = tuple_there(scope, typ, pos)?;
+    structure_wanted(scope.alloc, scope.bytes, pos, typ)?;
+    let n = length_there(scope.bytes, pos)?;
+    let stop = pos + 8 + n as usize;
     let content = Scope {
         alloc: scope.alloc,
         bytes: scope.bytes,
         owner: scope.owner,
         end: stop,
     };
-    let mut fields = Vec::with_capacity(scope.alloc, shapes.len())?;
-    let parts = read_parts(&content, shapes, pos + 8, kept, &mut fields);
-    let read = end_tuple(scope, typ, pos, stop, parts);
-    placed(
-        Data::TupleVariant {
-            name,
-            variant,
-            fields,
-        },
-        read,
-    )
+    let (values, next) = read_parts(&content, shapes, pos + 8, kept)?;
+    if next < stop {
+        return Err(in_struct(scope.alloc, next, scope.owner, "too many items"));
+    }
+    inside(scope.alloc, scope.bytes, pos, scope.end, typ, stop)?;
+    Ok((values, stop))
 }
 
 /// The items of a structure, one for each shape.
 #[cycle(reader)]
+#[tactic(auto, using(kmip_ttlv_reader::proofs::Steps::failure_then))]
 fn read_parts<'b, A: Allocator + Copy>(
     scope: &Scope<'b, A>,
     shapes: &[Shape<A>],
     pos: usize,
     kept: &mut KeptTexts<'b, A>,
-    values: &mut Vec<Data<A>, A>,
-) -> Step<usize, A>
+) -> Step<(Vec<Data<A>, A>, usize), A>
     requires inside { pos ≤ length scope.now.bytes.now }
     requires before { pos ≤ scope.now.end }
-    requires none { values.old.items ≡ [] }
-    ensures read { AreRead (views values.new.items) kept.new
+    ensures read { IsRead (λ v. views v.items) kept.new
         (forms_outcome (forms_of shapes.now) scope.now.bytes.now scope.now.owner kept.old pos scope.now.end) result }
-    ensures further { IfOk result (λ q. (pos ≤ q) × (q ≤ scope.now.end) × (q ≤ length scope.now.bytes.now)) }
+    ensures further { IfOk result (λ r. (pos ≤ r.1) × (r.1 ≤ scope.now.end) × (r.1 ≤ length scope.now.bytes.now)) }
 {
+    let mut values = Vec::with_capacity(scope.alloc, shapes.len())?;
     let mut next = pos;
     for shape in shapes {
-        let read = read_part(scope, shape, next, kept);
-        next = add(values, read)?;
+        let (value, after) = read_part(scope, shape, next, kept)?;
+        values.push(value)?;
+        next = after;
     }
-    Ok(next)
+    Ok((values, next))
 }
 
 /// One item of a tuple, which must be there.
 #[cycle(reader)]
+#[tactic(auto, unfolding(kmip_ttlv_reader::specs::Outcomes::part_outcome), using(kmip_ttlv_reader::proofs::Steps::failing))]
 #[inline(always)]
 fn read_part<'b, A: Allocator + Copy>(
     scope: &Scope<'b, A>,

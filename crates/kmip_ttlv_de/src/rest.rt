@@ -37,6 +37,7 @@ pub fn read_rest<A: Allocator + Copy>(
 }
 
 // The items behind the fields. The fields' tags are read once for all of them.
+#[tactic(auto, using(kmip_ttlv_reader::proofs::Steps::failure_then))]
 fn read_others<A: Allocator + Copy>(
     scope: &Scope<'_, A>,
     fields: &[FieldShape<A>],

@@ -1,24 +1,18 @@
 //! Whole messages.
 
-ghost use Rattle.std.specs.Prelude.{codes};
 ghost use Rattle.kmip_ttlv_types.specs.Names.{tag_of};
-ghost use Rattle.kmip_ttlv_types.specs.declared.field.FieldType.TheVariants as parts;
-ghost use Rattle.kmip_ttlv_base.specs.declared.error.MalformedTtlvError.TheVariants as faults;
-ghost use Rattle.kmip_ttlv_base.specs.Errors.{malformed, mismatch, other_cause};
-ghost use Rattle.kmip_ttlv_base.specs.Values.{view};
+ghost use Rattle.kmip_ttlv_base.specs.Values.{view, views};
 ghost use Rattle.kmip_ttlv_base.specs.Forms.{form_of, fields_of};
-ghost use Rattle.kmip_ttlv_reader.specs.ReadFaults.{at_first};
 ghost use Rattle.kmip_ttlv_reader.specs.Outcomes.{root_outcome, first_outcome, fields_outcome, named_first};
-ghost use Rattle.kmip_ttlv_reader.specs.Results.{IsStep, IsFailureOf, IsOutcome};
-ghost use Rattle.kmip_ttlv_de.specs.ReadSteps.{struct_from};
+ghost use Rattle.kmip_ttlv_reader.specs.Results.{IsStep, IsOutcome};
 
+use crate::made::{newtype, some};
 use crate::read::read_content;
-use crate::steps::{Around, placed, within_struct, wrap};
 use kmip_ttlv_base::error::{MalformedTtlvError, Result, SerdeError};
 use kmip_ttlv_base::shape::{Data, FieldShape, Shape};
 use kmip_ttlv_base::types::{FieldType, TtlvTag};
 use kmip_ttlv_reader::errors::error;
-use kmip_ttlv_reader::failure::{Cause, Failure, Step, at_first};
+use kmip_ttlv_reader::failure::{Cause, Step, at_first, within};
 use kmip_ttlv_reader::head::{opened, tag_at};
 use kmip_ttlv_reader::keep::KeptTexts;
 use kmip_ttlv_reader::scope::Scope;
@@ -38,17 +32,17 @@ fn named_first<A: Allocator + Copy>(alloc: A, name: &str) -> Step<(), A>
     }
 }
 
-// The struct that a message is.
-#[inline(always)]
+// The fields of the struct that a message is.
+#[tactic(auto, unfolding(kmip_ttlv_reader::specs::Outcomes::first_outcome), using(kmip_ttlv_reader::proofs::Steps::failure_then))]
 fn read_first<A: Allocator + Copy>(
     alloc: A,
-    name: &'static str,
+    name: &str,
     fields: &[FieldShape<A>],
     deny: bool,
     bytes: &[u8],
-) -> Step<(Data<A>, usize), A>
-    ensures { IsStep (λ r. view r.0) (struct_from name.now (first_outcome name.now (fields_of fields.now) deny
-        (fields_outcome (fields_of fields.now)) bytes.now)) result }
+) -> Step<Vec<Data<A>, A>, A>
+    ensures step { IsStep (λ v. views v.items) (first_outcome name.now (fields_of fields.now) deny
+        (fields_outcome (fields_of fields.now)) bytes.now) result }
 {
     named_first(alloc, name)?;
     let end = opened(alloc, name, bytes, 0)?;
@@ -59,66 +53,40 @@ fn read_first<A: Allocator + Copy>(
         owner,
         end,
     };
-    let mut values = Vec::with_capacity(alloc, fields.len())?;
     let mut kept = KeptTexts::new(alloc);
-    let all = read_content(&scope, fields, deny, 8, &mut kept, &mut values);
-    let read = within_struct(owner, all);
-    placed(
-        Data::Struct {
-            name,
-            fields: values,
-        },
-        read,
-    )
-}
-
-// A sequence or an enum for a whole message.
-#[cold]
-fn no_struct<A: Allocator + Copy>(alloc: A) -> Failure<A>
-    ensures { IsFailureOf (at_first (mismatch (other_cause (codes "no struct")))) result }
-{
-    match String::from_str(alloc, "no struct") {
-        Ok(words) => at_first(alloc, Cause::Mismatch(SerdeError::Other(words))),
-        Err(_) => Failure::OutOfMemory,
+    match read_content(&scope, fields, deny, 8, &mut kept) {
+        Ok((values, _)) => Ok(values),
+        Err(failure) => Err(within(owner, failure)),
     }
 }
 
-// A leaf for a whole message.
-#[cold]
-fn no_leaf<A: Allocator + Copy>(alloc: A) -> Failure<A>
-    ensures { IsFailureOf (at_first (malformed (faults.UnexpectedTtlvField parts.Tag parts.LengthAndValue))) result }
-{
-    let cause = Cause::Malformed(MalformedTtlvError::UnexpectedTtlvField {
-        expected: FieldType::Tag,
-        actual: FieldType::LengthAndValue,
-    });
-    at_first(alloc, cause)
-}
-
-// What a whole message is read as, and where the content of its struct ends.
-#[tactic(auto, unfolding(kmip_ttlv_reader::specs::Outcomes::root_outcome), using(kmip_ttlv_reader::proofs::Steps::fault_is))]
-fn read_message<A: Allocator + Copy>(
-    alloc: A,
-    shape: &Shape<A>,
-    bytes: &[u8],
-) -> Step<(Data<A>, usize), A>
-    ensures { IsStep (λ r. view r.0) (root_outcome (form_of shape.now) bytes.now) result }
+// What a whole message is read as.
+#[tactic(auto, unfolding(kmip_ttlv_reader::specs::Outcomes::root_outcome), using(kmip_ttlv_reader::proofs::Steps::failing))]
+fn read_message<A: Allocator + Copy>(alloc: A, shape: &Shape<A>, bytes: &[u8]) -> Step<Data<A>, A>
+    ensures step { IsStep view (root_outcome (form_of shape.now) bytes.now) result }
 {
     match shape {
         Shape::Option(inner) => {
-            let read = read_message(alloc, inner, bytes);
-            wrap(alloc, Around::Option, read)
+            let data = read_message(alloc, inner, bytes)?;
+            Ok(some(alloc, data)?)
         }
         Shape::Newtype { name, inner } => {
-            let read = read_message(alloc, inner, bytes);
-            wrap(alloc, Around::Newtype(name), read)
+            let data = read_message(alloc, inner, bytes)?;
+            Ok(newtype(alloc, name, data)?)
         }
         Shape::Struct {
             name,
             fields,
             deny_unknown,
-        } => read_first(alloc, name, fields, *deny_unknown, bytes),
-        Shape::Seq(_) | Shape::Enum { .. } => Err(no_struct(alloc)),
+        } => {
+            let fields = read_first(alloc, name, fields, *deny_unknown, bytes)?;
+            Ok(Data::Struct { name, fields })
+        }
+        Shape::Seq(_) | Shape::Enum { .. } => {
+            let words = String::from_str(alloc, "no struct")?;
+            let cause = Cause::Mismatch(SerdeError::Other(words));
+            Err(at_first(alloc, cause))
+        }
         Shape::I32
         | Shape::I64
         | Shape::Bool
@@ -127,7 +95,13 @@ fn read_message<A: Allocator + Copy>(
         | Shape::DateTime
         | Shape::Interval
         | Shape::BigInteger
-        | Shape::U32 => Err(no_leaf(alloc)),
+        | Shape::U32 => {
+            let cause = Cause::Malformed(MalformedTtlvError::UnexpectedTtlvField {
+                expected: FieldType::Tag,
+                actual: FieldType::LengthAndValue,
+            });
+            Err(at_first(alloc, cause))
+        }
     }
 }
 
@@ -141,7 +115,7 @@ pub fn read_root<A: Allocator + Copy>(
     ensures { IsOutcome view (root_outcome (form_of shape.now) bytes.now) result }
 {
     match read_message(alloc, shape, bytes) {
-        Ok((data, _)) => Ok(data),
+        Ok(data) => Ok(data),
         Err(failure) => Err(error(failure)),
     }
 }

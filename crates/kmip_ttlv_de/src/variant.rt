@@ -7,15 +7,14 @@ ghost use Rattle.kmip_ttlv_base.specs.Errors.{malformed};
 ghost use Rattle.kmip_ttlv_base.specs.Forms.{variants_of};
 ghost use Rattle.kmip_ttlv_reader.specs.Verdicts.{choice_of};
 ghost use Rattle.kmip_ttlv_reader.specs.Rules.{choice};
+ghost use Rattle.kmip_ttlv_reader.specs.Outcomes.{picked};
 ghost use Rattle.kmip_ttlv_reader.specs.ReadFaults.{at_item};
 ghost use Rattle.kmip_ttlv_reader.specs.Results.{IsStep, IsFailureOf};
-ghost use Rattle.kmip_ttlv_de.specs.ReadSteps.{choice_there};
 
 use kmip_ttlv_base::error::MalformedTtlvError;
 use kmip_ttlv_base::shape::VariantShape;
 use kmip_ttlv_base::types::{FieldType, TtlvType};
 use kmip_ttlv_reader::failure::{Cause, Failure, Step, at_item};
-use kmip_ttlv_reader::head::type_there;
 use kmip_ttlv_reader::keep::KeptTexts;
 use kmip_ttlv_reader::rules::{RuleError, Verdict, bad_rule, rule};
 use std::alloc::Allocator;
@@ -41,24 +40,24 @@ fn choose<'n, 'b, A: Allocator + Copy, B: Allocator>(
     Ok(None)
 }
 
-/// The type of the item at a place, and the index of the variant that a rule chooses there, if one does.
-#[tactic(auto, unfolding(crate::specs::ReadSteps::choice_there), using(kmip_ttlv_reader::proofs::Steps::failing))]
+/// The index of the variant that a rule chooses at an item of this type, if one does.
+#[tactic(auto, using(kmip_ttlv_reader::proofs::Steps::fault_is))]
 #[inline(always)]
 pub fn chosen<'b, A: Allocator + Copy>(
     alloc: A,
     variants: &[VariantShape<A>],
     kept: &KeptTexts<'b, A>,
+    typ: TtlvType,
     bytes: &[u8],
     pos: usize,
-) -> Step<(TtlvType, Option<usize>), A>
-    requires inside { pos ≤ length bytes.now }
-    ensures step { IsStep (λ r. r) (choice_there (variants_of variants.now) kept.now bytes.now pos) result }
-    ensures there { IfOk result (λ r. pos + 4 ≤ length bytes.now) }
-    ensures inside { IfOk result (λ r. IfSome r.1 (λ i. i < length variants.now)) }
+) -> Step<Option<usize>, A>
+    requires there { pos + 4 ≤ length bytes.now }
+    ensures step { IsStep (λ i. i) (picked (choice (variants_of variants.now) kept.now typ) bytes.now pos typ) result }
+    ensures inside { IfOk result (λ o. IfSome o (λ i. i < length variants.now)) }
 {
-    let typ = type_there(alloc, bytes, pos)?;
     match choose(variants, kept, typ) {
-        Ok(index) => Ok((typ, index)),
+        Ok(Some(i)) => Ok(Some(i)),
+        Ok(None) => Ok(None),
         Err(rule) => Err(bad_rule(alloc, bytes, pos, typ, rule)),
     }
 }

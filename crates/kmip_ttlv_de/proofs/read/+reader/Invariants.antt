@@ -15,11 +15,11 @@ invariant-read_parts-loop-shape g l =
     (forms_outcome (forms_of l.shapes) l.scope.bytes.now l.scope.owner l.fn.kept l.pos l.scope.end ≡ with_front (views l.values.items) (forms_outcome (forms_of (drop l.shape-index l.shapes)) l.scope.bytes.now l.scope.owner l.kept l.next l.scope.end))
     × (l.pos ≤ l.next) × (l.next ≤ l.scope.end) × (l.next ≤ length l.scope.bytes.now)
 
-abbrev pub invariant-read_seq-loop-kept : goal.invariant-read_seq-loop-kept
-invariant-read_seq-loop-kept g l =
+abbrev pub invariant-read_seq-loop-values : goal.invariant-read_seq-loop-values
+invariant-read_seq-loop-values g l =
     (n : ℕ)
     × (seq_outcome (outcome (form_of l.shape)) l.scope.bytes.now l.scope.owner l.fn.kept l.pos l.scope.end ≡ with_front (views l.values.items) (run_outcome (suc n) (outcome (form_of l.shape)) l.pos l.scope.bytes.now l.scope.owner l.kept l.next l.scope.end))
     × (length l.scope.bytes.now ≤ n + l.next) × (l.pos + 8 ≤ l.next) × (l.next ≤ l.scope.end) × (l.next ≤ length l.scope.bytes.now)
 
-abbrev pub decreases-read_seq-loop-kept : goal.decreases-read_seq-loop-kept
-decreases-read_seq-loop-kept g l = length l.scope.bytes.now - l.next
+abbrev pub decreases-read_seq-loop-values : goal.decreases-read_seq-loop-values
+decreases-read_seq-loop-values g l = length l.scope.bytes.now - l.next

@@ -1,21 +1,20 @@
-use Rattle.kmip_ttlv_base.specs.Values.{some_value, newtype_value}
-use Rattle.kmip_ttlv_base.specs.Forms.{form_of}
+use Rattle.std.proofs.Common.{ap}
+use Rattle.std.proofs.lemmas.Result.{err_from_is_err_and}
+use Rattle.kmip_ttlv_base.specs.Forms.{fields_of}
+use Rattle.kmip_ttlv_base.specs.Values.{struct_value}
+use Rattle.kmip_ttlv_base.proofs.Views.{view-Struct}
 use Rattle.kmip_ttlv_base.proofs.Shapes.{form_of-Struct}
-use Rattle.kmip_ttlv_reader.specs.Outcomes.{root_outcome}
+use Rattle.kmip_ttlv_reader.specs.Steps.{◌>>=◌, gives}
+use Rattle.kmip_ttlv_reader.specs.Outcomes.{first_outcome, fields_outcome}
 use Rattle.kmip_ttlv_reader.proofs.Loops.{root_struct_is}
-use Rattle.kmip_ttlv_de.proofs.StepLemmas.{made_step}
+use Rattle.kmip_ttlv_reader.proofs.Steps.{failure_then}
 use Rattle.kmip_ttlv_de.proofs.root.+read_message.Goals as goal
 
-pub returns-in-Option : goal.returns-in-Option
-unfolding root_outcome
-returns-in-Option g t c =
-    rw c.in-Option.is (made_step some_value (root_outcome (form_of c.in-Option.inner.value) c.args.bytes.now) _ _ (rw c.deref.ensures at c.read_message-read.ensures) c.wrap.ensures)
+pub returns-in_err-fields-in-Struct : goal.returns-in_err-fields-in-Struct
+returns-in_err-fields-in-Struct g t c =
+    let p = err_from_is_err_and c.from_residual-in_err-fields-in-Struct.result c.from_residual-in_err-fields-in-Struct.ensures.1 in
+    record { step = rw (p.1, p.2, c.in-Struct.is, form_of-Struct c.in-Struct.name c.in-Struct.fields c.in-Struct.deny_unknown, root_struct_is) (failure_then (first_outcome c.in-Struct.name.now (fields_of c.in-Struct.fields.items) c.in-Struct.deny_unknown (fields_outcome (fields_of c.in-Struct.fields.items)) c.args.bytes.now) _ _ (rw c.deref-in-Struct.ensures.value at c.in_err-fields-in-Struct.ensures.step)) }
 
-pub returns-in-Newtype : goal.returns-in-Newtype
-unfolding root_outcome
-returns-in-Newtype g t c =
-    rw c.in-Newtype.is (made_step (newtype_value c.in-Newtype.name.now) (root_outcome (form_of c.in-Newtype.inner.value) c.args.bytes.now) _ _ (rw c.deref-in-Newtype.ensures at c.read_message-read-in-Newtype.ensures) c.wrap-in-Newtype.ensures)
-
-pub returns-in-Struct : goal.returns-in-Struct
-returns-in-Struct g t c =
-    rw (c.in-Struct.is, form_of-Struct c.in-Struct.name c.in-Struct.fields c.in-Struct.deny_unknown, root_struct_is) (rw c.deref-in-Struct.ensures.value at c.read_first.ensures)
+pub returns-in_ok-fields-in-Struct : goal.returns-in_ok-fields-in-Struct
+returns-in_ok-fields-in-Struct g t c =
+    record { step = rw (c.in-Struct.is, form_of-Struct c.in-Struct.name c.in-Struct.fields c.in-Struct.deny_unknown, root_struct_is, view-Struct c.in-Struct.name c.in_ok-fields-in-Struct.fields) (ap (λ o. o >>= λ vs. gives (struct_value c.in-Struct.name.now vs)) (rw c.deref-in-Struct.ensures.value at c.in_ok-fields-in-Struct.ensures.step)) }
