@@ -91,12 +91,12 @@ pub attribute_value_agrees : (said : List ℕ) (x : AttributeValue) → ChoosesA
     (written_attribute_value x) record { tag = 0x42000B; typ = attribute_value_typ x }
     (read_attribute_value x)
 unfolding take_tag tag_of number transparent_name override_name held_over is_wrapper rule sides equal at_least member in_brackets trim_end chars trim_start encode attribute_value_content written_attribute_value read_attribute_value
-attribute_value_agrees said attribute_value.Aes chooses is =
-    chosen_after first_variant (λ k found. rw (found ∙ ap Some chooses) refl) (wrapped_unit {n = 0x00000003} (variant_wraps refl refl) (unit_is_numbered refl refl) refl (λ k. record { no_rule = refl; named = refl }))
-attribute_value_agrees said (attribute_value.Integer x) (inl chooses) is =
-    chosen_after (later_variant first_variant) (λ k found. rw (found ∙ ap Some chooses) refl) (wrapped_leaf (variant_wraps refl refl) refl (as_int32 is))
-attribute_value_agrees said (attribute_value.Integer x) (inr chooses) is =
-    chosen_after (later_variant first_variant) (λ k found. rw (found ∙ ap Some chooses) refl) (wrapped_leaf (variant_wraps refl refl) refl (as_int32 is))
+attribute_value_agrees said attribute_value.Aes chosen is =
+    chosen_after first_variant (λ k found. rw (found ∙ ap Some chosen) refl) (wrapped_unit {n = 0x00000003} (variant_wraps refl refl) (unit_is_numbered refl refl) refl (λ k. record { no_rule = refl; named = refl }))
+attribute_value_agrees said (attribute_value.Integer x) (inl chosen) is =
+    chosen_after (later_variant first_variant) (λ k found. rw (found ∙ ap Some chosen) refl) (wrapped_leaf (variant_wraps refl refl) refl (as_int32 is))
+attribute_value_agrees said (attribute_value.Integer x) (inr chosen) is =
+    chosen_after (later_variant first_variant) (λ k found. rw (found ∙ ap Some chosen) refl) (wrapped_leaf (variant_wraps refl refl) refl (as_int32 is))
 
 pub attribute_agrees : {A : Type 0} (x : Attribute A) → IsAttribute x
     → PartAgrees attribute_form
@@ -146,10 +146,10 @@ pub request_payload_agrees : {A : Type 0} (said : List ℕ) (x : RequestPayload 
     (written_request_payload x) (a_structure 0x420079)
     (read_request_payload x)
 unfolding take_tag tag_of number transparent_name override_name held_over is_wrapper rule sides equal at_least member in_brackets trim_end chars trim_start encode written_request_payload read_request_payload written_create_payload read_create_payload written_destroy_payload read_destroy_payload written_template read_template written_attribute read_attribute
-request_payload_agrees said (request_payload.Create x) chooses is =
-    chosen_after first_variant (λ k found. rw (found ∙ ap Some chooses) refl) (create_payload_agrees record { template = record { attributes = x } } is)
-request_payload_agrees said (request_payload.Destroy x) chooses is =
-    chosen_after (later_variant first_variant) (λ k found. rw (found ∙ ap Some chooses) refl) (destroy_payload_agrees record { unique_identifier = x })
+request_payload_agrees said (request_payload.Create x) chosen is =
+    chosen_after first_variant (λ k found. rw (found ∙ ap Some chosen) refl) (create_payload_agrees record { template = record { attributes = x } } is)
+request_payload_agrees said (request_payload.Destroy x) chosen is =
+    chosen_after (later_variant first_variant) (λ k found. rw (found ∙ ap Some chosen) refl) (destroy_payload_agrees record { unique_identifier = x })
 
 pub request_item_agrees : {A : Type 0} (x : RequestItem A) → IsRequestItem x
     → PartAgrees request_item_form
@@ -200,10 +200,10 @@ pub response_payload_agrees : {A : Type 0} (said : List ℕ) (x : ResponsePayloa
     (written_response_payload x) (a_structure 0x42007C)
     (read_response_payload x)
 unfolding take_tag tag_of number transparent_name override_name held_over is_wrapper rule sides equal at_least member in_brackets trim_end chars trim_start encode written_response_payload read_response_payload created_value destroyed_value
-response_payload_agrees said (response_payload.Create x) chooses =
-    chosen_after first_variant (λ k found. rw (found ∙ ap Some chooses) refl) (created_agrees record { unique_identifier = x })
-response_payload_agrees said (response_payload.Destroy x) chooses =
-    chosen_after (later_variant first_variant) (λ k found. rw (found ∙ ap Some chooses) refl) (destroyed_agrees record { unique_identifier = x })
+response_payload_agrees said (response_payload.Create x) chosen =
+    chosen_after first_variant (λ k found. rw (found ∙ ap Some chosen) refl) (created_agrees record { unique_identifier = x })
+response_payload_agrees said (response_payload.Destroy x) chosen =
+    chosen_after (later_variant first_variant) (λ k found. rw (found ∙ ap Some chosen) refl) (destroyed_agrees record { unique_identifier = x })
 
 pub response_item_agrees : {A : Type 0} (x : ResponseItem A) → IsResponseItem x
     → PartAgrees response_item_form

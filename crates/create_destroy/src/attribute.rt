@@ -39,12 +39,11 @@ impl AttributeValue {
     }
 
     // Tells what it holds.
-    fn tell<V: Visitor>(&self, visitor: &mut V) -> Result<(), AllocError>
+    pub(crate) fn tell<V: Visitor>(&self, visitor: &mut V) -> Result<(), AllocError>
         ensures told { OnOk result (Tells V.knows V.step (attribute_value_content self.now) visitor.old visitor.new) }
         ensures stopped { OnErr result (V.stopped visitor.new) }
     {
-        visitor.leaf(self.leaf())?;
-        Ok(())
+        visitor.leaf(self.leaf())
     }
 }
 
@@ -68,8 +67,7 @@ impl Serialize for AttributeValue {
     fn visit<V: Visitor>(&self, visitor: &mut V) -> Result<(), AllocError> {
         writing::begin_newtype_variant(visitor, "Override:0x42000B", "Transparent")?;
         self.tell(visitor)?;
-        writing::end_newtype_variant(visitor, "Override:0x42000B", "Transparent")?;
-        Ok(())
+        writing::end_newtype_variant(visitor, "Override:0x42000B", "Transparent")
     }
 }
 
@@ -138,13 +136,44 @@ impl reader::Rule for AttributeValueIntegerRule {
     }
 }
 
+// The variants from `Integer` on.
+type AttributeValueFromInteger = reader::Variant<AttributeValueIntegerRule, reader::BareLeaf<i32>>;
+
+// The one that was read as one of these.
+#[tactic(auto, unfolding(kmip_ttlv_types::specs::Digits::six_digits, crate::specs::Attributes::read_attribute_value))]
+#[inline(always)]
+fn attribute_value_from_integer<A: Allocator + Copy>(
+    read: <AttributeValueFromInteger as reader::VariantList<A>>::Read,
+) -> AttributeValue
+    ensures { read_attribute_value result ≡ ⟦<AttributeValueFromInteger as reader::VariantList<A>>⟧.value (codes "value") read }
+{
+    AttributeValue::Integer(read)
+}
+
+// The variants from `Aes` on.
+type AttributeValueFromAes = (
+    reader::Variant<AttributeValueAesRule, reader::ItemElement<AttributeValueAes>>,
+    AttributeValueFromInteger,
+);
+
+// The one that was read as one of these.
+#[tactic(auto, unfolding(kmip_ttlv_types::specs::Digits::six_digits, crate::specs::Attributes::read_attribute_value))]
+#[inline(always)]
+fn attribute_value_from_aes<A: Allocator + Copy>(
+    read: <AttributeValueFromAes as reader::VariantList<A>>::Read,
+) -> AttributeValue
+    ensures { read_attribute_value result ≡ ⟦<AttributeValueFromAes as reader::VariantList<A>>⟧.value (codes "value") read }
+{
+    match read {
+        reader::OneOf::First(_) => AttributeValue::Aes,
+        reader::OneOf::Other(other) => attribute_value_from_integer::<A>(other),
+    }
+}
+
 impl<A: Allocator + Copy> reader::Choice<A> for AttributeValue {
     ghost own = { codes "value" };
 
-    type Variants = (
-        reader::Variant<AttributeValueAesRule, reader::ItemElement<AttributeValueAes>>,
-        reader::Variant<AttributeValueIntegerRule, reader::BareLeaf<i32>>,
-    );
+    type Variants = AttributeValueFromAes;
 }
 
 impl<A: Allocator + Copy> reader::ReadItem<A> for AttributeValue {
@@ -159,10 +188,8 @@ impl<A: Allocator + Copy> reader::ReadItem<A> for AttributeValue {
         scope: &reader::Scope<'b, A>,
         cursor: &mut reader::Cursor<'b, A>,
     ) -> reader::Step<Self, A> {
-        match reader::read_choice::<Self, A>(scope, cursor)? {
-            reader::OneOf::First(_) => Ok(AttributeValue::Aes),
-            reader::OneOf::Other(held) => Ok(AttributeValue::Integer(held)),
-        }
+        let read = reader::read_choice::<Self, A>(scope, cursor)?;
+        Ok(attribute_value_from_aes::<A>(read))
     }
 }
 

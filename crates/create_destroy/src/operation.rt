@@ -42,8 +42,7 @@ impl Serialize for Operation {
 
     #[tactic(auto, unfolding(crate::specs::Operations::operation_value))]
     fn visit<V: Visitor>(&self, visitor: &mut V) -> Result<(), AllocError> {
-        writing::unit_variant(visitor, "0x42005C", self.number())?;
-        Ok(())
+        writing::unit_variant(visitor, "0x42005C", self.number())
     }
 }
 

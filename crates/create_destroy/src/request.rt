@@ -219,14 +219,12 @@ impl<B: Allocator> Serialize for RequestPayload<B> {
     #[tactic(auto, unfolding(crate::specs::Requests::written_request_payload))]
     fn visit<V: Visitor>(&self, visitor: &mut V) -> Result<(), AllocError> {
         match self {
-            RequestPayload::Create(attributes) => {
-                CreatePayload::tell(visitor, attributes)?;
-            }
-            RequestPayload::Destroy(unique_identifier) => {
-                DestroyPayload::tell(visitor, unique_identifier)?;
-            }
+            RequestPayload::Create(attributes) => CreatePayload::tell(visitor, attributes),
+            RequestPayload::Destroy(unique_identifier) => DestroyPayload::tell(
+                visitor,
+                unique_identifier,
+            ),
         }
-        Ok(())
     }
 }
 
@@ -268,13 +266,47 @@ impl reader::Rule for RequestPayloadDestroyRule {
     }
 }
 
+// The variants from `Destroy` on.
+type RequestPayloadFromDestroy<A> = reader::Variant<
+    RequestPayloadDestroyRule,
+    reader::StructureElement<DestroyPayload<A>>,
+>;
+
+// The one that was read as one of these.
+#[tactic(auto, unfolding(kmip_ttlv_types::specs::Digits::six_digits, crate::specs::Requests::read_request_payload, crate::specs::Requests::read_create_payload, crate::specs::Requests::read_destroy_payload))]
+#[inline(always)]
+fn request_payload_from_destroy<A: Allocator + Copy>(
+    read: <RequestPayloadFromDestroy<A> as reader::VariantList<A>>::Read,
+) -> RequestPayload<A>
+    ensures { read_request_payload result ≡ ⟦<RequestPayloadFromDestroy<A> as reader::VariantList<A>>⟧.value (codes "payload") read }
+{
+    RequestPayload::Destroy(read.unique_identifier)
+}
+
+// The variants from `Create` on.
+type RequestPayloadFromCreate<A> = (
+    reader::Variant<RequestPayloadCreateRule, reader::StructureElement<CreatePayload<A>>>,
+    RequestPayloadFromDestroy<A>,
+);
+
+// The one that was read as one of these.
+#[tactic(auto, unfolding(kmip_ttlv_types::specs::Digits::six_digits, crate::specs::Requests::read_request_payload, crate::specs::Requests::read_create_payload, crate::specs::Requests::read_destroy_payload))]
+#[inline(always)]
+fn request_payload_from_create<A: Allocator + Copy>(
+    read: <RequestPayloadFromCreate<A> as reader::VariantList<A>>::Read,
+) -> RequestPayload<A>
+    ensures { read_request_payload result ≡ ⟦<RequestPayloadFromCreate<A> as reader::VariantList<A>>⟧.value (codes "payload") read }
+{
+    match read {
+        reader::OneOf::First(held) => RequestPayload::Create(held.template.attributes),
+        reader::OneOf::Other(other) => request_payload_from_destroy(other),
+    }
+}
+
 impl<A: Allocator + Copy> reader::Choice<A> for RequestPayload<A> {
     ghost own = { codes "payload" };
 
-    type Variants = (
-        reader::Variant<RequestPayloadCreateRule, reader::StructureElement<CreatePayload<A>>>,
-        reader::Variant<RequestPayloadDestroyRule, reader::StructureElement<DestroyPayload<A>>>,
-    );
+    type Variants = RequestPayloadFromCreate<A>;
 }
 
 impl<A: Allocator + Copy> reader::ReadItem<A> for RequestPayload<A> {
@@ -289,10 +321,8 @@ impl<A: Allocator + Copy> reader::ReadItem<A> for RequestPayload<A> {
         scope: &reader::Scope<'b, A>,
         cursor: &mut reader::Cursor<'b, A>,
     ) -> reader::Step<Self, A> {
-        match reader::read_choice::<Self, A>(scope, cursor)? {
-            reader::OneOf::First(held) => Ok(RequestPayload::Create(held.template.attributes)),
-            reader::OneOf::Other(held) => Ok(RequestPayload::Destroy(held.unique_identifier)),
-        }
+        let read = reader::read_choice::<Self, A>(scope, cursor)?;
+        Ok(request_payload_from_create(read))
     }
 }
 

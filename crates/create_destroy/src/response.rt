@@ -230,14 +230,12 @@ impl<B: Allocator> Serialize for ResponsePayload<B> {
     #[tactic(auto, unfolding(crate::specs::Responses::written_response_payload))]
     fn visit<V: Visitor>(&self, visitor: &mut V) -> Result<(), AllocError> {
         match self {
-            ResponsePayload::Create(unique_identifier) => {
-                Created::tell(visitor, unique_identifier)?;
-            }
-            ResponsePayload::Destroy(unique_identifier) => {
-                Destroyed::tell(visitor, unique_identifier)?;
-            }
+            ResponsePayload::Create(unique_identifier) => Created::tell(visitor, unique_identifier),
+            ResponsePayload::Destroy(unique_identifier) => Destroyed::tell(
+                visitor,
+                unique_identifier,
+            ),
         }
-        Ok(())
     }
 }
 
@@ -279,13 +277,47 @@ impl reader::Rule for ResponsePayloadDestroyRule {
     }
 }
 
+// The variants from `Destroy` on.
+type ResponsePayloadFromDestroy<A> = reader::Variant<
+    ResponsePayloadDestroyRule,
+    reader::StructureElement<Destroyed<A>>,
+>;
+
+// The one that was read as one of these.
+#[tactic(auto, unfolding(kmip_ttlv_types::specs::Digits::six_digits, crate::specs::Responses::read_response_payload, crate::specs::Responses::created_value, crate::specs::Responses::destroyed_value))]
+#[inline(always)]
+fn response_payload_from_destroy<A: Allocator + Copy>(
+    read: <ResponsePayloadFromDestroy<A> as reader::VariantList<A>>::Read,
+) -> ResponsePayload<A>
+    ensures { read_response_payload result ≡ ⟦<ResponsePayloadFromDestroy<A> as reader::VariantList<A>>⟧.value (codes "payload") read }
+{
+    ResponsePayload::Destroy(read.unique_identifier)
+}
+
+// The variants from `Create` on.
+type ResponsePayloadFromCreate<A> = (
+    reader::Variant<ResponsePayloadCreateRule, reader::StructureElement<Created<A>>>,
+    ResponsePayloadFromDestroy<A>,
+);
+
+// The one that was read as one of these.
+#[tactic(auto, unfolding(kmip_ttlv_types::specs::Digits::six_digits, crate::specs::Responses::read_response_payload, crate::specs::Responses::created_value, crate::specs::Responses::destroyed_value))]
+#[inline(always)]
+fn response_payload_from_create<A: Allocator + Copy>(
+    read: <ResponsePayloadFromCreate<A> as reader::VariantList<A>>::Read,
+) -> ResponsePayload<A>
+    ensures { read_response_payload result ≡ ⟦<ResponsePayloadFromCreate<A> as reader::VariantList<A>>⟧.value (codes "payload") read }
+{
+    match read {
+        reader::OneOf::First(held) => ResponsePayload::Create(held.unique_identifier),
+        reader::OneOf::Other(other) => response_payload_from_destroy(other),
+    }
+}
+
 impl<A: Allocator + Copy> reader::Choice<A> for ResponsePayload<A> {
     ghost own = { codes "payload" };
 
-    type Variants = (
-        reader::Variant<ResponsePayloadCreateRule, reader::StructureElement<Created<A>>>,
-        reader::Variant<ResponsePayloadDestroyRule, reader::StructureElement<Destroyed<A>>>,
-    );
+    type Variants = ResponsePayloadFromCreate<A>;
 }
 
 impl<A: Allocator + Copy> reader::ReadItem<A> for ResponsePayload<A> {
@@ -300,10 +332,8 @@ impl<A: Allocator + Copy> reader::ReadItem<A> for ResponsePayload<A> {
         scope: &reader::Scope<'b, A>,
         cursor: &mut reader::Cursor<'b, A>,
     ) -> reader::Step<Self, A> {
-        match reader::read_choice::<Self, A>(scope, cursor)? {
-            reader::OneOf::First(held) => Ok(ResponsePayload::Create(held.unique_identifier)),
-            reader::OneOf::Other(held) => Ok(ResponsePayload::Destroy(held.unique_identifier)),
-        }
+        let read = reader::read_choice::<Self, A>(scope, cursor)?;
+        Ok(response_payload_from_create(read))
     }
 }
 

@@ -55,8 +55,7 @@ impl Serialize for WrappingMethod {
 
     #[tactic(auto, unfolding(crate::specs::Wrappings::wrapping_method_value))]
     fn visit<V: Visitor>(&self, visitor: &mut V) -> Result<(), AllocError> {
-        writing::unit_variant(visitor, "0x42009E", self.number())?;
-        Ok(())
+        writing::unit_variant(visitor, "0x42009E", self.number())
     }
 }
 
@@ -176,8 +175,7 @@ impl Serialize for BlockCipherMode {
 
     #[tactic(auto, unfolding(crate::specs::Wrappings::block_cipher_mode_value))]
     fn visit<V: Visitor>(&self, visitor: &mut V) -> Result<(), AllocError> {
-        writing::unit_variant(visitor, "0x420011", self.number())?;
-        Ok(())
+        writing::unit_variant(visitor, "0x420011", self.number())
     }
 }
 
@@ -269,8 +267,7 @@ impl Serialize for PaddingMethod {
 
     #[tactic(auto, unfolding(crate::specs::Wrappings::padding_method_value))]
     fn visit<V: Visitor>(&self, visitor: &mut V) -> Result<(), AllocError> {
-        writing::unit_variant(visitor, "0x42005F", self.number())?;
-        Ok(())
+        writing::unit_variant(visitor, "0x42005F", self.number())
     }
 }
 
@@ -354,8 +351,7 @@ impl Serialize for HashingAlgorithm {
 
     #[tactic(auto, unfolding(crate::specs::Wrappings::hashing_algorithm_value))]
     fn visit<V: Visitor>(&self, visitor: &mut V) -> Result<(), AllocError> {
-        writing::unit_variant(visitor, "0x420038", self.number())?;
-        Ok(())
+        writing::unit_variant(visitor, "0x420038", self.number())
     }
 }
 
@@ -491,8 +487,7 @@ impl Serialize for RoleType {
 
     #[tactic(auto, unfolding(crate::specs::Wrappings::role_type_value))]
     fn visit<V: Visitor>(&self, visitor: &mut V) -> Result<(), AllocError> {
-        writing::unit_variant(visitor, "0x420083", self.number())?;
-        Ok(())
+        writing::unit_variant(visitor, "0x420083", self.number())
     }
 }
 

@@ -5,7 +5,7 @@ use Rattle.std.specs.Prelude.{All, IfSome, ◌||◌, not}
 use Rattle.std.specs.List.{AllByRecursion}
 use Rattle.std.proofs.lemmas.List.Elements.{recursion_from_All}
 use Rattle.std.proofs.lemmas.Bool.{and_parts}
-use Rattle.std.specs.Str.{is_utf8}
+use Rattle.std.specs.Str.{bytes_eq, is_utf8}
 use Rattle.std.proofs.lemmas.Option.{none-some}
 use Rattle.kmip_ttlv_types.specs.declared.typ.TtlvType.TheVariants.{Structure, Enumeration, TextString}
 use Rattle.kmip_ttlv_types.specs.declared.typ.TtlvType.{TtlvType}
@@ -22,7 +22,7 @@ use Rattle.kmip_ttlv_reader.specs.Keeps.{Keep, last}
 use Rattle.kmip_ttlv_reader.specs.Reads.{is_struct}
 use Rattle.kmip_ttlv_reader.specs.Rules.{choice, chosen}
 use Rattle.kmip_ttlv_laws.specs.Agreements.{Head, Agrees, HasVariant, RunAgrees, Wraps, absent_agrees, field_agrees, inner_agrees, is_alike, is_field_of, is_named, is_run, last_agrees, leaf_agrees, leaf_type, newtype_agrees, newtype_encloses, newtype_wraps, next_agrees, nothing_agrees, option_agrees, rule_agrees, seq_agrees, struct_agrees, struct_encloses, unit_is_numbered}
-use Rattle.kmip_ttlv_laws.specs.Returns.{ComesBack, as_number, as_text, NamesUnit, text_of_number}
+use Rattle.kmip_ttlv_laws.specs.Returns.{ComesBack, IsNoneOf, as_number, as_text, NamesUnit, text_of_number}
 use Rattle.kmip_ttlv_laws.proofs.Known.{Known, finds_kept, finds_left, finds_less, finds_unknown, is_without, left, said, spared, spares}
 use Rattle.kmip_ttlv_laws.proofs.MessageParts.{IsUnit, PartAgrees, PartsAgree, ends, first_of, head_or, run_ends, unit_agrees, unlike, wrapped_unit}
 
@@ -79,6 +79,14 @@ if_any (Some t) = tt
 
 -- ---- what is chosen
 
+neither : (a b : Boole) → a || b ≡ false → (a ≡ false) × (b ≡ false)
+neither true b e = absurd cc
+neither false b e = (refl, e)
+
+-- a text that is none of some is not the first of them, and none of the others
+pub not_first : (said other : List ℕ) (others : List (List ℕ)) → IsNoneOf said (other ∷ others) → (bytes_eq said other ≡ false) × IsNoneOf said others
+not_first said other others none = neither (bytes_eq said other) _ none
+
 -- where this text was kept last under a tag, the value agrees with the form as the other
 pub record PartAfter (tag : ℕ) (text : List ℕ) (s : Form) (w : Value) (x : Head) (v : Value) : Type 0 where
   pub kept : List Keep → List Keep
@@ -87,6 +95,10 @@ pub record PartAfter (tag : ℕ) (text : List ℕ) (s : Form) (w : Value) (x : H
 -- what a rule chooses by that text
 pub chosen_after : {tag : ℕ} {text : List ℕ} {s : Form} {own name : List ℕ} {vs : Variants} {i : ℕ} {w v : Value} {x : Head} → HasVariant vs i name (wrapped s) → ((k : List Keep) → last k tag ≡ Some text → choice vs k x.typ ≡ chosen i) → PartAgrees s w x v → PartAfter tag text (enum own vs) w x (newtype_variant_value own name v)
 chosen_after at chooses p = record { kept = p.kept; agrees = λ k found. rule_agrees (chooses k found) at (p.agrees k) }
+
+-- a choice among what a rule chooses by that text
+pub chosen_twice : {tag : ℕ} {text : List ℕ} {s : Form} {own name : List ℕ} {vs : Variants} {i : ℕ} {w v : Value} {x : Head} → HasVariant vs i name (wrapped s) → ((k : List Keep) → last k tag ≡ Some text → choice vs k x.typ ≡ chosen i) → PartAfter tag text s w x v → PartAfter tag text (enum own vs) w x (newtype_variant_value own name v)
+chosen_twice at chooses p = record { kept = p.kept; agrees = λ k found. rule_agrees (chooses k found) at (p.agrees k found) }
 
 -- what a rule chooses by the item's type, whatever was kept
 pub chosen_by_type : {s : Form} {own name : List ℕ} {vs : Variants} {i : ℕ} {w v : Value} {x : Head} → HasVariant vs i name (wrapped s) → ((k : List Keep) → choice vs k x.typ ≡ chosen i) → PartAgrees s w x v → PartAgrees (enum own vs) w x (newtype_variant_value own name v)

@@ -1,7 +1,8 @@
 -- What leaves and unit variants are decoded as after they were encoded.
-use Rattle.std.specs.Prelude.{◌≡◌, ℕ, ℤ, Bool, true, ◌<◌, ◌^◌, List, Some, FitsSigned}
+use Rattle.std.specs.Prelude.{◌≡◌, ℕ, ℤ, Bool, true, false, ◌<◌, ◌^◌, List, Some, FitsSigned}
+use Rattle.std.specs.List.{list_any}
 use Rattle.std.specs.Int.{w32, w64, cast_signed, to_be_bytes}
-use Rattle.std.specs.Str.{is_utf8}
+use Rattle.std.specs.Str.{bytes_eq, is_utf8}
 use Rattle.kmip_ttlv_types.specs.declared.typ.TtlvType.TheVariants.{Enumeration}
 use Rattle.kmip_ttlv_base.specs.Forms.{Form, int32, int64, boolean, text, octets, date_time, interval, big_integer, any_number}
 use Rattle.kmip_ttlv_base.specs.Forms.{Variants, unit}
@@ -36,3 +37,7 @@ text_of_number n = number_text (to_be_bytes w32 n)
 pub record NamesUnit (vs : Variants) (k : List Keep) (n : ℕ) : Type 0 where
   pub no_rule : choice vs k Enumeration ≡ by_value
   pub named : first_named (text_of_number n) vs ≡ Some unit
+
+-- a text is none of these
+abbrev pub IsNoneOf : List ℕ → List (List ℕ) → Type 0
+IsNoneOf said others = list_any (λ other. bytes_eq said other) others ≡ false

@@ -21,7 +21,7 @@ mod message;
 mod sound;
 
 pub use crate::message::{Message, reread};
-pub use crate::sound::{Sound, is_absent_or_whole, is_whole};
+pub use crate::sound::{Sound, is_absent_or_whole, is_none_of, is_whole};
 use std::alloc::Allocator;
 
 /// If the root item's bytes are all there, bytes after it change neither whether it is decoded as a value

@@ -1,8 +1,10 @@
 //! Which values of a type are sound: numbers that fit, and whatever else the type asks. What is sound, and encoded, is decoded
 //! again, so the laws of message types have it as a premise.
 
-ghost use Rattle.std.specs.Prelude.{◌≡◌, ◌<◌, ◌^◌, ◌%◌, ◌↔◌, FitsSigned, All, IfSome, IsTrue, length};
+ghost use Rattle.std.specs.Prelude.{◌≡◌, ◌<◌, ◌^◌, ◌%◌, ◌↔◌, FitsSigned, All, IfSome, IsTrue, false, length};
 ghost use Rattle.std.specs.Int.{w32, w64};
+ghost use Rattle.std.specs.List.{list_any};
+ghost use Rattle.std.specs.Str.{bytes_eq};
 
 use std::alloc::Allocator;
 
@@ -78,4 +80,23 @@ pub fn is_absent_or_whole<A: Allocator>(bytes: &Option<Vec<u8, A>>) -> bool
         Some(bytes) => is_whole(bytes.as_slice()),
         None => true,
     }
+}
+
+// Whether a text is one of these.
+fn is_one_of(text: &str, others: &[&str]) -> bool
+    ensures { result ≡ list_any (λ other. bytes_eq text.now other.now) others.now }
+{
+    for other in others {
+        if text == *other {
+            return true;
+        }
+    }
+    false
+}
+
+/// Whether a text is none of these. A choice goes by the text, or by the type of the item if the text names no variant.
+pub fn is_none_of(text: &str, others: &[&str]) -> bool
+    ensures { IsTrue result ↔ (list_any (λ other. bytes_eq text.now other.now) others.now ≡ false) }
+{
+    !is_one_of(text, others)
 }
