@@ -205,12 +205,12 @@ pub named_agrees : {A : Type 0} (said : List ℕ) (x : Named A) → ChoosesNamed
     (written_named x) record { tag = 0x540072; typ = named_typ x }
     (read_named x)
 unfolding take_tag tag_of number transparent_name override_name held_over is_wrapper rule sides equal at_least member in_brackets trim_end chars trim_start encode named_content written_named read_named
-named_agrees said (named.Line x) (inl chooses) is =
-    chosen_after first_variant (λ k found. rw (found ∙ ap Some chooses) refl) (overridden_leaf (variant_wraps refl refl) refl refl (as_text (text_is_utf8 x.text)))
-named_agrees said (named.Line x) (inr chooses) is =
-    chosen_after first_variant (λ k found. rw (found ∙ ap Some chooses) refl) (overridden_leaf (variant_wraps refl refl) refl refl (as_text (text_is_utf8 x.text)))
-named_agrees said (named.Count x) chooses is =
-    chosen_after (later_variant first_variant) (λ k found. rw (found ∙ ap Some chooses) refl) (overridden_leaf (variant_wraps refl refl) refl refl (as_int32 is))
+named_agrees said (named.Line x) (inl chosen) is =
+    chosen_after first_variant (λ k found. rw (found ∙ ap Some chosen) refl) (overridden_leaf (variant_wraps refl refl) refl refl (as_text (text_is_utf8 x.text)))
+named_agrees said (named.Line x) (inr chosen) is =
+    chosen_after first_variant (λ k found. rw (found ∙ ap Some chosen) refl) (overridden_leaf (variant_wraps refl refl) refl refl (as_text (text_is_utf8 x.text)))
+named_agrees said (named.Count x) chosen is =
+    chosen_after (later_variant first_variant) (λ k found. rw (found ∙ ap Some chosen) refl) (overridden_leaf (variant_wraps refl refl) refl refl (as_int32 is))
 
 pub label_agrees : {A : Type 0} (x : Label A)
     → PartAgrees label_form
@@ -238,10 +238,10 @@ pub place_agrees : {A : Type 0} (said : List ℕ) (x : Place A) → ChoosesPlace
     (written_place x) record { tag = 0x540073; typ = types.TextString }
     (read_place x)
 unfolding take_tag tag_of number transparent_name override_name held_over is_wrapper rule sides equal at_least member in_brackets trim_end chars trim_start encode written_place read_place
-place_agrees said (place.Label x) chooses =
-    chosen_after first_variant (λ k found. rw (found ∙ ap Some chooses) refl) (label_agrees x)
-place_agrees said (place.Address x) chooses =
-    chosen_after (later_variant first_variant) (λ k found. rw (found ∙ ap Some chooses) refl) (address_agrees x)
+place_agrees said (place.Label x) chosen =
+    chosen_after first_variant (λ k found. rw (found ∙ ap Some chosen) refl) (label_agrees x)
+place_agrees said (place.Address x) chosen =
+    chosen_after (later_variant first_variant) (λ k found. rw (found ∙ ap Some chosen) refl) (address_agrees x)
 
 pub chosen_agrees : {A : Type 0} (x : Chosen A) → IsChosen x
     → MessageAgrees chosen_form

@@ -24,8 +24,7 @@ impl<B: Allocator> Serialize for Word<B> {
     ghost stated = { word_value };
 
     fn visit<V: Visitor>(&self, visitor: &mut V) -> Result<(), AllocError> {
-        writing::string(visitor, "Transparent:0x540070", &self.text)?;
-        Ok(())
+        writing::string(visitor, "Transparent:0x540070", &self.text)
     }
 }
 
@@ -58,8 +57,7 @@ impl<B: Allocator> Serialize for Line<B> {
     ghost stated = { line_value };
 
     fn visit<V: Visitor>(&self, visitor: &mut V) -> Result<(), AllocError> {
-        writing::string(visitor, "Transparent:0x540071", &self.text)?;
-        Ok(())
+        writing::string(visitor, "Transparent:0x540071", &self.text)
     }
 }
 
@@ -126,19 +124,14 @@ pub enum Said<A: Allocator = Global> {
 impl<A: Allocator> Said<A> {
     // Tells what it holds.
     #[tactic(auto, unfolding(crate::specs::Chosens::said_content))]
-    fn tell<V: Visitor>(&self, visitor: &mut V) -> Result<(), AllocError>
+    pub(crate) fn tell<V: Visitor>(&self, visitor: &mut V) -> Result<(), AllocError>
         ensures told { OnOk result (Tells V.knows V.step (said_content self.now) visitor.old visitor.new) }
         ensures stopped { OnErr result (V.stopped visitor.new) }
     {
         match self {
-            Said::Line(held) => {
-                held.visit(visitor)?;
-            }
-            Said::Count(held) => {
-                held.visit(visitor)?;
-            }
+            Said::Line(held) => held.visit(visitor),
+            Said::Count(held) => held.visit(visitor),
         }
-        Ok(())
     }
 }
 
@@ -149,8 +142,7 @@ impl<B: Allocator> Serialize for Said<B> {
     fn visit<V: Visitor>(&self, visitor: &mut V) -> Result<(), AllocError> {
         writing::begin_newtype_variant(visitor, "Override:0x540071", "Transparent")?;
         self.tell(visitor)?;
-        writing::end_newtype_variant(visitor, "Override:0x540071", "Transparent")?;
-        Ok(())
+        writing::end_newtype_variant(visitor, "Override:0x540071", "Transparent")
     }
 }
 
@@ -176,13 +168,44 @@ impl reader::Rule for SaidCountRule {
     }
 }
 
+// The variants from `Count` on.
+type SaidFromCount = reader::Variant<SaidCountRule, reader::ItemElement<Count>>;
+
+// The one that was read as one of these.
+#[tactic(auto, unfolding(kmip_ttlv_types::specs::Digits::six_digits, crate::specs::Chosens::read_said))]
+#[inline(always)]
+fn said_from_count<A: Allocator + Copy>(
+    read: <SaidFromCount as reader::VariantList<A>>::Read,
+) -> Said<A>
+    ensures { read_said result ≡ ⟦<SaidFromCount as reader::VariantList<A>>⟧.value (codes "said") read }
+{
+    Said::Count(read)
+}
+
+// The variants from `Line` on.
+type SaidFromLine<A> = (
+    reader::Variant<SaidLineRule, reader::ItemElement<Line<A>>>,
+    SaidFromCount,
+);
+
+// The one that was read as one of these.
+#[tactic(auto, unfolding(kmip_ttlv_types::specs::Digits::six_digits, crate::specs::Chosens::read_said))]
+#[inline(always)]
+fn said_from_line<A: Allocator + Copy>(
+    read: <SaidFromLine<A> as reader::VariantList<A>>::Read,
+) -> Said<A>
+    ensures { read_said result ≡ ⟦<SaidFromLine<A> as reader::VariantList<A>>⟧.value (codes "said") read }
+{
+    match read {
+        reader::OneOf::First(held) => Said::Line(held),
+        reader::OneOf::Other(other) => said_from_count(other),
+    }
+}
+
 impl<A: Allocator + Copy> reader::Choice<A> for Said<A> {
     ghost own = { codes "said" };
 
-    type Variants = (
-        reader::Variant<SaidLineRule, reader::ItemElement<Line<A>>>,
-        reader::Variant<SaidCountRule, reader::ItemElement<Count>>,
-    );
+    type Variants = SaidFromLine<A>;
 }
 
 impl<A: Allocator + Copy> reader::ReadItem<A> for Said<A> {
@@ -197,10 +220,8 @@ impl<A: Allocator + Copy> reader::ReadItem<A> for Said<A> {
         scope: &reader::Scope<'b, A>,
         cursor: &mut reader::Cursor<'b, A>,
     ) -> reader::Step<Self, A> {
-        match reader::read_choice::<Self, A>(scope, cursor)? {
-            reader::OneOf::First(held) => Ok(Said::Line(held)),
-            reader::OneOf::Other(held) => Ok(Said::Count(held)),
-        }
+        let read = reader::read_choice::<Self, A>(scope, cursor)?;
+        Ok(said_from_line(read))
     }
 }
 
@@ -217,19 +238,14 @@ pub enum Named<A: Allocator = Global> {
 impl<A: Allocator> Named<A> {
     // Tells what it holds.
     #[tactic(auto, unfolding(crate::specs::Chosens::named_content))]
-    fn tell<V: Visitor>(&self, visitor: &mut V) -> Result<(), AllocError>
+    pub(crate) fn tell<V: Visitor>(&self, visitor: &mut V) -> Result<(), AllocError>
         ensures told { OnOk result (Tells V.knows V.step (named_content self.now) visitor.old visitor.new) }
         ensures stopped { OnErr result (V.stopped visitor.new) }
     {
         match self {
-            Named::Line(held) => {
-                held.visit(visitor)?;
-            }
-            Named::Count(held) => {
-                held.visit(visitor)?;
-            }
+            Named::Line(held) => held.visit(visitor),
+            Named::Count(held) => held.visit(visitor),
         }
-        Ok(())
     }
 }
 
@@ -252,8 +268,7 @@ impl<B: Allocator> Serialize for Named<B> {
     fn visit<V: Visitor>(&self, visitor: &mut V) -> Result<(), AllocError> {
         writing::begin_newtype_variant(visitor, "Override:0x540072", "Transparent")?;
         self.tell(visitor)?;
-        writing::end_newtype_variant(visitor, "Override:0x540072", "Transparent")?;
-        Ok(())
+        writing::end_newtype_variant(visitor, "Override:0x540072", "Transparent")
     }
 }
 
@@ -295,13 +310,44 @@ impl reader::Rule for NamedCountRule {
     }
 }
 
+// The variants from `Count` on.
+type NamedFromCount = reader::Variant<NamedCountRule, reader::ItemElement<Count>>;
+
+// The one that was read as one of these.
+#[tactic(auto, unfolding(kmip_ttlv_types::specs::Digits::six_digits, crate::specs::Chosens::read_named))]
+#[inline(always)]
+fn named_from_count<A: Allocator + Copy>(
+    read: <NamedFromCount as reader::VariantList<A>>::Read,
+) -> Named<A>
+    ensures { read_named result ≡ ⟦<NamedFromCount as reader::VariantList<A>>⟧.value (codes "named") read }
+{
+    Named::Count(read)
+}
+
+// The variants from `Line` on.
+type NamedFromLine<A> = (
+    reader::Variant<NamedLineRule, reader::ItemElement<Line<A>>>,
+    NamedFromCount,
+);
+
+// The one that was read as one of these.
+#[tactic(auto, unfolding(kmip_ttlv_types::specs::Digits::six_digits, crate::specs::Chosens::read_named))]
+#[inline(always)]
+fn named_from_line<A: Allocator + Copy>(
+    read: <NamedFromLine<A> as reader::VariantList<A>>::Read,
+) -> Named<A>
+    ensures { read_named result ≡ ⟦<NamedFromLine<A> as reader::VariantList<A>>⟧.value (codes "named") read }
+{
+    match read {
+        reader::OneOf::First(held) => Named::Line(held),
+        reader::OneOf::Other(other) => named_from_count(other),
+    }
+}
+
 impl<A: Allocator + Copy> reader::Choice<A> for Named<A> {
     ghost own = { codes "named" };
 
-    type Variants = (
-        reader::Variant<NamedLineRule, reader::ItemElement<Line<A>>>,
-        reader::Variant<NamedCountRule, reader::ItemElement<Count>>,
-    );
+    type Variants = NamedFromLine<A>;
 }
 
 impl<A: Allocator + Copy> reader::ReadItem<A> for Named<A> {
@@ -316,10 +362,8 @@ impl<A: Allocator + Copy> reader::ReadItem<A> for Named<A> {
         scope: &reader::Scope<'b, A>,
         cursor: &mut reader::Cursor<'b, A>,
     ) -> reader::Step<Self, A> {
-        match reader::read_choice::<Self, A>(scope, cursor)? {
-            reader::OneOf::First(held) => Ok(Named::Line(held)),
-            reader::OneOf::Other(held) => Ok(Named::Count(held)),
-        }
+        let read = reader::read_choice::<Self, A>(scope, cursor)?;
+        Ok(named_from_line(read))
     }
 }
 
@@ -335,8 +379,7 @@ impl<B: Allocator> Serialize for Label<B> {
     ghost stated = { label_value };
 
     fn visit<V: Visitor>(&self, visitor: &mut V) -> Result<(), AllocError> {
-        writing::string(visitor, "Transparent:0x540073", &self.text)?;
-        Ok(())
+        writing::string(visitor, "Transparent:0x540073", &self.text)
     }
 }
 
@@ -369,8 +412,7 @@ impl<B: Allocator> Serialize for Address<B> {
     ghost stated = { address_value };
 
     fn visit<V: Visitor>(&self, visitor: &mut V) -> Result<(), AllocError> {
-        writing::string(visitor, "Transparent:0x540073", &self.text)?;
-        Ok(())
+        writing::string(visitor, "Transparent:0x540073", &self.text)
     }
 }
 
@@ -419,14 +461,9 @@ impl<B: Allocator> Serialize for Place<B> {
     #[tactic(auto, unfolding(crate::specs::Chosens::written_place))]
     fn visit<V: Visitor>(&self, visitor: &mut V) -> Result<(), AllocError> {
         match self {
-            Place::Label(held) => {
-                held.visit(visitor)?;
-            }
-            Place::Address(held) => {
-                held.visit(visitor)?;
-            }
+            Place::Label(held) => held.visit(visitor),
+            Place::Address(held) => held.visit(visitor),
         }
-        Ok(())
     }
 }
 
@@ -468,13 +505,44 @@ impl reader::Rule for PlaceAddressRule {
     }
 }
 
+// The variants from `Address` on.
+type PlaceFromAddress<A> = reader::Variant<PlaceAddressRule, reader::ItemElement<Address<A>>>;
+
+// The one that was read as one of these.
+#[tactic(auto, unfolding(kmip_ttlv_types::specs::Digits::six_digits, crate::specs::Chosens::read_place))]
+#[inline(always)]
+fn place_from_address<A: Allocator + Copy>(
+    read: <PlaceFromAddress<A> as reader::VariantList<A>>::Read,
+) -> Place<A>
+    ensures { read_place result ≡ ⟦<PlaceFromAddress<A> as reader::VariantList<A>>⟧.value (codes "place") read }
+{
+    Place::Address(read)
+}
+
+// The variants from `Label` on.
+type PlaceFromLabel<A> = (
+    reader::Variant<PlaceLabelRule, reader::ItemElement<Label<A>>>,
+    PlaceFromAddress<A>,
+);
+
+// The one that was read as one of these.
+#[tactic(auto, unfolding(kmip_ttlv_types::specs::Digits::six_digits, crate::specs::Chosens::read_place))]
+#[inline(always)]
+fn place_from_label<A: Allocator + Copy>(
+    read: <PlaceFromLabel<A> as reader::VariantList<A>>::Read,
+) -> Place<A>
+    ensures { read_place result ≡ ⟦<PlaceFromLabel<A> as reader::VariantList<A>>⟧.value (codes "place") read }
+{
+    match read {
+        reader::OneOf::First(held) => Place::Label(held),
+        reader::OneOf::Other(other) => place_from_address(other),
+    }
+}
+
 impl<A: Allocator + Copy> reader::Choice<A> for Place<A> {
     ghost own = { codes "place" };
 
-    type Variants = (
-        reader::Variant<PlaceLabelRule, reader::ItemElement<Label<A>>>,
-        reader::Variant<PlaceAddressRule, reader::ItemElement<Address<A>>>,
-    );
+    type Variants = PlaceFromLabel<A>;
 }
 
 impl<A: Allocator + Copy> reader::ReadItem<A> for Place<A> {
@@ -489,10 +557,8 @@ impl<A: Allocator + Copy> reader::ReadItem<A> for Place<A> {
         scope: &reader::Scope<'b, A>,
         cursor: &mut reader::Cursor<'b, A>,
     ) -> reader::Step<Self, A> {
-        match reader::read_choice::<Self, A>(scope, cursor)? {
-            reader::OneOf::First(held) => Ok(Place::Label(held)),
-            reader::OneOf::Other(held) => Ok(Place::Address(held)),
-        }
+        let read = reader::read_choice::<Self, A>(scope, cursor)?;
+        Ok(place_from_label(read))
     }
 }
 

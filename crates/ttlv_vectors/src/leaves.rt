@@ -353,8 +353,7 @@ impl Serialize for Kind {
 
     #[tactic(auto, unfolding(crate::specs::Leaves::kind_value))]
     fn visit<V: Visitor>(&self, visitor: &mut V) -> Result<(), AllocError> {
-        writing::unit_variant(visitor, "0x540040", self.number())?;
-        Ok(())
+        writing::unit_variant(visitor, "0x540040", self.number())
     }
 }
 

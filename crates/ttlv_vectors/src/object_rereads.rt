@@ -1,15 +1,15 @@
-//! Messages of object_messages come back: encoded and decoded again they are equal; and which are sound. Their bytes are made of
+//! Messages of kmip_messages come back: encoded and decoded again they are equal; and which are sound. Their bytes are made of
 //! items by hand, as KMIP 1.0, section 9.1, has them.
 
 use crate::rereads::{comes_back, decoded};
-use get_messages::header::{ProtocolVersion, RequestHeader};
+use kmip_attributes::attribute::{Attribute, AttributeValue};
+use kmip_attributes::values::{ObjectType, State};
+use kmip_messages::header::{Operation, ProtocolVersion, RequestHeader};
+use kmip_messages::request::{LocateRequest, Request, RequestItem, RequestPayload};
+use kmip_messages::response::{Response, ResultStatus};
+use kmip_objects::key::{KeyMaterial, KeyValue};
+use kmip_objects::object::ManagedObject;
 use kmip_ttlv::laws::{Message, Sound, reread};
-use object_messages::attribute::{
-    Attribute, AttributeName, AttributeValue, ObjectState, ObjectType,
-};
-use object_messages::object::ManagedObject;
-use object_messages::request::{LocatePayload, Operation, Request, RequestItem, RequestPayload};
-use object_messages::response::{Response, ResultStatus};
 use std::alloc::Global;
 use std::test::Fail;
 
@@ -125,7 +125,8 @@ fn failures(response: &Response) -> usize {
     response
         .items
         .iter()
-        .filter(|item| item.result_status == ResultStatus::Failed && item.payload.is_none())
+        .filter(|item| item.result_status == ResultStatus::OperationFailed
+            && item.payload.is_none())
         .count()
 }
 
@@ -139,6 +140,17 @@ fn a_failed_item_has_no_payload(rt: HostRuntime) -> Result<(), Fail> {
     Ok(())
 }
 
+// Whether a key is so many bytes.
+fn is_key_of(value: &KeyValue, count: usize) -> bool {
+    match value {
+        KeyValue::Plain(value) => match &value.key_material {
+            KeyMaterial::Bytes(key) => key.bytes.len() == count,
+            _ => false,
+        },
+        _ => false,
+    }
+}
+
 // Whether a request registers a symmetric key.
 fn registers_a_key(request: &Request) -> bool {
     let Some(item) = request.items.first() else {
@@ -146,7 +158,10 @@ fn registers_a_key(request: &Request) -> bool {
     };
     match &item.payload {
         RequestPayload::Register(payload) => {
-            matches!(payload.object(), Some(ManagedObject::SymmetricKey(key)) if key.key_block.value.material.len() == 16)
+            match payload.object() {
+                Some(ManagedObject::SymmetricKey(key)) => is_key_of(&key.key_block.key_value, 16),
+                _ => false,
+            }
         }
         _ => false,
     }
@@ -174,26 +189,21 @@ fn search(
     name: &str,
     value: AttributeValue,
 ) -> Result<Request, Fail> {
-    let name = AttributeName {
-        text: String::from_str(alloc, name)?,
-    };
+    let name = String::from_str(alloc, name)?;
     let mut attributes = Vec::new(alloc);
     attributes.push(Attribute {
         name,
         index: None,
         value,
     })?;
-    let payload = RequestPayload::Locate(LocatePayload {
+    let payload = RequestPayload::Locate(LocateRequest {
         maximum_items: None,
+        storage_status_mask: None,
         attributes,
     });
     let mut items = Vec::new(alloc);
-    items.push(RequestItem { operation, payload })?;
-    let version = ProtocolVersion { major: 1, minor: 0 };
-    let header = RequestHeader {
-        version,
-        batch_count: 1,
-    };
+    items.push(RequestItem::new(operation, payload))?;
+    let header = RequestHeader::new(ProtocolVersion { major: 1, minor: 0 }, 1);
     Ok(Request { header, items })
 }
 
@@ -215,11 +225,11 @@ fn judged(
 #[test]
 fn what_chooses_agrees(rt: HostRuntime) -> Result<(), Fail> {
     let heap = rt.alloc();
-    let active = AttributeValue::State(ObjectState::Active);
+    let active = AttributeValue::State(State::Active);
     assert!(rt; judged(heap, Operation::Locate, "State", active)? == (true, true));
-    let active = AttributeValue::State(ObjectState::Active);
+    let active = AttributeValue::State(State::Active);
     assert!(rt; judged(heap, Operation::Locate, "Object Type", active)? == (false, false));
-    let active = AttributeValue::State(ObjectState::Active);
+    let active = AttributeValue::State(State::Active);
     assert!(rt; judged(heap, Operation::Query, "State", active)? == (false, false));
     Ok(())
 }
@@ -227,7 +237,7 @@ fn what_chooses_agrees(rt: HostRuntime) -> Result<(), Fail> {
 // Encoded as its number, and decoded by its name, to which it is equal.
 #[test]
 fn a_number_with_a_name_comes_back(rt: HostRuntime) -> Result<(), Fail> {
-    let other = AttributeValue::Type(ObjectType::Other(2));
+    let other = AttributeValue::ObjectType(ObjectType::Other(2));
     assert!(rt; judged(rt.alloc(), Operation::Locate, "Object Type", other)? == (true, true));
     assert!(rt; ObjectType::Other(2) == ObjectType::SymmetricKey);
     assert!(rt; ObjectType::Other(2) != ObjectType::PublicKey);

@@ -240,8 +240,7 @@ impl Serialize for Operation {
 
     #[tactic(auto, unfolding(crate::specs::Queries::written_operation))]
     fn visit<V: Visitor>(&self, visitor: &mut V) -> Result<(), AllocError> {
-        writing::enumeration(visitor, "Transparent:0x42005C", self.number())?;
-        Ok(())
+        writing::enumeration(visitor, "Transparent:0x42005C", self.number())
     }
 }
 
@@ -294,8 +293,7 @@ impl Serialize for ObjectType {
 
     #[tactic(auto, unfolding(crate::specs::Queries::object_type_value))]
     fn visit<V: Visitor>(&self, visitor: &mut V) -> Result<(), AllocError> {
-        writing::unit_variant(visitor, "0x420057", self.number())?;
-        Ok(())
+        writing::unit_variant(visitor, "0x420057", self.number())
     }
 }
 
@@ -335,8 +333,7 @@ impl<B: Allocator> Serialize for ApplicationNamespace<B> {
     ghost stated = { application_namespace_value };
 
     fn visit<V: Visitor>(&self, visitor: &mut V) -> Result<(), AllocError> {
-        writing::string(visitor, "Transparent:0x420003", &self.name)?;
-        Ok(())
+        writing::string(visitor, "Transparent:0x420003", &self.name)
     }
 }
 
@@ -503,8 +500,7 @@ impl Serialize for ResultReason {
 
     #[tactic(auto, unfolding(crate::specs::Queries::written_result_reason))]
     fn visit<V: Visitor>(&self, visitor: &mut V) -> Result<(), AllocError> {
-        writing::enumeration(visitor, "Transparent:0x42007E", self.number())?;
-        Ok(())
+        writing::enumeration(visitor, "Transparent:0x42007E", self.number())
     }
 }
 
@@ -561,8 +557,7 @@ impl Serialize for ResultStatus {
 
     #[tactic(auto, unfolding(crate::specs::Queries::result_status_value))]
     fn visit<V: Visitor>(&self, visitor: &mut V) -> Result<(), AllocError> {
-        writing::unit_variant(visitor, "0x42007F", self.number())?;
-        Ok(())
+        writing::unit_variant(visitor, "0x42007F", self.number())
     }
 }
 

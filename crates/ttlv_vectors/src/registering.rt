@@ -2,10 +2,12 @@
 //! encoded as the same bytes. These are made of items by hand, as section 9.1 has them.
 
 use crate::rereads::{comes_back, decoded};
-use kmip_ttlv::to_vec;
-use object_messages::object::ManagedObject;
-use object_messages::request::{Request, RequestPayload};
+use kmip_messages::request::{Request, RequestPayload};
+use kmip_objects::object::ManagedObject;
+use kmip_ttlv::error::{Error, ErrorKind};
+use kmip_ttlv::{from_slice, to_vec};
 use std::alloc::Global;
+use std::io;
 use std::test::Fail;
 
 // What is registered, its Object Type (section 9.1.3.2), and the request.
@@ -103,6 +105,30 @@ fn each_type_of_object_is_registered(rt: HostRuntime) -> Result<(), Fail> {
         assert!(rt;
             registered_type(rt.alloc(), digits) == object_type,
             "{what} is lent"
+        );
+    }
+    Ok(())
+}
+
+// Whether bytes end too early.
+fn ends_early(alloc: Global, bytes: &[u8]) -> bool {
+    let read: Result<Request, Error> = from_slice(alloc, bytes);
+    match read {
+        Ok(_) => false,
+        Err(error) => {
+            matches!(error.kind(), ErrorKind::IoError(error) if error.kind() == io::ErrorKind::UnexpectedEof)
+        }
+    }
+}
+
+#[test]
+fn a_request_that_is_cut_ends_early(rt: HostRuntime) -> Result<(), Fail> {
+    let (_, _, digits) = OBJECTS[1];
+    let bytes = hex::decode(rt.alloc(), digits)?;
+    for count in 0..bytes.len() {
+        assert!(rt;
+            ends_early(rt.alloc(), &bytes.as_slice()[..count]),
+            "{count}"
         );
     }
     Ok(())

@@ -1,0 +1,183 @@
+//! The server's half: requests come from a reader, one message at a time, and their responses go to a writer. A line of the log is the
+//! diagnostic of a message: its tags, types, nesting and enumeration values, and no other value.
+//!
+//! It stands on `kmip_messages` for what a message is, and on `kmip_ttlv` for its bytes.
+
+ghost use Rattle.std.specs.Prelude.{◌≡◌, IfOk, length};
+
+use kmip_messages::header::{Operation, ProtocolVersion, ResponseHeader};
+use kmip_messages::request::{Request, RequestItem, RequestPayload};
+use kmip_messages::response::{
+    DiscoverVersionsResponse, QueryResponse, Response, ResponseItem, ResponsePayload, ResultReason,
+    ResultStatus,
+};
+use kmip_ttlv::error::{Error, ErrorKind};
+use kmip_ttlv::{Config, PrettyPrinter, from_reader, to_writer};
+use std::alloc::{AllocError, Global};
+use std::io::{self, Read, Write};
+
+/// The most bytes of a request.
+const MOST: u32 = 65_536;
+
+/// The version that the server has.
+const VERSION: ProtocolVersion = ProtocolVersion { major: 1, minor: 0 };
+
+// An item that says what became of an operation.
+fn item(
+    alloc: Global,
+    asked: Option<&RequestItem>,
+    done: Result<ResponsePayload, ResultReason>,
+) -> Result<ResponseItem, AllocError> {
+    let (operation, id) = match asked {
+        Some(asked) => (
+            Some(asked.operation),
+            copied(alloc, &asked.unique_batch_item_id)?,
+        ),
+        None => (None, None),
+    };
+    let (result_status, result_reason, payload) = match done {
+        Ok(payload) => (ResultStatus::Success, None, Some(payload)),
+        Err(reason) => (ResultStatus::OperationFailed, Some(reason), None),
+    };
+    Ok(ResponseItem {
+        operation,
+        unique_batch_item_id: id,
+        result_status,
+        result_reason,
+        result_message: None,
+        asynchronous_correlation_value: None,
+        payload,
+        message_extension: None,
+    })
+}
+
+// The same bytes, if there are any.
+fn copied(alloc: Global, bytes: &Option<Vec<u8>>) -> Result<Option<Vec<u8>>, AllocError> {
+    match bytes {
+        Some(bytes) => Ok(Some(bytes.as_slice().to_vec(alloc)?)),
+        None => Ok(None),
+    }
+}
+
+// What the server can do.
+fn abilities(alloc: Global) -> Result<QueryResponse, AllocError> {
+    let mut operations = Vec::new(alloc);
+    operations.push(Operation::Query)?;
+    operations.push(Operation::DiscoverVersions)?;
+    Ok(QueryResponse {
+        operations,
+        object_types: Vec::new(alloc),
+        vendor_identification: Some("Sieveebony".to_string(alloc)?),
+        application_namespaces: Vec::new(alloc),
+    })
+}
+
+// What is done of one item: this server only says what it can do.
+fn done(
+    alloc: Global,
+    item: &RequestItem,
+) -> Result<Result<ResponsePayload, ResultReason>, AllocError> {
+    match &item.payload {
+        RequestPayload::Query(_) => Ok(Ok(ResponsePayload::Query(abilities(alloc)?))),
+        RequestPayload::DiscoverVersions(_) => {
+            let mut versions = Vec::new(alloc);
+            versions.push(VERSION)?;
+            let versions = DiscoverVersionsResponse { versions };
+            Ok(Ok(ResponsePayload::DiscoverVersions(versions)))
+        }
+        _ => Ok(Err(ResultReason::OperationNotSupported)),
+    }
+}
+
+// A response of these items.
+fn response(items: Vec<ResponseItem>) -> Response
+    ensures { result.items ≡ items }
+{
+    let header = ResponseHeader {
+        version: VERSION,
+        time_stamp: 0,
+        batch_count: i32::try_from(items.len()).unwrap_or(i32::MAX),
+    };
+    Response { header, items }
+}
+
+/// The response to a request: an item for each of its items, or one item that says why, if its parts don't agree.
+pub fn respond(alloc: Global, request: &Request) -> Result<Response, AllocError> {
+    let mut items = Vec::new(alloc);
+    if !request.is_consistent() {
+        items.push(item(alloc, None, Err(ResultReason::InvalidMessage))?)?;
+        return Ok(response(items));
+    }
+    for asked in &request.items {
+        let done = done(alloc, asked)?;
+        items.push(item(alloc, Some(asked), done)?)?;
+    }
+    Ok(response(items))
+}
+
+/// The response to bytes that are no request.
+pub fn refuse(alloc: Global) -> Result<Response, AllocError> {
+    let mut items = Vec::new(alloc);
+    items.push(item(alloc, None, Err(ResultReason::InvalidMessage))?)?;
+    Ok(response(items))
+}
+
+// Whether the next message can be read after this error: the bytes of this one were all taken.
+fn goes_on(error: &Error) -> bool {
+    matches!(
+        error.kind(),
+        ErrorKind::MalformedTtlv(_) | ErrorKind::SerdeError(_)
+    )
+}
+
+// A line of the log.
+fn note<L: Write>(alloc: Global, log: &mut L, who: &str, bytes: &[u8]) -> io::Result<()> {
+    let mut printer = PrettyPrinter::new(alloc);
+    let _ = printer.with_tag_prefix("4200".to_string(alloc)?);
+    let line = format!(in alloc; "{who} {}\n", printer.to_diag_string(bytes)?)?;
+    log.write_all(line.as_bytes())
+}
+
+// Sends a response, and notes it.
+fn send<W: Write, L: Write>(
+    alloc: Global,
+    writer: &mut W,
+    log: &mut L,
+    response: &Response,
+) -> io::Result<bool> {
+    let Ok(bytes) = kmip_ttlv::to_vec(alloc, response) else {
+        return Ok(false);
+    };
+    note(alloc, log, "<", bytes.as_slice())?;
+    Ok(to_writer(alloc, response, writer).is_ok())
+}
+
+/// Answers requests until the reader ends, or until what follows can't be told apart from what came: a message of an unknown type,
+/// or beyond 65,536 bytes.
+pub fn serve<R: Read, W: Write, L: Write>(
+    alloc: Global,
+    reader: &mut R,
+    writer: &mut W,
+    log: &mut L,
+) -> io::Result<()> {
+    let mut config = Config::new(alloc).with_max_bytes(MOST).with_read_buf();
+    for _ in 0..u64::MAX {
+        let read: Result<Request, Error> = from_reader(alloc, reader, &mut config);
+        if let Err(error) = &read
+            && matches!(error.kind(), ErrorKind::IoError(_) | ErrorKind::OutOfMemory)
+        {
+            break;
+        }
+        if let Some(bytes) = config.read_buf() {
+            note(alloc, log, ">", bytes.as_slice())?;
+        }
+        let (response, more) = match &read {
+            Ok(request) => (respond(alloc, request)?, true),
+            Err(error) => (refuse(alloc)?, goes_on(error)),
+        };
+        if !send(alloc, writer, log, &response)? || !more {
+            break;
+        }
+    }
+    Ok(())
+}

@@ -1,0 +1,818 @@
+-- Written by codegen from types.table: change that, and run codegen/codegen.
+-- Forms and values of the types in `response`.
+use Rattle.kmip_ttlv.specs.Forms.{Form, Variants, any_number, enum, field, newtype, no_fields, no_variants, octets}
+use Rattle.kmip_ttlv.specs.Forms.{option, seq, struct, text, variant, wrapped}
+use Rattle.kmip_ttlv.specs.MessageParts.{numbered_value, optional, optional_sequence, other_number, sequence, there}
+use Rattle.kmip_ttlv.specs.Values.{Value, bytes_value, newtype_value, newtype_variant_value, no_values, struct_value}
+use Rattle.kmip_ttlv.specs.Values.{text_value, u32_value, value}
+use Rattle.kmip_ttlv.specs.Visits.{joined}
+use Rattle.std.specs.Prelude.{List, None, Option, Some, [], codes, option_map, string_bytes, true, ℕ, ◌+◌, ◌∷◌, ◌≡◌}
+use Rattle.kmip_ttlv.specs.Visits as told
+use Rattle.kmip_messages.specs.declared.response.CreateResponse.{CreateResponse}
+use Rattle.kmip_messages.specs.declared.response.CreateKeyPairResponse.{CreateKeyPairResponse}
+use Rattle.kmip_messages.specs.declared.response.RegisterResponse.{RegisterResponse}
+use Rattle.kmip_messages.specs.declared.response.LocateResponse.{LocateResponse}
+use Rattle.kmip_messages.specs.declared.response.GetResponse.{GetResponse}
+use Rattle.kmip_messages.specs.declared.response.GetAttributesResponse.{GetAttributesResponse}
+use Rattle.kmip_messages.specs.declared.response.GetAttributeListResponse.{GetAttributeListResponse}
+use Rattle.kmip_messages.specs.declared.response.AttributeResponse.{AttributeResponse}
+use Rattle.kmip_messages.specs.declared.response.ObjectResponse.{ObjectResponse}
+use Rattle.kmip_messages.specs.declared.response.ApplicationNamespace.{ApplicationNamespace}
+use Rattle.kmip_messages.specs.declared.response.QueryResponse.{QueryResponse}
+use Rattle.kmip_messages.specs.declared.response.DiscoverVersionsResponse.{DiscoverVersionsResponse}
+use Rattle.kmip_messages.specs.declared.response.ResponsePayload.{ResponsePayload}
+use Rattle.kmip_messages.specs.declared.response.ResponsePayload.TheVariants as response_payload
+use Rattle.kmip_messages.specs.declared.response.ResultStatus.{ResultStatus}
+use Rattle.kmip_messages.specs.declared.response.ResultStatus.TheVariants as result_status
+use Rattle.kmip_messages.specs.declared.response.ResultReason.{ResultReason}
+use Rattle.kmip_messages.specs.declared.response.ResultReason.TheVariants as result_reason
+use Rattle.kmip_messages.specs.declared.response.ResponseItem.{ResponseItem}
+use Rattle.kmip_messages.specs.declared.response.Response.{Response}
+use Rattle.kmip_objects.specs.declared.object.ManagedObject.{ManagedObject}
+use Rattle.kmip_objects.specs.declared.object.ManagedObject.TheVariants as managed_object
+use Rattle.kmip_attributes.specs.Values.{object_type_form, written_object_type, read_object_type}
+use Rattle.kmip_attributes.specs.Attributes.{attribute_name_form, attribute_name_value}
+use Rattle.kmip_attributes.specs.Attributes.{attribute_form, written_attribute, read_attribute, returned_attribute}
+use Rattle.kmip_objects.specs.Keys.{unique_identifier_form, unique_identifier_value}
+use Rattle.kmip_objects.specs.Objects.{certificate_form, written_certificate, read_certificate, returned_certificate}
+use Rattle.kmip_objects.specs.Objects.{symmetric_key_form, written_symmetric_key, read_symmetric_key, returned_symmetric_key}
+use Rattle.kmip_objects.specs.Objects.{public_key_form, written_public_key, read_public_key, returned_public_key}
+use Rattle.kmip_objects.specs.Objects.{private_key_form, written_private_key, read_private_key, returned_private_key}
+use Rattle.kmip_objects.specs.Objects.{split_key_form, written_split_key, read_split_key, returned_split_key}
+use Rattle.kmip_objects.specs.Objects.{template_form, written_template, read_template, returned_template}
+use Rattle.kmip_objects.specs.Objects.{secret_data_form, written_secret_data, read_secret_data, returned_secret_data}
+use Rattle.kmip_objects.specs.Objects.{opaque_object_form, written_opaque_object, read_opaque_object, returned_opaque_object}
+use Rattle.kmip_messages.specs.Headers.{protocol_version_form, protocol_version_value}
+use Rattle.kmip_messages.specs.Headers.{response_header_form, response_header_value}
+use Rattle.kmip_messages.specs.Headers.{operation_form, written_operation, read_operation}
+use Rattle.kmip_messages.specs.Headers.{message_extension_form, message_extension_value}
+use Rattle.kmip_messages.specs.Templates.{template_attribute_form, written_template_attribute, read_template_attribute, returned_template_attribute}
+use Rattle.kmip_messages.specs.Templates.{private_key_template_attribute_form, written_private_key_template_attribute, read_private_key_template_attribute, returned_private_key_template_attribute}
+use Rattle.kmip_messages.specs.Templates.{public_key_template_attribute_form, written_public_key_template_attribute, read_public_key_template_attribute, returned_public_key_template_attribute}
+
+-- the form of a `CreateResponse`
+abbrev pub create_response_form : Form
+create_response_form =
+    struct (codes "0x42007C") (
+    field (codes "0x420057") object_type_form (
+    field (codes "0x420094") (newtype (codes "Transparent:0x420094") text) (
+    field (codes "0x420091") (option template_attribute_form) no_fields))) true
+
+-- what is written of a `CreateResponse`
+unfoldable pub written_create_response : {A : Type 0} → CreateResponse A → Value
+written_create_response x =
+    struct_value (codes "0x42007C") (
+    value (written_object_type x.object_type) (
+    value (newtype_value (codes "Transparent:0x420094") (text_value (string_bytes x.unique_identifier))) (
+    joined (told.optional (option_map written_template_attribute x.template_attribute)) no_values)))
+
+-- what is read of a `CreateResponse`
+unfoldable pub read_create_response : {A : Type 0} → CreateResponse A → Value
+read_create_response x =
+    struct_value (codes "0x42007C") (
+    value (read_object_type x.object_type) (
+    value (newtype_value (codes "Transparent:0x420094") (text_value (string_bytes x.unique_identifier))) (
+    value (optional read_template_attribute x.template_attribute) no_values)))
+
+-- what is read of the bytes of a `CreateResponse`
+unfoldable pub returned_create_response : {A : Type 0} → CreateResponse A → Value
+returned_create_response x =
+    struct_value (codes "0x42007C") (
+    value (written_object_type x.object_type) (
+    value (newtype_value (codes "Transparent:0x420094") (text_value (string_bytes x.unique_identifier))) (
+    value (optional returned_template_attribute x.template_attribute) no_values)))
+
+-- the form of a `CreateKeyPairResponse`
+abbrev pub create_key_pair_response_form : Form
+create_key_pair_response_form =
+    struct (codes "0x42007C") (
+    field (codes "0x420066") (newtype (codes "Transparent:0x420066") text) (
+    field (codes "0x42006F") (newtype (codes "Transparent:0x42006F") text) (
+    field (codes "0x420065") (option private_key_template_attribute_form) (
+    field (codes "0x42006E") (option public_key_template_attribute_form) no_fields)))) true
+
+-- what is written of a `CreateKeyPairResponse`
+unfoldable pub written_create_key_pair_response : {A : Type 0} → CreateKeyPairResponse A → Value
+written_create_key_pair_response x =
+    struct_value (codes "0x42007C") (
+    value (newtype_value (codes "Transparent:0x420066") (text_value (string_bytes x.private_key_unique_identifier))) (
+    value (newtype_value (codes "Transparent:0x42006F") (text_value (string_bytes x.public_key_unique_identifier))) (
+    joined (told.optional (option_map written_private_key_template_attribute x.private_key)) (
+    joined (told.optional (option_map written_public_key_template_attribute x.public_key)) no_values))))
+
+-- what is read of a `CreateKeyPairResponse`
+unfoldable pub read_create_key_pair_response : {A : Type 0} → CreateKeyPairResponse A → Value
+read_create_key_pair_response x =
+    struct_value (codes "0x42007C") (
+    value (newtype_value (codes "Transparent:0x420066") (text_value (string_bytes x.private_key_unique_identifier))) (
+    value (newtype_value (codes "Transparent:0x42006F") (text_value (string_bytes x.public_key_unique_identifier))) (
+    value (optional read_private_key_template_attribute x.private_key) (
+    value (optional read_public_key_template_attribute x.public_key) no_values))))
+
+-- what is read of the bytes of a `CreateKeyPairResponse`
+unfoldable pub returned_create_key_pair_response : {A : Type 0} → CreateKeyPairResponse A → Value
+returned_create_key_pair_response x =
+    struct_value (codes "0x42007C") (
+    value (newtype_value (codes "Transparent:0x420066") (text_value (string_bytes x.private_key_unique_identifier))) (
+    value (newtype_value (codes "Transparent:0x42006F") (text_value (string_bytes x.public_key_unique_identifier))) (
+    value (optional returned_private_key_template_attribute x.private_key) (
+    value (optional returned_public_key_template_attribute x.public_key) no_values))))
+
+-- the form of a `RegisterResponse`
+abbrev pub register_response_form : Form
+register_response_form =
+    struct (codes "0x42007C") (
+    field (codes "0x420094") (newtype (codes "Transparent:0x420094") text) (
+    field (codes "0x420091") (option template_attribute_form) no_fields)) true
+
+-- what is written of a `RegisterResponse`
+unfoldable pub written_register_response : {A : Type 0} → RegisterResponse A → Value
+written_register_response x =
+    struct_value (codes "0x42007C") (
+    value (newtype_value (codes "Transparent:0x420094") (text_value (string_bytes x.unique_identifier))) (
+    joined (told.optional (option_map written_template_attribute x.template_attribute)) no_values))
+
+-- what is read of a `RegisterResponse`
+unfoldable pub read_register_response : {A : Type 0} → RegisterResponse A → Value
+read_register_response x =
+    struct_value (codes "0x42007C") (
+    value (newtype_value (codes "Transparent:0x420094") (text_value (string_bytes x.unique_identifier))) (
+    value (optional read_template_attribute x.template_attribute) no_values))
+
+-- what is read of the bytes of a `RegisterResponse`
+unfoldable pub returned_register_response : {A : Type 0} → RegisterResponse A → Value
+returned_register_response x =
+    struct_value (codes "0x42007C") (
+    value (newtype_value (codes "Transparent:0x420094") (text_value (string_bytes x.unique_identifier))) (
+    value (optional returned_template_attribute x.template_attribute) no_values))
+
+-- the form of a `LocateResponse`
+abbrev pub locate_response_form : Form
+locate_response_form =
+    struct (codes "0x42007C") (
+    field (codes "0x420094") (option (seq unique_identifier_form)) no_fields) true
+
+-- what is written of a `LocateResponse`
+unfoldable pub written_locate_response : {A : Type 0} → LocateResponse A → Value
+written_locate_response x =
+    struct_value (codes "0x42007C") (
+    value (sequence unique_identifier_value x.unique_identifiers.items) no_values)
+
+-- what is read of a `LocateResponse`
+unfoldable pub read_locate_response : {A : Type 0} → LocateResponse A → Value
+read_locate_response x =
+    struct_value (codes "0x42007C") (
+    value (optional_sequence unique_identifier_value x.unique_identifiers.items) no_values)
+
+-- the form of a `GetResponse`
+abbrev pub get_response_form : Form
+get_response_form =
+    struct (codes "0x42007C") (
+    field (codes "0x420057") object_type_form (
+    field (codes "0x420094") (newtype (codes "Transparent:0x420094") text) (
+    field (codes "0x420013") (option certificate_form) (
+    field (codes "0x42008F") (option symmetric_key_form) (
+    field (codes "0x42006D") (option public_key_form) (
+    field (codes "0x420064") (option private_key_form) (
+    field (codes "0x420089") (option split_key_form) (
+    field (codes "0x420090") (option template_form) (
+    field (codes "0x420085") (option secret_data_form) (
+    field (codes "0x42005B") (option opaque_object_form) no_fields)))))))))) true
+
+-- which `object` of a `GetResponse` is there, if it is exactly one
+abbrev pub IsGetResponseObject : {A : Type 0} → GetResponse A → Option (ManagedObject A) → Type 0
+IsGetResponseObject x None = (there x.certificate + (there x.symmetric_key + (there x.public_key + (there x.private_key + (there x.split_key + (there x.template + (there x.secret_data + there x.opaque_object)))))) ≡ 1) → ⊥
+IsGetResponseObject x (Some (managed_object.Certificate held)) = (x.certificate ≡ Some held.now) × (x.symmetric_key ≡ None) × (x.public_key ≡ None) × (x.private_key ≡ None) × (x.split_key ≡ None) × (x.template ≡ None) × (x.secret_data ≡ None) × (x.opaque_object ≡ None)
+IsGetResponseObject x (Some (managed_object.SymmetricKey held)) = (x.certificate ≡ None) × (x.symmetric_key ≡ Some held.now) × (x.public_key ≡ None) × (x.private_key ≡ None) × (x.split_key ≡ None) × (x.template ≡ None) × (x.secret_data ≡ None) × (x.opaque_object ≡ None)
+IsGetResponseObject x (Some (managed_object.PublicKey held)) = (x.certificate ≡ None) × (x.symmetric_key ≡ None) × (x.public_key ≡ Some held.now) × (x.private_key ≡ None) × (x.split_key ≡ None) × (x.template ≡ None) × (x.secret_data ≡ None) × (x.opaque_object ≡ None)
+IsGetResponseObject x (Some (managed_object.PrivateKey held)) = (x.certificate ≡ None) × (x.symmetric_key ≡ None) × (x.public_key ≡ None) × (x.private_key ≡ Some held.now) × (x.split_key ≡ None) × (x.template ≡ None) × (x.secret_data ≡ None) × (x.opaque_object ≡ None)
+IsGetResponseObject x (Some (managed_object.SplitKey held)) = (x.certificate ≡ None) × (x.symmetric_key ≡ None) × (x.public_key ≡ None) × (x.private_key ≡ None) × (x.split_key ≡ Some held.now) × (x.template ≡ None) × (x.secret_data ≡ None) × (x.opaque_object ≡ None)
+IsGetResponseObject x (Some (managed_object.Template held)) = (x.certificate ≡ None) × (x.symmetric_key ≡ None) × (x.public_key ≡ None) × (x.private_key ≡ None) × (x.split_key ≡ None) × (x.template ≡ Some held.now) × (x.secret_data ≡ None) × (x.opaque_object ≡ None)
+IsGetResponseObject x (Some (managed_object.SecretData held)) = (x.certificate ≡ None) × (x.symmetric_key ≡ None) × (x.public_key ≡ None) × (x.private_key ≡ None) × (x.split_key ≡ None) × (x.template ≡ None) × (x.secret_data ≡ Some held.now) × (x.opaque_object ≡ None)
+IsGetResponseObject x (Some (managed_object.OpaqueObject held)) = (x.certificate ≡ None) × (x.symmetric_key ≡ None) × (x.public_key ≡ None) × (x.private_key ≡ None) × (x.split_key ≡ None) × (x.template ≡ None) × (x.secret_data ≡ None) × (x.opaque_object ≡ Some held.now)
+
+-- what is written of a `GetResponse`
+unfoldable pub written_get_response : {A : Type 0} → GetResponse A → Value
+written_get_response x =
+    struct_value (codes "0x42007C") (
+    value (written_object_type x.object_type) (
+    value (newtype_value (codes "Transparent:0x420094") (text_value (string_bytes x.unique_identifier))) (
+    joined (told.optional (option_map written_certificate x.certificate)) (
+    joined (told.optional (option_map written_symmetric_key x.symmetric_key)) (
+    joined (told.optional (option_map written_public_key x.public_key)) (
+    joined (told.optional (option_map written_private_key x.private_key)) (
+    joined (told.optional (option_map written_split_key x.split_key)) (
+    joined (told.optional (option_map written_template x.template)) (
+    joined (told.optional (option_map written_secret_data x.secret_data)) (
+    joined (told.optional (option_map written_opaque_object x.opaque_object)) no_values))))))))))
+
+-- what is read of a `GetResponse`
+unfoldable pub read_get_response : {A : Type 0} → GetResponse A → Value
+read_get_response x =
+    struct_value (codes "0x42007C") (
+    value (read_object_type x.object_type) (
+    value (newtype_value (codes "Transparent:0x420094") (text_value (string_bytes x.unique_identifier))) (
+    value (optional read_certificate x.certificate) (
+    value (optional read_symmetric_key x.symmetric_key) (
+    value (optional read_public_key x.public_key) (
+    value (optional read_private_key x.private_key) (
+    value (optional read_split_key x.split_key) (
+    value (optional read_template x.template) (
+    value (optional read_secret_data x.secret_data) (
+    value (optional read_opaque_object x.opaque_object) no_values))))))))))
+
+-- what is read of the bytes of a `GetResponse`
+unfoldable pub returned_get_response : {A : Type 0} → GetResponse A → Value
+returned_get_response x =
+    struct_value (codes "0x42007C") (
+    value (written_object_type x.object_type) (
+    value (newtype_value (codes "Transparent:0x420094") (text_value (string_bytes x.unique_identifier))) (
+    value (optional returned_certificate x.certificate) (
+    value (optional returned_symmetric_key x.symmetric_key) (
+    value (optional returned_public_key x.public_key) (
+    value (optional returned_private_key x.private_key) (
+    value (optional returned_split_key x.split_key) (
+    value (optional returned_template x.template) (
+    value (optional returned_secret_data x.secret_data) (
+    value (optional returned_opaque_object x.opaque_object) no_values))))))))))
+
+-- the form of a `GetAttributesResponse`
+abbrev pub get_attributes_response_form : Form
+get_attributes_response_form =
+    struct (codes "0x42007C") (
+    field (codes "0x420094") (newtype (codes "Transparent:0x420094") text) (
+    field (codes "0x420008") (option (seq attribute_form)) no_fields)) true
+
+-- what is written of a `GetAttributesResponse`
+unfoldable pub written_get_attributes_response : {A : Type 0} → GetAttributesResponse A → Value
+written_get_attributes_response x =
+    struct_value (codes "0x42007C") (
+    value (newtype_value (codes "Transparent:0x420094") (text_value (string_bytes x.unique_identifier))) (
+    value (sequence written_attribute x.attributes.items) no_values))
+
+-- what is read of a `GetAttributesResponse`
+unfoldable pub read_get_attributes_response : {A : Type 0} → GetAttributesResponse A → Value
+read_get_attributes_response x =
+    struct_value (codes "0x42007C") (
+    value (newtype_value (codes "Transparent:0x420094") (text_value (string_bytes x.unique_identifier))) (
+    value (optional_sequence read_attribute x.attributes.items) no_values))
+
+-- what is read of the bytes of a `GetAttributesResponse`
+unfoldable pub returned_get_attributes_response : {A : Type 0} → GetAttributesResponse A → Value
+returned_get_attributes_response x =
+    struct_value (codes "0x42007C") (
+    value (newtype_value (codes "Transparent:0x420094") (text_value (string_bytes x.unique_identifier))) (
+    value (optional_sequence returned_attribute x.attributes.items) no_values))
+
+-- the form of a `GetAttributeListResponse`
+abbrev pub get_attribute_list_response_form : Form
+get_attribute_list_response_form =
+    struct (codes "0x42007C") (
+    field (codes "0x420094") (newtype (codes "Transparent:0x420094") text) (
+    field (codes "0x42000A") (option (seq attribute_name_form)) no_fields)) true
+
+-- what is written of a `GetAttributeListResponse`
+unfoldable pub written_get_attribute_list_response : {A : Type 0} → GetAttributeListResponse A → Value
+written_get_attribute_list_response x =
+    struct_value (codes "0x42007C") (
+    value (newtype_value (codes "Transparent:0x420094") (text_value (string_bytes x.unique_identifier))) (
+    value (sequence attribute_name_value x.attribute_names.items) no_values))
+
+-- what is read of a `GetAttributeListResponse`
+unfoldable pub read_get_attribute_list_response : {A : Type 0} → GetAttributeListResponse A → Value
+read_get_attribute_list_response x =
+    struct_value (codes "0x42007C") (
+    value (newtype_value (codes "Transparent:0x420094") (text_value (string_bytes x.unique_identifier))) (
+    value (optional_sequence attribute_name_value x.attribute_names.items) no_values))
+
+-- the form of a `AttributeResponse`
+abbrev pub attribute_response_form : Form
+attribute_response_form =
+    struct (codes "0x42007C") (
+    field (codes "0x420094") (newtype (codes "Transparent:0x420094") text) (
+    field (codes "0x420008") attribute_form no_fields)) true
+
+-- what is written of a `AttributeResponse`
+unfoldable pub written_attribute_response : {A : Type 0} → AttributeResponse A → Value
+written_attribute_response x =
+    struct_value (codes "0x42007C") (
+    value (newtype_value (codes "Transparent:0x420094") (text_value (string_bytes x.unique_identifier))) (
+    value (written_attribute x.attribute) no_values))
+
+-- what is read of a `AttributeResponse`
+unfoldable pub read_attribute_response : {A : Type 0} → AttributeResponse A → Value
+read_attribute_response x =
+    struct_value (codes "0x42007C") (
+    value (newtype_value (codes "Transparent:0x420094") (text_value (string_bytes x.unique_identifier))) (
+    value (read_attribute x.attribute) no_values))
+
+-- what is read of the bytes of a `AttributeResponse`
+unfoldable pub returned_attribute_response : {A : Type 0} → AttributeResponse A → Value
+returned_attribute_response x =
+    struct_value (codes "0x42007C") (
+    value (newtype_value (codes "Transparent:0x420094") (text_value (string_bytes x.unique_identifier))) (
+    value (returned_attribute x.attribute) no_values))
+
+-- the form of a `ObjectResponse`
+abbrev pub object_response_form : Form
+object_response_form =
+    struct (codes "0x42007C") (
+    field (codes "0x420094") (newtype (codes "Transparent:0x420094") text) no_fields) true
+
+-- the value of a `ObjectResponse`
+unfoldable pub object_response_value : {A : Type 0} → ObjectResponse A → Value
+object_response_value x =
+    struct_value (codes "0x42007C") (
+    value (newtype_value (codes "Transparent:0x420094") (text_value (string_bytes x.unique_identifier))) no_values)
+
+-- the form of a `ApplicationNamespace`
+abbrev pub application_namespace_form : Form
+application_namespace_form = (newtype (codes "Transparent:0x420003") text)
+
+-- the value of a `ApplicationNamespace`
+abbrev pub application_namespace_value : {A : Type 0} → ApplicationNamespace A → Value
+application_namespace_value x = newtype_value (codes "Transparent:0x420003") (text_value (string_bytes x.text))
+
+-- the form of a `QueryResponse`
+abbrev pub query_response_form : Form
+query_response_form =
+    struct (codes "0x42007C") (
+    field (codes "0x42005C") (option (seq operation_form)) (
+    field (codes "0x420057") (option (seq object_type_form)) (
+    field (codes "0x42009D") (option (newtype (codes "Transparent:0x42009D") text)) (
+    field (codes "0x420003") (option (seq application_namespace_form)) no_fields)))) true
+
+-- what is written of a `QueryResponse`
+unfoldable pub written_query_response : {A : Type 0} → QueryResponse A → Value
+written_query_response x =
+    struct_value (codes "0x42007C") (
+    value (sequence written_operation x.operations.items) (
+    value (sequence written_object_type x.object_types.items) (
+    joined (told.optional (option_map
+    (λ y. newtype_value (codes "Transparent:0x42009D") (text_value (string_bytes y))) x.vendor_identification)) (
+    value (sequence application_namespace_value x.application_namespaces.items) no_values))))
+
+-- what is read of a `QueryResponse`
+unfoldable pub read_query_response : {A : Type 0} → QueryResponse A → Value
+read_query_response x =
+    struct_value (codes "0x42007C") (
+    value (optional_sequence read_operation x.operations.items) (
+    value (optional_sequence read_object_type x.object_types.items) (
+    value (optional
+    (λ y. newtype_value (codes "Transparent:0x42009D") (text_value (string_bytes y))) x.vendor_identification) (
+    value (optional_sequence application_namespace_value x.application_namespaces.items) no_values))))
+
+-- what is read of the bytes of a `QueryResponse`
+unfoldable pub returned_query_response : {A : Type 0} → QueryResponse A → Value
+returned_query_response x =
+    struct_value (codes "0x42007C") (
+    value (optional_sequence written_operation x.operations.items) (
+    value (optional_sequence written_object_type x.object_types.items) (
+    value (optional
+    (λ y. newtype_value (codes "Transparent:0x42009D") (text_value (string_bytes y))) x.vendor_identification) (
+    value (optional_sequence application_namespace_value x.application_namespaces.items) no_values))))
+
+-- the form of a `DiscoverVersionsResponse`
+abbrev pub discover_versions_response_form : Form
+discover_versions_response_form =
+    struct (codes "0x42007C") (
+    field (codes "0x420069") (option (seq protocol_version_form)) no_fields) true
+
+-- what is written of a `DiscoverVersionsResponse`
+unfoldable pub written_discover_versions_response : {A : Type 0} → DiscoverVersionsResponse A → Value
+written_discover_versions_response x =
+    struct_value (codes "0x42007C") (
+    value (sequence protocol_version_value x.versions.items) no_values)
+
+-- what is read of a `DiscoverVersionsResponse`
+unfoldable pub read_discover_versions_response : {A : Type 0} → DiscoverVersionsResponse A → Value
+read_discover_versions_response x =
+    struct_value (codes "0x42007C") (
+    value (optional_sequence protocol_version_value x.versions.items) no_values)
+
+-- the variants of a `ResponsePayload` from `Activate` on
+abbrev pub response_payload_variants_10 : Variants
+response_payload_variants_10 =
+    variant (codes "if 0x42005C==0x00000012") (wrapped
+    object_response_form) (
+    variant (codes "if 0x42005C==0x00000013") (wrapped
+    object_response_form) (
+    variant (codes "if 0x42005C==0x00000014") (wrapped
+    object_response_form) (
+    variant (codes "if 0x42005C==0x00000018") (wrapped
+    query_response_form) (
+    variant (codes "if 0x42005C==0x0000001E") (wrapped
+    discover_versions_response_form) no_variants))))
+
+-- the variants of a `ResponsePayload` from `GetAttributes` on
+abbrev pub response_payload_variants_5 : Variants
+response_payload_variants_5 =
+    variant (codes "if 0x42005C==0x0000000B") (wrapped
+    get_attributes_response_form) (
+    variant (codes "if 0x42005C==0x0000000C") (wrapped
+    get_attribute_list_response_form) (
+    variant (codes "if 0x42005C==0x0000000D") (wrapped
+    attribute_response_form) (
+    variant (codes "if 0x42005C==0x0000000E") (wrapped
+    attribute_response_form) (
+    variant (codes "if 0x42005C==0x0000000F") (wrapped
+    attribute_response_form) response_payload_variants_10))))
+
+-- the form of a `ResponsePayload`
+abbrev pub response_payload_form : Form
+response_payload_form =
+    enum (codes "payload") (
+    variant (codes "if 0x42005C==0x00000001") (wrapped
+    create_response_form) (
+    variant (codes "if 0x42005C==0x00000002") (wrapped
+    create_key_pair_response_form) (
+    variant (codes "if 0x42005C==0x00000003") (wrapped
+    register_response_form) (
+    variant (codes "if 0x42005C==0x00000008") (wrapped
+    locate_response_form) (
+    variant (codes "if 0x42005C==0x0000000A") (wrapped
+    get_response_form) response_payload_variants_5)))))
+
+-- what is written of a `ResponsePayload`
+unfoldable pub written_response_payload : {A : Type 0} → ResponsePayload A → Value
+written_response_payload (response_payload.Create x) =
+    written_create_response x
+written_response_payload (response_payload.CreateKeyPair x) =
+    written_create_key_pair_response x
+written_response_payload (response_payload.Register x) =
+    written_register_response x
+written_response_payload (response_payload.Locate x) =
+    written_locate_response x
+written_response_payload (response_payload.Get x) =
+    written_get_response x
+written_response_payload (response_payload.GetAttributes x) =
+    written_get_attributes_response x
+written_response_payload (response_payload.GetAttributeList x) =
+    written_get_attribute_list_response x
+written_response_payload (response_payload.AddAttribute x) =
+    written_attribute_response x
+written_response_payload (response_payload.ModifyAttribute x) =
+    written_attribute_response x
+written_response_payload (response_payload.DeleteAttribute x) =
+    written_attribute_response x
+written_response_payload (response_payload.Activate x) =
+    object_response_value x
+written_response_payload (response_payload.Revoke x) =
+    object_response_value x
+written_response_payload (response_payload.Destroy x) =
+    object_response_value x
+written_response_payload (response_payload.Query x) =
+    written_query_response x
+written_response_payload (response_payload.DiscoverVersions x) =
+    written_discover_versions_response x
+
+-- what is read of a `ResponsePayload`, as an enum of this name
+abbrev pub response_payload_as : {A : Type 0} → List ℕ → ResponsePayload A → Value
+response_payload_as own (response_payload.Create x) =
+    newtype_variant_value own
+    (codes "if 0x42005C==0x00000001")
+    (read_create_response x)
+response_payload_as own (response_payload.CreateKeyPair x) =
+    newtype_variant_value own
+    (codes "if 0x42005C==0x00000002")
+    (read_create_key_pair_response x)
+response_payload_as own (response_payload.Register x) =
+    newtype_variant_value own
+    (codes "if 0x42005C==0x00000003")
+    (read_register_response x)
+response_payload_as own (response_payload.Locate x) =
+    newtype_variant_value own
+    (codes "if 0x42005C==0x00000008")
+    (read_locate_response x)
+response_payload_as own (response_payload.Get x) =
+    newtype_variant_value own
+    (codes "if 0x42005C==0x0000000A")
+    (read_get_response x)
+response_payload_as own (response_payload.GetAttributes x) =
+    newtype_variant_value own
+    (codes "if 0x42005C==0x0000000B")
+    (read_get_attributes_response x)
+response_payload_as own (response_payload.GetAttributeList x) =
+    newtype_variant_value own
+    (codes "if 0x42005C==0x0000000C")
+    (read_get_attribute_list_response x)
+response_payload_as own (response_payload.AddAttribute x) =
+    newtype_variant_value own
+    (codes "if 0x42005C==0x0000000D")
+    (read_attribute_response x)
+response_payload_as own (response_payload.ModifyAttribute x) =
+    newtype_variant_value own
+    (codes "if 0x42005C==0x0000000E")
+    (read_attribute_response x)
+response_payload_as own (response_payload.DeleteAttribute x) =
+    newtype_variant_value own
+    (codes "if 0x42005C==0x0000000F")
+    (read_attribute_response x)
+response_payload_as own (response_payload.Activate x) =
+    newtype_variant_value own
+    (codes "if 0x42005C==0x00000012")
+    (object_response_value x)
+response_payload_as own (response_payload.Revoke x) =
+    newtype_variant_value own
+    (codes "if 0x42005C==0x00000013")
+    (object_response_value x)
+response_payload_as own (response_payload.Destroy x) =
+    newtype_variant_value own
+    (codes "if 0x42005C==0x00000014")
+    (object_response_value x)
+response_payload_as own (response_payload.Query x) =
+    newtype_variant_value own
+    (codes "if 0x42005C==0x00000018")
+    (read_query_response x)
+response_payload_as own (response_payload.DiscoverVersions x) =
+    newtype_variant_value own
+    (codes "if 0x42005C==0x0000001E")
+    (read_discover_versions_response x)
+
+-- what is read of a `ResponsePayload`
+unfoldable pub read_response_payload : {A : Type 0} → ResponsePayload A → Value
+read_response_payload x = response_payload_as (codes "payload") x
+
+-- what is read of the bytes of a `ResponsePayload`
+unfoldable pub returned_response_payload : {A : Type 0} → ResponsePayload A → Value
+returned_response_payload (response_payload.Create x) =
+    newtype_variant_value (codes "payload")
+    (codes "if 0x42005C==0x00000001")
+    (returned_create_response x)
+returned_response_payload (response_payload.CreateKeyPair x) =
+    newtype_variant_value (codes "payload")
+    (codes "if 0x42005C==0x00000002")
+    (returned_create_key_pair_response x)
+returned_response_payload (response_payload.Register x) =
+    newtype_variant_value (codes "payload")
+    (codes "if 0x42005C==0x00000003")
+    (returned_register_response x)
+returned_response_payload (response_payload.Locate x) =
+    newtype_variant_value (codes "payload")
+    (codes "if 0x42005C==0x00000008")
+    (read_locate_response x)
+returned_response_payload (response_payload.Get x) =
+    newtype_variant_value (codes "payload")
+    (codes "if 0x42005C==0x0000000A")
+    (returned_get_response x)
+returned_response_payload (response_payload.GetAttributes x) =
+    newtype_variant_value (codes "payload")
+    (codes "if 0x42005C==0x0000000B")
+    (returned_get_attributes_response x)
+returned_response_payload (response_payload.GetAttributeList x) =
+    newtype_variant_value (codes "payload")
+    (codes "if 0x42005C==0x0000000C")
+    (read_get_attribute_list_response x)
+returned_response_payload (response_payload.AddAttribute x) =
+    newtype_variant_value (codes "payload")
+    (codes "if 0x42005C==0x0000000D")
+    (returned_attribute_response x)
+returned_response_payload (response_payload.ModifyAttribute x) =
+    newtype_variant_value (codes "payload")
+    (codes "if 0x42005C==0x0000000E")
+    (returned_attribute_response x)
+returned_response_payload (response_payload.DeleteAttribute x) =
+    newtype_variant_value (codes "payload")
+    (codes "if 0x42005C==0x0000000F")
+    (returned_attribute_response x)
+returned_response_payload (response_payload.Activate x) =
+    newtype_variant_value (codes "payload")
+    (codes "if 0x42005C==0x00000012")
+    (object_response_value x)
+returned_response_payload (response_payload.Revoke x) =
+    newtype_variant_value (codes "payload")
+    (codes "if 0x42005C==0x00000013")
+    (object_response_value x)
+returned_response_payload (response_payload.Destroy x) =
+    newtype_variant_value (codes "payload")
+    (codes "if 0x42005C==0x00000014")
+    (object_response_value x)
+returned_response_payload (response_payload.Query x) =
+    newtype_variant_value (codes "payload")
+    (codes "if 0x42005C==0x00000018")
+    (returned_query_response x)
+returned_response_payload (response_payload.DiscoverVersions x) =
+    newtype_variant_value (codes "payload")
+    (codes "if 0x42005C==0x0000001E")
+    (read_discover_versions_response x)
+
+-- what is said, if it is the text of 42005C, chooses what is in a `ResponsePayload`
+abbrev pub ChoosesResponsePayload : {A : Type 0} → List ℕ → ResponsePayload A → Type 0
+ChoosesResponsePayload said (response_payload.Create x) = (said ≡ codes "0x00000001")
+ChoosesResponsePayload said (response_payload.CreateKeyPair x) = (said ≡ codes "0x00000002")
+ChoosesResponsePayload said (response_payload.Register x) = (said ≡ codes "0x00000003")
+ChoosesResponsePayload said (response_payload.Locate x) = (said ≡ codes "0x00000008")
+ChoosesResponsePayload said (response_payload.Get x) = (said ≡ codes "0x0000000A")
+ChoosesResponsePayload said (response_payload.GetAttributes x) = (said ≡ codes "0x0000000B")
+ChoosesResponsePayload said (response_payload.GetAttributeList x) = (said ≡ codes "0x0000000C")
+ChoosesResponsePayload said (response_payload.AddAttribute x) = (said ≡ codes "0x0000000D")
+ChoosesResponsePayload said (response_payload.ModifyAttribute x) = (said ≡ codes "0x0000000E")
+ChoosesResponsePayload said (response_payload.DeleteAttribute x) = (said ≡ codes "0x0000000F")
+ChoosesResponsePayload said (response_payload.Activate x) = (said ≡ codes "0x00000012")
+ChoosesResponsePayload said (response_payload.Revoke x) = (said ≡ codes "0x00000013")
+ChoosesResponsePayload said (response_payload.Destroy x) = (said ≡ codes "0x00000014")
+ChoosesResponsePayload said (response_payload.Query x) = (said ≡ codes "0x00000018")
+ChoosesResponsePayload said (response_payload.DiscoverVersions x) = (said ≡ codes "0x0000001E")
+
+-- the same of an Enumeration's number
+abbrev pub ChoosesResponsePayloadNumber : {A : Type 0} → ℕ → ResponsePayload A → Type 0
+ChoosesResponsePayloadNumber n (response_payload.Create x) = (n ≡ 0x00000001)
+ChoosesResponsePayloadNumber n (response_payload.CreateKeyPair x) = (n ≡ 0x00000002)
+ChoosesResponsePayloadNumber n (response_payload.Register x) = (n ≡ 0x00000003)
+ChoosesResponsePayloadNumber n (response_payload.Locate x) = (n ≡ 0x00000008)
+ChoosesResponsePayloadNumber n (response_payload.Get x) = (n ≡ 0x0000000A)
+ChoosesResponsePayloadNumber n (response_payload.GetAttributes x) = (n ≡ 0x0000000B)
+ChoosesResponsePayloadNumber n (response_payload.GetAttributeList x) = (n ≡ 0x0000000C)
+ChoosesResponsePayloadNumber n (response_payload.AddAttribute x) = (n ≡ 0x0000000D)
+ChoosesResponsePayloadNumber n (response_payload.ModifyAttribute x) = (n ≡ 0x0000000E)
+ChoosesResponsePayloadNumber n (response_payload.DeleteAttribute x) = (n ≡ 0x0000000F)
+ChoosesResponsePayloadNumber n (response_payload.Activate x) = (n ≡ 0x00000012)
+ChoosesResponsePayloadNumber n (response_payload.Revoke x) = (n ≡ 0x00000013)
+ChoosesResponsePayloadNumber n (response_payload.Destroy x) = (n ≡ 0x00000014)
+ChoosesResponsePayloadNumber n (response_payload.Query x) = (n ≡ 0x00000018)
+ChoosesResponsePayloadNumber n (response_payload.DiscoverVersions x) = (n ≡ 0x0000001E)
+
+-- the form of a `ResultStatus`: any number
+abbrev pub result_status_form : Form
+result_status_form = newtype (codes "Transparent:0x42007F") any_number
+
+-- the numbers that have a name
+abbrev pub result_status_numbers : List ℕ
+result_status_numbers =
+    0x00000000
+    ∷ 0x00000001
+    ∷ 0x00000002
+    ∷ 0x00000003
+    ∷ []
+
+-- the number of a `ResultStatus`
+abbrev pub result_status_number : ResultStatus → ℕ
+result_status_number result_status.Success = 0x00000000
+result_status_number result_status.OperationFailed = 0x00000001
+result_status_number result_status.OperationPending = 0x00000002
+result_status_number result_status.OperationUndone = 0x00000003
+result_status_number (result_status.Other n) = n
+
+-- the number that a `ResultStatus` is read from; `Other` with a number that has a name is read from none
+abbrev pub result_status_read_number : ResultStatus → Option ℕ
+result_status_read_number (result_status.Other n) = other_number result_status_numbers n
+result_status_read_number x = Some (result_status_number x)
+
+-- what is written of a `ResultStatus`
+unfoldable pub written_result_status : ResultStatus → Value
+written_result_status x = newtype_value (codes "Transparent:0x42007F") (u32_value (result_status_number x))
+
+-- what is read of a `ResultStatus`
+unfoldable pub read_result_status : ResultStatus → Value
+read_result_status x = newtype_value (codes "Transparent:0x42007F") (numbered_value (result_status_read_number x))
+
+-- the form of a `ResultReason`: any number
+abbrev pub result_reason_form : Form
+result_reason_form = newtype (codes "Transparent:0x42007E") any_number
+
+-- the numbers that have a name
+abbrev pub result_reason_numbers : List ℕ
+result_reason_numbers =
+    0x00000001
+    ∷ 0x00000002
+    ∷ 0x00000003
+    ∷ 0x00000004
+    ∷ 0x00000005
+    ∷ 0x00000006
+    ∷ 0x00000007
+    ∷ 0x00000008
+    ∷ 0x00000009
+    ∷ 0x0000000A
+    ∷ 0x0000000B
+    ∷ 0x0000000C
+    ∷ 0x0000000D
+    ∷ 0x0000000E
+    ∷ 0x0000000F
+    ∷ 0x00000010
+    ∷ 0x00000011
+    ∷ 0x00000100
+    ∷ []
+
+-- the number of a `ResultReason`
+abbrev pub result_reason_number : ResultReason → ℕ
+result_reason_number result_reason.ItemNotFound = 0x00000001
+result_reason_number result_reason.ResponseTooLarge = 0x00000002
+result_reason_number result_reason.AuthenticationNotSuccessful = 0x00000003
+result_reason_number result_reason.InvalidMessage = 0x00000004
+result_reason_number result_reason.OperationNotSupported = 0x00000005
+result_reason_number result_reason.MissingData = 0x00000006
+result_reason_number result_reason.InvalidField = 0x00000007
+result_reason_number result_reason.FeatureNotSupported = 0x00000008
+result_reason_number result_reason.OperationCanceledByRequester = 0x00000009
+result_reason_number result_reason.CryptographicFailure = 0x0000000A
+result_reason_number result_reason.IllegalOperation = 0x0000000B
+result_reason_number result_reason.PermissionDenied = 0x0000000C
+result_reason_number result_reason.ObjectArchived = 0x0000000D
+result_reason_number result_reason.IndexOutOfBounds = 0x0000000E
+result_reason_number result_reason.ApplicationNamespaceNotSupported = 0x0000000F
+result_reason_number result_reason.KeyFormatTypeNotSupported = 0x00000010
+result_reason_number result_reason.KeyCompressionTypeNotSupported = 0x00000011
+result_reason_number result_reason.GeneralFailure = 0x00000100
+result_reason_number (result_reason.Other n) = n
+
+-- the number that a `ResultReason` is read from; `Other` with a number that has a name is read from none
+abbrev pub result_reason_read_number : ResultReason → Option ℕ
+result_reason_read_number (result_reason.Other n) = other_number result_reason_numbers n
+result_reason_read_number x = Some (result_reason_number x)
+
+-- what is written of a `ResultReason`
+unfoldable pub written_result_reason : ResultReason → Value
+written_result_reason x = newtype_value (codes "Transparent:0x42007E") (u32_value (result_reason_number x))
+
+-- what is read of a `ResultReason`
+unfoldable pub read_result_reason : ResultReason → Value
+read_result_reason x = newtype_value (codes "Transparent:0x42007E") (numbered_value (result_reason_read_number x))
+
+-- the form of a `ResponseItem`
+abbrev pub response_item_form : Form
+response_item_form =
+    struct (codes "0x42000F") (
+    field (codes "0x42005C") (option operation_form) (
+    field (codes "0x420093") (option (newtype (codes "Transparent:0x420093") octets)) (
+    field (codes "0x42007F") result_status_form (
+    field (codes "0x42007E") (option result_reason_form) (
+    field (codes "0x42007D") (option (newtype (codes "Transparent:0x42007D") text)) (
+    field (codes "0x420006") (option (newtype (codes "Transparent:0x420006") octets)) (
+    field (codes "0x42007C") (option response_payload_form) (
+    field (codes "0x420051") (option message_extension_form) no_fields)))))))) true
+
+-- what is written of a `ResponseItem`
+unfoldable pub written_response_item : {A : Type 0} → ResponseItem A → Value
+written_response_item x =
+    struct_value (codes "0x42000F") (
+    joined (told.optional (option_map written_operation x.operation)) (
+    joined (told.optional (option_map
+    (λ y. newtype_value (codes "Transparent:0x420093") (bytes_value y.items)) x.unique_batch_item_id)) (
+    value (written_result_status x.result_status) (
+    joined (told.optional (option_map written_result_reason x.result_reason)) (
+    joined (told.optional (option_map
+    (λ y. newtype_value (codes "Transparent:0x42007D") (text_value (string_bytes y))) x.result_message)) (
+    joined (told.optional (option_map
+    (λ y. newtype_value (codes "Transparent:0x420006") (bytes_value y.items)) x.asynchronous_correlation_value)) (
+    joined (told.optional (option_map written_response_payload x.payload)) (
+    joined (told.optional (option_map message_extension_value x.message_extension)) no_values))))))))
+
+-- what is read of a `ResponseItem`
+unfoldable pub read_response_item : {A : Type 0} → ResponseItem A → Value
+read_response_item x =
+    struct_value (codes "0x42000F") (
+    value (optional read_operation x.operation) (
+    value (optional
+    (λ y. newtype_value (codes "Transparent:0x420093") (bytes_value y.items)) x.unique_batch_item_id) (
+    value (read_result_status x.result_status) (
+    value (optional read_result_reason x.result_reason) (
+    value (optional
+    (λ y. newtype_value (codes "Transparent:0x42007D") (text_value (string_bytes y))) x.result_message) (
+    value (optional
+    (λ y. newtype_value (codes "Transparent:0x420006") (bytes_value y.items)) x.asynchronous_correlation_value) (
+    value (optional read_response_payload x.payload) (
+    value (optional message_extension_value x.message_extension) no_values))))))))
+
+-- what is read of the bytes of a `ResponseItem`
+unfoldable pub returned_response_item : {A : Type 0} → ResponseItem A → Value
+returned_response_item x =
+    struct_value (codes "0x42000F") (
+    value (optional written_operation x.operation) (
+    value (optional
+    (λ y. newtype_value (codes "Transparent:0x420093") (bytes_value y.items)) x.unique_batch_item_id) (
+    value (written_result_status x.result_status) (
+    value (optional written_result_reason x.result_reason) (
+    value (optional
+    (λ y. newtype_value (codes "Transparent:0x42007D") (text_value (string_bytes y))) x.result_message) (
+    value (optional
+    (λ y. newtype_value (codes "Transparent:0x420006") (bytes_value y.items)) x.asynchronous_correlation_value) (
+    value (optional returned_response_payload x.payload) (
+    value (optional message_extension_value x.message_extension) no_values))))))))
+
+-- the form of a `Response`
+abbrev pub response_form : Form
+response_form =
+    struct (codes "0x42007B") (
+    field (codes "0x42007A") response_header_form (
+    field (codes "0x42000F") (seq response_item_form) no_fields)) true
+
+-- what is written of a `Response`
+unfoldable pub written_response : {A : Type 0} → Response A → Value
+written_response x =
+    struct_value (codes "0x42007B") (
+    value (response_header_value x.header) (
+    value (sequence written_response_item x.items.items) no_values))
+
+-- what is read of a `Response`
+unfoldable pub read_response : {A : Type 0} → Response A → Value
+read_response x =
+    struct_value (codes "0x42007B") (
+    value (response_header_value x.header) (
+    value (sequence read_response_item x.items.items) no_values))
+
+-- what is read of the bytes of a `Response`
+unfoldable pub returned_response : {A : Type 0} → Response A → Value
+returned_response x =
+    struct_value (codes "0x42007B") (
+    value (response_header_value x.header) (
+    value (sequence returned_response_item x.items.items) no_values))

@@ -1,0 +1,2310 @@
+// Written by codegen from types.table: change that, and run codegen/codegen.
+//! What is asked for (KMIP 1.0, section 4).
+
+ghost use Rattle.std.specs.Prelude.{◌≡◌, ◌↔◌, ◌==◌, refl, IsTrue, List, Some, codes, true, ℕ};
+ghost use Rattle.std.proofs.Common.{rules};
+ghost use Rattle.std.specs.Cmp.Rules.{comparing};
+ghost use Rattle.std.specs.Ordering.{on};
+ghost use Rattle.kmip_ttlv.specs.Spots.{fields_in, struct_fields};
+ghost use Rattle.kmip_messages.specs.Requests.{create_request_form, written_create_request, read_create_request, create_key_pair_request_form, written_create_key_pair_request, read_create_key_pair_request, register_request_form, written_register_request, read_register_request, IsRegisterRequestObject, maximum_items_form, maximum_items_value, storage_status_mask_form, storage_status_mask_value, locate_request_form, written_locate_request, read_locate_request, key_wrapping_specification_form, written_key_wrapping_specification, read_key_wrapping_specification, get_request_form, written_get_request, read_get_request, get_attributes_request_form, written_get_attributes_request, read_get_attributes_request, attribute_request_form, written_attribute_request, read_attribute_request, delete_attribute_request_form, written_delete_attribute_request, read_delete_attribute_request, object_request_form, written_object_request, read_object_request, revocation_reason_given_form, written_revocation_reason_given, read_revocation_reason_given, compromise_occurrence_date_form, compromise_occurrence_date_value, revoke_request_form, written_revoke_request, read_revoke_request, query_function_form, written_query_function, read_query_function, query_function_number, query_function_read_number, query_request_form, written_query_request, read_query_request, discover_versions_request_form, written_discover_versions_request, read_discover_versions_request, request_payload_form, written_request_payload, read_request_payload, ChoosesRequestPayload, request_payload_as, request_payload_variants_5, request_payload_variants_10, ChoosesRequestPayloadNumber, request_item_form, written_request_item, read_request_item, request_form, written_request, read_request};
+
+use crate::header::{MessageExtension, Operation, ProtocolVersion, RequestHeader};
+use crate::template::{
+    CommonTemplateAttribute, PrivateKeyTemplateAttribute, PublicKeyTemplateAttribute,
+    TemplateAttribute,
+};
+use kmip_attributes::attribute::{Attribute, AttributeIndex, AttributeName};
+use kmip_attributes::values::{KeyFormatType, ObjectType, RevocationReasonCode};
+use kmip_objects::key::{
+    EncodingOption, EncryptionKeyInformation, KeyCompressionType, MacSignatureKeyInformation,
+    WrappingMethod,
+};
+use kmip_objects::object::{
+    Certificate, ManagedObject, OpaqueObject, PrivateKey, PublicKey, SecretData, SplitKey,
+    SymmetricKey, Template,
+};
+use kmip_ttlv::messages::writing;
+use kmip_ttlv::shape::{Decode, Serialize};
+use kmip_ttlv::types::TtlvType;
+use kmip_ttlv::visit::Visitor;
+use kmip_ttlv::{error, reader};
+use std::alloc::{AllocError, Allocator, Global};
+use std::marker::PhantomData;
+
+/// A symmetric key is to be made (section 4.1).
+#[derive(Drop)]
+#[derive_where(PartialEq)]
+pub struct CreateRequest<A: Allocator = Global> {
+    /// What it is.
+    pub object_type: ObjectType,
+    /// What it is made with.
+    pub template_attribute: TemplateAttribute<A>,
+}
+
+impl<B: Allocator> Serialize for CreateRequest<B> {
+    ghost stated = { written_create_request };
+
+    #[tactic(auto, unfolding(crate::specs::Requests::written_create_request))]
+    fn visit<V: Visitor>(&self, visitor: &mut V) -> Result<(), AllocError> {
+        writing::begin_struct(visitor, "0x420079")?;
+        self.object_type.visit(visitor)?;
+        self.template_attribute.visit(visitor)?;
+        writing::end_struct(visitor, "0x420079")?;
+        Ok(())
+    }
+}
+
+impl<A: Allocator + Copy> reader::ReadStructure<A> for CreateRequest<A> {
+    ghost TAG = { 0x420079 };
+
+    ghost DENIES_UNKNOWN = { true };
+
+    ghost values = { λ x. fields_in (read_create_request x) };
+
+    type Fields = (
+        reader::Item<ObjectType, 0x420057>,
+        (reader::Nested<TemplateAttribute<A>>, ()),
+    );
+
+    const TAG: u32 = 0x420079;
+
+    const DENIES_UNKNOWN: bool = true;
+
+    #[tactic(auto, unfolding(kmip_ttlv_types::specs::Digits::six_digits, crate::specs::Requests::read_create_request, crate::specs::Templates::read_template_attribute))]
+    fn from_fields(fields: (ObjectType, (TemplateAttribute<A>, ()))) -> Self {
+        let (object_type, (template_attribute, ())) = fields;
+        CreateRequest {
+            object_type,
+            template_attribute,
+        }
+    }
+}
+
+impl<A: Allocator + Copy> reader::ReadNested<A> for CreateRequest<A> {
+    ghost TAG = { 0x420079 };
+
+    ghost fields = { struct_fields create_request_form };
+
+    ghost denies_unknown = { true };
+
+    ghost values = { λ x. fields_in (read_create_request x) };
+
+    const TAG: u32 = 0x420079;
+
+    #[tactic(auto, unfolding(kmip_ttlv_types::specs::Digits::six_digits, crate::specs::Requests::read_create_request))]
+    fn read_nested<'b>(
+        scope: &reader::Scope<'b, A>,
+        cursor: &mut reader::Cursor<'b, A>,
+    ) -> reader::Step<Self, A> {
+        reader::read_form(scope, cursor)
+    }
+}
+
+/// A public and a private key are to be made (section 4.2).
+#[derive(Drop)]
+#[derive_where(PartialEq)]
+pub struct CreateKeyPairRequest<A: Allocator = Global> {
+    /// What both are made with.
+    pub common: Option<CommonTemplateAttribute<A>>,
+    /// What the private key is made with.
+    pub private_key: Option<PrivateKeyTemplateAttribute<A>>,
+    /// What the public key is made with.
+    pub public_key: Option<PublicKeyTemplateAttribute<A>>,
+}
+
+impl<B: Allocator> Serialize for CreateKeyPairRequest<B> {
+    ghost stated = { written_create_key_pair_request };
+
+    fn visit<V: Visitor>(&self, visitor: &mut V) -> Result<(), AllocError> {
+        writing::begin_struct(visitor, "0x420079")?;
+        writing::option(visitor, &self.common)?;
+        writing::option(visitor, &self.private_key)?;
+        writing::option(visitor, &self.public_key)?;
+        writing::end_struct(visitor, "0x420079")?;
+        Ok(())
+    }
+}
+
+impl<A: Allocator + Copy> reader::ReadStructure<A> for CreateKeyPairRequest<A> {
+    ghost TAG = { 0x420079 };
+
+    ghost DENIES_UNKNOWN = { true };
+
+    ghost values = { λ x. fields_in (read_create_key_pair_request x) };
+
+    type Fields = (
+        reader::OptionalNested<CommonTemplateAttribute<A>>,
+        (
+            reader::OptionalNested<PrivateKeyTemplateAttribute<A>>,
+            (reader::OptionalNested<PublicKeyTemplateAttribute<A>>, ()),
+        ),
+    );
+
+    const TAG: u32 = 0x420079;
+
+    const DENIES_UNKNOWN: bool = true;
+
+    #[tactic(auto, unfolding(kmip_ttlv_types::specs::Digits::six_digits, crate::specs::Requests::read_create_key_pair_request, crate::specs::Templates::read_common_template_attribute, crate::specs::Templates::read_private_key_template_attribute, crate::specs::Templates::read_public_key_template_attribute))]
+    fn from_fields(
+        fields: (
+            Option<CommonTemplateAttribute<A>>,
+            (
+                Option<PrivateKeyTemplateAttribute<A>>,
+                (Option<PublicKeyTemplateAttribute<A>>, ()),
+            ),
+        ),
+    ) -> Self {
+        let (common, (private_key, (public_key, ()))) = fields;
+        CreateKeyPairRequest {
+            common,
+            private_key,
+            public_key,
+        }
+    }
+}
+
+impl<A: Allocator + Copy> reader::ReadNested<A> for CreateKeyPairRequest<A> {
+    ghost TAG = { 0x420079 };
+
+    ghost fields = { struct_fields create_key_pair_request_form };
+
+    ghost denies_unknown = { true };
+
+    ghost values = { λ x. fields_in (read_create_key_pair_request x) };
+
+    const TAG: u32 = 0x420079;
+
+    #[tactic(auto, unfolding(kmip_ttlv_types::specs::Digits::six_digits, crate::specs::Requests::read_create_key_pair_request))]
+    fn read_nested<'b>(
+        scope: &reader::Scope<'b, A>,
+        cursor: &mut reader::Cursor<'b, A>,
+    ) -> reader::Step<Self, A> {
+        reader::read_form(scope, cursor)
+    }
+}
+
+/// An object is to be kept (section 4.3).
+#[derive(Drop)]
+#[derive_where(PartialEq)]
+pub struct RegisterRequest<A: Allocator = Global> {
+    /// What it is.
+    pub object_type: ObjectType,
+    /// What is to be known of it.
+    pub template_attribute: TemplateAttribute<A>,
+    /// A certificate.
+    pub certificate: Option<Certificate<A>>,
+    /// A symmetric key.
+    pub symmetric_key: Option<SymmetricKey<A>>,
+    /// A public key.
+    pub public_key: Option<PublicKey<A>>,
+    /// A private key.
+    pub private_key: Option<PrivateKey<A>>,
+    /// One of the parts that a key was split into.
+    pub split_key: Option<SplitKey<A>>,
+    /// Attributes that other objects are made with.
+    pub template: Option<Template<A>>,
+    /// A secret that is no key.
+    pub secret_data: Option<SecretData<A>>,
+    /// Bytes that the server doesn't interpret.
+    pub opaque_object: Option<OpaqueObject<A>>,
+}
+
+impl<A: Allocator> RegisterRequest<A> {
+    /// The object. None if none is there, or more than one.
+    pub fn object(&self) -> Option<ManagedObject<'_, A>>
+        ensures { IsRegisterRequestObject self.now result }
+    {
+        match (
+            &self.certificate,
+            &self.symmetric_key,
+            &self.public_key,
+            &self.private_key,
+            &self.split_key,
+            &self.template,
+            &self.secret_data,
+            &self.opaque_object,
+        ) {
+            (Some(held), None, None, None, None, None, None, None) => Some(
+                ManagedObject::Certificate(held),
+            ),
+            (None, Some(held), None, None, None, None, None, None) => Some(
+                ManagedObject::SymmetricKey(held),
+            ),
+            (None, None, Some(held), None, None, None, None, None) => Some(ManagedObject::PublicKey(
+                held,
+            )),
+            (None, None, None, Some(held), None, None, None, None) => Some(
+                ManagedObject::PrivateKey(held),
+            ),
+            (None, None, None, None, Some(held), None, None, None) => Some(ManagedObject::SplitKey(
+                held,
+            )),
+            (None, None, None, None, None, Some(held), None, None) => Some(ManagedObject::Template(
+                held,
+            )),
+            (None, None, None, None, None, None, Some(held), None) => Some(
+                ManagedObject::SecretData(held),
+            ),
+            (None, None, None, None, None, None, None, Some(held)) => Some(
+                ManagedObject::OpaqueObject(held),
+            ),
+            _ => None,
+        }
+    }
+}
+
+impl<B: Allocator> Serialize for RegisterRequest<B> {
+    ghost stated = { written_register_request };
+
+    fn visit<V: Visitor>(&self, visitor: &mut V) -> Result<(), AllocError> {
+        writing::begin_struct(visitor, "0x420079")?;
+        self.object_type.visit(visitor)?;
+        self.template_attribute.visit(visitor)?;
+        writing::option(visitor, &self.certificate)?;
+        writing::option(visitor, &self.symmetric_key)?;
+        writing::option(visitor, &self.public_key)?;
+        writing::option(visitor, &self.private_key)?;
+        writing::option(visitor, &self.split_key)?;
+        writing::option(visitor, &self.template)?;
+        writing::option(visitor, &self.secret_data)?;
+        writing::option(visitor, &self.opaque_object)?;
+        writing::end_struct(visitor, "0x420079")?;
+        Ok(())
+    }
+}
+
+impl<A: Allocator + Copy> reader::ReadStructure<A> for RegisterRequest<A> {
+    ghost TAG = { 0x420079 };
+
+    ghost DENIES_UNKNOWN = { true };
+
+    ghost values = { λ x. fields_in (read_register_request x) };
+
+    type Fields = reader::Four<
+        reader::Item<ObjectType, 0x420057>,
+        reader::Nested<TemplateAttribute<A>>,
+        reader::OptionalNested<Certificate<A>>,
+        reader::OptionalNested<SymmetricKey<A>>,
+        reader::Four<
+            reader::OptionalNested<PublicKey<A>>,
+            reader::OptionalNested<PrivateKey<A>>,
+            reader::OptionalNested<SplitKey<A>>,
+            reader::OptionalNested<Template<A>>,
+            (
+                reader::OptionalNested<SecretData<A>>,
+                (reader::OptionalNested<OpaqueObject<A>>, ()),
+            ),
+        >,
+    >;
+
+    const TAG: u32 = 0x420079;
+
+    const DENIES_UNKNOWN: bool = true;
+
+    #[tactic(auto, unfolding(kmip_ttlv_types::specs::Digits::six_digits, crate::specs::Requests::read_register_request, crate::specs::Templates::read_template_attribute, kmip_objects::specs::Objects::read_certificate, kmip_objects::specs::Objects::read_symmetric_key, kmip_objects::specs::Objects::read_public_key, kmip_objects::specs::Objects::read_private_key, kmip_objects::specs::Objects::read_split_key, kmip_objects::specs::Objects::read_template, kmip_objects::specs::Objects::read_secret_data, kmip_objects::specs::Objects::read_opaque_object))]
+    fn from_fields(
+        fields: (
+            ObjectType,
+            (
+                TemplateAttribute<A>,
+                (
+                    Option<Certificate<A>>,
+                    (
+                        Option<SymmetricKey<A>>,
+                        (
+                            Option<PublicKey<A>>,
+                            (
+                                Option<PrivateKey<A>>,
+                                (
+                                    Option<SplitKey<A>>,
+                                    (
+                                        Option<Template<A>>,
+                                        (Option<SecretData<A>>, (Option<OpaqueObject<A>>, ())),
+                                    ),
+                                ),
+                            ),
+                        ),
+                    ),
+                ),
+            ),
+        ),
+    ) -> Self {
+        let (
+            object_type,
+            (
+                template_attribute,
+                (
+                    certificate,
+                    (
+                        symmetric_key,
+                        (
+                            public_key,
+                            (
+                                private_key,
+                                (split_key, (template, (secret_data, (opaque_object, ())))),
+                            ),
+                        ),
+                    ),
+                ),
+            ),
+        ) = fields;
+        RegisterRequest {
+            object_type,
+            template_attribute,
+            certificate,
+            symmetric_key,
+            public_key,
+            private_key,
+            split_key,
+            template,
+            secret_data,
+            opaque_object,
+        }
+    }
+}
+
+impl<A: Allocator + Copy> reader::ReadNested<A> for RegisterRequest<A> {
+    ghost TAG = { 0x420079 };
+
+    ghost fields = { struct_fields register_request_form };
+
+    ghost denies_unknown = { true };
+
+    ghost values = { λ x. fields_in (read_register_request x) };
+
+    const TAG: u32 = 0x420079;
+
+    #[tactic(auto, unfolding(kmip_ttlv_types::specs::Digits::six_digits, crate::specs::Requests::read_register_request))]
+    fn read_nested<'b>(
+        scope: &reader::Scope<'b, A>,
+        cursor: &mut reader::Cursor<'b, A>,
+    ) -> reader::Step<Self, A> {
+        reader::read_form(scope, cursor)
+    }
+}
+
+/// How many objects are named at most.
+#[derive(Clone, Copy, PartialEq, Eq)]
+pub struct MaximumItems {
+    /// What it holds.
+    pub count: i32,
+}
+
+impl Serialize for MaximumItems {
+    ghost stated = { maximum_items_value };
+
+    fn visit<V: Visitor>(&self, visitor: &mut V) -> Result<(), AllocError> {
+        writing::integer(visitor, "Transparent:0x42004F", self.count)?;
+        Ok(())
+    }
+}
+
+impl<A: Allocator + Copy> reader::ReadItem<A> for MaximumItems {
+    ghost form = { maximum_items_form };
+
+    ghost value = { maximum_items_value };
+
+    ghost plain = { (refl, refl) };
+
+    #[tactic(auto, unfolding(kmip_ttlv_types::specs::Digits::six_digits))]
+    fn read_item<'b>(
+        scope: &reader::Scope<'b, A>,
+        cursor: &mut reader::Cursor<'b, A>,
+    ) -> reader::Step<Self, A> {
+        let count = cursor.wrapped_leaf(scope, 0x42004F)?;
+        Ok(MaximumItems { count })
+    }
+}
+
+/// Where objects are kept, by flags: online, archived, destroyed.
+#[derive(Clone, Copy, PartialEq, Eq)]
+pub struct StorageStatusMask {
+    /// What it holds.
+    pub mask: i32,
+}
+
+impl Serialize for StorageStatusMask {
+    ghost stated = { storage_status_mask_value };
+
+    fn visit<V: Visitor>(&self, visitor: &mut V) -> Result<(), AllocError> {
+        writing::integer(visitor, "Transparent:0x42008E", self.mask)?;
+        Ok(())
+    }
+}
+
+impl<A: Allocator + Copy> reader::ReadItem<A> for StorageStatusMask {
+    ghost form = { storage_status_mask_form };
+
+    ghost value = { storage_status_mask_value };
+
+    ghost plain = { (refl, refl) };
+
+    #[tactic(auto, unfolding(kmip_ttlv_types::specs::Digits::six_digits))]
+    fn read_item<'b>(
+        scope: &reader::Scope<'b, A>,
+        cursor: &mut reader::Cursor<'b, A>,
+    ) -> reader::Step<Self, A> {
+        let mask = cursor.wrapped_leaf(scope, 0x42008E)?;
+        Ok(StorageStatusMask { mask })
+    }
+}
+
+/// Which objects are sought (section 4.8).
+#[derive(Drop)]
+#[derive_where(PartialEq)]
+pub struct LocateRequest<A: Allocator = Global> {
+    /// How many at most.
+    pub maximum_items: Option<MaximumItems>,
+    /// Where they are kept.
+    pub storage_status_mask: Option<StorageStatusMask>,
+    /// What each of them has; without any, all objects are sought.
+    pub attributes: Vec<Attribute<A>, A>,
+}
+
+impl<B: Allocator> Serialize for LocateRequest<B> {
+    ghost stated = { written_locate_request };
+
+    fn visit<V: Visitor>(&self, visitor: &mut V) -> Result<(), AllocError> {
+        writing::begin_struct(visitor, "0x420079")?;
+        writing::option(visitor, &self.maximum_items)?;
+        writing::option(visitor, &self.storage_status_mask)?;
+        writing::several(visitor, &self.attributes)?;
+        writing::end_struct(visitor, "0x420079")?;
+        Ok(())
+    }
+}
+
+impl<A: Allocator + Copy> reader::ReadStructure<A> for LocateRequest<A> {
+    ghost TAG = { 0x420079 };
+
+    ghost DENIES_UNKNOWN = { true };
+
+    ghost values = { λ x. fields_in (read_locate_request x) };
+
+    type Fields = (
+        reader::OptionalItem<MaximumItems, 0x42004F>,
+        (
+            reader::OptionalItem<StorageStatusMask, 0x42008E>,
+            (reader::OptionalSeveral<Attribute<A>>, ()),
+        ),
+    );
+
+    const TAG: u32 = 0x420079;
+
+    const DENIES_UNKNOWN: bool = true;
+
+    #[tactic(auto, unfolding(kmip_ttlv_types::specs::Digits::six_digits, crate::specs::Requests::read_locate_request, kmip_attributes::specs::Attributes::read_attribute))]
+    fn from_fields(
+        fields: (
+            Option<MaximumItems>,
+            (Option<StorageStatusMask>, (Vec<Attribute<A>, A>, ())),
+        ),
+    ) -> Self {
+        let (maximum_items, (storage_status_mask, (attributes, ()))) = fields;
+        LocateRequest {
+            maximum_items,
+            storage_status_mask,
+            attributes,
+        }
+    }
+}
+
+impl<A: Allocator + Copy> reader::ReadNested<A> for LocateRequest<A> {
+    ghost TAG = { 0x420079 };
+
+    ghost fields = { struct_fields locate_request_form };
+
+    ghost denies_unknown = { true };
+
+    ghost values = { λ x. fields_in (read_locate_request x) };
+
+    const TAG: u32 = 0x420079;
+
+    #[tactic(auto, unfolding(kmip_ttlv_types::specs::Digits::six_digits, crate::specs::Requests::read_locate_request))]
+    fn read_nested<'b>(
+        scope: &reader::Scope<'b, A>,
+        cursor: &mut reader::Cursor<'b, A>,
+    ) -> reader::Step<Self, A> {
+        reader::read_form(scope, cursor)
+    }
+}
+
+/// How a key is to be wrapped (section 2.1.6).
+#[derive(Drop)]
+#[derive_where(PartialEq)]
+pub struct KeyWrappingSpecification<A: Allocator = Global> {
+    /// What is to be done.
+    pub wrapping_method: WrappingMethod,
+    /// What it is to be encrypted by.
+    pub encryption_key_information: Option<EncryptionKeyInformation<A>>,
+    /// What is to make the MAC or the signature.
+    pub mac_signature_key_information: Option<MacSignatureKeyInformation<A>>,
+    /// Which attributes are wrapped with it.
+    pub attribute_names: Vec<AttributeName<A>, A>,
+    /// What is encrypted (KMIP 1.1).
+    pub encoding_option: Option<EncodingOption>,
+}
+
+impl<B: Allocator> Serialize for KeyWrappingSpecification<B> {
+    ghost stated = { written_key_wrapping_specification };
+
+    fn visit<V: Visitor>(&self, visitor: &mut V) -> Result<(), AllocError> {
+        writing::begin_struct(visitor, "0x420047")?;
+        self.wrapping_method.visit(visitor)?;
+        writing::option(visitor, &self.encryption_key_information)?;
+        writing::option(visitor, &self.mac_signature_key_information)?;
+        writing::several(visitor, &self.attribute_names)?;
+        writing::option(visitor, &self.encoding_option)?;
+        writing::end_struct(visitor, "0x420047")?;
+        Ok(())
+    }
+}
+
+impl<A: Allocator + Copy> reader::ReadStructure<A> for KeyWrappingSpecification<A> {
+    ghost TAG = { 0x420047 };
+
+    ghost DENIES_UNKNOWN = { true };
+
+    ghost values = { λ x. fields_in (read_key_wrapping_specification x) };
+
+    type Fields = reader::Four<
+        reader::Item<WrappingMethod, 0x42009E>,
+        reader::OptionalNested<EncryptionKeyInformation<A>>,
+        reader::OptionalNested<MacSignatureKeyInformation<A>>,
+        reader::OptionalSeveralItems<AttributeName<A>, 0x42000A>,
+        (reader::OptionalItem<EncodingOption, 0x4200A3>, ()),
+    >;
+
+    const TAG: u32 = 0x420047;
+
+    const DENIES_UNKNOWN: bool = true;
+
+    #[tactic(auto, unfolding(kmip_ttlv_types::specs::Digits::six_digits, crate::specs::Requests::read_key_wrapping_specification, kmip_objects::specs::Keys::read_encryption_key_information, kmip_objects::specs::Keys::read_mac_signature_key_information))]
+    fn from_fields(
+        fields: (
+            WrappingMethod,
+            (
+                Option<EncryptionKeyInformation<A>>,
+                (
+                    Option<MacSignatureKeyInformation<A>>,
+                    (Vec<AttributeName<A>, A>, (Option<EncodingOption>, ())),
+                ),
+            ),
+        ),
+    ) -> Self {
+        let (
+            wrapping_method,
+            (
+                encryption_key_information,
+                (mac_signature_key_information, (attribute_names, (encoding_option, ()))),
+            ),
+        ) = fields;
+        KeyWrappingSpecification {
+            wrapping_method,
+            encryption_key_information,
+            mac_signature_key_information,
+            attribute_names,
+            encoding_option,
+        }
+    }
+}
+
+impl<A: Allocator + Copy> reader::ReadNested<A> for KeyWrappingSpecification<A> {
+    ghost TAG = { 0x420047 };
+
+    ghost fields = { struct_fields key_wrapping_specification_form };
+
+    ghost denies_unknown = { true };
+
+    ghost values = { λ x. fields_in (read_key_wrapping_specification x) };
+
+    const TAG: u32 = 0x420047;
+
+    #[tactic(auto, unfolding(kmip_ttlv_types::specs::Digits::six_digits, crate::specs::Requests::read_key_wrapping_specification))]
+    fn read_nested<'b>(
+        scope: &reader::Scope<'b, A>,
+        cursor: &mut reader::Cursor<'b, A>,
+    ) -> reader::Step<Self, A> {
+        reader::read_form(scope, cursor)
+    }
+}
+
+/// Which object is asked for (section 4.10).
+#[derive(Drop)]
+#[derive_where(PartialEq)]
+pub struct GetRequest<A: Allocator = Global> {
+    /// Its identifier; that of the last object, if it is absent.
+    pub unique_identifier: Option<String<A>>,
+    /// How a key's bytes are to be written.
+    pub key_format_type: Option<KeyFormatType>,
+    /// How the point of an elliptic curve is to be written.
+    pub key_compression_type: Option<KeyCompressionType>,
+    /// How a key is to be wrapped.
+    pub key_wrapping_specification: Option<KeyWrappingSpecification<A>>,
+}
+
+impl<B: Allocator> Serialize for GetRequest<B> {
+    ghost stated = { written_get_request };
+
+    fn visit<V: Visitor>(&self, visitor: &mut V) -> Result<(), AllocError> {
+        writing::begin_struct(visitor, "0x420079")?;
+        writing::optional_text_string(visitor, "Transparent:0x420094", &self.unique_identifier)?;
+        writing::option(visitor, &self.key_format_type)?;
+        writing::option(visitor, &self.key_compression_type)?;
+        writing::option(visitor, &self.key_wrapping_specification)?;
+        writing::end_struct(visitor, "0x420079")?;
+        Ok(())
+    }
+}
+
+impl<A: Allocator + Copy> reader::ReadStructure<A> for GetRequest<A> {
+    ghost TAG = { 0x420079 };
+
+    ghost DENIES_UNKNOWN = { true };
+
+    ghost values = { λ x. fields_in (read_get_request x) };
+
+    type Fields = reader::Four<
+        reader::OptionalLeaf<String<A>, 0x420094>,
+        reader::OptionalItem<KeyFormatType, 0x420042>,
+        reader::OptionalItem<KeyCompressionType, 0x420041>,
+        reader::OptionalNested<KeyWrappingSpecification<A>>,
+        (),
+    >;
+
+    const TAG: u32 = 0x420079;
+
+    const DENIES_UNKNOWN: bool = true;
+
+    #[tactic(auto, unfolding(kmip_ttlv_types::specs::Digits::six_digits, crate::specs::Requests::read_get_request, crate::specs::Requests::read_key_wrapping_specification))]
+    fn from_fields(
+        fields: (
+            Option<String<A>>,
+            (
+                Option<KeyFormatType>,
+                (
+                    Option<KeyCompressionType>,
+                    (Option<KeyWrappingSpecification<A>>, ()),
+                ),
+            ),
+        ),
+    ) -> Self {
+        let (
+            unique_identifier,
+            (key_format_type, (key_compression_type, (key_wrapping_specification, ()))),
+        ) = fields;
+        GetRequest {
+            unique_identifier,
+            key_format_type,
+            key_compression_type,
+            key_wrapping_specification,
+        }
+    }
+}
+
+impl<A: Allocator + Copy> reader::ReadNested<A> for GetRequest<A> {
+    ghost TAG = { 0x420079 };
+
+    ghost fields = { struct_fields get_request_form };
+
+    ghost denies_unknown = { true };
+
+    ghost values = { λ x. fields_in (read_get_request x) };
+
+    const TAG: u32 = 0x420079;
+
+    #[tactic(auto, unfolding(kmip_ttlv_types::specs::Digits::six_digits, crate::specs::Requests::read_get_request))]
+    fn read_nested<'b>(
+        scope: &reader::Scope<'b, A>,
+        cursor: &mut reader::Cursor<'b, A>,
+    ) -> reader::Step<Self, A> {
+        reader::read_form(scope, cursor)
+    }
+}
+
+/// Which attributes are asked for (section 4.11).
+#[derive(Drop)]
+#[derive_where(PartialEq)]
+pub struct GetAttributesRequest<A: Allocator = Global> {
+    /// Of which object: the last one, if it is absent.
+    pub unique_identifier: Option<String<A>>,
+    /// Which; all of them, if none is named.
+    pub attribute_names: Vec<AttributeName<A>, A>,
+}
+
+impl<B: Allocator> Serialize for GetAttributesRequest<B> {
+    ghost stated = { written_get_attributes_request };
+
+    fn visit<V: Visitor>(&self, visitor: &mut V) -> Result<(), AllocError> {
+        writing::begin_struct(visitor, "0x420079")?;
+        writing::optional_text_string(visitor, "Transparent:0x420094", &self.unique_identifier)?;
+        writing::several(visitor, &self.attribute_names)?;
+        writing::end_struct(visitor, "0x420079")?;
+        Ok(())
+    }
+}
+
+impl<A: Allocator + Copy> reader::ReadStructure<A> for GetAttributesRequest<A> {
+    ghost TAG = { 0x420079 };
+
+    ghost DENIES_UNKNOWN = { true };
+
+    ghost values = { λ x. fields_in (read_get_attributes_request x) };
+
+    type Fields = (
+        reader::OptionalLeaf<String<A>, 0x420094>,
+        (reader::OptionalSeveralItems<AttributeName<A>, 0x42000A>, ()),
+    );
+
+    const TAG: u32 = 0x420079;
+
+    const DENIES_UNKNOWN: bool = true;
+
+    #[tactic(auto, unfolding(kmip_ttlv_types::specs::Digits::six_digits, crate::specs::Requests::read_get_attributes_request))]
+    fn from_fields(fields: (Option<String<A>>, (Vec<AttributeName<A>, A>, ()))) -> Self {
+        let (unique_identifier, (attribute_names, ())) = fields;
+        GetAttributesRequest {
+            unique_identifier,
+            attribute_names,
+        }
+    }
+}
+
+impl<A: Allocator + Copy> reader::ReadNested<A> for GetAttributesRequest<A> {
+    ghost TAG = { 0x420079 };
+
+    ghost fields = { struct_fields get_attributes_request_form };
+
+    ghost denies_unknown = { true };
+
+    ghost values = { λ x. fields_in (read_get_attributes_request x) };
+
+    const TAG: u32 = 0x420079;
+
+    #[tactic(auto, unfolding(kmip_ttlv_types::specs::Digits::six_digits, crate::specs::Requests::read_get_attributes_request))]
+    fn read_nested<'b>(
+        scope: &reader::Scope<'b, A>,
+        cursor: &mut reader::Cursor<'b, A>,
+    ) -> reader::Step<Self, A> {
+        reader::read_form(scope, cursor)
+    }
+}
+
+/// An attribute is to be added or changed (sections 4.13 and 4.14).
+#[derive(Drop)]
+#[derive_where(PartialEq)]
+pub struct AttributeRequest<A: Allocator = Global> {
+    /// Of which object: the last one, if it is absent.
+    pub unique_identifier: Option<String<A>>,
+    /// The attribute.
+    pub attribute: Attribute<A>,
+}
+
+impl<B: Allocator> Serialize for AttributeRequest<B> {
+    ghost stated = { written_attribute_request };
+
+    fn visit<V: Visitor>(&self, visitor: &mut V) -> Result<(), AllocError> {
+        writing::begin_struct(visitor, "0x420079")?;
+        writing::optional_text_string(visitor, "Transparent:0x420094", &self.unique_identifier)?;
+        self.attribute.visit(visitor)?;
+        writing::end_struct(visitor, "0x420079")?;
+        Ok(())
+    }
+}
+
+impl<A: Allocator + Copy> reader::ReadStructure<A> for AttributeRequest<A> {
+    ghost TAG = { 0x420079 };
+
+    ghost DENIES_UNKNOWN = { true };
+
+    ghost values = { λ x. fields_in (read_attribute_request x) };
+
+    type Fields = (
+        reader::OptionalLeaf<String<A>, 0x420094>,
+        (reader::Nested<Attribute<A>>, ()),
+    );
+
+    const TAG: u32 = 0x420079;
+
+    const DENIES_UNKNOWN: bool = true;
+
+    #[tactic(auto, unfolding(kmip_ttlv_types::specs::Digits::six_digits, crate::specs::Requests::read_attribute_request, kmip_attributes::specs::Attributes::read_attribute))]
+    fn from_fields(fields: (Option<String<A>>, (Attribute<A>, ()))) -> Self {
+        let (unique_identifier, (attribute, ())) = fields;
+        AttributeRequest {
+            unique_identifier,
+            attribute,
+        }
+    }
+}
+
+impl<A: Allocator + Copy> reader::ReadNested<A> for AttributeRequest<A> {
+    ghost TAG = { 0x420079 };
+
+    ghost fields = { struct_fields attribute_request_form };
+
+    ghost denies_unknown = { true };
+
+    ghost values = { λ x. fields_in (read_attribute_request x) };
+
+    const TAG: u32 = 0x420079;
+
+    #[tactic(auto, unfolding(kmip_ttlv_types::specs::Digits::six_digits, crate::specs::Requests::read_attribute_request))]
+    fn read_nested<'b>(
+        scope: &reader::Scope<'b, A>,
+        cursor: &mut reader::Cursor<'b, A>,
+    ) -> reader::Step<Self, A> {
+        reader::read_form(scope, cursor)
+    }
+}
+
+/// An attribute is to be deleted (section 4.15).
+#[derive(Drop)]
+#[derive_where(PartialEq)]
+pub struct DeleteAttributeRequest<A: Allocator = Global> {
+    /// Of which object: the last one, if it is absent.
+    pub unique_identifier: Option<String<A>>,
+    /// The attribute's name.
+    pub attribute_name: String<A>,
+    /// Which of this name; the first, if it is absent.
+    pub attribute_index: Option<AttributeIndex>,
+}
+
+impl<B: Allocator> Serialize for DeleteAttributeRequest<B> {
+    ghost stated = { written_delete_attribute_request };
+
+    fn visit<V: Visitor>(&self, visitor: &mut V) -> Result<(), AllocError> {
+        writing::begin_struct(visitor, "0x420079")?;
+        writing::optional_text_string(visitor, "Transparent:0x420094", &self.unique_identifier)?;
+        writing::string(visitor, "Transparent:0x42000A", &self.attribute_name)?;
+        writing::option(visitor, &self.attribute_index)?;
+        writing::end_struct(visitor, "0x420079")?;
+        Ok(())
+    }
+}
+
+impl<A: Allocator + Copy> reader::ReadStructure<A> for DeleteAttributeRequest<A> {
+    ghost TAG = { 0x420079 };
+
+    ghost DENIES_UNKNOWN = { true };
+
+    ghost values = { λ x. fields_in (read_delete_attribute_request x) };
+
+    type Fields = (
+        reader::OptionalLeaf<String<A>, 0x420094>,
+        (
+            reader::Leaf<String<A>, 0x42000A>,
+            (reader::OptionalItem<AttributeIndex, 0x420009>, ()),
+        ),
+    );
+
+    const TAG: u32 = 0x420079;
+
+    const DENIES_UNKNOWN: bool = true;
+
+    #[tactic(auto, unfolding(kmip_ttlv_types::specs::Digits::six_digits, crate::specs::Requests::read_delete_attribute_request))]
+    fn from_fields(fields: (Option<String<A>>, (String<A>, (Option<AttributeIndex>, ())))) -> Self {
+        let (unique_identifier, (attribute_name, (attribute_index, ()))) = fields;
+        DeleteAttributeRequest {
+            unique_identifier,
+            attribute_name,
+            attribute_index,
+        }
+    }
+}
+
+impl<A: Allocator + Copy> reader::ReadNested<A> for DeleteAttributeRequest<A> {
+    ghost TAG = { 0x420079 };
+
+    ghost fields = { struct_fields delete_attribute_request_form };
+
+    ghost denies_unknown = { true };
+
+    ghost values = { λ x. fields_in (read_delete_attribute_request x) };
+
+    const TAG: u32 = 0x420079;
+
+    #[tactic(auto, unfolding(kmip_ttlv_types::specs::Digits::six_digits, crate::specs::Requests::read_delete_attribute_request))]
+    fn read_nested<'b>(
+        scope: &reader::Scope<'b, A>,
+        cursor: &mut reader::Cursor<'b, A>,
+    ) -> reader::Step<Self, A> {
+        reader::read_form(scope, cursor)
+    }
+}
+
+/// Which object is meant: to get the names of its attributes, to activate or to destroy it.
+#[derive(Drop)]
+#[derive_where(PartialEq)]
+pub struct ObjectRequest<A: Allocator = Global> {
+    /// Its identifier; that of the last object, if it is absent.
+    pub unique_identifier: Option<String<A>>,
+}
+
+impl<B: Allocator> Serialize for ObjectRequest<B> {
+    ghost stated = { written_object_request };
+
+    fn visit<V: Visitor>(&self, visitor: &mut V) -> Result<(), AllocError> {
+        writing::begin_struct(visitor, "0x420079")?;
+        writing::optional_text_string(visitor, "Transparent:0x420094", &self.unique_identifier)?;
+        writing::end_struct(visitor, "0x420079")?;
+        Ok(())
+    }
+}
+
+impl<A: Allocator + Copy> reader::ReadStructure<A> for ObjectRequest<A> {
+    ghost TAG = { 0x420079 };
+
+    ghost DENIES_UNKNOWN = { true };
+
+    ghost values = { λ x. fields_in (read_object_request x) };
+
+    type Fields = (reader::OptionalLeaf<String<A>, 0x420094>, ());
+
+    const TAG: u32 = 0x420079;
+
+    const DENIES_UNKNOWN: bool = true;
+
+    #[tactic(auto, unfolding(kmip_ttlv_types::specs::Digits::six_digits, crate::specs::Requests::read_object_request))]
+    fn from_fields(fields: (Option<String<A>>, ())) -> Self {
+        let (unique_identifier, ()) = fields;
+        ObjectRequest { unique_identifier }
+    }
+}
+
+impl<A: Allocator + Copy> reader::ReadNested<A> for ObjectRequest<A> {
+    ghost TAG = { 0x420079 };
+
+    ghost fields = { struct_fields object_request_form };
+
+    ghost denies_unknown = { true };
+
+    ghost values = { λ x. fields_in (read_object_request x) };
+
+    const TAG: u32 = 0x420079;
+
+    #[tactic(auto, unfolding(kmip_ttlv_types::specs::Digits::six_digits, crate::specs::Requests::read_object_request))]
+    fn read_nested<'b>(
+        scope: &reader::Scope<'b, A>,
+        cursor: &mut reader::Cursor<'b, A>,
+    ) -> reader::Step<Self, A> {
+        reader::read_form(scope, cursor)
+    }
+}
+
+/// Why an object is revoked (section 3.26).
+#[derive(Drop)]
+#[derive_where(PartialEq)]
+pub struct RevocationReasonGiven<A: Allocator = Global> {
+    /// The reason.
+    pub code: RevocationReasonCode,
+    /// More about it, for a person.
+    pub message: Option<String<A>>,
+}
+
+impl<B: Allocator> Serialize for RevocationReasonGiven<B> {
+    ghost stated = { written_revocation_reason_given };
+
+    fn visit<V: Visitor>(&self, visitor: &mut V) -> Result<(), AllocError> {
+        writing::begin_struct(visitor, "0x420081")?;
+        self.code.visit(visitor)?;
+        writing::optional_text_string(visitor, "Transparent:0x420080", &self.message)?;
+        writing::end_struct(visitor, "0x420081")?;
+        Ok(())
+    }
+}
+
+impl<A: Allocator + Copy> reader::ReadStructure<A> for RevocationReasonGiven<A> {
+    ghost TAG = { 0x420081 };
+
+    ghost DENIES_UNKNOWN = { true };
+
+    ghost values = { λ x. fields_in (read_revocation_reason_given x) };
+
+    type Fields = (
+        reader::Item<RevocationReasonCode, 0x420082>,
+        (reader::OptionalLeaf<String<A>, 0x420080>, ()),
+    );
+
+    const TAG: u32 = 0x420081;
+
+    const DENIES_UNKNOWN: bool = true;
+
+    #[tactic(auto, unfolding(kmip_ttlv_types::specs::Digits::six_digits, crate::specs::Requests::read_revocation_reason_given))]
+    fn from_fields(fields: (RevocationReasonCode, (Option<String<A>>, ()))) -> Self {
+        let (code, (message, ())) = fields;
+        RevocationReasonGiven { code, message }
+    }
+}
+
+impl<A: Allocator + Copy> reader::ReadNested<A> for RevocationReasonGiven<A> {
+    ghost TAG = { 0x420081 };
+
+    ghost fields = { struct_fields revocation_reason_given_form };
+
+    ghost denies_unknown = { true };
+
+    ghost values = { λ x. fields_in (read_revocation_reason_given x) };
+
+    const TAG: u32 = 0x420081;
+
+    #[tactic(auto, unfolding(kmip_ttlv_types::specs::Digits::six_digits, crate::specs::Requests::read_revocation_reason_given))]
+    fn read_nested<'b>(
+        scope: &reader::Scope<'b, A>,
+        cursor: &mut reader::Cursor<'b, A>,
+    ) -> reader::Step<Self, A> {
+        reader::read_form(scope, cursor)
+    }
+}
+
+/// When others may first have known an object, in seconds since 1970.
+#[derive(Clone, Copy, PartialEq, Eq)]
+pub struct CompromiseOccurrenceDate {
+    /// What it holds.
+    pub seconds: i64,
+}
+
+impl Serialize for CompromiseOccurrenceDate {
+    ghost stated = { compromise_occurrence_date_value };
+
+    fn visit<V: Visitor>(&self, visitor: &mut V) -> Result<(), AllocError> {
+        writing::date_time(visitor, "Transparent:0x420021", self.seconds)?;
+        Ok(())
+    }
+}
+
+impl<A: Allocator + Copy> reader::ReadItem<A> for CompromiseOccurrenceDate {
+    ghost form = { compromise_occurrence_date_form };
+
+    ghost value = { compromise_occurrence_date_value };
+
+    ghost plain = { (refl, refl) };
+
+    #[tactic(auto, unfolding(kmip_ttlv_types::specs::Digits::six_digits))]
+    fn read_item<'b>(
+        scope: &reader::Scope<'b, A>,
+        cursor: &mut reader::Cursor<'b, A>,
+    ) -> reader::Step<Self, A> {
+        let seconds: reader::DateTime = cursor.wrapped_leaf(scope, 0x420021)?;
+        Ok(CompromiseOccurrenceDate { seconds: seconds.0 })
+    }
+}
+
+/// An object is no longer to be used (section 4.19).
+#[derive(Drop)]
+#[derive_where(PartialEq)]
+pub struct RevokeRequest<A: Allocator = Global> {
+    /// Its identifier; that of the last object, if it is absent.
+    pub unique_identifier: Option<String<A>>,
+    /// Why.
+    pub revocation_reason: RevocationReasonGiven<A>,
+    /// When others may first have known it.
+    pub compromise_occurrence_date: Option<CompromiseOccurrenceDate>,
+}
+
+impl<B: Allocator> Serialize for RevokeRequest<B> {
+    ghost stated = { written_revoke_request };
+
+    fn visit<V: Visitor>(&self, visitor: &mut V) -> Result<(), AllocError> {
+        writing::begin_struct(visitor, "0x420079")?;
+        writing::optional_text_string(visitor, "Transparent:0x420094", &self.unique_identifier)?;
+        self.revocation_reason.visit(visitor)?;
+        writing::option(visitor, &self.compromise_occurrence_date)?;
+        writing::end_struct(visitor, "0x420079")?;
+        Ok(())
+    }
+}
+
+impl<A: Allocator + Copy> reader::ReadStructure<A> for RevokeRequest<A> {
+    ghost TAG = { 0x420079 };
+
+    ghost DENIES_UNKNOWN = { true };
+
+    ghost values = { λ x. fields_in (read_revoke_request x) };
+
+    type Fields = (
+        reader::OptionalLeaf<String<A>, 0x420094>,
+        (
+            reader::Nested<RevocationReasonGiven<A>>,
+            (reader::OptionalItem<CompromiseOccurrenceDate, 0x420021>, ()),
+        ),
+    );
+
+    const TAG: u32 = 0x420079;
+
+    const DENIES_UNKNOWN: bool = true;
+
+    #[tactic(auto, unfolding(kmip_ttlv_types::specs::Digits::six_digits, crate::specs::Requests::read_revoke_request, crate::specs::Requests::read_revocation_reason_given))]
+    fn from_fields(
+        fields: (
+            Option<String<A>>,
+            (
+                RevocationReasonGiven<A>,
+                (Option<CompromiseOccurrenceDate>, ()),
+            ),
+        ),
+    ) -> Self {
+        let (unique_identifier, (revocation_reason, (compromise_occurrence_date, ()))) = fields;
+        RevokeRequest {
+            unique_identifier,
+            revocation_reason,
+            compromise_occurrence_date,
+        }
+    }
+}
+
+impl<A: Allocator + Copy> reader::ReadNested<A> for RevokeRequest<A> {
+    ghost TAG = { 0x420079 };
+
+    ghost fields = { struct_fields revoke_request_form };
+
+    ghost denies_unknown = { true };
+
+    ghost values = { λ x. fields_in (read_revoke_request x) };
+
+    const TAG: u32 = 0x420079;
+
+    #[tactic(auto, unfolding(kmip_ttlv_types::specs::Digits::six_digits, crate::specs::Requests::read_revoke_request))]
+    fn read_nested<'b>(
+        scope: &reader::Scope<'b, A>,
+        cursor: &mut reader::Cursor<'b, A>,
+    ) -> reader::Step<Self, A> {
+        reader::read_form(scope, cursor)
+    }
+}
+
+/// What is asked about a server (section 9.1.3.2.23).
+#[derive(Clone, Copy, Debug)]
+pub enum QueryFunction {
+    /// Its operations.
+    QueryOperations,
+    /// The kinds of objects that it keeps.
+    QueryObjects,
+    /// What it is.
+    QueryServerInformation,
+    /// The namespaces that it knows.
+    QueryApplicationNamespaces,
+    /// Any other number. One that has a name is encoded as it is, and decoded by its name, to which it is equal.
+    Other(u32),
+}
+
+impl QueryFunction {
+    /// Its number.
+    pub fn number(self) -> u32
+        ensures { result ≡ query_function_number self }
+    {
+        match self {
+            QueryFunction::QueryOperations => 0x00000001,
+            QueryFunction::QueryObjects => 0x00000002,
+            QueryFunction::QueryServerInformation => 0x00000003,
+            QueryFunction::QueryApplicationNamespaces => 0x00000004,
+            QueryFunction::Other(number) => number,
+        }
+    }
+
+    /// The one of a number: by its name, if it has one.
+    pub fn from_number(number: u32) -> QueryFunction
+        ensures { query_function_read_number result ≡ Some number }
+    {
+        match number {
+            0x00000001 => QueryFunction::QueryOperations,
+            0x00000002 => QueryFunction::QueryObjects,
+            0x00000003 => QueryFunction::QueryServerInformation,
+            0x00000004 => QueryFunction::QueryApplicationNamespaces,
+            _ => QueryFunction::Other(number),
+        }
+    }
+}
+
+/// By their numbers.
+impl PartialEq for QueryFunction {
+    ghost eq = { on query_function_number ◌==◌ };
+
+    ghost laws = { Prim.search (comparing, rules) };
+
+    fn eq(&self, other: &QueryFunction) -> bool {
+        self.number() == other.number()
+    }
+}
+
+impl Eq for QueryFunction {
+    ghost laws = { Prim.search (comparing, rules) };
+}
+
+impl Serialize for QueryFunction {
+    ghost stated = { written_query_function };
+
+    #[tactic(auto, unfolding(crate::specs::Requests::written_query_function))]
+    fn visit<V: Visitor>(&self, visitor: &mut V) -> Result<(), AllocError> {
+        writing::enumeration(visitor, "Transparent:0x420074", self.number())
+    }
+}
+
+impl<A: Allocator + Copy> reader::ReadItem<A> for QueryFunction {
+    ghost form = { query_function_form };
+
+    ghost value = { read_query_function };
+
+    ghost plain = { (refl, refl) };
+
+    #[tactic(auto, unfolding(kmip_ttlv_types::specs::Digits::six_digits, crate::specs::Requests::read_query_function))]
+    fn read_item<'b>(
+        scope: &reader::Scope<'b, A>,
+        cursor: &mut reader::Cursor<'b, A>,
+    ) -> reader::Step<Self, A> {
+        let number: u32 = cursor.wrapped_leaf(scope, 0x420074)?;
+        Ok(QueryFunction::from_number(number))
+    }
+}
+
+/// What is asked about a server (section 4.24).
+#[derive(Drop)]
+#[derive_where(PartialEq)]
+pub struct QueryRequest<A: Allocator = Global> {
+    /// One or more.
+    pub functions: Vec<QueryFunction, A>,
+}
+
+impl<B: Allocator> Serialize for QueryRequest<B> {
+    ghost stated = { written_query_request };
+
+    #[tactic(auto, unfolding(crate::specs::Requests::written_query_request))]
+    fn visit<V: Visitor>(&self, visitor: &mut V) -> Result<(), AllocError> {
+        writing::begin_struct(visitor, "0x420079")?;
+        writing::several(visitor, &self.functions)?;
+        writing::end_struct(visitor, "0x420079")?;
+        Ok(())
+    }
+}
+
+impl<A: Allocator + Copy> reader::ReadStructure<A> for QueryRequest<A> {
+    ghost TAG = { 0x420079 };
+
+    ghost DENIES_UNKNOWN = { true };
+
+    ghost values = { λ x. fields_in (read_query_request x) };
+
+    type Fields = (reader::SeveralItems<QueryFunction, 0x420074>, ());
+
+    const TAG: u32 = 0x420079;
+
+    const DENIES_UNKNOWN: bool = true;
+
+    #[tactic(auto, unfolding(kmip_ttlv_types::specs::Digits::six_digits, crate::specs::Requests::read_query_request))]
+    fn from_fields(fields: (Vec<QueryFunction, A>, ())) -> Self {
+        let (functions, ()) = fields;
+        QueryRequest { functions }
+    }
+}
+
+impl<A: Allocator + Copy> reader::ReadNested<A> for QueryRequest<A> {
+    ghost TAG = { 0x420079 };
+
+    ghost fields = { struct_fields query_request_form };
+
+    ghost denies_unknown = { true };
+
+    ghost values = { λ x. fields_in (read_query_request x) };
+
+    const TAG: u32 = 0x420079;
+
+    #[tactic(auto, unfolding(kmip_ttlv_types::specs::Digits::six_digits, crate::specs::Requests::read_query_request))]
+    fn read_nested<'b>(
+        scope: &reader::Scope<'b, A>,
+        cursor: &mut reader::Cursor<'b, A>,
+    ) -> reader::Step<Self, A> {
+        reader::read_form(scope, cursor)
+    }
+}
+
+/// Which versions a client has (KMIP 1.1, section 4.26).
+#[derive(Drop)]
+#[derive_where(PartialEq)]
+pub struct DiscoverVersionsRequest<A: Allocator = Global> {
+    /// The versions, the best first; all are asked for, if there are none.
+    pub versions: Vec<ProtocolVersion, A>,
+}
+
+impl<B: Allocator> Serialize for DiscoverVersionsRequest<B> {
+    ghost stated = { written_discover_versions_request };
+
+    #[tactic(auto, unfolding(crate::specs::Requests::written_discover_versions_request))]
+    fn visit<V: Visitor>(&self, visitor: &mut V) -> Result<(), AllocError> {
+        writing::begin_struct(visitor, "0x420079")?;
+        writing::several(visitor, &self.versions)?;
+        writing::end_struct(visitor, "0x420079")?;
+        Ok(())
+    }
+}
+
+impl<A: Allocator + Copy> reader::ReadStructure<A> for DiscoverVersionsRequest<A> {
+    ghost TAG = { 0x420079 };
+
+    ghost DENIES_UNKNOWN = { true };
+
+    ghost values = { λ x. fields_in (read_discover_versions_request x) };
+
+    type Fields = (reader::OptionalSeveral<ProtocolVersion>, ());
+
+    const TAG: u32 = 0x420079;
+
+    const DENIES_UNKNOWN: bool = true;
+
+    #[tactic(auto, unfolding(kmip_ttlv_types::specs::Digits::six_digits, crate::specs::Requests::read_discover_versions_request, crate::specs::Headers::protocol_version_value))]
+    fn from_fields(fields: (Vec<ProtocolVersion, A>, ())) -> Self {
+        let (versions, ()) = fields;
+        DiscoverVersionsRequest { versions }
+    }
+}
+
+impl<A: Allocator + Copy> reader::ReadNested<A> for DiscoverVersionsRequest<A> {
+    ghost TAG = { 0x420079 };
+
+    ghost fields = { struct_fields discover_versions_request_form };
+
+    ghost denies_unknown = { true };
+
+    ghost values = { λ x. fields_in (read_discover_versions_request x) };
+
+    const TAG: u32 = 0x420079;
+
+    #[tactic(auto, unfolding(kmip_ttlv_types::specs::Digits::six_digits, crate::specs::Requests::read_discover_versions_request))]
+    fn read_nested<'b>(
+        scope: &reader::Scope<'b, A>,
+        cursor: &mut reader::Cursor<'b, A>,
+    ) -> reader::Step<Self, A> {
+        reader::read_form(scope, cursor)
+    }
+}
+
+/// What an operation needs.
+#[derive(Drop)]
+#[derive_where(PartialEq)]
+pub enum RequestPayload<A: Allocator = Global> {
+    /// A symmetric key is to be made.
+    Create(CreateRequest<A>),
+    /// A public and a private key are to be made.
+    CreateKeyPair(CreateKeyPairRequest<A>),
+    /// An object is to be kept.
+    Register(RegisterRequest<A>),
+    /// Objects are sought.
+    Locate(LocateRequest<A>),
+    /// An object is asked for.
+    Get(GetRequest<A>),
+    /// What is known of an object is asked for.
+    GetAttributes(GetAttributesRequest<A>),
+    /// The names of what is known are asked for.
+    GetAttributeList(ObjectRequest<A>),
+    /// An attribute is to be added.
+    AddAttribute(AttributeRequest<A>),
+    /// An attribute is to be changed.
+    ModifyAttribute(AttributeRequest<A>),
+    /// An attribute is to be deleted.
+    DeleteAttribute(DeleteAttributeRequest<A>),
+    /// An object is to be in use.
+    Activate(ObjectRequest<A>),
+    /// An object is no longer to be used.
+    Revoke(RevokeRequest<A>),
+    /// An object is to be destroyed.
+    Destroy(ObjectRequest<A>),
+    /// What the server can do.
+    Query(QueryRequest<A>),
+    /// Which versions the server has.
+    DiscoverVersions(DiscoverVersionsRequest<A>),
+}
+
+impl<A: Allocator> RequestPayload<A> {
+    /// Whether this text, if it is that of 0x42005C, chooses it.
+    pub fn is_chosen_by(&self, text: &str) -> bool
+        ensures { IsTrue result ↔ ChoosesRequestPayload text.now self.now }
+    {
+        match self {
+            RequestPayload::Create(_) => text == "0x00000001",
+            RequestPayload::CreateKeyPair(_) => text == "0x00000002",
+            RequestPayload::Register(_) => text == "0x00000003",
+            RequestPayload::Locate(_) => text == "0x00000008",
+            RequestPayload::Get(_) => text == "0x0000000A",
+            RequestPayload::GetAttributes(_) => text == "0x0000000B",
+            RequestPayload::GetAttributeList(_) => text == "0x0000000C",
+            RequestPayload::AddAttribute(_) => text == "0x0000000D",
+            RequestPayload::ModifyAttribute(_) => text == "0x0000000E",
+            RequestPayload::DeleteAttribute(_) => text == "0x0000000F",
+            RequestPayload::Activate(_) => text == "0x00000012",
+            RequestPayload::Revoke(_) => text == "0x00000013",
+            RequestPayload::Destroy(_) => text == "0x00000014",
+            RequestPayload::Query(_) => text == "0x00000018",
+            RequestPayload::DiscoverVersions(_) => text == "0x0000001E",
+        }
+    }
+
+    /// The same of an Enumeration's number.
+    pub fn is_chosen_by_number(&self, number: u32) -> bool
+        ensures { IsTrue result ↔ ChoosesRequestPayloadNumber number self.now }
+    {
+        match self {
+            RequestPayload::Create(_) => number == 0x00000001,
+            RequestPayload::CreateKeyPair(_) => number == 0x00000002,
+            RequestPayload::Register(_) => number == 0x00000003,
+            RequestPayload::Locate(_) => number == 0x00000008,
+            RequestPayload::Get(_) => number == 0x0000000A,
+            RequestPayload::GetAttributes(_) => number == 0x0000000B,
+            RequestPayload::GetAttributeList(_) => number == 0x0000000C,
+            RequestPayload::AddAttribute(_) => number == 0x0000000D,
+            RequestPayload::ModifyAttribute(_) => number == 0x0000000E,
+            RequestPayload::DeleteAttribute(_) => number == 0x0000000F,
+            RequestPayload::Activate(_) => number == 0x00000012,
+            RequestPayload::Revoke(_) => number == 0x00000013,
+            RequestPayload::Destroy(_) => number == 0x00000014,
+            RequestPayload::Query(_) => number == 0x00000018,
+            RequestPayload::DiscoverVersions(_) => number == 0x0000001E,
+        }
+    }
+}
+
+impl<B: Allocator> Serialize for RequestPayload<B> {
+    ghost stated = { written_request_payload };
+
+    #[tactic(auto, unfolding(crate::specs::Requests::written_request_payload))]
+    fn visit<V: Visitor>(&self, visitor: &mut V) -> Result<(), AllocError> {
+        match self {
+            RequestPayload::Create(held) => held.visit(visitor),
+            RequestPayload::CreateKeyPair(held) => held.visit(visitor),
+            RequestPayload::Register(held) => held.visit(visitor),
+            RequestPayload::Locate(held) => held.visit(visitor),
+            RequestPayload::Get(held) => held.visit(visitor),
+            RequestPayload::GetAttributes(held) => held.visit(visitor),
+            RequestPayload::GetAttributeList(held) => held.visit(visitor),
+            RequestPayload::AddAttribute(held) => held.visit(visitor),
+            RequestPayload::ModifyAttribute(held) => held.visit(visitor),
+            RequestPayload::DeleteAttribute(held) => held.visit(visitor),
+            RequestPayload::Activate(held) => held.visit(visitor),
+            RequestPayload::Revoke(held) => held.visit(visitor),
+            RequestPayload::Destroy(held) => held.visit(visitor),
+            RequestPayload::Query(held) => held.visit(visitor),
+            RequestPayload::DiscoverVersions(held) => held.visit(visitor),
+        }
+    }
+}
+
+/// The rule that chooses `RequestPayload::Create`.
+pub struct RequestPayloadCreateRule;
+
+impl reader::Rule for RequestPayloadCreateRule {
+    ghost condition = { codes "0x42005C==0x00000001" };
+
+    fn name() -> &'static str {
+        "if 0x42005C==0x00000001"
+    }
+
+    #[tactic(auto, unfolding(kmip_ttlv_reader::specs::RuleParts::parts_of))]
+    fn parts() -> Option<reader::RuleParts> {
+        Some(reader::RuleParts {
+            tag: 0x42005C,
+            texts: &["0x00000001"],
+        })
+    }
+}
+
+/// The rule that chooses `RequestPayload::CreateKeyPair`.
+pub struct RequestPayloadCreateKeyPairRule;
+
+impl reader::Rule for RequestPayloadCreateKeyPairRule {
+    ghost condition = { codes "0x42005C==0x00000002" };
+
+    fn name() -> &'static str {
+        "if 0x42005C==0x00000002"
+    }
+
+    #[tactic(auto, unfolding(kmip_ttlv_reader::specs::RuleParts::parts_of))]
+    fn parts() -> Option<reader::RuleParts> {
+        Some(reader::RuleParts {
+            tag: 0x42005C,
+            texts: &["0x00000002"],
+        })
+    }
+}
+
+/// The rule that chooses `RequestPayload::Register`.
+pub struct RequestPayloadRegisterRule;
+
+impl reader::Rule for RequestPayloadRegisterRule {
+    ghost condition = { codes "0x42005C==0x00000003" };
+
+    fn name() -> &'static str {
+        "if 0x42005C==0x00000003"
+    }
+
+    #[tactic(auto, unfolding(kmip_ttlv_reader::specs::RuleParts::parts_of))]
+    fn parts() -> Option<reader::RuleParts> {
+        Some(reader::RuleParts {
+            tag: 0x42005C,
+            texts: &["0x00000003"],
+        })
+    }
+}
+
+/// The rule that chooses `RequestPayload::Locate`.
+pub struct RequestPayloadLocateRule;
+
+impl reader::Rule for RequestPayloadLocateRule {
+    ghost condition = { codes "0x42005C==0x00000008" };
+
+    fn name() -> &'static str {
+        "if 0x42005C==0x00000008"
+    }
+
+    #[tactic(auto, unfolding(kmip_ttlv_reader::specs::RuleParts::parts_of))]
+    fn parts() -> Option<reader::RuleParts> {
+        Some(reader::RuleParts {
+            tag: 0x42005C,
+            texts: &["0x00000008"],
+        })
+    }
+}
+
+/// The rule that chooses `RequestPayload::Get`.
+pub struct RequestPayloadGetRule;
+
+impl reader::Rule for RequestPayloadGetRule {
+    ghost condition = { codes "0x42005C==0x0000000A" };
+
+    fn name() -> &'static str {
+        "if 0x42005C==0x0000000A"
+    }
+
+    #[tactic(auto, unfolding(kmip_ttlv_reader::specs::RuleParts::parts_of))]
+    fn parts() -> Option<reader::RuleParts> {
+        Some(reader::RuleParts {
+            tag: 0x42005C,
+            texts: &["0x0000000A"],
+        })
+    }
+}
+
+/// The rule that chooses `RequestPayload::GetAttributes`.
+pub struct RequestPayloadGetAttributesRule;
+
+impl reader::Rule for RequestPayloadGetAttributesRule {
+    ghost condition = { codes "0x42005C==0x0000000B" };
+
+    fn name() -> &'static str {
+        "if 0x42005C==0x0000000B"
+    }
+
+    #[tactic(auto, unfolding(kmip_ttlv_reader::specs::RuleParts::parts_of))]
+    fn parts() -> Option<reader::RuleParts> {
+        Some(reader::RuleParts {
+            tag: 0x42005C,
+            texts: &["0x0000000B"],
+        })
+    }
+}
+
+/// The rule that chooses `RequestPayload::GetAttributeList`.
+pub struct RequestPayloadGetAttributeListRule;
+
+impl reader::Rule for RequestPayloadGetAttributeListRule {
+    ghost condition = { codes "0x42005C==0x0000000C" };
+
+    fn name() -> &'static str {
+        "if 0x42005C==0x0000000C"
+    }
+
+    #[tactic(auto, unfolding(kmip_ttlv_reader::specs::RuleParts::parts_of))]
+    fn parts() -> Option<reader::RuleParts> {
+        Some(reader::RuleParts {
+            tag: 0x42005C,
+            texts: &["0x0000000C"],
+        })
+    }
+}
+
+/// The rule that chooses `RequestPayload::AddAttribute`.
+pub struct RequestPayloadAddAttributeRule;
+
+impl reader::Rule for RequestPayloadAddAttributeRule {
+    ghost condition = { codes "0x42005C==0x0000000D" };
+
+    fn name() -> &'static str {
+        "if 0x42005C==0x0000000D"
+    }
+
+    #[tactic(auto, unfolding(kmip_ttlv_reader::specs::RuleParts::parts_of))]
+    fn parts() -> Option<reader::RuleParts> {
+        Some(reader::RuleParts {
+            tag: 0x42005C,
+            texts: &["0x0000000D"],
+        })
+    }
+}
+
+/// The rule that chooses `RequestPayload::ModifyAttribute`.
+pub struct RequestPayloadModifyAttributeRule;
+
+impl reader::Rule for RequestPayloadModifyAttributeRule {
+    ghost condition = { codes "0x42005C==0x0000000E" };
+
+    fn name() -> &'static str {
+        "if 0x42005C==0x0000000E"
+    }
+
+    #[tactic(auto, unfolding(kmip_ttlv_reader::specs::RuleParts::parts_of))]
+    fn parts() -> Option<reader::RuleParts> {
+        Some(reader::RuleParts {
+            tag: 0x42005C,
+            texts: &["0x0000000E"],
+        })
+    }
+}
+
+/// The rule that chooses `RequestPayload::DeleteAttribute`.
+pub struct RequestPayloadDeleteAttributeRule;
+
+impl reader::Rule for RequestPayloadDeleteAttributeRule {
+    ghost condition = { codes "0x42005C==0x0000000F" };
+
+    fn name() -> &'static str {
+        "if 0x42005C==0x0000000F"
+    }
+
+    #[tactic(auto, unfolding(kmip_ttlv_reader::specs::RuleParts::parts_of))]
+    fn parts() -> Option<reader::RuleParts> {
+        Some(reader::RuleParts {
+            tag: 0x42005C,
+            texts: &["0x0000000F"],
+        })
+    }
+}
+
+/// The rule that chooses `RequestPayload::Activate`.
+pub struct RequestPayloadActivateRule;
+
+impl reader::Rule for RequestPayloadActivateRule {
+    ghost condition = { codes "0x42005C==0x00000012" };
+
+    fn name() -> &'static str {
+        "if 0x42005C==0x00000012"
+    }
+
+    #[tactic(auto, unfolding(kmip_ttlv_reader::specs::RuleParts::parts_of))]
+    fn parts() -> Option<reader::RuleParts> {
+        Some(reader::RuleParts {
+            tag: 0x42005C,
+            texts: &["0x00000012"],
+        })
+    }
+}
+
+/// The rule that chooses `RequestPayload::Revoke`.
+pub struct RequestPayloadRevokeRule;
+
+impl reader::Rule for RequestPayloadRevokeRule {
+    ghost condition = { codes "0x42005C==0x00000013" };
+
+    fn name() -> &'static str {
+        "if 0x42005C==0x00000013"
+    }
+
+    #[tactic(auto, unfolding(kmip_ttlv_reader::specs::RuleParts::parts_of))]
+    fn parts() -> Option<reader::RuleParts> {
+        Some(reader::RuleParts {
+            tag: 0x42005C,
+            texts: &["0x00000013"],
+        })
+    }
+}
+
+/// The rule that chooses `RequestPayload::Destroy`.
+pub struct RequestPayloadDestroyRule;
+
+impl reader::Rule for RequestPayloadDestroyRule {
+    ghost condition = { codes "0x42005C==0x00000014" };
+
+    fn name() -> &'static str {
+        "if 0x42005C==0x00000014"
+    }
+
+    #[tactic(auto, unfolding(kmip_ttlv_reader::specs::RuleParts::parts_of))]
+    fn parts() -> Option<reader::RuleParts> {
+        Some(reader::RuleParts {
+            tag: 0x42005C,
+            texts: &["0x00000014"],
+        })
+    }
+}
+
+/// The rule that chooses `RequestPayload::Query`.
+pub struct RequestPayloadQueryRule;
+
+impl reader::Rule for RequestPayloadQueryRule {
+    ghost condition = { codes "0x42005C==0x00000018" };
+
+    fn name() -> &'static str {
+        "if 0x42005C==0x00000018"
+    }
+
+    #[tactic(auto, unfolding(kmip_ttlv_reader::specs::RuleParts::parts_of))]
+    fn parts() -> Option<reader::RuleParts> {
+        Some(reader::RuleParts {
+            tag: 0x42005C,
+            texts: &["0x00000018"],
+        })
+    }
+}
+
+/// The rule that chooses `RequestPayload::DiscoverVersions`.
+pub struct RequestPayloadDiscoverVersionsRule;
+
+impl reader::Rule for RequestPayloadDiscoverVersionsRule {
+    ghost condition = { codes "0x42005C==0x0000001E" };
+
+    fn name() -> &'static str {
+        "if 0x42005C==0x0000001E"
+    }
+
+    #[tactic(auto, unfolding(kmip_ttlv_reader::specs::RuleParts::parts_of))]
+    fn parts() -> Option<reader::RuleParts> {
+        Some(reader::RuleParts {
+            tag: 0x42005C,
+            texts: &["0x0000001E"],
+        })
+    }
+}
+
+// The variants from `DiscoverVersions` on.
+type RequestPayloadFromDiscoverVersions<A> = reader::Variant<
+    RequestPayloadDiscoverVersionsRule,
+    reader::StructureElement<DiscoverVersionsRequest<A>>,
+>;
+
+// The one that was read as one of these.
+#[tactic(auto, unfolding(kmip_ttlv_types::specs::Digits::six_digits, crate::specs::Requests::read_request_payload, crate::specs::Requests::read_create_request, crate::specs::Requests::read_create_key_pair_request, crate::specs::Requests::read_register_request, crate::specs::Requests::read_locate_request, crate::specs::Requests::read_get_request, crate::specs::Requests::read_get_attributes_request, crate::specs::Requests::read_object_request, crate::specs::Requests::read_attribute_request, crate::specs::Requests::read_delete_attribute_request, crate::specs::Requests::read_revoke_request, crate::specs::Requests::read_query_request, crate::specs::Requests::read_discover_versions_request))]
+#[inline(always)]
+fn request_payload_from_discover_versions<A: Allocator + Copy>(
+    read: <RequestPayloadFromDiscoverVersions<A> as reader::VariantList<A>>::Read,
+) -> RequestPayload<A>
+    ensures { (own : List ℕ) → request_payload_as own result ≡ ⟦<RequestPayloadFromDiscoverVersions<A> as reader::VariantList<A>>⟧.value own read }
+{
+    RequestPayload::DiscoverVersions(read)
+}
+
+// The variants from `Query` on.
+type RequestPayloadFromQuery<A> = (
+    reader::Variant<RequestPayloadQueryRule, reader::StructureElement<QueryRequest<A>>>,
+    RequestPayloadFromDiscoverVersions<A>,
+);
+
+// The one that was read as one of these.
+#[tactic(auto, unfolding(kmip_ttlv_types::specs::Digits::six_digits, crate::specs::Requests::read_request_payload, crate::specs::Requests::read_create_request, crate::specs::Requests::read_create_key_pair_request, crate::specs::Requests::read_register_request, crate::specs::Requests::read_locate_request, crate::specs::Requests::read_get_request, crate::specs::Requests::read_get_attributes_request, crate::specs::Requests::read_object_request, crate::specs::Requests::read_attribute_request, crate::specs::Requests::read_delete_attribute_request, crate::specs::Requests::read_revoke_request, crate::specs::Requests::read_query_request, crate::specs::Requests::read_discover_versions_request))]
+#[inline(always)]
+fn request_payload_from_query<A: Allocator + Copy>(
+    read: <RequestPayloadFromQuery<A> as reader::VariantList<A>>::Read,
+) -> RequestPayload<A>
+    ensures { (own : List ℕ) → request_payload_as own result ≡ ⟦<RequestPayloadFromQuery<A> as reader::VariantList<A>>⟧.value own read }
+{
+    match read {
+        reader::OneOf::First(held) => RequestPayload::Query(held),
+        reader::OneOf::Other(other) => request_payload_from_discover_versions(other),
+    }
+}
+
+// The variants from `Destroy` on.
+type RequestPayloadFromDestroy<A> = (
+    reader::Variant<RequestPayloadDestroyRule, reader::StructureElement<ObjectRequest<A>>>,
+    RequestPayloadFromQuery<A>,
+);
+
+// The one that was read as one of these.
+#[tactic(auto, unfolding(kmip_ttlv_types::specs::Digits::six_digits, crate::specs::Requests::read_request_payload, crate::specs::Requests::read_create_request, crate::specs::Requests::read_create_key_pair_request, crate::specs::Requests::read_register_request, crate::specs::Requests::read_locate_request, crate::specs::Requests::read_get_request, crate::specs::Requests::read_get_attributes_request, crate::specs::Requests::read_object_request, crate::specs::Requests::read_attribute_request, crate::specs::Requests::read_delete_attribute_request, crate::specs::Requests::read_revoke_request, crate::specs::Requests::read_query_request, crate::specs::Requests::read_discover_versions_request))]
+#[inline(always)]
+fn request_payload_from_destroy<A: Allocator + Copy>(
+    read: <RequestPayloadFromDestroy<A> as reader::VariantList<A>>::Read,
+) -> RequestPayload<A>
+    ensures { (own : List ℕ) → request_payload_as own result ≡ ⟦<RequestPayloadFromDestroy<A> as reader::VariantList<A>>⟧.value own read }
+{
+    match read {
+        reader::OneOf::First(held) => RequestPayload::Destroy(held),
+        reader::OneOf::Other(other) => request_payload_from_query(other),
+    }
+}
+
+// The variants from `Revoke` on.
+type RequestPayloadFromRevoke<A> = (
+    reader::Variant<RequestPayloadRevokeRule, reader::StructureElement<RevokeRequest<A>>>,
+    RequestPayloadFromDestroy<A>,
+);
+
+// The one that was read as one of these.
+#[tactic(auto, unfolding(kmip_ttlv_types::specs::Digits::six_digits, crate::specs::Requests::read_request_payload, crate::specs::Requests::read_create_request, crate::specs::Requests::read_create_key_pair_request, crate::specs::Requests::read_register_request, crate::specs::Requests::read_locate_request, crate::specs::Requests::read_get_request, crate::specs::Requests::read_get_attributes_request, crate::specs::Requests::read_object_request, crate::specs::Requests::read_attribute_request, crate::specs::Requests::read_delete_attribute_request, crate::specs::Requests::read_revoke_request, crate::specs::Requests::read_query_request, crate::specs::Requests::read_discover_versions_request))]
+#[inline(always)]
+fn request_payload_from_revoke<A: Allocator + Copy>(
+    read: <RequestPayloadFromRevoke<A> as reader::VariantList<A>>::Read,
+) -> RequestPayload<A>
+    ensures { (own : List ℕ) → request_payload_as own result ≡ ⟦<RequestPayloadFromRevoke<A> as reader::VariantList<A>>⟧.value own read }
+{
+    match read {
+        reader::OneOf::First(held) => RequestPayload::Revoke(held),
+        reader::OneOf::Other(other) => request_payload_from_destroy(other),
+    }
+}
+
+// The variants from `Activate` on.
+type RequestPayloadFromActivate<A> = (
+    reader::Variant<RequestPayloadActivateRule, reader::StructureElement<ObjectRequest<A>>>,
+    RequestPayloadFromRevoke<A>,
+);
+
+// The one that was read as one of these.
+#[tactic(auto, unfolding(kmip_ttlv_types::specs::Digits::six_digits, crate::specs::Requests::read_request_payload, crate::specs::Requests::read_create_request, crate::specs::Requests::read_create_key_pair_request, crate::specs::Requests::read_register_request, crate::specs::Requests::read_locate_request, crate::specs::Requests::read_get_request, crate::specs::Requests::read_get_attributes_request, crate::specs::Requests::read_object_request, crate::specs::Requests::read_attribute_request, crate::specs::Requests::read_delete_attribute_request, crate::specs::Requests::read_revoke_request, crate::specs::Requests::read_query_request, crate::specs::Requests::read_discover_versions_request))]
+#[inline(always)]
+fn request_payload_from_activate<A: Allocator + Copy>(
+    read: <RequestPayloadFromActivate<A> as reader::VariantList<A>>::Read,
+) -> RequestPayload<A>
+    ensures { (own : List ℕ) → request_payload_as own result ≡ ⟦<RequestPayloadFromActivate<A> as reader::VariantList<A>>⟧.value own read }
+{
+    match read {
+        reader::OneOf::First(held) => RequestPayload::Activate(held),
+        reader::OneOf::Other(other) => request_payload_from_revoke(other),
+    }
+}
+
+/// The variants of `RequestPayload` from `Activate` on, as one.
+#[derive(Drop)]
+pub struct RequestPayloadLater10<A> {
+    kind: PhantomData<A>,
+}
+
+impl<A: Allocator + Copy> reader::VariantList<A> for RequestPayloadLater10<A> {
+    type Read = RequestPayload<A>;
+
+    ghost variants = { request_payload_variants_10 };
+
+    ghost value = { request_payload_as };
+
+    #[tactic(auto, unfolding(kmip_ttlv_types::specs::Digits::six_digits, crate::specs::Requests::read_request_payload, crate::specs::Requests::read_create_request, crate::specs::Requests::read_create_key_pair_request, crate::specs::Requests::read_register_request, crate::specs::Requests::read_locate_request, crate::specs::Requests::read_get_request, crate::specs::Requests::read_get_attributes_request, crate::specs::Requests::read_object_request, crate::specs::Requests::read_attribute_request, crate::specs::Requests::read_delete_attribute_request, crate::specs::Requests::read_revoke_request, crate::specs::Requests::read_query_request, crate::specs::Requests::read_discover_versions_request))]
+    fn read_chosen<'b>(
+        scope: &reader::Scope<'b, A>,
+        cursor: &mut reader::Cursor<'b, A>,
+        typ: TtlvType,
+    ) -> reader::Step<Option<RequestPayload<A>>, A> {
+        match <RequestPayloadFromActivate<A> as reader::VariantList<A>>::read_chosen(
+            scope, cursor, typ,
+        ) {
+            Ok(Some(read)) => Ok(Some(request_payload_from_activate(read))),
+            Ok(None) => Ok(None),
+            Err(failure) => Err(failure),
+        }
+    }
+
+    ghost ruled = { λ content. refl };
+}
+
+// The variants from `DeleteAttribute` on.
+type RequestPayloadFromDeleteAttribute<A> = (
+    reader::Variant<
+        RequestPayloadDeleteAttributeRule,
+        reader::StructureElement<DeleteAttributeRequest<A>>,
+    >,
+    RequestPayloadLater10<A>,
+);
+
+// The one that was read as one of these.
+#[tactic(auto, unfolding(kmip_ttlv_types::specs::Digits::six_digits, crate::specs::Requests::read_request_payload, crate::specs::Requests::read_create_request, crate::specs::Requests::read_create_key_pair_request, crate::specs::Requests::read_register_request, crate::specs::Requests::read_locate_request, crate::specs::Requests::read_get_request, crate::specs::Requests::read_get_attributes_request, crate::specs::Requests::read_object_request, crate::specs::Requests::read_attribute_request, crate::specs::Requests::read_delete_attribute_request, crate::specs::Requests::read_revoke_request, crate::specs::Requests::read_query_request, crate::specs::Requests::read_discover_versions_request))]
+#[inline(always)]
+fn request_payload_from_delete_attribute<A: Allocator + Copy>(
+    read: <RequestPayloadFromDeleteAttribute<A> as reader::VariantList<A>>::Read,
+) -> RequestPayload<A>
+    ensures { (own : List ℕ) → request_payload_as own result ≡ ⟦<RequestPayloadFromDeleteAttribute<A> as reader::VariantList<A>>⟧.value own read }
+{
+    match read {
+        reader::OneOf::First(held) => RequestPayload::DeleteAttribute(held),
+        reader::OneOf::Other(other) => other,
+    }
+}
+
+// The variants from `ModifyAttribute` on.
+type RequestPayloadFromModifyAttribute<A> = (
+    reader::Variant<
+        RequestPayloadModifyAttributeRule,
+        reader::StructureElement<AttributeRequest<A>>,
+    >,
+    RequestPayloadFromDeleteAttribute<A>,
+);
+
+// The one that was read as one of these.
+#[tactic(auto, unfolding(kmip_ttlv_types::specs::Digits::six_digits, crate::specs::Requests::read_request_payload, crate::specs::Requests::read_create_request, crate::specs::Requests::read_create_key_pair_request, crate::specs::Requests::read_register_request, crate::specs::Requests::read_locate_request, crate::specs::Requests::read_get_request, crate::specs::Requests::read_get_attributes_request, crate::specs::Requests::read_object_request, crate::specs::Requests::read_attribute_request, crate::specs::Requests::read_delete_attribute_request, crate::specs::Requests::read_revoke_request, crate::specs::Requests::read_query_request, crate::specs::Requests::read_discover_versions_request))]
+#[inline(always)]
+fn request_payload_from_modify_attribute<A: Allocator + Copy>(
+    read: <RequestPayloadFromModifyAttribute<A> as reader::VariantList<A>>::Read,
+) -> RequestPayload<A>
+    ensures { (own : List ℕ) → request_payload_as own result ≡ ⟦<RequestPayloadFromModifyAttribute<A> as reader::VariantList<A>>⟧.value own read }
+{
+    match read {
+        reader::OneOf::First(held) => RequestPayload::ModifyAttribute(held),
+        reader::OneOf::Other(other) => request_payload_from_delete_attribute(other),
+    }
+}
+
+// The variants from `AddAttribute` on.
+type RequestPayloadFromAddAttribute<A> = (
+    reader::Variant<RequestPayloadAddAttributeRule, reader::StructureElement<AttributeRequest<A>>>,
+    RequestPayloadFromModifyAttribute<A>,
+);
+
+// The one that was read as one of these.
+#[tactic(auto, unfolding(kmip_ttlv_types::specs::Digits::six_digits, crate::specs::Requests::read_request_payload, crate::specs::Requests::read_create_request, crate::specs::Requests::read_create_key_pair_request, crate::specs::Requests::read_register_request, crate::specs::Requests::read_locate_request, crate::specs::Requests::read_get_request, crate::specs::Requests::read_get_attributes_request, crate::specs::Requests::read_object_request, crate::specs::Requests::read_attribute_request, crate::specs::Requests::read_delete_attribute_request, crate::specs::Requests::read_revoke_request, crate::specs::Requests::read_query_request, crate::specs::Requests::read_discover_versions_request))]
+#[inline(always)]
+fn request_payload_from_add_attribute<A: Allocator + Copy>(
+    read: <RequestPayloadFromAddAttribute<A> as reader::VariantList<A>>::Read,
+) -> RequestPayload<A>
+    ensures { (own : List ℕ) → request_payload_as own result ≡ ⟦<RequestPayloadFromAddAttribute<A> as reader::VariantList<A>>⟧.value own read }
+{
+    match read {
+        reader::OneOf::First(held) => RequestPayload::AddAttribute(held),
+        reader::OneOf::Other(other) => request_payload_from_modify_attribute(other),
+    }
+}
+
+// The variants from `GetAttributeList` on.
+type RequestPayloadFromGetAttributeList<A> = (
+    reader::Variant<RequestPayloadGetAttributeListRule, reader::StructureElement<ObjectRequest<A>>>,
+    RequestPayloadFromAddAttribute<A>,
+);
+
+// The one that was read as one of these.
+#[tactic(auto, unfolding(kmip_ttlv_types::specs::Digits::six_digits, crate::specs::Requests::read_request_payload, crate::specs::Requests::read_create_request, crate::specs::Requests::read_create_key_pair_request, crate::specs::Requests::read_register_request, crate::specs::Requests::read_locate_request, crate::specs::Requests::read_get_request, crate::specs::Requests::read_get_attributes_request, crate::specs::Requests::read_object_request, crate::specs::Requests::read_attribute_request, crate::specs::Requests::read_delete_attribute_request, crate::specs::Requests::read_revoke_request, crate::specs::Requests::read_query_request, crate::specs::Requests::read_discover_versions_request))]
+#[inline(always)]
+fn request_payload_from_get_attribute_list<A: Allocator + Copy>(
+    read: <RequestPayloadFromGetAttributeList<A> as reader::VariantList<A>>::Read,
+) -> RequestPayload<A>
+    ensures { (own : List ℕ) → request_payload_as own result ≡ ⟦<RequestPayloadFromGetAttributeList<A> as reader::VariantList<A>>⟧.value own read }
+{
+    match read {
+        reader::OneOf::First(held) => RequestPayload::GetAttributeList(held),
+        reader::OneOf::Other(other) => request_payload_from_add_attribute(other),
+    }
+}
+
+// The variants from `GetAttributes` on.
+type RequestPayloadFromGetAttributes<A> = (
+    reader::Variant<
+        RequestPayloadGetAttributesRule,
+        reader::StructureElement<GetAttributesRequest<A>>,
+    >,
+    RequestPayloadFromGetAttributeList<A>,
+);
+
+// The one that was read as one of these.
+#[tactic(auto, unfolding(kmip_ttlv_types::specs::Digits::six_digits, crate::specs::Requests::read_request_payload, crate::specs::Requests::read_create_request, crate::specs::Requests::read_create_key_pair_request, crate::specs::Requests::read_register_request, crate::specs::Requests::read_locate_request, crate::specs::Requests::read_get_request, crate::specs::Requests::read_get_attributes_request, crate::specs::Requests::read_object_request, crate::specs::Requests::read_attribute_request, crate::specs::Requests::read_delete_attribute_request, crate::specs::Requests::read_revoke_request, crate::specs::Requests::read_query_request, crate::specs::Requests::read_discover_versions_request))]
+#[inline(always)]
+fn request_payload_from_get_attributes<A: Allocator + Copy>(
+    read: <RequestPayloadFromGetAttributes<A> as reader::VariantList<A>>::Read,
+) -> RequestPayload<A>
+    ensures { (own : List ℕ) → request_payload_as own result ≡ ⟦<RequestPayloadFromGetAttributes<A> as reader::VariantList<A>>⟧.value own read }
+{
+    match read {
+        reader::OneOf::First(held) => RequestPayload::GetAttributes(held),
+        reader::OneOf::Other(other) => request_payload_from_get_attribute_list(other),
+    }
+}
+
+/// The variants of `RequestPayload` from `GetAttributes` on, as one.
+#[derive(Drop)]
+pub struct RequestPayloadLater5<A> {
+    kind: PhantomData<A>,
+}
+
+impl<A: Allocator + Copy> reader::VariantList<A> for RequestPayloadLater5<A> {
+    type Read = RequestPayload<A>;
+
+    ghost variants = { request_payload_variants_5 };
+
+    ghost value = { request_payload_as };
+
+    #[tactic(auto, unfolding(kmip_ttlv_types::specs::Digits::six_digits, crate::specs::Requests::read_request_payload, crate::specs::Requests::read_create_request, crate::specs::Requests::read_create_key_pair_request, crate::specs::Requests::read_register_request, crate::specs::Requests::read_locate_request, crate::specs::Requests::read_get_request, crate::specs::Requests::read_get_attributes_request, crate::specs::Requests::read_object_request, crate::specs::Requests::read_attribute_request, crate::specs::Requests::read_delete_attribute_request, crate::specs::Requests::read_revoke_request, crate::specs::Requests::read_query_request, crate::specs::Requests::read_discover_versions_request))]
+    fn read_chosen<'b>(
+        scope: &reader::Scope<'b, A>,
+        cursor: &mut reader::Cursor<'b, A>,
+        typ: TtlvType,
+    ) -> reader::Step<Option<RequestPayload<A>>, A> {
+        match <RequestPayloadFromGetAttributes<A> as reader::VariantList<A>>::read_chosen(
+            scope, cursor, typ,
+        ) {
+            Ok(Some(read)) => Ok(Some(request_payload_from_get_attributes(read))),
+            Ok(None) => Ok(None),
+            Err(failure) => Err(failure),
+        }
+    }
+
+    ghost ruled = { λ content. refl };
+}
+
+// The variants from `Get` on.
+type RequestPayloadFromGet<A> = (
+    reader::Variant<RequestPayloadGetRule, reader::StructureElement<GetRequest<A>>>,
+    RequestPayloadLater5<A>,
+);
+
+// The one that was read as one of these.
+#[tactic(auto, unfolding(kmip_ttlv_types::specs::Digits::six_digits, crate::specs::Requests::read_request_payload, crate::specs::Requests::read_create_request, crate::specs::Requests::read_create_key_pair_request, crate::specs::Requests::read_register_request, crate::specs::Requests::read_locate_request, crate::specs::Requests::read_get_request, crate::specs::Requests::read_get_attributes_request, crate::specs::Requests::read_object_request, crate::specs::Requests::read_attribute_request, crate::specs::Requests::read_delete_attribute_request, crate::specs::Requests::read_revoke_request, crate::specs::Requests::read_query_request, crate::specs::Requests::read_discover_versions_request))]
+#[inline(always)]
+fn request_payload_from_get<A: Allocator + Copy>(
+    read: <RequestPayloadFromGet<A> as reader::VariantList<A>>::Read,
+) -> RequestPayload<A>
+    ensures { (own : List ℕ) → request_payload_as own result ≡ ⟦<RequestPayloadFromGet<A> as reader::VariantList<A>>⟧.value own read }
+{
+    match read {
+        reader::OneOf::First(held) => RequestPayload::Get(held),
+        reader::OneOf::Other(other) => other,
+    }
+}
+
+// The variants from `Locate` on.
+type RequestPayloadFromLocate<A> = (
+    reader::Variant<RequestPayloadLocateRule, reader::StructureElement<LocateRequest<A>>>,
+    RequestPayloadFromGet<A>,
+);
+
+// The one that was read as one of these.
+#[tactic(auto, unfolding(kmip_ttlv_types::specs::Digits::six_digits, crate::specs::Requests::read_request_payload, crate::specs::Requests::read_create_request, crate::specs::Requests::read_create_key_pair_request, crate::specs::Requests::read_register_request, crate::specs::Requests::read_locate_request, crate::specs::Requests::read_get_request, crate::specs::Requests::read_get_attributes_request, crate::specs::Requests::read_object_request, crate::specs::Requests::read_attribute_request, crate::specs::Requests::read_delete_attribute_request, crate::specs::Requests::read_revoke_request, crate::specs::Requests::read_query_request, crate::specs::Requests::read_discover_versions_request))]
+#[inline(always)]
+fn request_payload_from_locate<A: Allocator + Copy>(
+    read: <RequestPayloadFromLocate<A> as reader::VariantList<A>>::Read,
+) -> RequestPayload<A>
+    ensures { (own : List ℕ) → request_payload_as own result ≡ ⟦<RequestPayloadFromLocate<A> as reader::VariantList<A>>⟧.value own read }
+{
+    match read {
+        reader::OneOf::First(held) => RequestPayload::Locate(held),
+        reader::OneOf::Other(other) => request_payload_from_get(other),
+    }
+}
+
+// The variants from `Register` on.
+type RequestPayloadFromRegister<A> = (
+    reader::Variant<RequestPayloadRegisterRule, reader::StructureElement<RegisterRequest<A>>>,
+    RequestPayloadFromLocate<A>,
+);
+
+// The one that was read as one of these.
+#[tactic(auto, unfolding(kmip_ttlv_types::specs::Digits::six_digits, crate::specs::Requests::read_request_payload, crate::specs::Requests::read_create_request, crate::specs::Requests::read_create_key_pair_request, crate::specs::Requests::read_register_request, crate::specs::Requests::read_locate_request, crate::specs::Requests::read_get_request, crate::specs::Requests::read_get_attributes_request, crate::specs::Requests::read_object_request, crate::specs::Requests::read_attribute_request, crate::specs::Requests::read_delete_attribute_request, crate::specs::Requests::read_revoke_request, crate::specs::Requests::read_query_request, crate::specs::Requests::read_discover_versions_request))]
+#[inline(always)]
+fn request_payload_from_register<A: Allocator + Copy>(
+    read: <RequestPayloadFromRegister<A> as reader::VariantList<A>>::Read,
+) -> RequestPayload<A>
+    ensures { (own : List ℕ) → request_payload_as own result ≡ ⟦<RequestPayloadFromRegister<A> as reader::VariantList<A>>⟧.value own read }
+{
+    match read {
+        reader::OneOf::First(held) => RequestPayload::Register(held),
+        reader::OneOf::Other(other) => request_payload_from_locate(other),
+    }
+}
+
+// The variants from `CreateKeyPair` on.
+type RequestPayloadFromCreateKeyPair<A> = (
+    reader::Variant<
+        RequestPayloadCreateKeyPairRule,
+        reader::StructureElement<CreateKeyPairRequest<A>>,
+    >,
+    RequestPayloadFromRegister<A>,
+);
+
+// The one that was read as one of these.
+#[tactic(auto, unfolding(kmip_ttlv_types::specs::Digits::six_digits, crate::specs::Requests::read_request_payload, crate::specs::Requests::read_create_request, crate::specs::Requests::read_create_key_pair_request, crate::specs::Requests::read_register_request, crate::specs::Requests::read_locate_request, crate::specs::Requests::read_get_request, crate::specs::Requests::read_get_attributes_request, crate::specs::Requests::read_object_request, crate::specs::Requests::read_attribute_request, crate::specs::Requests::read_delete_attribute_request, crate::specs::Requests::read_revoke_request, crate::specs::Requests::read_query_request, crate::specs::Requests::read_discover_versions_request))]
+#[inline(always)]
+fn request_payload_from_create_key_pair<A: Allocator + Copy>(
+    read: <RequestPayloadFromCreateKeyPair<A> as reader::VariantList<A>>::Read,
+) -> RequestPayload<A>
+    ensures { (own : List ℕ) → request_payload_as own result ≡ ⟦<RequestPayloadFromCreateKeyPair<A> as reader::VariantList<A>>⟧.value own read }
+{
+    match read {
+        reader::OneOf::First(held) => RequestPayload::CreateKeyPair(held),
+        reader::OneOf::Other(other) => request_payload_from_register(other),
+    }
+}
+
+// The variants from `Create` on.
+type RequestPayloadFromCreate<A> = (
+    reader::Variant<RequestPayloadCreateRule, reader::StructureElement<CreateRequest<A>>>,
+    RequestPayloadFromCreateKeyPair<A>,
+);
+
+// The one that was read as one of these.
+#[tactic(auto, unfolding(kmip_ttlv_types::specs::Digits::six_digits, crate::specs::Requests::read_request_payload, crate::specs::Requests::read_create_request, crate::specs::Requests::read_create_key_pair_request, crate::specs::Requests::read_register_request, crate::specs::Requests::read_locate_request, crate::specs::Requests::read_get_request, crate::specs::Requests::read_get_attributes_request, crate::specs::Requests::read_object_request, crate::specs::Requests::read_attribute_request, crate::specs::Requests::read_delete_attribute_request, crate::specs::Requests::read_revoke_request, crate::specs::Requests::read_query_request, crate::specs::Requests::read_discover_versions_request))]
+#[inline(always)]
+fn request_payload_from_create<A: Allocator + Copy>(
+    read: <RequestPayloadFromCreate<A> as reader::VariantList<A>>::Read,
+) -> RequestPayload<A>
+    ensures { (own : List ℕ) → request_payload_as own result ≡ ⟦<RequestPayloadFromCreate<A> as reader::VariantList<A>>⟧.value own read }
+{
+    match read {
+        reader::OneOf::First(held) => RequestPayload::Create(held),
+        reader::OneOf::Other(other) => request_payload_from_create_key_pair(other),
+    }
+}
+
+impl<A: Allocator + Copy> reader::Choice<A> for RequestPayload<A> {
+    ghost own = { codes "payload" };
+
+    type Variants = RequestPayloadFromCreate<A>;
+}
+
+impl<A: Allocator + Copy> reader::ReadItem<A> for RequestPayload<A> {
+    ghost form = { request_payload_form };
+
+    ghost value = { read_request_payload };
+
+    ghost plain = { (refl, refl) };
+
+    #[tactic(auto, unfolding(kmip_ttlv_types::specs::Digits::six_digits, crate::specs::Requests::read_request_payload, crate::specs::Requests::read_create_request, crate::specs::Requests::read_create_key_pair_request, crate::specs::Requests::read_register_request, crate::specs::Requests::read_locate_request, crate::specs::Requests::read_get_request, crate::specs::Requests::read_get_attributes_request, crate::specs::Requests::read_object_request, crate::specs::Requests::read_attribute_request, crate::specs::Requests::read_delete_attribute_request, crate::specs::Requests::read_revoke_request, crate::specs::Requests::read_query_request, crate::specs::Requests::read_discover_versions_request))]
+    fn read_item<'b>(
+        scope: &reader::Scope<'b, A>,
+        cursor: &mut reader::Cursor<'b, A>,
+    ) -> reader::Step<Self, A> {
+        let read = reader::read_choice::<Self, A>(scope, cursor)?;
+        Ok(request_payload_from_create(read))
+    }
+}
+
+/// One thing that is asked for (section 7.2).
+#[derive(Drop)]
+#[derive_where(PartialEq)]
+pub struct RequestItem<A: Allocator = Global> {
+    /// What is asked for.
+    pub operation: Operation,
+    /// What names the item, in a batch of several.
+    pub unique_batch_item_id: Option<Vec<u8, A>>,
+    /// What it needs.
+    pub payload: RequestPayload<A>,
+    /// What a vendor adds.
+    pub message_extension: Option<MessageExtension<A>>,
+}
+
+impl<B: Allocator> Serialize for RequestItem<B> {
+    ghost stated = { written_request_item };
+
+    fn visit<V: Visitor>(&self, visitor: &mut V) -> Result<(), AllocError> {
+        writing::begin_struct(visitor, "0x42000F")?;
+        self.operation.visit(visitor)?;
+        writing::optional_byte_string(visitor, "Transparent:0x420093", &self.unique_batch_item_id)?;
+        self.payload.visit(visitor)?;
+        writing::option(visitor, &self.message_extension)?;
+        writing::end_struct(visitor, "0x42000F")?;
+        Ok(())
+    }
+}
+
+impl<A: Allocator + Copy> reader::ReadStructure<A> for RequestItem<A> {
+    ghost TAG = { 0x42000F };
+
+    ghost DENIES_UNKNOWN = { true };
+
+    ghost values = { λ x. fields_in (read_request_item x) };
+
+    type Fields = reader::Four<
+        reader::Item<Operation, 0x42005C>,
+        reader::OptionalLeaf<Vec<u8, A>, 0x420093>,
+        reader::Item<RequestPayload<A>, 0x420079>,
+        reader::OptionalNested<MessageExtension<A>>,
+        (),
+    >;
+
+    const TAG: u32 = 0x42000F;
+
+    const DENIES_UNKNOWN: bool = true;
+
+    #[tactic(auto, unfolding(kmip_ttlv_types::specs::Digits::six_digits, crate::specs::Requests::read_request_item, crate::specs::Headers::message_extension_value))]
+    fn from_fields(
+        fields: (
+            Operation,
+            (
+                Option<Vec<u8, A>>,
+                (RequestPayload<A>, (Option<MessageExtension<A>>, ())),
+            ),
+        ),
+    ) -> Self {
+        let (operation, (unique_batch_item_id, (payload, (message_extension, ())))) = fields;
+        RequestItem {
+            operation,
+            unique_batch_item_id,
+            payload,
+            message_extension,
+        }
+    }
+}
+
+impl<A: Allocator + Copy> reader::ReadNested<A> for RequestItem<A> {
+    ghost TAG = { 0x42000F };
+
+    ghost fields = { struct_fields request_item_form };
+
+    ghost denies_unknown = { true };
+
+    ghost values = { λ x. fields_in (read_request_item x) };
+
+    const TAG: u32 = 0x42000F;
+
+    #[tactic(auto, unfolding(kmip_ttlv_types::specs::Digits::six_digits, crate::specs::Requests::read_request_item))]
+    fn read_nested<'b>(
+        scope: &reader::Scope<'b, A>,
+        cursor: &mut reader::Cursor<'b, A>,
+    ) -> reader::Step<Self, A> {
+        reader::read_form(scope, cursor)
+    }
+}
+
+/// A request (section 7.1).
+#[derive(Drop)]
+#[derive_where(PartialEq)]
+pub struct Request<A: Allocator = Global> {
+    /// What it begins with.
+    pub header: RequestHeader<A>,
+    /// One or more.
+    pub items: Vec<RequestItem<A>, A>,
+}
+
+impl<B: Allocator> Serialize for Request<B> {
+    ghost stated = { written_request };
+
+    #[tactic(auto, unfolding(crate::specs::Requests::written_request))]
+    fn visit<V: Visitor>(&self, visitor: &mut V) -> Result<(), AllocError> {
+        writing::begin_struct(visitor, "0x420078")?;
+        self.header.visit(visitor)?;
+        writing::several(visitor, &self.items)?;
+        writing::end_struct(visitor, "0x420078")?;
+        Ok(())
+    }
+}
+
+impl<A: Allocator + Copy> reader::ReadStructure<A> for Request<A> {
+    ghost TAG = { 0x420078 };
+
+    ghost DENIES_UNKNOWN = { true };
+
+    ghost values = { λ x. fields_in (read_request x) };
+
+    type Fields = (
+        reader::Nested<RequestHeader<A>>,
+        (reader::Several<RequestItem<A>>, ()),
+    );
+
+    const TAG: u32 = 0x420078;
+
+    const DENIES_UNKNOWN: bool = true;
+
+    #[tactic(auto, unfolding(kmip_ttlv_types::specs::Digits::six_digits, crate::specs::Requests::read_request, crate::specs::Headers::read_request_header, crate::specs::Requests::read_request_item))]
+    fn from_fields(fields: (RequestHeader<A>, (Vec<RequestItem<A>, A>, ()))) -> Self {
+        let (header, (items, ())) = fields;
+        Request { header, items }
+    }
+}
+
+impl<A: Allocator + Copy> Decode<A> for Request<A> {
+    ghost form = { request_form };
+
+    ghost is_value = { λ v x. v ≡ read_request x };
+
+    #[tactic(auto, unfolding(kmip_ttlv_types::specs::Digits::six_digits, crate::specs::Requests::read_request))]
+    fn decode(alloc: A, bytes: &[u8]) -> Result<Self, error::Error<A>> {
+        reader::read_message(alloc, bytes)
+    }
+}

@@ -1,0 +1,2203 @@
+// Written by codegen from types.table: change that, and run codegen/codegen.
+//! What was done (KMIP 1.0, section 4).
+
+ghost use Rattle.std.specs.Prelude.{◌≡◌, ◌↔◌, ◌==◌, refl, IsTrue, List, Some, codes, true, ℕ};
+ghost use Rattle.std.proofs.Common.{rules};
+ghost use Rattle.std.specs.Cmp.Rules.{comparing};
+ghost use Rattle.std.specs.Ordering.{on};
+ghost use Rattle.kmip_ttlv.specs.Spots.{fields_in, struct_fields};
+ghost use Rattle.kmip_messages.specs.Responses.{create_response_form, written_create_response, read_create_response, create_key_pair_response_form, written_create_key_pair_response, read_create_key_pair_response, register_response_form, written_register_response, read_register_response, locate_response_form, written_locate_response, read_locate_response, get_response_form, written_get_response, read_get_response, IsGetResponseObject, get_attributes_response_form, written_get_attributes_response, read_get_attributes_response, get_attribute_list_response_form, written_get_attribute_list_response, read_get_attribute_list_response, attribute_response_form, written_attribute_response, read_attribute_response, object_response_form, object_response_value, application_namespace_form, application_namespace_value, query_response_form, written_query_response, read_query_response, discover_versions_response_form, written_discover_versions_response, read_discover_versions_response, response_payload_form, written_response_payload, read_response_payload, ChoosesResponsePayload, response_payload_as, response_payload_variants_5, response_payload_variants_10, ChoosesResponsePayloadNumber, result_status_form, written_result_status, read_result_status, result_status_number, result_status_read_number, result_reason_form, written_result_reason, read_result_reason, result_reason_number, result_reason_read_number, response_item_form, written_response_item, read_response_item, response_form, written_response, read_response};
+
+use crate::header::{MessageExtension, Operation, ProtocolVersion, ResponseHeader};
+use crate::template::{PrivateKeyTemplateAttribute, PublicKeyTemplateAttribute, TemplateAttribute};
+use kmip_attributes::attribute::{Attribute, AttributeName};
+use kmip_attributes::values::ObjectType;
+use kmip_objects::key::UniqueIdentifier;
+use kmip_objects::object::{
+    Certificate, ManagedObject, OpaqueObject, PrivateKey, PublicKey, SecretData, SplitKey,
+    SymmetricKey, Template,
+};
+use kmip_ttlv::messages::writing;
+use kmip_ttlv::shape::{Decode, Serialize};
+use kmip_ttlv::types::TtlvType;
+use kmip_ttlv::visit::Visitor;
+use kmip_ttlv::{error, reader};
+use std::alloc::{AllocError, Allocator, Global};
+use std::marker::PhantomData;
+
+/// A symmetric key was made (section 4.1).
+#[derive(Drop)]
+#[derive_where(PartialEq)]
+pub struct CreateResponse<A: Allocator = Global> {
+    /// What it is.
+    pub object_type: ObjectType,
+    /// Its identifier.
+    pub unique_identifier: String<A>,
+    /// What the server has set.
+    pub template_attribute: Option<TemplateAttribute<A>>,
+}
+
+impl<B: Allocator> Serialize for CreateResponse<B> {
+    ghost stated = { written_create_response };
+
+    fn visit<V: Visitor>(&self, visitor: &mut V) -> Result<(), AllocError> {
+        writing::begin_struct(visitor, "0x42007C")?;
+        self.object_type.visit(visitor)?;
+        writing::string(visitor, "Transparent:0x420094", &self.unique_identifier)?;
+        writing::option(visitor, &self.template_attribute)?;
+        writing::end_struct(visitor, "0x42007C")?;
+        Ok(())
+    }
+}
+
+impl<A: Allocator + Copy> reader::ReadStructure<A> for CreateResponse<A> {
+    ghost TAG = { 0x42007C };
+
+    ghost DENIES_UNKNOWN = { true };
+
+    ghost values = { λ x. fields_in (read_create_response x) };
+
+    type Fields = (
+        reader::Item<ObjectType, 0x420057>,
+        (
+            reader::Leaf<String<A>, 0x420094>,
+            (reader::OptionalNested<TemplateAttribute<A>>, ()),
+        ),
+    );
+
+    const TAG: u32 = 0x42007C;
+
+    const DENIES_UNKNOWN: bool = true;
+
+    #[tactic(auto, unfolding(kmip_ttlv_types::specs::Digits::six_digits, crate::specs::Responses::read_create_response, crate::specs::Templates::read_template_attribute))]
+    fn from_fields(fields: (ObjectType, (String<A>, (Option<TemplateAttribute<A>>, ())))) -> Self {
+        let (object_type, (unique_identifier, (template_attribute, ()))) = fields;
+        CreateResponse {
+            object_type,
+            unique_identifier,
+            template_attribute,
+        }
+    }
+}
+
+impl<A: Allocator + Copy> reader::ReadNested<A> for CreateResponse<A> {
+    ghost TAG = { 0x42007C };
+
+    ghost fields = { struct_fields create_response_form };
+
+    ghost denies_unknown = { true };
+
+    ghost values = { λ x. fields_in (read_create_response x) };
+
+    const TAG: u32 = 0x42007C;
+
+    #[tactic(auto, unfolding(kmip_ttlv_types::specs::Digits::six_digits, crate::specs::Responses::read_create_response))]
+    fn read_nested<'b>(
+        scope: &reader::Scope<'b, A>,
+        cursor: &mut reader::Cursor<'b, A>,
+    ) -> reader::Step<Self, A> {
+        reader::read_form(scope, cursor)
+    }
+}
+
+/// A public and a private key were made (section 4.2).
+#[derive(Drop)]
+#[derive_where(PartialEq)]
+pub struct CreateKeyPairResponse<A: Allocator = Global> {
+    /// The private key's identifier.
+    pub private_key_unique_identifier: String<A>,
+    /// The public key's identifier.
+    pub public_key_unique_identifier: String<A>,
+    /// What the server has set of the private key.
+    pub private_key: Option<PrivateKeyTemplateAttribute<A>>,
+    /// What the server has set of the public key.
+    pub public_key: Option<PublicKeyTemplateAttribute<A>>,
+}
+
+impl<B: Allocator> Serialize for CreateKeyPairResponse<B> {
+    ghost stated = { written_create_key_pair_response };
+
+    fn visit<V: Visitor>(&self, visitor: &mut V) -> Result<(), AllocError> {
+        writing::begin_struct(visitor, "0x42007C")?;
+        writing::string(
+            visitor,
+            "Transparent:0x420066",
+            &self.private_key_unique_identifier,
+        )?;
+        writing::string(
+            visitor,
+            "Transparent:0x42006F",
+            &self.public_key_unique_identifier,
+        )?;
+        writing::option(visitor, &self.private_key)?;
+        writing::option(visitor, &self.public_key)?;
+        writing::end_struct(visitor, "0x42007C")?;
+        Ok(())
+    }
+}
+
+impl<A: Allocator + Copy> reader::ReadStructure<A> for CreateKeyPairResponse<A> {
+    ghost TAG = { 0x42007C };
+
+    ghost DENIES_UNKNOWN = { true };
+
+    ghost values = { λ x. fields_in (read_create_key_pair_response x) };
+
+    type Fields = reader::Four<
+        reader::Leaf<String<A>, 0x420066>,
+        reader::Leaf<String<A>, 0x42006F>,
+        reader::OptionalNested<PrivateKeyTemplateAttribute<A>>,
+        reader::OptionalNested<PublicKeyTemplateAttribute<A>>,
+        (),
+    >;
+
+    const TAG: u32 = 0x42007C;
+
+    const DENIES_UNKNOWN: bool = true;
+
+    #[tactic(auto, unfolding(kmip_ttlv_types::specs::Digits::six_digits, crate::specs::Responses::read_create_key_pair_response, crate::specs::Templates::read_private_key_template_attribute, crate::specs::Templates::read_public_key_template_attribute))]
+    fn from_fields(
+        fields: (
+            String<A>,
+            (
+                String<A>,
+                (
+                    Option<PrivateKeyTemplateAttribute<A>>,
+                    (Option<PublicKeyTemplateAttribute<A>>, ()),
+                ),
+            ),
+        ),
+    ) -> Self {
+        let (
+            private_key_unique_identifier,
+            (public_key_unique_identifier, (private_key, (public_key, ()))),
+        ) = fields;
+        CreateKeyPairResponse {
+            private_key_unique_identifier,
+            public_key_unique_identifier,
+            private_key,
+            public_key,
+        }
+    }
+}
+
+impl<A: Allocator + Copy> reader::ReadNested<A> for CreateKeyPairResponse<A> {
+    ghost TAG = { 0x42007C };
+
+    ghost fields = { struct_fields create_key_pair_response_form };
+
+    ghost denies_unknown = { true };
+
+    ghost values = { λ x. fields_in (read_create_key_pair_response x) };
+
+    const TAG: u32 = 0x42007C;
+
+    #[tactic(auto, unfolding(kmip_ttlv_types::specs::Digits::six_digits, crate::specs::Responses::read_create_key_pair_response))]
+    fn read_nested<'b>(
+        scope: &reader::Scope<'b, A>,
+        cursor: &mut reader::Cursor<'b, A>,
+    ) -> reader::Step<Self, A> {
+        reader::read_form(scope, cursor)
+    }
+}
+
+/// An object is kept (section 4.3).
+#[derive(Drop)]
+#[derive_where(PartialEq)]
+pub struct RegisterResponse<A: Allocator = Global> {
+    /// Its identifier.
+    pub unique_identifier: String<A>,
+    /// What the server has set.
+    pub template_attribute: Option<TemplateAttribute<A>>,
+}
+
+impl<B: Allocator> Serialize for RegisterResponse<B> {
+    ghost stated = { written_register_response };
+
+    fn visit<V: Visitor>(&self, visitor: &mut V) -> Result<(), AllocError> {
+        writing::begin_struct(visitor, "0x42007C")?;
+        writing::string(visitor, "Transparent:0x420094", &self.unique_identifier)?;
+        writing::option(visitor, &self.template_attribute)?;
+        writing::end_struct(visitor, "0x42007C")?;
+        Ok(())
+    }
+}
+
+impl<A: Allocator + Copy> reader::ReadStructure<A> for RegisterResponse<A> {
+    ghost TAG = { 0x42007C };
+
+    ghost DENIES_UNKNOWN = { true };
+
+    ghost values = { λ x. fields_in (read_register_response x) };
+
+    type Fields = (
+        reader::Leaf<String<A>, 0x420094>,
+        (reader::OptionalNested<TemplateAttribute<A>>, ()),
+    );
+
+    const TAG: u32 = 0x42007C;
+
+    const DENIES_UNKNOWN: bool = true;
+
+    #[tactic(auto, unfolding(kmip_ttlv_types::specs::Digits::six_digits, crate::specs::Responses::read_register_response, crate::specs::Templates::read_template_attribute))]
+    fn from_fields(fields: (String<A>, (Option<TemplateAttribute<A>>, ()))) -> Self {
+        let (unique_identifier, (template_attribute, ())) = fields;
+        RegisterResponse {
+            unique_identifier,
+            template_attribute,
+        }
+    }
+}
+
+impl<A: Allocator + Copy> reader::ReadNested<A> for RegisterResponse<A> {
+    ghost TAG = { 0x42007C };
+
+    ghost fields = { struct_fields register_response_form };
+
+    ghost denies_unknown = { true };
+
+    ghost values = { λ x. fields_in (read_register_response x) };
+
+    const TAG: u32 = 0x42007C;
+
+    #[tactic(auto, unfolding(kmip_ttlv_types::specs::Digits::six_digits, crate::specs::Responses::read_register_response))]
+    fn read_nested<'b>(
+        scope: &reader::Scope<'b, A>,
+        cursor: &mut reader::Cursor<'b, A>,
+    ) -> reader::Step<Self, A> {
+        reader::read_form(scope, cursor)
+    }
+}
+
+/// Which objects were found (section 4.8).
+#[derive(Drop)]
+#[derive_where(PartialEq)]
+pub struct LocateResponse<A: Allocator = Global> {
+    /// Their identifiers.
+    pub unique_identifiers: Vec<UniqueIdentifier<A>, A>,
+}
+
+impl<B: Allocator> Serialize for LocateResponse<B> {
+    ghost stated = { written_locate_response };
+
+    #[tactic(auto, unfolding(crate::specs::Responses::written_locate_response))]
+    fn visit<V: Visitor>(&self, visitor: &mut V) -> Result<(), AllocError> {
+        writing::begin_struct(visitor, "0x42007C")?;
+        writing::several(visitor, &self.unique_identifiers)?;
+        writing::end_struct(visitor, "0x42007C")?;
+        Ok(())
+    }
+}
+
+impl<A: Allocator + Copy> reader::ReadStructure<A> for LocateResponse<A> {
+    ghost TAG = { 0x42007C };
+
+    ghost DENIES_UNKNOWN = { true };
+
+    ghost values = { λ x. fields_in (read_locate_response x) };
+
+    type Fields = (
+        reader::OptionalSeveralItems<UniqueIdentifier<A>, 0x420094>,
+        (),
+    );
+
+    const TAG: u32 = 0x42007C;
+
+    const DENIES_UNKNOWN: bool = true;
+
+    #[tactic(auto, unfolding(kmip_ttlv_types::specs::Digits::six_digits, crate::specs::Responses::read_locate_response))]
+    fn from_fields(fields: (Vec<UniqueIdentifier<A>, A>, ())) -> Self {
+        let (unique_identifiers, ()) = fields;
+        LocateResponse { unique_identifiers }
+    }
+}
+
+impl<A: Allocator + Copy> reader::ReadNested<A> for LocateResponse<A> {
+    ghost TAG = { 0x42007C };
+
+    ghost fields = { struct_fields locate_response_form };
+
+    ghost denies_unknown = { true };
+
+    ghost values = { λ x. fields_in (read_locate_response x) };
+
+    const TAG: u32 = 0x42007C;
+
+    #[tactic(auto, unfolding(kmip_ttlv_types::specs::Digits::six_digits, crate::specs::Responses::read_locate_response))]
+    fn read_nested<'b>(
+        scope: &reader::Scope<'b, A>,
+        cursor: &mut reader::Cursor<'b, A>,
+    ) -> reader::Step<Self, A> {
+        reader::read_form(scope, cursor)
+    }
+}
+
+/// An object (section 4.10).
+#[derive(Drop)]
+#[derive_where(PartialEq)]
+pub struct GetResponse<A: Allocator = Global> {
+    /// What it is.
+    pub object_type: ObjectType,
+    /// Its identifier.
+    pub unique_identifier: String<A>,
+    /// A certificate.
+    pub certificate: Option<Certificate<A>>,
+    /// A symmetric key.
+    pub symmetric_key: Option<SymmetricKey<A>>,
+    /// A public key.
+    pub public_key: Option<PublicKey<A>>,
+    /// A private key.
+    pub private_key: Option<PrivateKey<A>>,
+    /// One of the parts that a key was split into.
+    pub split_key: Option<SplitKey<A>>,
+    /// Attributes that other objects are made with.
+    pub template: Option<Template<A>>,
+    /// A secret that is no key.
+    pub secret_data: Option<SecretData<A>>,
+    /// Bytes that the server doesn't interpret.
+    pub opaque_object: Option<OpaqueObject<A>>,
+}
+
+impl<A: Allocator> GetResponse<A> {
+    /// The object. None if none is there, or more than one.
+    pub fn object(&self) -> Option<ManagedObject<'_, A>>
+        ensures { IsGetResponseObject self.now result }
+    {
+        match (
+            &self.certificate,
+            &self.symmetric_key,
+            &self.public_key,
+            &self.private_key,
+            &self.split_key,
+            &self.template,
+            &self.secret_data,
+            &self.opaque_object,
+        ) {
+            (Some(held), None, None, None, None, None, None, None) => Some(
+                ManagedObject::Certificate(held),
+            ),
+            (None, Some(held), None, None, None, None, None, None) => Some(
+                ManagedObject::SymmetricKey(held),
+            ),
+            (None, None, Some(held), None, None, None, None, None) => Some(ManagedObject::PublicKey(
+                held,
+            )),
+            (None, None, None, Some(held), None, None, None, None) => Some(
+                ManagedObject::PrivateKey(held),
+            ),
+            (None, None, None, None, Some(held), None, None, None) => Some(ManagedObject::SplitKey(
+                held,
+            )),
+            (None, None, None, None, None, Some(held), None, None) => Some(ManagedObject::Template(
+                held,
+            )),
+            (None, None, None, None, None, None, Some(held), None) => Some(
+                ManagedObject::SecretData(held),
+            ),
+            (None, None, None, None, None, None, None, Some(held)) => Some(
+                ManagedObject::OpaqueObject(held),
+            ),
+            _ => None,
+        }
+    }
+}
+
+impl<B: Allocator> Serialize for GetResponse<B> {
+    ghost stated = { written_get_response };
+
+    fn visit<V: Visitor>(&self, visitor: &mut V) -> Result<(), AllocError> {
+        writing::begin_struct(visitor, "0x42007C")?;
+        self.object_type.visit(visitor)?;
+        writing::string(visitor, "Transparent:0x420094", &self.unique_identifier)?;
+        writing::option(visitor, &self.certificate)?;
+        writing::option(visitor, &self.symmetric_key)?;
+        writing::option(visitor, &self.public_key)?;
+        writing::option(visitor, &self.private_key)?;
+        writing::option(visitor, &self.split_key)?;
+        writing::option(visitor, &self.template)?;
+        writing::option(visitor, &self.secret_data)?;
+        writing::option(visitor, &self.opaque_object)?;
+        writing::end_struct(visitor, "0x42007C")?;
+        Ok(())
+    }
+}
+
+impl<A: Allocator + Copy> reader::ReadStructure<A> for GetResponse<A> {
+    ghost TAG = { 0x42007C };
+
+    ghost DENIES_UNKNOWN = { true };
+
+    ghost values = { λ x. fields_in (read_get_response x) };
+
+    type Fields = reader::Four<
+        reader::Item<ObjectType, 0x420057>,
+        reader::Leaf<String<A>, 0x420094>,
+        reader::OptionalNested<Certificate<A>>,
+        reader::OptionalNested<SymmetricKey<A>>,
+        reader::Four<
+            reader::OptionalNested<PublicKey<A>>,
+            reader::OptionalNested<PrivateKey<A>>,
+            reader::OptionalNested<SplitKey<A>>,
+            reader::OptionalNested<Template<A>>,
+            (
+                reader::OptionalNested<SecretData<A>>,
+                (reader::OptionalNested<OpaqueObject<A>>, ()),
+            ),
+        >,
+    >;
+
+    const TAG: u32 = 0x42007C;
+
+    const DENIES_UNKNOWN: bool = true;
+
+    #[tactic(auto, unfolding(kmip_ttlv_types::specs::Digits::six_digits, crate::specs::Responses::read_get_response, kmip_objects::specs::Objects::read_certificate, kmip_objects::specs::Objects::read_symmetric_key, kmip_objects::specs::Objects::read_public_key, kmip_objects::specs::Objects::read_private_key, kmip_objects::specs::Objects::read_split_key, kmip_objects::specs::Objects::read_template, kmip_objects::specs::Objects::read_secret_data, kmip_objects::specs::Objects::read_opaque_object))]
+    fn from_fields(
+        fields: (
+            ObjectType,
+            (
+                String<A>,
+                (
+                    Option<Certificate<A>>,
+                    (
+                        Option<SymmetricKey<A>>,
+                        (
+                            Option<PublicKey<A>>,
+                            (
+                                Option<PrivateKey<A>>,
+                                (
+                                    Option<SplitKey<A>>,
+                                    (
+                                        Option<Template<A>>,
+                                        (Option<SecretData<A>>, (Option<OpaqueObject<A>>, ())),
+                                    ),
+                                ),
+                            ),
+                        ),
+                    ),
+                ),
+            ),
+        ),
+    ) -> Self {
+        let (
+            object_type,
+            (
+                unique_identifier,
+                (
+                    certificate,
+                    (
+                        symmetric_key,
+                        (
+                            public_key,
+                            (
+                                private_key,
+                                (split_key, (template, (secret_data, (opaque_object, ())))),
+                            ),
+                        ),
+                    ),
+                ),
+            ),
+        ) = fields;
+        GetResponse {
+            object_type,
+            unique_identifier,
+            certificate,
+            symmetric_key,
+            public_key,
+            private_key,
+            split_key,
+            template,
+            secret_data,
+            opaque_object,
+        }
+    }
+}
+
+impl<A: Allocator + Copy> reader::ReadNested<A> for GetResponse<A> {
+    ghost TAG = { 0x42007C };
+
+    ghost fields = { struct_fields get_response_form };
+
+    ghost denies_unknown = { true };
+
+    ghost values = { λ x. fields_in (read_get_response x) };
+
+    const TAG: u32 = 0x42007C;
+
+    #[tactic(auto, unfolding(kmip_ttlv_types::specs::Digits::six_digits, crate::specs::Responses::read_get_response))]
+    fn read_nested<'b>(
+        scope: &reader::Scope<'b, A>,
+        cursor: &mut reader::Cursor<'b, A>,
+    ) -> reader::Step<Self, A> {
+        reader::read_form(scope, cursor)
+    }
+}
+
+/// What is known of an object (section 4.11).
+#[derive(Drop)]
+#[derive_where(PartialEq)]
+pub struct GetAttributesResponse<A: Allocator = Global> {
+    /// Its identifier.
+    pub unique_identifier: String<A>,
+    /// What is known.
+    pub attributes: Vec<Attribute<A>, A>,
+}
+
+impl<B: Allocator> Serialize for GetAttributesResponse<B> {
+    ghost stated = { written_get_attributes_response };
+
+    #[tactic(auto, unfolding(crate::specs::Responses::written_get_attributes_response))]
+    fn visit<V: Visitor>(&self, visitor: &mut V) -> Result<(), AllocError> {
+        writing::begin_struct(visitor, "0x42007C")?;
+        writing::string(visitor, "Transparent:0x420094", &self.unique_identifier)?;
+        writing::several(visitor, &self.attributes)?;
+        writing::end_struct(visitor, "0x42007C")?;
+        Ok(())
+    }
+}
+
+impl<A: Allocator + Copy> reader::ReadStructure<A> for GetAttributesResponse<A> {
+    ghost TAG = { 0x42007C };
+
+    ghost DENIES_UNKNOWN = { true };
+
+    ghost values = { λ x. fields_in (read_get_attributes_response x) };
+
+    type Fields = (
+        reader::Leaf<String<A>, 0x420094>,
+        (reader::OptionalSeveral<Attribute<A>>, ()),
+    );
+
+    const TAG: u32 = 0x42007C;
+
+    const DENIES_UNKNOWN: bool = true;
+
+    #[tactic(auto, unfolding(kmip_ttlv_types::specs::Digits::six_digits, crate::specs::Responses::read_get_attributes_response, kmip_attributes::specs::Attributes::read_attribute))]
+    fn from_fields(fields: (String<A>, (Vec<Attribute<A>, A>, ()))) -> Self {
+        let (unique_identifier, (attributes, ())) = fields;
+        GetAttributesResponse {
+            unique_identifier,
+            attributes,
+        }
+    }
+}
+
+impl<A: Allocator + Copy> reader::ReadNested<A> for GetAttributesResponse<A> {
+    ghost TAG = { 0x42007C };
+
+    ghost fields = { struct_fields get_attributes_response_form };
+
+    ghost denies_unknown = { true };
+
+    ghost values = { λ x. fields_in (read_get_attributes_response x) };
+
+    const TAG: u32 = 0x42007C;
+
+    #[tactic(auto, unfolding(kmip_ttlv_types::specs::Digits::six_digits, crate::specs::Responses::read_get_attributes_response))]
+    fn read_nested<'b>(
+        scope: &reader::Scope<'b, A>,
+        cursor: &mut reader::Cursor<'b, A>,
+    ) -> reader::Step<Self, A> {
+        reader::read_form(scope, cursor)
+    }
+}
+
+/// The names of what is known of an object (section 4.12).
+#[derive(Drop)]
+#[derive_where(PartialEq)]
+pub struct GetAttributeListResponse<A: Allocator = Global> {
+    /// Its identifier.
+    pub unique_identifier: String<A>,
+    /// The names.
+    pub attribute_names: Vec<AttributeName<A>, A>,
+}
+
+impl<B: Allocator> Serialize for GetAttributeListResponse<B> {
+    ghost stated = { written_get_attribute_list_response };
+
+    #[tactic(auto, unfolding(crate::specs::Responses::written_get_attribute_list_response))]
+    fn visit<V: Visitor>(&self, visitor: &mut V) -> Result<(), AllocError> {
+        writing::begin_struct(visitor, "0x42007C")?;
+        writing::string(visitor, "Transparent:0x420094", &self.unique_identifier)?;
+        writing::several(visitor, &self.attribute_names)?;
+        writing::end_struct(visitor, "0x42007C")?;
+        Ok(())
+    }
+}
+
+impl<A: Allocator + Copy> reader::ReadStructure<A> for GetAttributeListResponse<A> {
+    ghost TAG = { 0x42007C };
+
+    ghost DENIES_UNKNOWN = { true };
+
+    ghost values = { λ x. fields_in (read_get_attribute_list_response x) };
+
+    type Fields = (
+        reader::Leaf<String<A>, 0x420094>,
+        (reader::OptionalSeveralItems<AttributeName<A>, 0x42000A>, ()),
+    );
+
+    const TAG: u32 = 0x42007C;
+
+    const DENIES_UNKNOWN: bool = true;
+
+    #[tactic(auto, unfolding(kmip_ttlv_types::specs::Digits::six_digits, crate::specs::Responses::read_get_attribute_list_response))]
+    fn from_fields(fields: (String<A>, (Vec<AttributeName<A>, A>, ()))) -> Self {
+        let (unique_identifier, (attribute_names, ())) = fields;
+        GetAttributeListResponse {
+            unique_identifier,
+            attribute_names,
+        }
+    }
+}
+
+impl<A: Allocator + Copy> reader::ReadNested<A> for GetAttributeListResponse<A> {
+    ghost TAG = { 0x42007C };
+
+    ghost fields = { struct_fields get_attribute_list_response_form };
+
+    ghost denies_unknown = { true };
+
+    ghost values = { λ x. fields_in (read_get_attribute_list_response x) };
+
+    const TAG: u32 = 0x42007C;
+
+    #[tactic(auto, unfolding(kmip_ttlv_types::specs::Digits::six_digits, crate::specs::Responses::read_get_attribute_list_response))]
+    fn read_nested<'b>(
+        scope: &reader::Scope<'b, A>,
+        cursor: &mut reader::Cursor<'b, A>,
+    ) -> reader::Step<Self, A> {
+        reader::read_form(scope, cursor)
+    }
+}
+
+/// An attribute that was added, changed or deleted (sections 4.13 to 4.15).
+#[derive(Drop)]
+#[derive_where(PartialEq)]
+pub struct AttributeResponse<A: Allocator = Global> {
+    /// The identifier of its object.
+    pub unique_identifier: String<A>,
+    /// The attribute.
+    pub attribute: Attribute<A>,
+}
+
+impl<B: Allocator> Serialize for AttributeResponse<B> {
+    ghost stated = { written_attribute_response };
+
+    #[tactic(auto, unfolding(crate::specs::Responses::written_attribute_response))]
+    fn visit<V: Visitor>(&self, visitor: &mut V) -> Result<(), AllocError> {
+        writing::begin_struct(visitor, "0x42007C")?;
+        writing::string(visitor, "Transparent:0x420094", &self.unique_identifier)?;
+        self.attribute.visit(visitor)?;
+        writing::end_struct(visitor, "0x42007C")?;
+        Ok(())
+    }
+}
+
+impl<A: Allocator + Copy> reader::ReadStructure<A> for AttributeResponse<A> {
+    ghost TAG = { 0x42007C };
+
+    ghost DENIES_UNKNOWN = { true };
+
+    ghost values = { λ x. fields_in (read_attribute_response x) };
+
+    type Fields = (
+        reader::Leaf<String<A>, 0x420094>,
+        (reader::Nested<Attribute<A>>, ()),
+    );
+
+    const TAG: u32 = 0x42007C;
+
+    const DENIES_UNKNOWN: bool = true;
+
+    #[tactic(auto, unfolding(kmip_ttlv_types::specs::Digits::six_digits, crate::specs::Responses::read_attribute_response, kmip_attributes::specs::Attributes::read_attribute))]
+    fn from_fields(fields: (String<A>, (Attribute<A>, ()))) -> Self {
+        let (unique_identifier, (attribute, ())) = fields;
+        AttributeResponse {
+            unique_identifier,
+            attribute,
+        }
+    }
+}
+
+impl<A: Allocator + Copy> reader::ReadNested<A> for AttributeResponse<A> {
+    ghost TAG = { 0x42007C };
+
+    ghost fields = { struct_fields attribute_response_form };
+
+    ghost denies_unknown = { true };
+
+    ghost values = { λ x. fields_in (read_attribute_response x) };
+
+    const TAG: u32 = 0x42007C;
+
+    #[tactic(auto, unfolding(kmip_ttlv_types::specs::Digits::six_digits, crate::specs::Responses::read_attribute_response))]
+    fn read_nested<'b>(
+        scope: &reader::Scope<'b, A>,
+        cursor: &mut reader::Cursor<'b, A>,
+    ) -> reader::Step<Self, A> {
+        reader::read_form(scope, cursor)
+    }
+}
+
+/// Which object was activated, revoked or destroyed (sections 4.18 to 4.20).
+#[derive(Drop)]
+#[derive_where(PartialEq)]
+pub struct ObjectResponse<A: Allocator = Global> {
+    /// Its identifier.
+    pub unique_identifier: String<A>,
+}
+
+impl<B: Allocator> Serialize for ObjectResponse<B> {
+    ghost stated = { object_response_value };
+
+    #[tactic(auto, unfolding(crate::specs::Responses::object_response_value))]
+    fn visit<V: Visitor>(&self, visitor: &mut V) -> Result<(), AllocError> {
+        writing::begin_struct(visitor, "0x42007C")?;
+        writing::string(visitor, "Transparent:0x420094", &self.unique_identifier)?;
+        writing::end_struct(visitor, "0x42007C")?;
+        Ok(())
+    }
+}
+
+impl<A: Allocator + Copy> reader::ReadStructure<A> for ObjectResponse<A> {
+    ghost TAG = { 0x42007C };
+
+    ghost DENIES_UNKNOWN = { true };
+
+    ghost values = { λ x. fields_in (object_response_value x) };
+
+    type Fields = (reader::Leaf<String<A>, 0x420094>, ());
+
+    const TAG: u32 = 0x42007C;
+
+    const DENIES_UNKNOWN: bool = true;
+
+    #[tactic(auto, unfolding(kmip_ttlv_types::specs::Digits::six_digits, crate::specs::Responses::object_response_value))]
+    fn from_fields(fields: (String<A>, ())) -> Self {
+        let (unique_identifier, ()) = fields;
+        ObjectResponse { unique_identifier }
+    }
+}
+
+impl<A: Allocator + Copy> reader::ReadNested<A> for ObjectResponse<A> {
+    ghost TAG = { 0x42007C };
+
+    ghost fields = { struct_fields object_response_form };
+
+    ghost denies_unknown = { true };
+
+    ghost values = { λ x. fields_in (object_response_value x) };
+
+    const TAG: u32 = 0x42007C;
+
+    #[tactic(auto, unfolding(kmip_ttlv_types::specs::Digits::six_digits, crate::specs::Responses::object_response_value))]
+    fn read_nested<'b>(
+        scope: &reader::Scope<'b, A>,
+        cursor: &mut reader::Cursor<'b, A>,
+    ) -> reader::Step<Self, A> {
+        reader::read_form(scope, cursor)
+    }
+}
+
+/// A namespace that a server knows.
+#[derive(Drop)]
+#[derive_where(PartialEq)]
+pub struct ApplicationNamespace<A: Allocator = Global> {
+    /// What it holds.
+    pub text: String<A>,
+}
+
+impl<B: Allocator> Serialize for ApplicationNamespace<B> {
+    ghost stated = { application_namespace_value };
+
+    fn visit<V: Visitor>(&self, visitor: &mut V) -> Result<(), AllocError> {
+        writing::string(visitor, "Transparent:0x420003", &self.text)
+    }
+}
+
+impl<A: Allocator + Copy> reader::ReadItem<A> for ApplicationNamespace<A> {
+    ghost form = { application_namespace_form };
+
+    ghost value = { application_namespace_value };
+
+    ghost plain = { (refl, refl) };
+
+    #[tactic(auto, unfolding(kmip_ttlv_types::specs::Digits::six_digits))]
+    fn read_item<'b>(
+        scope: &reader::Scope<'b, A>,
+        cursor: &mut reader::Cursor<'b, A>,
+    ) -> reader::Step<Self, A> {
+        let text = cursor.wrapped_leaf(scope, 0x420003)?;
+        Ok(ApplicationNamespace { text })
+    }
+}
+
+/// What a server can do: of each only what was asked for (section 4.24).
+#[derive(Drop)]
+#[derive_where(PartialEq)]
+pub struct QueryResponse<A: Allocator = Global> {
+    /// Its operations.
+    pub operations: Vec<Operation, A>,
+    /// The kinds of objects that it keeps.
+    pub object_types: Vec<ObjectType, A>,
+    /// Who made it.
+    pub vendor_identification: Option<String<A>>,
+    /// The namespaces that it knows.
+    pub application_namespaces: Vec<ApplicationNamespace<A>, A>,
+}
+
+impl<B: Allocator> Serialize for QueryResponse<B> {
+    ghost stated = { written_query_response };
+
+    fn visit<V: Visitor>(&self, visitor: &mut V) -> Result<(), AllocError> {
+        writing::begin_struct(visitor, "0x42007C")?;
+        writing::several(visitor, &self.operations)?;
+        writing::several(visitor, &self.object_types)?;
+        writing::optional_text_string(
+            visitor,
+            "Transparent:0x42009D",
+            &self.vendor_identification,
+        )?;
+        writing::several(visitor, &self.application_namespaces)?;
+        writing::end_struct(visitor, "0x42007C")?;
+        Ok(())
+    }
+}
+
+impl<A: Allocator + Copy> reader::ReadStructure<A> for QueryResponse<A> {
+    ghost TAG = { 0x42007C };
+
+    ghost DENIES_UNKNOWN = { true };
+
+    ghost values = { λ x. fields_in (read_query_response x) };
+
+    type Fields = reader::Four<
+        reader::OptionalSeveralItems<Operation, 0x42005C>,
+        reader::OptionalSeveralItems<ObjectType, 0x420057>,
+        reader::OptionalLeaf<String<A>, 0x42009D>,
+        reader::OptionalSeveralItems<ApplicationNamespace<A>, 0x420003>,
+        (),
+    >;
+
+    const TAG: u32 = 0x42007C;
+
+    const DENIES_UNKNOWN: bool = true;
+
+    #[tactic(auto, unfolding(kmip_ttlv_types::specs::Digits::six_digits, crate::specs::Responses::read_query_response))]
+    fn from_fields(
+        fields: (
+            Vec<Operation, A>,
+            (
+                Vec<ObjectType, A>,
+                (Option<String<A>>, (Vec<ApplicationNamespace<A>, A>, ())),
+            ),
+        ),
+    ) -> Self {
+        let (operations, (object_types, (vendor_identification, (application_namespaces, ())))) =
+            fields;
+        QueryResponse {
+            operations,
+            object_types,
+            vendor_identification,
+            application_namespaces,
+        }
+    }
+}
+
+impl<A: Allocator + Copy> reader::ReadNested<A> for QueryResponse<A> {
+    ghost TAG = { 0x42007C };
+
+    ghost fields = { struct_fields query_response_form };
+
+    ghost denies_unknown = { true };
+
+    ghost values = { λ x. fields_in (read_query_response x) };
+
+    const TAG: u32 = 0x42007C;
+
+    #[tactic(auto, unfolding(kmip_ttlv_types::specs::Digits::six_digits, crate::specs::Responses::read_query_response))]
+    fn read_nested<'b>(
+        scope: &reader::Scope<'b, A>,
+        cursor: &mut reader::Cursor<'b, A>,
+    ) -> reader::Step<Self, A> {
+        reader::read_form(scope, cursor)
+    }
+}
+
+/// Which versions a server has (KMIP 1.1, section 4.26).
+#[derive(Drop)]
+#[derive_where(PartialEq)]
+pub struct DiscoverVersionsResponse<A: Allocator = Global> {
+    /// The versions, the best first.
+    pub versions: Vec<ProtocolVersion, A>,
+}
+
+impl<B: Allocator> Serialize for DiscoverVersionsResponse<B> {
+    ghost stated = { written_discover_versions_response };
+
+    #[tactic(auto, unfolding(crate::specs::Responses::written_discover_versions_response))]
+    fn visit<V: Visitor>(&self, visitor: &mut V) -> Result<(), AllocError> {
+        writing::begin_struct(visitor, "0x42007C")?;
+        writing::several(visitor, &self.versions)?;
+        writing::end_struct(visitor, "0x42007C")?;
+        Ok(())
+    }
+}
+
+impl<A: Allocator + Copy> reader::ReadStructure<A> for DiscoverVersionsResponse<A> {
+    ghost TAG = { 0x42007C };
+
+    ghost DENIES_UNKNOWN = { true };
+
+    ghost values = { λ x. fields_in (read_discover_versions_response x) };
+
+    type Fields = (reader::OptionalSeveral<ProtocolVersion>, ());
+
+    const TAG: u32 = 0x42007C;
+
+    const DENIES_UNKNOWN: bool = true;
+
+    #[tactic(auto, unfolding(kmip_ttlv_types::specs::Digits::six_digits, crate::specs::Responses::read_discover_versions_response, crate::specs::Headers::protocol_version_value))]
+    fn from_fields(fields: (Vec<ProtocolVersion, A>, ())) -> Self {
+        let (versions, ()) = fields;
+        DiscoverVersionsResponse { versions }
+    }
+}
+
+impl<A: Allocator + Copy> reader::ReadNested<A> for DiscoverVersionsResponse<A> {
+    ghost TAG = { 0x42007C };
+
+    ghost fields = { struct_fields discover_versions_response_form };
+
+    ghost denies_unknown = { true };
+
+    ghost values = { λ x. fields_in (read_discover_versions_response x) };
+
+    const TAG: u32 = 0x42007C;
+
+    #[tactic(auto, unfolding(kmip_ttlv_types::specs::Digits::six_digits, crate::specs::Responses::read_discover_versions_response))]
+    fn read_nested<'b>(
+        scope: &reader::Scope<'b, A>,
+        cursor: &mut reader::Cursor<'b, A>,
+    ) -> reader::Step<Self, A> {
+        reader::read_form(scope, cursor)
+    }
+}
+
+/// What was done.
+#[derive(Drop)]
+#[derive_where(PartialEq)]
+pub enum ResponsePayload<A: Allocator = Global> {
+    /// A symmetric key was made.
+    Create(CreateResponse<A>),
+    /// A public and a private key were made.
+    CreateKeyPair(CreateKeyPairResponse<A>),
+    /// An object is kept.
+    Register(RegisterResponse<A>),
+    /// Which objects were found.
+    Locate(LocateResponse<A>),
+    /// An object.
+    Get(GetResponse<A>),
+    /// What is known of an object.
+    GetAttributes(GetAttributesResponse<A>),
+    /// The names of what is known.
+    GetAttributeList(GetAttributeListResponse<A>),
+    /// An attribute was added.
+    AddAttribute(AttributeResponse<A>),
+    /// An attribute was changed.
+    ModifyAttribute(AttributeResponse<A>),
+    /// An attribute was deleted.
+    DeleteAttribute(AttributeResponse<A>),
+    /// An object is in use.
+    Activate(ObjectResponse<A>),
+    /// An object is no longer used.
+    Revoke(ObjectResponse<A>),
+    /// An object is destroyed.
+    Destroy(ObjectResponse<A>),
+    /// What the server can do.
+    Query(QueryResponse<A>),
+    /// Which versions the server has.
+    DiscoverVersions(DiscoverVersionsResponse<A>),
+}
+
+impl<A: Allocator> ResponsePayload<A> {
+    /// Whether this text, if it is that of 0x42005C, chooses it.
+    pub fn is_chosen_by(&self, text: &str) -> bool
+        ensures { IsTrue result ↔ ChoosesResponsePayload text.now self.now }
+    {
+        match self {
+            ResponsePayload::Create(_) => text == "0x00000001",
+            ResponsePayload::CreateKeyPair(_) => text == "0x00000002",
+            ResponsePayload::Register(_) => text == "0x00000003",
+            ResponsePayload::Locate(_) => text == "0x00000008",
+            ResponsePayload::Get(_) => text == "0x0000000A",
+            ResponsePayload::GetAttributes(_) => text == "0x0000000B",
+            ResponsePayload::GetAttributeList(_) => text == "0x0000000C",
+            ResponsePayload::AddAttribute(_) => text == "0x0000000D",
+            ResponsePayload::ModifyAttribute(_) => text == "0x0000000E",
+            ResponsePayload::DeleteAttribute(_) => text == "0x0000000F",
+            ResponsePayload::Activate(_) => text == "0x00000012",
+            ResponsePayload::Revoke(_) => text == "0x00000013",
+            ResponsePayload::Destroy(_) => text == "0x00000014",
+            ResponsePayload::Query(_) => text == "0x00000018",
+            ResponsePayload::DiscoverVersions(_) => text == "0x0000001E",
+        }
+    }
+
+    /// The same of an Enumeration's number.
+    pub fn is_chosen_by_number(&self, number: u32) -> bool
+        ensures { IsTrue result ↔ ChoosesResponsePayloadNumber number self.now }
+    {
+        match self {
+            ResponsePayload::Create(_) => number == 0x00000001,
+            ResponsePayload::CreateKeyPair(_) => number == 0x00000002,
+            ResponsePayload::Register(_) => number == 0x00000003,
+            ResponsePayload::Locate(_) => number == 0x00000008,
+            ResponsePayload::Get(_) => number == 0x0000000A,
+            ResponsePayload::GetAttributes(_) => number == 0x0000000B,
+            ResponsePayload::GetAttributeList(_) => number == 0x0000000C,
+            ResponsePayload::AddAttribute(_) => number == 0x0000000D,
+            ResponsePayload::ModifyAttribute(_) => number == 0x0000000E,
+            ResponsePayload::DeleteAttribute(_) => number == 0x0000000F,
+            ResponsePayload::Activate(_) => number == 0x00000012,
+            ResponsePayload::Revoke(_) => number == 0x00000013,
+            ResponsePayload::Destroy(_) => number == 0x00000014,
+            ResponsePayload::Query(_) => number == 0x00000018,
+            ResponsePayload::DiscoverVersions(_) => number == 0x0000001E,
+        }
+    }
+}
+
+impl<B: Allocator> Serialize for ResponsePayload<B> {
+    ghost stated = { written_response_payload };
+
+    #[tactic(auto, unfolding(crate::specs::Responses::written_response_payload))]
+    fn visit<V: Visitor>(&self, visitor: &mut V) -> Result<(), AllocError> {
+        match self {
+            ResponsePayload::Create(held) => held.visit(visitor),
+            ResponsePayload::CreateKeyPair(held) => held.visit(visitor),
+            ResponsePayload::Register(held) => held.visit(visitor),
+            ResponsePayload::Locate(held) => held.visit(visitor),
+            ResponsePayload::Get(held) => held.visit(visitor),
+            ResponsePayload::GetAttributes(held) => held.visit(visitor),
+            ResponsePayload::GetAttributeList(held) => held.visit(visitor),
+            ResponsePayload::AddAttribute(held) => held.visit(visitor),
+            ResponsePayload::ModifyAttribute(held) => held.visit(visitor),
+            ResponsePayload::DeleteAttribute(held) => held.visit(visitor),
+            ResponsePayload::Activate(held) => held.visit(visitor),
+            ResponsePayload::Revoke(held) => held.visit(visitor),
+            ResponsePayload::Destroy(held) => held.visit(visitor),
+            ResponsePayload::Query(held) => held.visit(visitor),
+            ResponsePayload::DiscoverVersions(held) => held.visit(visitor),
+        }
+    }
+}
+
+/// The rule that chooses `ResponsePayload::Create`.
+pub struct ResponsePayloadCreateRule;
+
+impl reader::Rule for ResponsePayloadCreateRule {
+    ghost condition = { codes "0x42005C==0x00000001" };
+
+    fn name() -> &'static str {
+        "if 0x42005C==0x00000001"
+    }
+
+    #[tactic(auto, unfolding(kmip_ttlv_reader::specs::RuleParts::parts_of))]
+    fn parts() -> Option<reader::RuleParts> {
+        Some(reader::RuleParts {
+            tag: 0x42005C,
+            texts: &["0x00000001"],
+        })
+    }
+}
+
+/// The rule that chooses `ResponsePayload::CreateKeyPair`.
+pub struct ResponsePayloadCreateKeyPairRule;
+
+impl reader::Rule for ResponsePayloadCreateKeyPairRule {
+    ghost condition = { codes "0x42005C==0x00000002" };
+
+    fn name() -> &'static str {
+        "if 0x42005C==0x00000002"
+    }
+
+    #[tactic(auto, unfolding(kmip_ttlv_reader::specs::RuleParts::parts_of))]
+    fn parts() -> Option<reader::RuleParts> {
+        Some(reader::RuleParts {
+            tag: 0x42005C,
+            texts: &["0x00000002"],
+        })
+    }
+}
+
+/// The rule that chooses `ResponsePayload::Register`.
+pub struct ResponsePayloadRegisterRule;
+
+impl reader::Rule for ResponsePayloadRegisterRule {
+    ghost condition = { codes "0x42005C==0x00000003" };
+
+    fn name() -> &'static str {
+        "if 0x42005C==0x00000003"
+    }
+
+    #[tactic(auto, unfolding(kmip_ttlv_reader::specs::RuleParts::parts_of))]
+    fn parts() -> Option<reader::RuleParts> {
+        Some(reader::RuleParts {
+            tag: 0x42005C,
+            texts: &["0x00000003"],
+        })
+    }
+}
+
+/// The rule that chooses `ResponsePayload::Locate`.
+pub struct ResponsePayloadLocateRule;
+
+impl reader::Rule for ResponsePayloadLocateRule {
+    ghost condition = { codes "0x42005C==0x00000008" };
+
+    fn name() -> &'static str {
+        "if 0x42005C==0x00000008"
+    }
+
+    #[tactic(auto, unfolding(kmip_ttlv_reader::specs::RuleParts::parts_of))]
+    fn parts() -> Option<reader::RuleParts> {
+        Some(reader::RuleParts {
+            tag: 0x42005C,
+            texts: &["0x00000008"],
+        })
+    }
+}
+
+/// The rule that chooses `ResponsePayload::Get`.
+pub struct ResponsePayloadGetRule;
+
+impl reader::Rule for ResponsePayloadGetRule {
+    ghost condition = { codes "0x42005C==0x0000000A" };
+
+    fn name() -> &'static str {
+        "if 0x42005C==0x0000000A"
+    }
+
+    #[tactic(auto, unfolding(kmip_ttlv_reader::specs::RuleParts::parts_of))]
+    fn parts() -> Option<reader::RuleParts> {
+        Some(reader::RuleParts {
+            tag: 0x42005C,
+            texts: &["0x0000000A"],
+        })
+    }
+}
+
+/// The rule that chooses `ResponsePayload::GetAttributes`.
+pub struct ResponsePayloadGetAttributesRule;
+
+impl reader::Rule for ResponsePayloadGetAttributesRule {
+    ghost condition = { codes "0x42005C==0x0000000B" };
+
+    fn name() -> &'static str {
+        "if 0x42005C==0x0000000B"
+    }
+
+    #[tactic(auto, unfolding(kmip_ttlv_reader::specs::RuleParts::parts_of))]
+    fn parts() -> Option<reader::RuleParts> {
+        Some(reader::RuleParts {
+            tag: 0x42005C,
+            texts: &["0x0000000B"],
+        })
+    }
+}
+
+/// The rule that chooses `ResponsePayload::GetAttributeList`.
+pub struct ResponsePayloadGetAttributeListRule;
+
+impl reader::Rule for ResponsePayloadGetAttributeListRule {
+    ghost condition = { codes "0x42005C==0x0000000C" };
+
+    fn name() -> &'static str {
+        "if 0x42005C==0x0000000C"
+    }
+
+    #[tactic(auto, unfolding(kmip_ttlv_reader::specs::RuleParts::parts_of))]
+    fn parts() -> Option<reader::RuleParts> {
+        Some(reader::RuleParts {
+            tag: 0x42005C,
+            texts: &["0x0000000C"],
+        })
+    }
+}
+
+/// The rule that chooses `ResponsePayload::AddAttribute`.
+pub struct ResponsePayloadAddAttributeRule;
+
+impl reader::Rule for ResponsePayloadAddAttributeRule {
+    ghost condition = { codes "0x42005C==0x0000000D" };
+
+    fn name() -> &'static str {
+        "if 0x42005C==0x0000000D"
+    }
+
+    #[tactic(auto, unfolding(kmip_ttlv_reader::specs::RuleParts::parts_of))]
+    fn parts() -> Option<reader::RuleParts> {
+        Some(reader::RuleParts {
+            tag: 0x42005C,
+            texts: &["0x0000000D"],
+        })
+    }
+}
+
+/// The rule that chooses `ResponsePayload::ModifyAttribute`.
+pub struct ResponsePayloadModifyAttributeRule;
+
+impl reader::Rule for ResponsePayloadModifyAttributeRule {
+    ghost condition = { codes "0x42005C==0x0000000E" };
+
+    fn name() -> &'static str {
+        "if 0x42005C==0x0000000E"
+    }
+
+    #[tactic(auto, unfolding(kmip_ttlv_reader::specs::RuleParts::parts_of))]
+    fn parts() -> Option<reader::RuleParts> {
+        Some(reader::RuleParts {
+            tag: 0x42005C,
+            texts: &["0x0000000E"],
+        })
+    }
+}
+
+/// The rule that chooses `ResponsePayload::DeleteAttribute`.
+pub struct ResponsePayloadDeleteAttributeRule;
+
+impl reader::Rule for ResponsePayloadDeleteAttributeRule {
+    ghost condition = { codes "0x42005C==0x0000000F" };
+
+    fn name() -> &'static str {
+        "if 0x42005C==0x0000000F"
+    }
+
+    #[tactic(auto, unfolding(kmip_ttlv_reader::specs::RuleParts::parts_of))]
+    fn parts() -> Option<reader::RuleParts> {
+        Some(reader::RuleParts {
+            tag: 0x42005C,
+            texts: &["0x0000000F"],
+        })
+    }
+}
+
+/// The rule that chooses `ResponsePayload::Activate`.
+pub struct ResponsePayloadActivateRule;
+
+impl reader::Rule for ResponsePayloadActivateRule {
+    ghost condition = { codes "0x42005C==0x00000012" };
+
+    fn name() -> &'static str {
+        "if 0x42005C==0x00000012"
+    }
+
+    #[tactic(auto, unfolding(kmip_ttlv_reader::specs::RuleParts::parts_of))]
+    fn parts() -> Option<reader::RuleParts> {
+        Some(reader::RuleParts {
+            tag: 0x42005C,
+            texts: &["0x00000012"],
+        })
+    }
+}
+
+/// The rule that chooses `ResponsePayload::Revoke`.
+pub struct ResponsePayloadRevokeRule;
+
+impl reader::Rule for ResponsePayloadRevokeRule {
+    ghost condition = { codes "0x42005C==0x00000013" };
+
+    fn name() -> &'static str {
+        "if 0x42005C==0x00000013"
+    }
+
+    #[tactic(auto, unfolding(kmip_ttlv_reader::specs::RuleParts::parts_of))]
+    fn parts() -> Option<reader::RuleParts> {
+        Some(reader::RuleParts {
+            tag: 0x42005C,
+            texts: &["0x00000013"],
+        })
+    }
+}
+
+/// The rule that chooses `ResponsePayload::Destroy`.
+pub struct ResponsePayloadDestroyRule;
+
+impl reader::Rule for ResponsePayloadDestroyRule {
+    ghost condition = { codes "0x42005C==0x00000014" };
+
+    fn name() -> &'static str {
+        "if 0x42005C==0x00000014"
+    }
+
+    #[tactic(auto, unfolding(kmip_ttlv_reader::specs::RuleParts::parts_of))]
+    fn parts() -> Option<reader::RuleParts> {
+        Some(reader::RuleParts {
+            tag: 0x42005C,
+            texts: &["0x00000014"],
+        })
+    }
+}
+
+/// The rule that chooses `ResponsePayload::Query`.
+pub struct ResponsePayloadQueryRule;
+
+impl reader::Rule for ResponsePayloadQueryRule {
+    ghost condition = { codes "0x42005C==0x00000018" };
+
+    fn name() -> &'static str {
+        "if 0x42005C==0x00000018"
+    }
+
+    #[tactic(auto, unfolding(kmip_ttlv_reader::specs::RuleParts::parts_of))]
+    fn parts() -> Option<reader::RuleParts> {
+        Some(reader::RuleParts {
+            tag: 0x42005C,
+            texts: &["0x00000018"],
+        })
+    }
+}
+
+/// The rule that chooses `ResponsePayload::DiscoverVersions`.
+pub struct ResponsePayloadDiscoverVersionsRule;
+
+impl reader::Rule for ResponsePayloadDiscoverVersionsRule {
+    ghost condition = { codes "0x42005C==0x0000001E" };
+
+    fn name() -> &'static str {
+        "if 0x42005C==0x0000001E"
+    }
+
+    #[tactic(auto, unfolding(kmip_ttlv_reader::specs::RuleParts::parts_of))]
+    fn parts() -> Option<reader::RuleParts> {
+        Some(reader::RuleParts {
+            tag: 0x42005C,
+            texts: &["0x0000001E"],
+        })
+    }
+}
+
+// The variants from `DiscoverVersions` on.
+type ResponsePayloadFromDiscoverVersions<A> = reader::Variant<
+    ResponsePayloadDiscoverVersionsRule,
+    reader::StructureElement<DiscoverVersionsResponse<A>>,
+>;
+
+// The one that was read as one of these.
+#[tactic(auto, unfolding(kmip_ttlv_types::specs::Digits::six_digits, crate::specs::Responses::read_response_payload, crate::specs::Responses::read_create_response, crate::specs::Responses::read_create_key_pair_response, crate::specs::Responses::read_register_response, crate::specs::Responses::read_locate_response, crate::specs::Responses::read_get_response, crate::specs::Responses::read_get_attributes_response, crate::specs::Responses::read_get_attribute_list_response, crate::specs::Responses::read_attribute_response, crate::specs::Responses::object_response_value, crate::specs::Responses::read_query_response, crate::specs::Responses::read_discover_versions_response))]
+#[inline(always)]
+fn response_payload_from_discover_versions<A: Allocator + Copy>(
+    read: <ResponsePayloadFromDiscoverVersions<A> as reader::VariantList<A>>::Read,
+) -> ResponsePayload<A>
+    ensures { (own : List ℕ) → response_payload_as own result ≡ ⟦<ResponsePayloadFromDiscoverVersions<A> as reader::VariantList<A>>⟧.value own read }
+{
+    ResponsePayload::DiscoverVersions(read)
+}
+
+// The variants from `Query` on.
+type ResponsePayloadFromQuery<A> = (
+    reader::Variant<ResponsePayloadQueryRule, reader::StructureElement<QueryResponse<A>>>,
+    ResponsePayloadFromDiscoverVersions<A>,
+);
+
+// The one that was read as one of these.
+#[tactic(auto, unfolding(kmip_ttlv_types::specs::Digits::six_digits, crate::specs::Responses::read_response_payload, crate::specs::Responses::read_create_response, crate::specs::Responses::read_create_key_pair_response, crate::specs::Responses::read_register_response, crate::specs::Responses::read_locate_response, crate::specs::Responses::read_get_response, crate::specs::Responses::read_get_attributes_response, crate::specs::Responses::read_get_attribute_list_response, crate::specs::Responses::read_attribute_response, crate::specs::Responses::object_response_value, crate::specs::Responses::read_query_response, crate::specs::Responses::read_discover_versions_response))]
+#[inline(always)]
+fn response_payload_from_query<A: Allocator + Copy>(
+    read: <ResponsePayloadFromQuery<A> as reader::VariantList<A>>::Read,
+) -> ResponsePayload<A>
+    ensures { (own : List ℕ) → response_payload_as own result ≡ ⟦<ResponsePayloadFromQuery<A> as reader::VariantList<A>>⟧.value own read }
+{
+    match read {
+        reader::OneOf::First(held) => ResponsePayload::Query(held),
+        reader::OneOf::Other(other) => response_payload_from_discover_versions(other),
+    }
+}
+
+// The variants from `Destroy` on.
+type ResponsePayloadFromDestroy<A> = (
+    reader::Variant<ResponsePayloadDestroyRule, reader::StructureElement<ObjectResponse<A>>>,
+    ResponsePayloadFromQuery<A>,
+);
+
+// The one that was read as one of these.
+#[tactic(auto, unfolding(kmip_ttlv_types::specs::Digits::six_digits, crate::specs::Responses::read_response_payload, crate::specs::Responses::read_create_response, crate::specs::Responses::read_create_key_pair_response, crate::specs::Responses::read_register_response, crate::specs::Responses::read_locate_response, crate::specs::Responses::read_get_response, crate::specs::Responses::read_get_attributes_response, crate::specs::Responses::read_get_attribute_list_response, crate::specs::Responses::read_attribute_response, crate::specs::Responses::object_response_value, crate::specs::Responses::read_query_response, crate::specs::Responses::read_discover_versions_response))]
+#[inline(always)]
+fn response_payload_from_destroy<A: Allocator + Copy>(
+    read: <ResponsePayloadFromDestroy<A> as reader::VariantList<A>>::Read,
+) -> ResponsePayload<A>
+    ensures { (own : List ℕ) → response_payload_as own result ≡ ⟦<ResponsePayloadFromDestroy<A> as reader::VariantList<A>>⟧.value own read }
+{
+    match read {
+        reader::OneOf::First(held) => ResponsePayload::Destroy(held),
+        reader::OneOf::Other(other) => response_payload_from_query(other),
+    }
+}
+
+// The variants from `Revoke` on.
+type ResponsePayloadFromRevoke<A> = (
+    reader::Variant<ResponsePayloadRevokeRule, reader::StructureElement<ObjectResponse<A>>>,
+    ResponsePayloadFromDestroy<A>,
+);
+
+// The one that was read as one of these.
+#[tactic(auto, unfolding(kmip_ttlv_types::specs::Digits::six_digits, crate::specs::Responses::read_response_payload, crate::specs::Responses::read_create_response, crate::specs::Responses::read_create_key_pair_response, crate::specs::Responses::read_register_response, crate::specs::Responses::read_locate_response, crate::specs::Responses::read_get_response, crate::specs::Responses::read_get_attributes_response, crate::specs::Responses::read_get_attribute_list_response, crate::specs::Responses::read_attribute_response, crate::specs::Responses::object_response_value, crate::specs::Responses::read_query_response, crate::specs::Responses::read_discover_versions_response))]
+#[inline(always)]
+fn response_payload_from_revoke<A: Allocator + Copy>(
+    read: <ResponsePayloadFromRevoke<A> as reader::VariantList<A>>::Read,
+) -> ResponsePayload<A>
+    ensures { (own : List ℕ) → response_payload_as own result ≡ ⟦<ResponsePayloadFromRevoke<A> as reader::VariantList<A>>⟧.value own read }
+{
+    match read {
+        reader::OneOf::First(held) => ResponsePayload::Revoke(held),
+        reader::OneOf::Other(other) => response_payload_from_destroy(other),
+    }
+}
+
+// The variants from `Activate` on.
+type ResponsePayloadFromActivate<A> = (
+    reader::Variant<ResponsePayloadActivateRule, reader::StructureElement<ObjectResponse<A>>>,
+    ResponsePayloadFromRevoke<A>,
+);
+
+// The one that was read as one of these.
+#[tactic(auto, unfolding(kmip_ttlv_types::specs::Digits::six_digits, crate::specs::Responses::read_response_payload, crate::specs::Responses::read_create_response, crate::specs::Responses::read_create_key_pair_response, crate::specs::Responses::read_register_response, crate::specs::Responses::read_locate_response, crate::specs::Responses::read_get_response, crate::specs::Responses::read_get_attributes_response, crate::specs::Responses::read_get_attribute_list_response, crate::specs::Responses::read_attribute_response, crate::specs::Responses::object_response_value, crate::specs::Responses::read_query_response, crate::specs::Responses::read_discover_versions_response))]
+#[inline(always)]
+fn response_payload_from_activate<A: Allocator + Copy>(
+    read: <ResponsePayloadFromActivate<A> as reader::VariantList<A>>::Read,
+) -> ResponsePayload<A>
+    ensures { (own : List ℕ) → response_payload_as own result ≡ ⟦<ResponsePayloadFromActivate<A> as reader::VariantList<A>>⟧.value own read }
+{
+    match read {
+        reader::OneOf::First(held) => ResponsePayload::Activate(held),
+        reader::OneOf::Other(other) => response_payload_from_revoke(other),
+    }
+}
+
+/// The variants of `ResponsePayload` from `Activate` on, as one.
+#[derive(Drop)]
+pub struct ResponsePayloadLater10<A> {
+    kind: PhantomData<A>,
+}
+
+impl<A: Allocator + Copy> reader::VariantList<A> for ResponsePayloadLater10<A> {
+    type Read = ResponsePayload<A>;
+
+    ghost variants = { response_payload_variants_10 };
+
+    ghost value = { response_payload_as };
+
+    #[tactic(auto, unfolding(kmip_ttlv_types::specs::Digits::six_digits, crate::specs::Responses::read_response_payload, crate::specs::Responses::read_create_response, crate::specs::Responses::read_create_key_pair_response, crate::specs::Responses::read_register_response, crate::specs::Responses::read_locate_response, crate::specs::Responses::read_get_response, crate::specs::Responses::read_get_attributes_response, crate::specs::Responses::read_get_attribute_list_response, crate::specs::Responses::read_attribute_response, crate::specs::Responses::object_response_value, crate::specs::Responses::read_query_response, crate::specs::Responses::read_discover_versions_response))]
+    fn read_chosen<'b>(
+        scope: &reader::Scope<'b, A>,
+        cursor: &mut reader::Cursor<'b, A>,
+        typ: TtlvType,
+    ) -> reader::Step<Option<ResponsePayload<A>>, A> {
+        match <ResponsePayloadFromActivate<A> as reader::VariantList<A>>::read_chosen(
+            scope, cursor, typ,
+        ) {
+            Ok(Some(read)) => Ok(Some(response_payload_from_activate(read))),
+            Ok(None) => Ok(None),
+            Err(failure) => Err(failure),
+        }
+    }
+
+    ghost ruled = { λ content. refl };
+}
+
+// The variants from `DeleteAttribute` on.
+type ResponsePayloadFromDeleteAttribute<A> = (
+    reader::Variant<
+        ResponsePayloadDeleteAttributeRule,
+        reader::StructureElement<AttributeResponse<A>>,
+    >,
+    ResponsePayloadLater10<A>,
+);
+
+// The one that was read as one of these.
+#[tactic(auto, unfolding(kmip_ttlv_types::specs::Digits::six_digits, crate::specs::Responses::read_response_payload, crate::specs::Responses::read_create_response, crate::specs::Responses::read_create_key_pair_response, crate::specs::Responses::read_register_response, crate::specs::Responses::read_locate_response, crate::specs::Responses::read_get_response, crate::specs::Responses::read_get_attributes_response, crate::specs::Responses::read_get_attribute_list_response, crate::specs::Responses::read_attribute_response, crate::specs::Responses::object_response_value, crate::specs::Responses::read_query_response, crate::specs::Responses::read_discover_versions_response))]
+#[inline(always)]
+fn response_payload_from_delete_attribute<A: Allocator + Copy>(
+    read: <ResponsePayloadFromDeleteAttribute<A> as reader::VariantList<A>>::Read,
+) -> ResponsePayload<A>
+    ensures { (own : List ℕ) → response_payload_as own result ≡ ⟦<ResponsePayloadFromDeleteAttribute<A> as reader::VariantList<A>>⟧.value own read }
+{
+    match read {
+        reader::OneOf::First(held) => ResponsePayload::DeleteAttribute(held),
+        reader::OneOf::Other(other) => other,
+    }
+}
+
+// The variants from `ModifyAttribute` on.
+type ResponsePayloadFromModifyAttribute<A> = (
+    reader::Variant<
+        ResponsePayloadModifyAttributeRule,
+        reader::StructureElement<AttributeResponse<A>>,
+    >,
+    ResponsePayloadFromDeleteAttribute<A>,
+);
+
+// The one that was read as one of these.
+#[tactic(auto, unfolding(kmip_ttlv_types::specs::Digits::six_digits, crate::specs::Responses::read_response_payload, crate::specs::Responses::read_create_response, crate::specs::Responses::read_create_key_pair_response, crate::specs::Responses::read_register_response, crate::specs::Responses::read_locate_response, crate::specs::Responses::read_get_response, crate::specs::Responses::read_get_attributes_response, crate::specs::Responses::read_get_attribute_list_response, crate::specs::Responses::read_attribute_response, crate::specs::Responses::object_response_value, crate::specs::Responses::read_query_response, crate::specs::Responses::read_discover_versions_response))]
+#[inline(always)]
+fn response_payload_from_modify_attribute<A: Allocator + Copy>(
+    read: <ResponsePayloadFromModifyAttribute<A> as reader::VariantList<A>>::Read,
+) -> ResponsePayload<A>
+    ensures { (own : List ℕ) → response_payload_as own result ≡ ⟦<ResponsePayloadFromModifyAttribute<A> as reader::VariantList<A>>⟧.value own read }
+{
+    match read {
+        reader::OneOf::First(held) => ResponsePayload::ModifyAttribute(held),
+        reader::OneOf::Other(other) => response_payload_from_delete_attribute(other),
+    }
+}
+
+// The variants from `AddAttribute` on.
+type ResponsePayloadFromAddAttribute<A> = (
+    reader::Variant<
+        ResponsePayloadAddAttributeRule,
+        reader::StructureElement<AttributeResponse<A>>,
+    >,
+    ResponsePayloadFromModifyAttribute<A>,
+);
+
+// The one that was read as one of these.
+#[tactic(auto, unfolding(kmip_ttlv_types::specs::Digits::six_digits, crate::specs::Responses::read_response_payload, crate::specs::Responses::read_create_response, crate::specs::Responses::read_create_key_pair_response, crate::specs::Responses::read_register_response, crate::specs::Responses::read_locate_response, crate::specs::Responses::read_get_response, crate::specs::Responses::read_get_attributes_response, crate::specs::Responses::read_get_attribute_list_response, crate::specs::Responses::read_attribute_response, crate::specs::Responses::object_response_value, crate::specs::Responses::read_query_response, crate::specs::Responses::read_discover_versions_response))]
+#[inline(always)]
+fn response_payload_from_add_attribute<A: Allocator + Copy>(
+    read: <ResponsePayloadFromAddAttribute<A> as reader::VariantList<A>>::Read,
+) -> ResponsePayload<A>
+    ensures { (own : List ℕ) → response_payload_as own result ≡ ⟦<ResponsePayloadFromAddAttribute<A> as reader::VariantList<A>>⟧.value own read }
+{
+    match read {
+        reader::OneOf::First(held) => ResponsePayload::AddAttribute(held),
+        reader::OneOf::Other(other) => response_payload_from_modify_attribute(other),
+    }
+}
+
+// The variants from `GetAttributeList` on.
+type ResponsePayloadFromGetAttributeList<A> = (
+    reader::Variant<
+        ResponsePayloadGetAttributeListRule,
+        reader::StructureElement<GetAttributeListResponse<A>>,
+    >,
+    ResponsePayloadFromAddAttribute<A>,
+);
+
+// The one that was read as one of these.
+#[tactic(auto, unfolding(kmip_ttlv_types::specs::Digits::six_digits, crate::specs::Responses::read_response_payload, crate::specs::Responses::read_create_response, crate::specs::Responses::read_create_key_pair_response, crate::specs::Responses::read_register_response, crate::specs::Responses::read_locate_response, crate::specs::Responses::read_get_response, crate::specs::Responses::read_get_attributes_response, crate::specs::Responses::read_get_attribute_list_response, crate::specs::Responses::read_attribute_response, crate::specs::Responses::object_response_value, crate::specs::Responses::read_query_response, crate::specs::Responses::read_discover_versions_response))]
+#[inline(always)]
+fn response_payload_from_get_attribute_list<A: Allocator + Copy>(
+    read: <ResponsePayloadFromGetAttributeList<A> as reader::VariantList<A>>::Read,
+) -> ResponsePayload<A>
+    ensures { (own : List ℕ) → response_payload_as own result ≡ ⟦<ResponsePayloadFromGetAttributeList<A> as reader::VariantList<A>>⟧.value own read }
+{
+    match read {
+        reader::OneOf::First(held) => ResponsePayload::GetAttributeList(held),
+        reader::OneOf::Other(other) => response_payload_from_add_attribute(other),
+    }
+}
+
+// The variants from `GetAttributes` on.
+type ResponsePayloadFromGetAttributes<A> = (
+    reader::Variant<
+        ResponsePayloadGetAttributesRule,
+        reader::StructureElement<GetAttributesResponse<A>>,
+    >,
+    ResponsePayloadFromGetAttributeList<A>,
+);
+
+// The one that was read as one of these.
+#[tactic(auto, unfolding(kmip_ttlv_types::specs::Digits::six_digits, crate::specs::Responses::read_response_payload, crate::specs::Responses::read_create_response, crate::specs::Responses::read_create_key_pair_response, crate::specs::Responses::read_register_response, crate::specs::Responses::read_locate_response, crate::specs::Responses::read_get_response, crate::specs::Responses::read_get_attributes_response, crate::specs::Responses::read_get_attribute_list_response, crate::specs::Responses::read_attribute_response, crate::specs::Responses::object_response_value, crate::specs::Responses::read_query_response, crate::specs::Responses::read_discover_versions_response))]
+#[inline(always)]
+fn response_payload_from_get_attributes<A: Allocator + Copy>(
+    read: <ResponsePayloadFromGetAttributes<A> as reader::VariantList<A>>::Read,
+) -> ResponsePayload<A>
+    ensures { (own : List ℕ) → response_payload_as own result ≡ ⟦<ResponsePayloadFromGetAttributes<A> as reader::VariantList<A>>⟧.value own read }
+{
+    match read {
+        reader::OneOf::First(held) => ResponsePayload::GetAttributes(held),
+        reader::OneOf::Other(other) => response_payload_from_get_attribute_list(other),
+    }
+}
+
+/// The variants of `ResponsePayload` from `GetAttributes` on, as one.
+#[derive(Drop)]
+pub struct ResponsePayloadLater5<A> {
+    kind: PhantomData<A>,
+}
+
+impl<A: Allocator + Copy> reader::VariantList<A> for ResponsePayloadLater5<A> {
+    type Read = ResponsePayload<A>;
+
+    ghost variants = { response_payload_variants_5 };
+
+    ghost value = { response_payload_as };
+
+    #[tactic(auto, unfolding(kmip_ttlv_types::specs::Digits::six_digits, crate::specs::Responses::read_response_payload, crate::specs::Responses::read_create_response, crate::specs::Responses::read_create_key_pair_response, crate::specs::Responses::read_register_response, crate::specs::Responses::read_locate_response, crate::specs::Responses::read_get_response, crate::specs::Responses::read_get_attributes_response, crate::specs::Responses::read_get_attribute_list_response, crate::specs::Responses::read_attribute_response, crate::specs::Responses::object_response_value, crate::specs::Responses::read_query_response, crate::specs::Responses::read_discover_versions_response))]
+    fn read_chosen<'b>(
+        scope: &reader::Scope<'b, A>,
+        cursor: &mut reader::Cursor<'b, A>,
+        typ: TtlvType,
+    ) -> reader::Step<Option<ResponsePayload<A>>, A> {
+        match <ResponsePayloadFromGetAttributes<A> as reader::VariantList<A>>::read_chosen(
+            scope, cursor, typ,
+        ) {
+            Ok(Some(read)) => Ok(Some(response_payload_from_get_attributes(read))),
+            Ok(None) => Ok(None),
+            Err(failure) => Err(failure),
+        }
+    }
+
+    ghost ruled = { λ content. refl };
+}
+
+// The variants from `Get` on.
+type ResponsePayloadFromGet<A> = (
+    reader::Variant<ResponsePayloadGetRule, reader::StructureElement<GetResponse<A>>>,
+    ResponsePayloadLater5<A>,
+);
+
+// The one that was read as one of these.
+#[tactic(auto, unfolding(kmip_ttlv_types::specs::Digits::six_digits, crate::specs::Responses::read_response_payload, crate::specs::Responses::read_create_response, crate::specs::Responses::read_create_key_pair_response, crate::specs::Responses::read_register_response, crate::specs::Responses::read_locate_response, crate::specs::Responses::read_get_response, crate::specs::Responses::read_get_attributes_response, crate::specs::Responses::read_get_attribute_list_response, crate::specs::Responses::read_attribute_response, crate::specs::Responses::object_response_value, crate::specs::Responses::read_query_response, crate::specs::Responses::read_discover_versions_response))]
+#[inline(always)]
+fn response_payload_from_get<A: Allocator + Copy>(
+    read: <ResponsePayloadFromGet<A> as reader::VariantList<A>>::Read,
+) -> ResponsePayload<A>
+    ensures { (own : List ℕ) → response_payload_as own result ≡ ⟦<ResponsePayloadFromGet<A> as reader::VariantList<A>>⟧.value own read }
+{
+    match read {
+        reader::OneOf::First(held) => ResponsePayload::Get(held),
+        reader::OneOf::Other(other) => other,
+    }
+}
+
+// The variants from `Locate` on.
+type ResponsePayloadFromLocate<A> = (
+    reader::Variant<ResponsePayloadLocateRule, reader::StructureElement<LocateResponse<A>>>,
+    ResponsePayloadFromGet<A>,
+);
+
+// The one that was read as one of these.
+#[tactic(auto, unfolding(kmip_ttlv_types::specs::Digits::six_digits, crate::specs::Responses::read_response_payload, crate::specs::Responses::read_create_response, crate::specs::Responses::read_create_key_pair_response, crate::specs::Responses::read_register_response, crate::specs::Responses::read_locate_response, crate::specs::Responses::read_get_response, crate::specs::Responses::read_get_attributes_response, crate::specs::Responses::read_get_attribute_list_response, crate::specs::Responses::read_attribute_response, crate::specs::Responses::object_response_value, crate::specs::Responses::read_query_response, crate::specs::Responses::read_discover_versions_response))]
+#[inline(always)]
+fn response_payload_from_locate<A: Allocator + Copy>(
+    read: <ResponsePayloadFromLocate<A> as reader::VariantList<A>>::Read,
+) -> ResponsePayload<A>
+    ensures { (own : List ℕ) → response_payload_as own result ≡ ⟦<ResponsePayloadFromLocate<A> as reader::VariantList<A>>⟧.value own read }
+{
+    match read {
+        reader::OneOf::First(held) => ResponsePayload::Locate(held),
+        reader::OneOf::Other(other) => response_payload_from_get(other),
+    }
+}
+
+// The variants from `Register` on.
+type ResponsePayloadFromRegister<A> = (
+    reader::Variant<ResponsePayloadRegisterRule, reader::StructureElement<RegisterResponse<A>>>,
+    ResponsePayloadFromLocate<A>,
+);
+
+// The one that was read as one of these.
+#[tactic(auto, unfolding(kmip_ttlv_types::specs::Digits::six_digits, crate::specs::Responses::read_response_payload, crate::specs::Responses::read_create_response, crate::specs::Responses::read_create_key_pair_response, crate::specs::Responses::read_register_response, crate::specs::Responses::read_locate_response, crate::specs::Responses::read_get_response, crate::specs::Responses::read_get_attributes_response, crate::specs::Responses::read_get_attribute_list_response, crate::specs::Responses::read_attribute_response, crate::specs::Responses::object_response_value, crate::specs::Responses::read_query_response, crate::specs::Responses::read_discover_versions_response))]
+#[inline(always)]
+fn response_payload_from_register<A: Allocator + Copy>(
+    read: <ResponsePayloadFromRegister<A> as reader::VariantList<A>>::Read,
+) -> ResponsePayload<A>
+    ensures { (own : List ℕ) → response_payload_as own result ≡ ⟦<ResponsePayloadFromRegister<A> as reader::VariantList<A>>⟧.value own read }
+{
+    match read {
+        reader::OneOf::First(held) => ResponsePayload::Register(held),
+        reader::OneOf::Other(other) => response_payload_from_locate(other),
+    }
+}
+
+// The variants from `CreateKeyPair` on.
+type ResponsePayloadFromCreateKeyPair<A> = (
+    reader::Variant<
+        ResponsePayloadCreateKeyPairRule,
+        reader::StructureElement<CreateKeyPairResponse<A>>,
+    >,
+    ResponsePayloadFromRegister<A>,
+);
+
+// The one that was read as one of these.
+#[tactic(auto, unfolding(kmip_ttlv_types::specs::Digits::six_digits, crate::specs::Responses::read_response_payload, crate::specs::Responses::read_create_response, crate::specs::Responses::read_create_key_pair_response, crate::specs::Responses::read_register_response, crate::specs::Responses::read_locate_response, crate::specs::Responses::read_get_response, crate::specs::Responses::read_get_attributes_response, crate::specs::Responses::read_get_attribute_list_response, crate::specs::Responses::read_attribute_response, crate::specs::Responses::object_response_value, crate::specs::Responses::read_query_response, crate::specs::Responses::read_discover_versions_response))]
+#[inline(always)]
+fn response_payload_from_create_key_pair<A: Allocator + Copy>(
+    read: <ResponsePayloadFromCreateKeyPair<A> as reader::VariantList<A>>::Read,
+) -> ResponsePayload<A>
+    ensures { (own : List ℕ) → response_payload_as own result ≡ ⟦<ResponsePayloadFromCreateKeyPair<A> as reader::VariantList<A>>⟧.value own read }
+{
+    match read {
+        reader::OneOf::First(held) => ResponsePayload::CreateKeyPair(held),
+        reader::OneOf::Other(other) => response_payload_from_register(other),
+    }
+}
+
+// The variants from `Create` on.
+type ResponsePayloadFromCreate<A> = (
+    reader::Variant<ResponsePayloadCreateRule, reader::StructureElement<CreateResponse<A>>>,
+    ResponsePayloadFromCreateKeyPair<A>,
+);
+
+// The one that was read as one of these.
+#[tactic(auto, unfolding(kmip_ttlv_types::specs::Digits::six_digits, crate::specs::Responses::read_response_payload, crate::specs::Responses::read_create_response, crate::specs::Responses::read_create_key_pair_response, crate::specs::Responses::read_register_response, crate::specs::Responses::read_locate_response, crate::specs::Responses::read_get_response, crate::specs::Responses::read_get_attributes_response, crate::specs::Responses::read_get_attribute_list_response, crate::specs::Responses::read_attribute_response, crate::specs::Responses::object_response_value, crate::specs::Responses::read_query_response, crate::specs::Responses::read_discover_versions_response))]
+#[inline(always)]
+fn response_payload_from_create<A: Allocator + Copy>(
+    read: <ResponsePayloadFromCreate<A> as reader::VariantList<A>>::Read,
+) -> ResponsePayload<A>
+    ensures { (own : List ℕ) → response_payload_as own result ≡ ⟦<ResponsePayloadFromCreate<A> as reader::VariantList<A>>⟧.value own read }
+{
+    match read {
+        reader::OneOf::First(held) => ResponsePayload::Create(held),
+        reader::OneOf::Other(other) => response_payload_from_create_key_pair(other),
+    }
+}
+
+impl<A: Allocator + Copy> reader::Choice<A> for ResponsePayload<A> {
+    ghost own = { codes "payload" };
+
+    type Variants = ResponsePayloadFromCreate<A>;
+}
+
+impl<A: Allocator + Copy> reader::ReadItem<A> for ResponsePayload<A> {
+    ghost form = { response_payload_form };
+
+    ghost value = { read_response_payload };
+
+    ghost plain = { (refl, refl) };
+
+    #[tactic(auto, unfolding(kmip_ttlv_types::specs::Digits::six_digits, crate::specs::Responses::read_response_payload, crate::specs::Responses::read_create_response, crate::specs::Responses::read_create_key_pair_response, crate::specs::Responses::read_register_response, crate::specs::Responses::read_locate_response, crate::specs::Responses::read_get_response, crate::specs::Responses::read_get_attributes_response, crate::specs::Responses::read_get_attribute_list_response, crate::specs::Responses::read_attribute_response, crate::specs::Responses::object_response_value, crate::specs::Responses::read_query_response, crate::specs::Responses::read_discover_versions_response))]
+    fn read_item<'b>(
+        scope: &reader::Scope<'b, A>,
+        cursor: &mut reader::Cursor<'b, A>,
+    ) -> reader::Step<Self, A> {
+        let read = reader::read_choice::<Self, A>(scope, cursor)?;
+        Ok(response_payload_from_create(read))
+    }
+}
+
+/// What became of an operation (section 9.1.3.2.27).
+#[derive(Clone, Copy, Debug)]
+pub enum ResultStatus {
+    /// It is done.
+    Success,
+    /// It failed.
+    OperationFailed,
+    /// It goes on.
+    OperationPending,
+    /// It was undone.
+    OperationUndone,
+    /// Any other number. One that has a name is encoded as it is, and decoded by its name, to which it is equal.
+    Other(u32),
+}
+
+impl ResultStatus {
+    /// Its number.
+    pub fn number(self) -> u32
+        ensures { result ≡ result_status_number self }
+    {
+        match self {
+            ResultStatus::Success => 0x00000000,
+            ResultStatus::OperationFailed => 0x00000001,
+            ResultStatus::OperationPending => 0x00000002,
+            ResultStatus::OperationUndone => 0x00000003,
+            ResultStatus::Other(number) => number,
+        }
+    }
+
+    /// The one of a number: by its name, if it has one.
+    pub fn from_number(number: u32) -> ResultStatus
+        ensures { result_status_read_number result ≡ Some number }
+    {
+        match number {
+            0x00000000 => ResultStatus::Success,
+            0x00000001 => ResultStatus::OperationFailed,
+            0x00000002 => ResultStatus::OperationPending,
+            0x00000003 => ResultStatus::OperationUndone,
+            _ => ResultStatus::Other(number),
+        }
+    }
+}
+
+/// By their numbers.
+impl PartialEq for ResultStatus {
+    ghost eq = { on result_status_number ◌==◌ };
+
+    ghost laws = { Prim.search (comparing, rules) };
+
+    fn eq(&self, other: &ResultStatus) -> bool {
+        self.number() == other.number()
+    }
+}
+
+impl Eq for ResultStatus {
+    ghost laws = { Prim.search (comparing, rules) };
+}
+
+impl Serialize for ResultStatus {
+    ghost stated = { written_result_status };
+
+    #[tactic(auto, unfolding(crate::specs::Responses::written_result_status))]
+    fn visit<V: Visitor>(&self, visitor: &mut V) -> Result<(), AllocError> {
+        writing::enumeration(visitor, "Transparent:0x42007F", self.number())
+    }
+}
+
+impl<A: Allocator + Copy> reader::ReadItem<A> for ResultStatus {
+    ghost form = { result_status_form };
+
+    ghost value = { read_result_status };
+
+    ghost plain = { (refl, refl) };
+
+    #[tactic(auto, unfolding(kmip_ttlv_types::specs::Digits::six_digits, crate::specs::Responses::read_result_status))]
+    fn read_item<'b>(
+        scope: &reader::Scope<'b, A>,
+        cursor: &mut reader::Cursor<'b, A>,
+    ) -> reader::Step<Self, A> {
+        let number: u32 = cursor.wrapped_leaf(scope, 0x42007F)?;
+        Ok(ResultStatus::from_number(number))
+    }
+}
+
+/// Why an operation failed (section 9.1.3.2.28).
+#[derive(Clone, Copy, Debug)]
+pub enum ResultReason {
+    /// There is no such object.
+    ItemNotFound,
+    /// The response would be too long.
+    ResponseTooLarge,
+    /// The client isn't known.
+    AuthenticationNotSuccessful,
+    /// The request isn't one.
+    InvalidMessage,
+    /// The server doesn't have the operation.
+    OperationNotSupported,
+    /// Something is missing in the request.
+    MissingData,
+    /// Something in the request is not as it has to be.
+    InvalidField,
+    /// The server doesn't have a feature.
+    FeatureNotSupported,
+    /// The client gave it up.
+    OperationCanceledByRequester,
+    /// A cryptographic operation failed.
+    CryptographicFailure,
+    /// The client asked for what it may not.
+    IllegalOperation,
+    /// The client may not do that.
+    PermissionDenied,
+    /// The object was put away.
+    ObjectArchived,
+    /// There is no attribute of this index.
+    IndexOutOfBounds,
+    /// The server doesn't know the namespace.
+    ApplicationNamespaceNotSupported,
+    /// The server doesn't have this format of a key.
+    KeyFormatTypeNotSupported,
+    /// The server doesn't have this compression.
+    KeyCompressionTypeNotSupported,
+    /// Anything that has no other reason.
+    GeneralFailure,
+    /// Any other number. One that has a name is encoded as it is, and decoded by its name, to which it is equal.
+    Other(u32),
+}
+
+impl ResultReason {
+    /// Its number.
+    pub fn number(self) -> u32
+        ensures { result ≡ result_reason_number self }
+    {
+        match self {
+            ResultReason::ItemNotFound => 0x00000001,
+            ResultReason::ResponseTooLarge => 0x00000002,
+            ResultReason::AuthenticationNotSuccessful => 0x00000003,
+            ResultReason::InvalidMessage => 0x00000004,
+            ResultReason::OperationNotSupported => 0x00000005,
+            ResultReason::MissingData => 0x00000006,
+            ResultReason::InvalidField => 0x00000007,
+            ResultReason::FeatureNotSupported => 0x00000008,
+            ResultReason::OperationCanceledByRequester => 0x00000009,
+            ResultReason::CryptographicFailure => 0x0000000A,
+            ResultReason::IllegalOperation => 0x0000000B,
+            ResultReason::PermissionDenied => 0x0000000C,
+            ResultReason::ObjectArchived => 0x0000000D,
+            ResultReason::IndexOutOfBounds => 0x0000000E,
+            ResultReason::ApplicationNamespaceNotSupported => 0x0000000F,
+            ResultReason::KeyFormatTypeNotSupported => 0x00000010,
+            ResultReason::KeyCompressionTypeNotSupported => 0x00000011,
+            ResultReason::GeneralFailure => 0x00000100,
+            ResultReason::Other(number) => number,
+        }
+    }
+
+    /// The one of a number: by its name, if it has one.
+    pub fn from_number(number: u32) -> ResultReason
+        ensures { result_reason_read_number result ≡ Some number }
+    {
+        match number {
+            0x00000001 => ResultReason::ItemNotFound,
+            0x00000002 => ResultReason::ResponseTooLarge,
+            0x00000003 => ResultReason::AuthenticationNotSuccessful,
+            0x00000004 => ResultReason::InvalidMessage,
+            0x00000005 => ResultReason::OperationNotSupported,
+            0x00000006 => ResultReason::MissingData,
+            0x00000007 => ResultReason::InvalidField,
+            0x00000008 => ResultReason::FeatureNotSupported,
+            0x00000009 => ResultReason::OperationCanceledByRequester,
+            0x0000000A => ResultReason::CryptographicFailure,
+            0x0000000B => ResultReason::IllegalOperation,
+            0x0000000C => ResultReason::PermissionDenied,
+            0x0000000D => ResultReason::ObjectArchived,
+            0x0000000E => ResultReason::IndexOutOfBounds,
+            0x0000000F => ResultReason::ApplicationNamespaceNotSupported,
+            0x00000010 => ResultReason::KeyFormatTypeNotSupported,
+            0x00000011 => ResultReason::KeyCompressionTypeNotSupported,
+            0x00000100 => ResultReason::GeneralFailure,
+            _ => ResultReason::Other(number),
+        }
+    }
+}
+
+/// By their numbers.
+impl PartialEq for ResultReason {
+    ghost eq = { on result_reason_number ◌==◌ };
+
+    ghost laws = { Prim.search (comparing, rules) };
+
+    fn eq(&self, other: &ResultReason) -> bool {
+        self.number() == other.number()
+    }
+}
+
+impl Eq for ResultReason {
+    ghost laws = { Prim.search (comparing, rules) };
+}
+
+impl Serialize for ResultReason {
+    ghost stated = { written_result_reason };
+
+    #[tactic(auto, unfolding(crate::specs::Responses::written_result_reason))]
+    fn visit<V: Visitor>(&self, visitor: &mut V) -> Result<(), AllocError> {
+        writing::enumeration(visitor, "Transparent:0x42007E", self.number())
+    }
+}
+
+impl<A: Allocator + Copy> reader::ReadItem<A> for ResultReason {
+    ghost form = { result_reason_form };
+
+    ghost value = { read_result_reason };
+
+    ghost plain = { (refl, refl) };
+
+    #[tactic(auto, unfolding(kmip_ttlv_types::specs::Digits::six_digits, crate::specs::Responses::read_result_reason))]
+    fn read_item<'b>(
+        scope: &reader::Scope<'b, A>,
+        cursor: &mut reader::Cursor<'b, A>,
+    ) -> reader::Step<Self, A> {
+        let number: u32 = cursor.wrapped_leaf(scope, 0x42007E)?;
+        Ok(ResultReason::from_number(number))
+    }
+}
+
+/// What became of one thing that was asked for (section 7.2).
+#[derive(Drop)]
+#[derive_where(PartialEq)]
+pub struct ResponseItem<A: Allocator = Global> {
+    /// What was asked for.
+    pub operation: Option<Operation>,
+    /// What names the item, in a batch of several.
+    pub unique_batch_item_id: Option<Vec<u8, A>>,
+    /// What became of it.
+    pub result_status: ResultStatus,
+    /// Why it failed, if it did.
+    pub result_reason: Option<ResultReason>,
+    /// More about it, for a person.
+    pub result_message: Option<String<A>>,
+    /// What names an operation that goes on.
+    pub asynchronous_correlation_value: Option<Vec<u8, A>>,
+    /// What was done, if it was.
+    pub payload: Option<ResponsePayload<A>>,
+    /// What a vendor adds.
+    pub message_extension: Option<MessageExtension<A>>,
+}
+
+impl<B: Allocator> Serialize for ResponseItem<B> {
+    ghost stated = { written_response_item };
+
+    fn visit<V: Visitor>(&self, visitor: &mut V) -> Result<(), AllocError> {
+        writing::begin_struct(visitor, "0x42000F")?;
+        writing::option(visitor, &self.operation)?;
+        writing::optional_byte_string(visitor, "Transparent:0x420093", &self.unique_batch_item_id)?;
+        self.result_status.visit(visitor)?;
+        writing::option(visitor, &self.result_reason)?;
+        writing::optional_text_string(visitor, "Transparent:0x42007D", &self.result_message)?;
+        writing::optional_byte_string(
+            visitor,
+            "Transparent:0x420006",
+            &self.asynchronous_correlation_value,
+        )?;
+        writing::option(visitor, &self.payload)?;
+        writing::option(visitor, &self.message_extension)?;
+        writing::end_struct(visitor, "0x42000F")?;
+        Ok(())
+    }
+}
+
+impl<A: Allocator + Copy> reader::ReadStructure<A> for ResponseItem<A> {
+    ghost TAG = { 0x42000F };
+
+    ghost DENIES_UNKNOWN = { true };
+
+    ghost values = { λ x. fields_in (read_response_item x) };
+
+    type Fields = reader::Four<
+        reader::OptionalItem<Operation, 0x42005C>,
+        reader::OptionalLeaf<Vec<u8, A>, 0x420093>,
+        reader::Item<ResultStatus, 0x42007F>,
+        reader::OptionalItem<ResultReason, 0x42007E>,
+        reader::Four<
+            reader::OptionalLeaf<String<A>, 0x42007D>,
+            reader::OptionalLeaf<Vec<u8, A>, 0x420006>,
+            reader::OptionalItem<ResponsePayload<A>, 0x42007C>,
+            reader::OptionalNested<MessageExtension<A>>,
+            (),
+        >,
+    >;
+
+    const TAG: u32 = 0x42000F;
+
+    const DENIES_UNKNOWN: bool = true;
+
+    #[tactic(auto, unfolding(kmip_ttlv_types::specs::Digits::six_digits, crate::specs::Responses::read_response_item, crate::specs::Headers::message_extension_value))]
+    fn from_fields(
+        fields: (
+            Option<Operation>,
+            (
+                Option<Vec<u8, A>>,
+                (
+                    ResultStatus,
+                    (
+                        Option<ResultReason>,
+                        (
+                            Option<String<A>>,
+                            (
+                                Option<Vec<u8, A>>,
+                                (
+                                    Option<ResponsePayload<A>>,
+                                    (Option<MessageExtension<A>>, ()),
+                                ),
+                            ),
+                        ),
+                    ),
+                ),
+            ),
+        ),
+    ) -> Self {
+        let (
+            operation,
+            (
+                unique_batch_item_id,
+                (
+                    result_status,
+                    (
+                        result_reason,
+                        (
+                            result_message,
+                            (asynchronous_correlation_value, (payload, (message_extension, ()))),
+                        ),
+                    ),
+                ),
+            ),
+        ) = fields;
+        ResponseItem {
+            operation,
+            unique_batch_item_id,
+            result_status,
+            result_reason,
+            result_message,
+            asynchronous_correlation_value,
+            payload,
+            message_extension,
+        }
+    }
+}
+
+impl<A: Allocator + Copy> reader::ReadNested<A> for ResponseItem<A> {
+    ghost TAG = { 0x42000F };
+
+    ghost fields = { struct_fields response_item_form };
+
+    ghost denies_unknown = { true };
+
+    ghost values = { λ x. fields_in (read_response_item x) };
+
+    const TAG: u32 = 0x42000F;
+
+    #[tactic(auto, unfolding(kmip_ttlv_types::specs::Digits::six_digits, crate::specs::Responses::read_response_item))]
+    fn read_nested<'b>(
+        scope: &reader::Scope<'b, A>,
+        cursor: &mut reader::Cursor<'b, A>,
+    ) -> reader::Step<Self, A> {
+        reader::read_form(scope, cursor)
+    }
+}
+
+/// A response (section 7.1).
+#[derive(Drop)]
+#[derive_where(PartialEq)]
+pub struct Response<A: Allocator = Global> {
+    /// What it begins with.
+    pub header: ResponseHeader,
+    /// One or more.
+    pub items: Vec<ResponseItem<A>, A>,
+}
+
+impl<B: Allocator> Serialize for Response<B> {
+    ghost stated = { written_response };
+
+    #[tactic(auto, unfolding(crate::specs::Responses::written_response))]
+    fn visit<V: Visitor>(&self, visitor: &mut V) -> Result<(), AllocError> {
+        writing::begin_struct(visitor, "0x42007B")?;
+        self.header.visit(visitor)?;
+        writing::several(visitor, &self.items)?;
+        writing::end_struct(visitor, "0x42007B")?;
+        Ok(())
+    }
+}
+
+impl<A: Allocator + Copy> reader::ReadStructure<A> for Response<A> {
+    ghost TAG = { 0x42007B };
+
+    ghost DENIES_UNKNOWN = { true };
+
+    ghost values = { λ x. fields_in (read_response x) };
+
+    type Fields = (
+        reader::Nested<ResponseHeader>,
+        (reader::Several<ResponseItem<A>>, ()),
+    );
+
+    const TAG: u32 = 0x42007B;
+
+    const DENIES_UNKNOWN: bool = true;
+
+    #[tactic(auto, unfolding(kmip_ttlv_types::specs::Digits::six_digits, crate::specs::Responses::read_response, crate::specs::Headers::response_header_value, crate::specs::Responses::read_response_item))]
+    fn from_fields(fields: (ResponseHeader, (Vec<ResponseItem<A>, A>, ()))) -> Self {
+        let (header, (items, ())) = fields;
+        Response { header, items }
+    }
+}
+
+impl<A: Allocator + Copy> Decode<A> for Response<A> {
+    ghost form = { response_form };
+
+    ghost is_value = { λ v x. v ≡ read_response x };
+
+    #[tactic(auto, unfolding(kmip_ttlv_types::specs::Digits::six_digits, crate::specs::Responses::read_response))]
+    fn decode(alloc: A, bytes: &[u8]) -> Result<Self, error::Error<A>> {
+        reader::read_message(alloc, bytes)
+    }
+}

@@ -1,0 +1,176 @@
+-- Written by codegen from types.table: change that, and run codegen/codegen.
+-- Which values of each type are sound: what was encoded of them is decoded again.
+use Rattle.std.specs.Int.{w32}
+use Rattle.std.specs.Prelude.{All, FitsSigned, IfSome, length, ◌%◌, ◌<◌, ◌^◌, ◌≡◌}
+use Rattle.kmip_objects.specs.declared.key.KeyCompressionType.{KeyCompressionType}
+use Rattle.kmip_objects.specs.declared.key.WrappingMethod.{WrappingMethod}
+use Rattle.kmip_objects.specs.declared.key.EncodingOption.{EncodingOption}
+use Rattle.kmip_objects.specs.declared.key.WrappingParameters.{WrappingParameters}
+use Rattle.kmip_objects.specs.declared.key.EncryptionKeyInformation.{EncryptionKeyInformation}
+use Rattle.kmip_objects.specs.declared.key.MacSignatureKeyInformation.{MacSignatureKeyInformation}
+use Rattle.kmip_objects.specs.declared.key.KeyWrappingData.{KeyWrappingData}
+use Rattle.kmip_objects.specs.declared.key.PlainKeyValue.{PlainKeyValue}
+use Rattle.kmip_objects.specs.declared.key.KeyValue.{KeyValue}
+use Rattle.kmip_objects.specs.declared.key.KeyValue.TheVariants as key_value
+use Rattle.kmip_objects.specs.declared.key.CryptographicLength.{CryptographicLength}
+use Rattle.kmip_objects.specs.declared.key.KeyBlock.{KeyBlock}
+use Rattle.kmip_objects.specs.declared.object.Certificate.{Certificate}
+use Rattle.kmip_objects.specs.declared.object.SymmetricKey.{SymmetricKey}
+use Rattle.kmip_objects.specs.declared.object.PublicKey.{PublicKey}
+use Rattle.kmip_objects.specs.declared.object.PrivateKey.{PrivateKey}
+use Rattle.kmip_objects.specs.declared.object.SplitKeyMethod.{SplitKeyMethod}
+use Rattle.kmip_objects.specs.declared.object.SplitKeyParts.{SplitKeyParts}
+use Rattle.kmip_objects.specs.declared.object.KeyPartIdentifier.{KeyPartIdentifier}
+use Rattle.kmip_objects.specs.declared.object.SplitKeyThreshold.{SplitKeyThreshold}
+use Rattle.kmip_objects.specs.declared.object.SplitKey.{SplitKey}
+use Rattle.kmip_objects.specs.declared.object.Template.{Template}
+use Rattle.kmip_objects.specs.declared.object.SecretDataType.{SecretDataType}
+use Rattle.kmip_objects.specs.declared.object.SecretData.{SecretData}
+use Rattle.kmip_objects.specs.declared.object.OpaqueDataType.{OpaqueDataType}
+use Rattle.kmip_objects.specs.declared.object.OpaqueObject.{OpaqueObject}
+use Rattle.kmip_objects.specs.Keys.{key_compression_type_number, wrapping_method_number, encoding_option_number}
+use Rattle.kmip_attributes.specs.Soundness.{IsBlockCipherMode, IsPaddingMethod, IsHashingAlgorithm, IsKeyRoleType, IsAttribute, IsKeyFormatType, IsCryptographicAlgorithm, IsCertificateType}
+use Rattle.kmip_objects.specs.Objects.{split_key_method_number, secret_data_type_number, opaque_data_type_number}
+
+-- which values of `KeyCompressionType` are sound
+abbrev pub IsKeyCompressionType : KeyCompressionType → Type 0
+IsKeyCompressionType x =
+    (key_compression_type_number x < 2 ^ 32)
+
+-- which values of `WrappingMethod` are sound
+abbrev pub IsWrappingMethod : WrappingMethod → Type 0
+IsWrappingMethod x =
+    (wrapping_method_number x < 2 ^ 32)
+
+-- which values of `EncodingOption` are sound
+abbrev pub IsEncodingOption : EncodingOption → Type 0
+IsEncodingOption x =
+    (encoding_option_number x < 2 ^ 32)
+
+-- which values of `WrappingParameters` are sound
+abbrev pub IsWrappingParameters : WrappingParameters → Type 0
+IsWrappingParameters x =
+    IfSome x.block_cipher_mode IsBlockCipherMode
+    × IfSome x.padding_method IsPaddingMethod
+    × IfSome x.hashing_algorithm IsHashingAlgorithm
+    × IfSome x.key_role_type IsKeyRoleType
+
+-- which values of `EncryptionKeyInformation` are sound
+abbrev pub IsEncryptionKeyInformation : {A : Type 0} → EncryptionKeyInformation A → Type 0
+IsEncryptionKeyInformation x =
+    IfSome x.cryptographic_parameters IsWrappingParameters
+
+-- which values of `MacSignatureKeyInformation` are sound
+abbrev pub IsMacSignatureKeyInformation : {A : Type 0} → MacSignatureKeyInformation A → Type 0
+IsMacSignatureKeyInformation x =
+    IfSome x.cryptographic_parameters IsWrappingParameters
+
+-- which values of `KeyWrappingData` are sound
+abbrev pub IsKeyWrappingData : {A : Type 0} → KeyWrappingData A → Type 0
+IsKeyWrappingData x =
+    IsWrappingMethod x.wrapping_method
+    × IfSome x.encryption_key_information IsEncryptionKeyInformation
+    × IfSome x.mac_signature_key_information IsMacSignatureKeyInformation
+    × IfSome x.encoding_option IsEncodingOption
+
+-- which values of `PlainKeyValue` are sound
+abbrev pub IsPlainKeyValue : {A : Type 0} → PlainKeyValue A → Type 0
+IsPlainKeyValue x =
+    All IsAttribute x.attributes.items
+
+-- which values of `KeyValue` are sound
+abbrev pub IsKeyValue : {A : Type 0} → KeyValue A → Type 0
+IsKeyValue (key_value.Plain x) = IsPlainKeyValue x
+IsKeyValue (key_value.Wrapped x) = Unit {0}
+
+-- which values of `CryptographicLength` are sound
+abbrev pub IsCryptographicLength : CryptographicLength → Type 0
+IsCryptographicLength x =
+    FitsSigned w32 x.bits
+
+-- which values of `KeyBlock` are sound
+abbrev pub IsKeyBlock : {A : Type 0} → KeyBlock A → Type 0
+IsKeyBlock x =
+    IsKeyFormatType x.key_format_type
+    × IfSome x.key_compression_type IsKeyCompressionType
+    × IsKeyValue x.key_value
+    × IfSome x.cryptographic_algorithm IsCryptographicAlgorithm
+    × IfSome x.cryptographic_length IsCryptographicLength
+    × IfSome x.key_wrapping_data IsKeyWrappingData
+
+-- which values of `Certificate` are sound
+abbrev pub IsCertificate : {A : Type 0} → Certificate A → Type 0
+IsCertificate x =
+    IsCertificateType x.certificate_type
+
+-- which values of `SymmetricKey` are sound
+abbrev pub IsSymmetricKey : {A : Type 0} → SymmetricKey A → Type 0
+IsSymmetricKey x =
+    IsKeyBlock x.key_block
+
+-- which values of `PublicKey` are sound
+abbrev pub IsPublicKey : {A : Type 0} → PublicKey A → Type 0
+IsPublicKey x =
+    IsKeyBlock x.key_block
+
+-- which values of `PrivateKey` are sound
+abbrev pub IsPrivateKey : {A : Type 0} → PrivateKey A → Type 0
+IsPrivateKey x =
+    IsKeyBlock x.key_block
+
+-- which values of `SplitKeyMethod` are sound
+abbrev pub IsSplitKeyMethod : SplitKeyMethod → Type 0
+IsSplitKeyMethod x =
+    (split_key_method_number x < 2 ^ 32)
+
+-- which values of `SplitKeyParts` are sound
+abbrev pub IsSplitKeyParts : SplitKeyParts → Type 0
+IsSplitKeyParts x =
+    FitsSigned w32 x.count
+
+-- which values of `KeyPartIdentifier` are sound
+abbrev pub IsKeyPartIdentifier : KeyPartIdentifier → Type 0
+IsKeyPartIdentifier x =
+    FitsSigned w32 x.number
+
+-- which values of `SplitKeyThreshold` are sound
+abbrev pub IsSplitKeyThreshold : SplitKeyThreshold → Type 0
+IsSplitKeyThreshold x =
+    FitsSigned w32 x.count
+
+-- which values of `SplitKey` are sound
+abbrev pub IsSplitKey : {A : Type 0} → SplitKey A → Type 0
+IsSplitKey x =
+    IsSplitKeyParts x.split_key_parts
+    × IsKeyPartIdentifier x.key_part_identifier
+    × IsSplitKeyThreshold x.split_key_threshold
+    × IsSplitKeyMethod x.split_key_method
+    × IfSome x.prime_field_size (λ y. (length y.items % 8 ≡ 0))
+    × IsKeyBlock x.key_block
+
+-- which values of `Template` are sound
+abbrev pub IsTemplate : {A : Type 0} → Template A → Type 0
+IsTemplate x =
+    (0 < length x.attributes.items)
+    × All IsAttribute x.attributes.items
+
+-- which values of `SecretDataType` are sound
+abbrev pub IsSecretDataType : SecretDataType → Type 0
+IsSecretDataType x =
+    (secret_data_type_number x < 2 ^ 32)
+
+-- which values of `SecretData` are sound
+abbrev pub IsSecretData : {A : Type 0} → SecretData A → Type 0
+IsSecretData x =
+    IsSecretDataType x.secret_data_type
+    × IsKeyBlock x.key_block
+
+-- which values of `OpaqueDataType` are sound
+abbrev pub IsOpaqueDataType : OpaqueDataType → Type 0
+IsOpaqueDataType x =
+    (opaque_data_type_number x < 2 ^ 32)
+
+-- which values of `OpaqueObject` are sound
+abbrev pub IsOpaqueObject : {A : Type 0} → OpaqueObject A → Type 0
+IsOpaqueObject x =
+    IsOpaqueDataType x.opaque_data_type

@@ -1,0 +1,6 @@
+//! Managed objects (KMIP 1.0, section 2): keys, certificates and the like, as `codegen/codegen` writes them of `types.table`.
+#![tactic(auto)]
+
+pub mod key;
+pub mod laws;
+pub mod object;

@@ -1,6 +1,0 @@
-pub mod Attributes
-pub mod Objects
-pub mod Requests
-pub mod Responses
-pub mod Soundness
-pub mod Laws
