@@ -1,11 +1,12 @@
 -- Variants that rules choose, one after the other.
-use Rattle.std.proofs.Common.{◌≡◌, ℕ, suc, ◌+◌, arith, List, [], ◌∷◌, ◌++◌, codes, Some, None, Result, Ok, Err, IfOk, refl, ap}
+use Rattle.std.proofs.Common.{◌≡◌, ℕ, suc, ◌+◌, arith, List, [], ◌∷◌, ◌++◌, codes, Some, None, Result, Ok, Err, IfOk, Option, refl, ap, ◌∙◌}
 use Rattle.kmip_ttlv_types.specs.declared.typ.TtlvType.{TtlvType}
 use Rattle.kmip_ttlv_types.specs.declared.typ.TtlvType.TheVariants.{Enumeration}
 use Rattle.kmip_ttlv_types.specs.Places.{tag_at}
 use Rattle.kmip_ttlv_base.specs.Values.{Value, newtype_variant_value, unit_variant_value}
 use Rattle.kmip_ttlv_base.specs.Forms.{Form, Variants, variant, Content, wrapped, enum}
 use Rattle.kmip_ttlv_reader.specs.declared.failure.Failure.{Failure}
+use Rattle.kmip_ttlv_reader.specs.declared.scope.Scope.{Scope}
 use Rattle.kmip_ttlv_reader.specs.Keeps.{Keep}
 use Rattle.kmip_ttlv_reader.specs.Reads.{first_named, number_text, is_number_type}
 use Rattle.kmip_ttlv_reader.specs.ReadFaults.{in_struct}
@@ -13,8 +14,8 @@ use Rattle.kmip_ttlv_reader.specs.Results.{IsFailure}
 use Rattle.kmip_ttlv_reader.specs.Rules.{Choice, chosen, by_value, choice_refused, choice, first_by, past, rule}
 use Rattle.kmip_ttlv_reader.specs.Steps.{Outcome, gives, ends_early, fails, Read, Reader, reads, mapped, ◌>>=◌, ◌>>◌}
 use Rattle.kmip_ttlv_reader.specs.Outcomes.{outcome, enum_outcome, picked, by_index, variant_outcome, content_outcome, number_outcome, type_there, type_wanted, length_there, length_wanted, content_there, unit_wanted, inside}
-use Rattle.kmip_ttlv_reader.specs.Spots.{Spot, IsReadTo}
-use Rattle.kmip_ttlv_reader.specs.Chosen.{by_rules, unnamed, IsNever}
+use Rattle.kmip_ttlv_reader.specs.Spots.{Spot, IsReadTo, at}
+use Rattle.kmip_ttlv_reader.specs.Chosen.{by_rules, unnamed, IsNever, IsChosen}
 use Rattle.kmip_ttlv_reader.proofs.Steps.{failure_then}
 
 -- the first variant's rule holds
@@ -82,3 +83,13 @@ never_read view spot o (Err failure) h = h
 pub never_ok : {X A : Type 0} (P : X → Type 0) (o : Outcome (Read Value)) (r : Result X (Failure A)) → IsNever o r → IfOk r P
 never_ok P o (Ok x) h = absurd h
 never_ok P o (Err failure) h = tt
+
+-- where the first variant's rule fails, what is chosen is chosen among the later ones
+pub passed : {X A : Type 0} (own name : List ℕ) (content : Content) (vs : Variants) (view : X → Value) (t : TtlvType) (scope : Scope A) (old new : Spot) (r : Result (Option X) (Failure A))
+    → ((own : List ℕ) (vs : Variants) (number : TtlvType → Reader Value) → at (by_rules own (variant name content vs) number t) scope old ≡ at (by_rules own vs number t) scope old)
+    → ((vs : Variants) → choice (variant name content vs) old.kept t ≡ past 1 (choice vs old.kept t))
+    → IsChosen own vs view t scope old new r
+    → IsChosen own (variant name content vs) view t scope old new r
+passed own name content vs view t scope old new (Ok (Some x)) later past_it h = λ number. later own vs number ∙ h number
+passed own name content vs view t scope old new (Ok None) later past_it h = (past_it vs ∙ ap (past 1) h.0, h.1)
+passed own name content vs view t scope old new (Err failure) later past_it h = λ number. rw (later own vs number) (h number)

@@ -11,7 +11,9 @@ use Rattle.kmip_ttlv_reader.specs.Keeps.{Keep, last}
 use Rattle.kmip_ttlv_reader.specs.Rules.{Choice, first_by, Verdict, fails, says, needs, with_text, sides, in_brackets, type_name, by, equal, at_least, member, verdict, rule, refused}
 use Rattle.kmip_ttlv_base.specs.Errors.{invalid_rule}
 use Rattle.kmip_ttlv_reader.specs.Chosen.{if_held}
-use Rattle.kmip_ttlv_reader.specs.RuleParts.{wants, parts_of_equal, parts_of_member, parts_by, parts_of_body, parts_by_name, parts_of}
+use Rattle.kmip_ttlv_reader.specs.RuleParts.{wants, texts_of, wanted, parts_of_equal, parts_of_member, parts_by, parts_of_body, parts_by_name, parts_of, equal_sides, AreParts}
+use Rattle.kmip_ttlv_reader.specs.declared.rules.RuleParts.{RuleParts}
+use Rattle.kmip_ttlv_reader.specs.declared.rules.RuleParts.TheVariants as parts
 
 -- what parts say, where there are some
 abbrev told_by : List Keep → Option (ℕ × List (List ℕ)) → Verdict
@@ -19,24 +21,28 @@ told_by ks None = fails
 told_by ks (Some p) = wants p.0 p.1 ks
 
 -- texts are equal in either order
-alike : (a b : List ℕ) → bytes_eq a b ≡ bytes_eq b a || false
+alike : (a b : List ℕ) → bytes_eq a b ≡ bytes_eq b a
 alike a b = by (bytes_eq a b) (bytes_eq b a) refl refl
   where
-    by : (x y : Bool) → bytes_eq a b ≡ x → bytes_eq b a ≡ y → x ≡ y || false
+    by : (x y : Bool) → bytes_eq a b ≡ x → bytes_eq b a ≡ y → x ≡ y
     by true true e f = refl
     by false false e f = refl
     by true false e f = sym (sym f ∙ (bytes_eq-Decides b a).1 (sym ((bytes_eq-Decides a b).0 e)))
     by false true e f = sym e ∙ (bytes_eq-Decides a b).1 (sym ((bytes_eq-Decides b a).0 f))
 
-one_text : (o : Option (List ℕ)) (x : List ℕ) → with_text o (λ text. says (bytes_eq text x)) ≡ with_text o (λ text. says (list_any (λ one. bytes_eq one text) (x ∷ [])))
+or_none : (b : Bool) → b ≡ b || false
+or_none true = refl
+or_none false = refl
+
+one_text : (o : Option (List ℕ)) (x : List ℕ) → with_text o (λ text. says (bytes_eq text x)) ≡ with_text o (λ text. says (list_any (bytes_eq text) (x ∷ [])))
 one_text None x = refl
-one_text (Some text) x = ap says (alike text x)
+one_text (Some text) x = ap says (or_none (bytes_eq text x))
 
-trimmed : (text : List ℕ) (xs : List (List ℕ)) → list_any (λ m. bytes_eq (trim m) text) xs ≡ list_any (λ one. bytes_eq one text) (map trim xs)
+trimmed : (text : List ℕ) (xs : List (List ℕ)) → list_any (λ m. bytes_eq (trim m) text) xs ≡ list_any (bytes_eq text) (map trim xs)
 trimmed text [] = refl
-trimmed text (x ∷ xs) = ap (λ b. bytes_eq (trim x) text || b) (trimmed text xs)
+trimmed text (x ∷ xs) = ap (λ b. b || list_any (λ m. bytes_eq (trim m) text) xs) (alike (trim x) text) ∙ ap (λ b. bytes_eq text (trim x) || b) (trimmed text xs)
 
-some_texts : (o : Option (List ℕ)) (xs : List (List ℕ)) → with_text o (λ text. says (list_any (λ m. bytes_eq (trim m) text) xs)) ≡ with_text o (λ text. says (list_any (λ one. bytes_eq one text) (map trim xs)))
+some_texts : (o : Option (List ℕ)) (xs : List (List ℕ)) → with_text o (λ text. says (list_any (λ m. bytes_eq (trim m) text) xs)) ≡ with_text o (λ text. says (list_any (bytes_eq text) (map trim xs)))
 some_texts None xs = refl
 some_texts (Some text) xs = ap says (trimmed text xs)
 
@@ -79,22 +85,40 @@ computed : (name : List ℕ) → parts_of name ≡ parts_by_name name
 unfolding parts_of tag_of number sides in_brackets trim_end trim_start chars encode
 computed name = refl
 
--- a rule says what its parts say
-pub rule_in_parts : (ks : List Keep) (typ : TtlvType) (name : List ℕ) (p : ℕ × List (List ℕ)) → parts_of name ≡ Some p → rule name ks typ ≡ wants p.0 p.1 ks
+-- a rule that asks for a text says what its tag and texts say
+rule_in_parts : (ks : List Keep) (typ : TtlvType) (name : List ℕ) (p : ℕ × List (List ℕ)) → parts_of name ≡ Some p → rule name ks typ ≡ wants p.0 p.1 ks
 rule_in_parts ks typ name p e = rule_by_name ks typ name p (sym (computed name) ∙ e)
 
 -- whether the last text is one of some texts
-pub is_wanted : (ks : List Keep) (t : ℕ) (texts : List (Bor (List ℕ))) (text : List ℕ) → Some text ≡ last ks t → says (list_any (λ one. bytes_eq one.now text) texts) ≡ wants t (map (λ one. one.now) texts) ks
+pub is_wanted : (ks : List Keep) (t : ℕ) (texts : List (Bor (List ℕ))) (text : List ℕ) → Some text ≡ last ks t → says (list_any (λ one. bytes_eq text one.now) texts) ≡ wants t (map (λ one. one.now) texts) ks
 is_wanted ks t texts text kept =
-    ap says (seen texts) ∙ ap (λ o. with_text o (λ s. says (list_any (λ one. bytes_eq one s) (map (λ one. one.now) texts)))) kept
+    ap says (seen texts) ∙ ap (λ o. with_text o (λ s. says (list_any (bytes_eq s) (map (λ one. one.now) texts)))) kept
   where
-    seen : (xs : List (Bor (List ℕ))) → list_any (λ one. bytes_eq one.now text) xs ≡ list_any (λ one. bytes_eq one text) (map (λ one. one.now) xs)
+    seen : (xs : List (Bor (List ℕ))) → list_any (λ one. bytes_eq text one.now) xs ≡ list_any (bytes_eq text) (map (λ one. one.now) xs)
     seen [] = refl
-    seen (x ∷ xs) = ap (λ b. bytes_eq x.now text || b) (seen xs)
+    seen (x ∷ xs) = ap (λ b. bytes_eq text x.now || b) (seen xs)
+
+sides_computed : (name : List ℕ) → equal_sides name ≡ option_and_then (sides (codes "==")) (after_prefix (codes "if ") name)
+unfolding equal_sides sides trim_end trim_start chars encode
+sides_computed name = refl
+
+-- a rule that asks for a type says whether the item's type has that name
+typed : (ks : List Keep) (typ asked : TtlvType) (name : List ℕ) → equal_sides name ≡ Some (codes "type", type_name asked) → rule name ks typ ≡ says (bytes_eq (type_name asked) (type_name typ))
+unfolding rule equal
+typed ks typ asked name e = go (after_prefix (codes "if ") name) (sym (sides_computed name) ∙ e)
+  where
+    go : (o : Option (List ℕ)) → option_and_then (sides (codes "==")) o ≡ Some (codes "type", type_name asked) → verdict name o ks typ ≡ says (bytes_eq (type_name asked) (type_name typ))
+    go None e = absurd (search rules)
+    go (Some body) e = rw e refl
+
+-- a rule says what its parts say
+said_in_parts : (ks : List Keep) (typ : TtlvType) (name : List ℕ) (p : RuleParts) → AreParts name (Some p) → rule name ks typ ≡ wanted p ks typ
+said_in_parts ks typ name (parts.Texts tag texts) are = rule_in_parts ks typ name (tag, texts_of texts.now) are
+said_in_parts ks typ name (parts.Type asked) are = typed ks typ asked name are
 
 -- a rule holds where its parts do
-pub held_in_parts : (ks : List Keep) (typ : TtlvType) (name : List ℕ) (p : ℕ × List (List ℕ)) (held : Bool) → parts_of name ≡ Some p → says held ≡ wants p.0 p.1 ks → (c : Choice) → first_by (rule name ks typ) c ≡ if_held held c
-held_in_parts ks typ name p held e told c = ap (λ v. first_by v c) (rule_in_parts ks typ name p e ∙ sym told) ∙ by_held held
+pub held_in_parts : (ks : List Keep) (typ : TtlvType) (name : List ℕ) (p : RuleParts) (held : Bool) → AreParts name (Some p) → says held ≡ wanted p ks typ → (c : Choice) → first_by (rule name ks typ) c ≡ if_held held c
+held_in_parts ks typ name p held are told c = ap (λ v. first_by v c) (said_in_parts ks typ name p are ∙ sym told) ∙ by_held held
   where
     by_held : (b : Bool) → first_by (says b) c ≡ if_held b c
     by_held true = refl

@@ -6,8 +6,6 @@ use Rattle.kmip_ttlv_base.specs.Values.{Value, newtype_variant_value}
 use Rattle.kmip_ttlv_base.specs.Forms.{Form, Variants, variant, wrapped}
 use Rattle.kmip_ttlv_reader.specs.declared.failure.Failure.{Failure}
 use Rattle.kmip_ttlv_reader.specs.declared.scope.Scope.{Scope}
-use Rattle.kmip_ttlv_reader.specs.declared.choice.OneOf.{OneOf}
-use Rattle.kmip_ttlv_reader.specs.declared.choice.OneOf.TheVariants as ones
 use Rattle.kmip_ttlv_reader.specs.Reads.{is_number_type}
 use Rattle.kmip_ttlv_reader.specs.ReadFaults.{in_struct}
 use Rattle.kmip_ttlv_reader.specs.Results.{IsFailure}
@@ -54,11 +52,6 @@ IsTried condition s view t scope old new (Ok None) =
 IsTried condition s view t scope old new (Err r) =
     (own : List ℕ) (vs : Variants) (number : TtlvType → Reader Value)
     → IsFailure (at (by_rules own (variant (codes "if " ++ condition) (wrapped s) vs) number t) scope old) r
-
--- the value of what the first of some variants contains, or one of the others
-abbrev pub one_of : {X Y : Type 0} → (X → Value) → (Y → Value) → OneOf X Y → Value
-one_of f g (ones.First x) = f x
-one_of f g (ones.Other y) = g y
 
 -- a number that names none of the variants
 unfoldable pub unnamed : List ℕ → ℕ → ℕ → TtlvType → Outcome (Read Value)

@@ -1,20 +1,28 @@
--- Rules in parts: a rule that asks whether the last text under a tag is one of some texts.
+-- Rules in parts: a rule that asks whether the last text under a tag is one of some texts, or for the type of an item.
 use Rattle.std.specs.Prelude.{◌≡◌, ℕ, List, [], ◌∷◌, map, codes, ◌==◌, if◌then◌else◌, Option, Some, None, option_map, option_and_then}
 use Rattle.std.specs.List.{list_any, slice_split}
+use Rattle.std.specs.Borrow.{Bor}
 use Rattle.std.specs.Str.{bytes_eq, trim, trim_end, trim_start, chars}
 use lib.Utf8.{encode}
 use Rattle.kmip_ttlv_types.specs.Names.{after_prefix, number, tag_of}
 use Rattle.kmip_ttlv_reader.specs.Keeps.{Keep, last}
-use Rattle.kmip_ttlv_reader.specs.Rules.{Verdict, says, with_text, sides, in_brackets}
+use Rattle.kmip_ttlv_reader.specs.Rules.{Verdict, says, with_text, sides, in_brackets, type_name}
+use Rattle.kmip_ttlv_types.specs.declared.typ.TtlvType.{TtlvType}
 use Rattle.kmip_ttlv_reader.specs.declared.rules.RuleParts.{RuleParts}
+use Rattle.kmip_ttlv_reader.specs.declared.rules.RuleParts.TheVariants as parts
 
 -- the last text kept under a tag is one of these; not where there is no such tag
 abbrev pub wants : ℕ → List (List ℕ) → List Keep → Verdict
-wants t texts ks = with_text (last ks t) (λ text. says (list_any (λ one. bytes_eq one text) texts))
+wants t texts ks = with_text (last ks t) (λ text. says (list_any (bytes_eq text) texts))
 
--- the texts that a rule in parts has
-abbrev pub texts_of : RuleParts → List (List ℕ)
-texts_of parts = map (λ one. one.now) parts.texts.now
+-- the texts themselves
+abbrev pub texts_of : List (Bor (List ℕ)) → List (List ℕ)
+texts_of texts = map (λ one. one.now) texts
+
+-- what a rule in parts says of the kept texts and of an item's type
+abbrev pub wanted : RuleParts → List Keep → TtlvType → Verdict
+wanted (parts.Texts tag texts) ks typ = wants tag (texts_of texts.now) ks
+wanted (parts.Type asked) ks typ = says (bytes_eq (type_name asked) (type_name typ))
 
 -- the tag and the one text of `==`, where it asks for no type
 abbrev pub parts_of_equal : List ℕ → List ℕ → Option (ℕ × List (List ℕ))
@@ -44,7 +52,13 @@ unfoldable pub parts_of : List ℕ → Option (ℕ × List (List ℕ))
 unfolding tag_of number sides in_brackets trim_end trim_start chars encode
 parts_of name = parts_by_name name
 
+-- the sides of `==` in a rule's name; a proof that unfolds it computes them of a name
+unfoldable pub equal_sides : List ℕ → Option (List ℕ × List ℕ)
+unfolding sides trim_end trim_start chars encode
+equal_sides name = option_and_then (sides (codes "==")) (after_prefix (codes "if ") name)
+
 -- they are the parts of the rule of this name; there may be none of any rule
 abbrev pub AreParts : List ℕ → Option RuleParts → Type 0
 AreParts name None = Unit {0}
-AreParts name (Some parts) = parts_of name ≡ Some (parts.tag, texts_of parts)
+AreParts name (Some (parts.Texts tag texts)) = parts_of name ≡ Some (tag, texts_of texts.now)
+AreParts name (Some (parts.Type asked)) = equal_sides name ≡ Some (codes "type", type_name asked)

@@ -3,8 +3,8 @@ use Rattle.std.specs.Prelude.{◌≡◌, ℕ, ◌≤◌, Bool, false, List, ◌+
 use Rattle.std.specs.Prelude.{ℤ, map, [], ◌∷◌, ◌==◌, if◌then◌else◌}
 use Rattle.std.specs.Int.{Width, cast_signed, cast_unsigned}
 use Rattle.kmip_ttlv_types.specs.Digits.{tag_text}
-use Rattle.kmip_ttlv_base.specs.Values.{Value, none_value, some_value, seq_value, struct_value, Values, no_values, values_of}
-use Rattle.kmip_ttlv_base.specs.Forms.{Form, Fields, no_fields, newtype, struct}
+use Rattle.kmip_ttlv_base.specs.Values.{Value, none_value, some_value, seq_value, struct_value, Values, values_of}
+use Rattle.kmip_ttlv_base.specs.Forms.{Form, Fields, newtype, struct}
 use Rattle.kmip_ttlv_reader.specs.declared.failure.Failure.{Failure}
 use Rattle.kmip_ttlv_reader.specs.declared.scope.Scope.{Scope}
 use Rattle.kmip_ttlv_reader.specs.Keeps.{Keep}
@@ -66,16 +66,6 @@ structure_form tag fields deny = struct (tag_text tag) fields deny
 -- the value of a structure of this tag
 abbrev pub structure_value : {X : Type 0} → ℕ → (X → Values) → X → Value
 structure_value tag values x = struct_value (tag_text tag) (values x)
-
--- the values of a struct's fields
-abbrev pub fields_in : Value → Values
-fields_in (struct_value name vs) = vs
-fields_in _ = no_values
-
--- the fields of a struct's form
-abbrev pub struct_fields : Form → Fields
-struct_fields (struct name fs deny) = fs
-struct_fields _ = no_fields
 
 -- a field that may not be absent is there: an item of this tag
 abbrev pub field_there : ℕ → List ℕ → (owner pos end : ℕ) → Outcome (Unit {0})

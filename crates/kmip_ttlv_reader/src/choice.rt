@@ -1,5 +1,6 @@
-//! Choices: enums whose variants are chosen by rules over the texts that were read before. The variants of a choice are
-//! a list that is a type: `Variant<R, E>` is the last of them, `(Variant<R, E>, O)` any other.
+//! Choices: enums whose variants are chosen by rules over the texts that were read before. Each variant has a type, its rule,
+//! which says how the enum's value is made of what the variant contains. The variants of a choice are pairs of the first and
+//! the others, up to `()`.
 
 ghost use Rattle.std.specs.Prelude.{◌≡◌, ℕ, ◌+◌, ◌≤◌, ◌++◌, List, None, refl, length, codes, IfOk, IfSome};
 ghost use Rattle.kmip_ttlv_base.specs.Values.{newtype_variant_value};
@@ -8,7 +9,7 @@ ghost use Rattle.kmip_ttlv_reader.specs.Reads.{first_named, number_text};
 ghost use Rattle.kmip_ttlv_reader.specs.Rules.{rule};
 ghost use Rattle.kmip_ttlv_reader.specs.Outcomes.{outcome};
 ghost use Rattle.kmip_ttlv_reader.specs.Spots.{IsWithin, IsReadTo, at};
-ghost use Rattle.kmip_ttlv_reader.specs.Chosen.{IsChosen, IsHeld, IsTried, IsNever, one_of, unnamed};
+ghost use Rattle.kmip_ttlv_reader.specs.Chosen.{IsChosen, IsHeld, IsTried, IsNever, unnamed};
 
 use crate::cursor::Cursor;
 use crate::element::Element;
@@ -42,30 +43,49 @@ pub trait Rule {
     }
 }
 
-/// The variants of a choice, in their order.
-pub trait VariantList<A: Allocator + Copy> {
+/// An enum that is read as one of its variants: what its values stand for.
+pub trait ChoiceValue {
     ghost use Rattle.std.specs.Prelude.{ℕ, List};
     ghost use Rattle.kmip_ttlv_base.specs.Values.{Value};
-    ghost use Rattle.kmip_ttlv_base.specs.Forms.{Variants};
 
-    /// What is read.
-    type Read: Drop;
+    // The enum's name in its form.
+    ghost own: { List ℕ };
+
+    // The value that it stands for.
+    ghost value: { Self → Value };
+}
+
+/// A variant of the enum `T` that contains `E`, chosen by this rule.
+pub trait VariantOf<E: Element<A>, T: ChoiceValue, A: Allocator + Copy>: Rule {
+    /// The enum's value that has this in it.
+    fn from_content(content: E::Read) -> T
+        ensures { T.value result ≡ newtype_variant_value T.own (codes "if " ++ Self.Rule.condition) (E.value content) };
+}
+
+/// In a list, the variant that this rule chooses, and what it contains.
+#[derive(Drop)]
+pub struct Variant<R, E> {
+    rule: PhantomData<R>,
+    content: PhantomData<E>,
+}
+
+/// Variants of the enum `T`, in their order.
+pub trait VariantList<T: ChoiceValue, A: Allocator + Copy> {
+    ghost use Rattle.std.specs.Prelude.{ℕ, List};
+    ghost use Rattle.kmip_ttlv_base.specs.Forms.{Variants};
 
     // The variants, as the form has them.
     ghost variants: { Variants };
 
-    // The value of what is read, as a variant of the enum of this name.
-    ghost value: { List ℕ → Self.Read → Value };
-
-    /// What the first variant contains whose rule holds at an item of this type; nothing if no rule holds.
+    /// The first variant whose rule holds at an item of this type; nothing if no rule holds.
     fn read_chosen<'b>(
         scope: &Scope<'b, A>,
         cursor: &mut Cursor<'b, A>,
         typ: TtlvType,
-    ) -> Step<Option<Self::Read>, A>
+    ) -> Step<Option<T>, A>
         requires within { IsWithin scope.now cursor.old }
         requires there { cursor.old.pos + 4 ≤ length scope.now.bytes.now }
-        ensures read { (own : List ℕ) → IsChosen own variants (value own) typ scope.now cursor.old cursor.new result }
+        ensures read { IsChosen T.own variants T.value typ scope.now cursor.old cursor.new result }
         ensures within { IfOk result (λ _. IsWithin scope.now cursor.new) }
         ensures further { IfOk result (λ o. IfSome o (λ _. cursor.old.pos + 8 ≤ cursor.new.pos)) };
 
@@ -73,20 +93,19 @@ pub trait VariantList<A: Allocator + Copy> {
     ghost ruled: { (content : List ℕ) → first_named (number_text content) variants ≡ None };
 }
 
-/// A variant that this rule chooses, and what it contains.
-#[derive(Drop)]
-pub struct Variant<R, E> {
-    rule: PhantomData<R>,
-    content: PhantomData<E>,
-}
+/// A choice: the enum `Self`, and its variants.
+pub trait Choice<A: Allocator + Copy>: ChoiceValue + Sized + Drop {
+    ghost use Rattle.kmip_ttlv_base.specs.Forms.{Form};
 
-/// What the first of some variants contains, or one of the others.
-#[derive(Drop)]
-pub enum OneOf<First, Other> {
-    /// The first.
-    First(First),
-    /// Another.
-    Other(Other),
+    // Its form, in a name of its own.
+    ghost form: { Form };
+
+    /// The variants, in their order.
+    type Variants: VariantList<Self, A>;
+
+    /// Does nothing: its contract says that the form is that of an enum with these variants. The body is `{}`.
+    fn has_form()
+        ensures { form ≡ enum Self.own Self.Variants.variants };
 }
 
 // Whether the rule of this name holds.
@@ -121,14 +140,14 @@ fn rule_holds<'b, R: Rule, A: Allocator + Copy>(
     ensures { IsHeld (rule (codes "if " ++ R.condition) cursor.now.kept typ) scope.now.bytes.now cursor.now.pos typ result }
 {
     match R::parts() {
-        Some(parts) => Ok(parts_hold(parts, cursor.kept_texts())),
+        Some(parts) => Ok(parts_hold(parts, cursor.kept_texts(), typ)),
         None => named_rule_holds(scope, cursor, R::name(), typ),
     }
 }
 
-// The variant, if its rule holds.
+// What the variant contains, if its rule holds.
 #[inline(always)]
-fn read_variant<'b, R: Rule, E: Element<A>, A: Allocator + Copy>(
+fn read_content<'b, R: Rule, E: Element<A>, A: Allocator + Copy>(
     scope: &Scope<'b, A>,
     cursor: &mut Cursor<'b, A>,
     typ: TtlvType,
@@ -146,80 +165,59 @@ fn read_variant<'b, R: Rule, E: Element<A>, A: Allocator + Copy>(
     Ok(None)
 }
 
-// The last variant, as the page has it.
-#[inline(always)]
-fn read_last<'b, R: Rule, E: Element<A>, A: Allocator + Copy>(
-    scope: &Scope<'b, A>,
-    cursor: &mut Cursor<'b, A>,
-    typ: TtlvType,
-) -> Step<Option<E::Read>, A>
-    requires within { IsWithin scope.now cursor.old }
-    requires there { cursor.old.pos + 4 ≤ length scope.now.bytes.now }
-    ensures read { (own : List ℕ) → IsChosen own (variant (codes "if " ++ R.condition) (wrapped E.form) no_variants)
-        (λ x. newtype_variant_value own (codes "if " ++ R.condition) (E.value x)) typ scope.now cursor.old cursor.new result }
-    ensures within { IfOk result (λ _. IsWithin scope.now cursor.new) }
-    ensures further { IfOk result (λ o. IfSome o (λ _. cursor.old.pos + 8 ≤ cursor.new.pos)) }
-{
-    match read_variant::<R, E, A>(scope, cursor, typ) {
-        Ok(Some(value)) => Ok(Some(value)),
-        Ok(None) => Ok(None),
-        Err(failure) => Err(failure),
-    }
-}
-
-// The first variant or one of the others, as the page has it.
-#[inline(always)]
-fn read_either<'b, R: Rule, E: Element<A>, O: VariantList<A>, A: Allocator + Copy>(
-    scope: &Scope<'b, A>,
-    cursor: &mut Cursor<'b, A>,
-    typ: TtlvType,
-) -> Step<Option<OneOf<E::Read, O::Read>>, A>
-    requires within { IsWithin scope.now cursor.old }
-    requires there { cursor.old.pos + 4 ≤ length scope.now.bytes.now }
-    ensures read { (own : List ℕ) → IsChosen own (variant (codes "if " ++ R.condition) (wrapped E.form) O.variants)
-        (one_of (λ x. newtype_variant_value own (codes "if " ++ R.condition) (E.value x)) (O.value own)) typ scope.now cursor.old cursor.new result }
-    ensures within { IfOk result (λ _. IsWithin scope.now cursor.new) }
-    ensures further { IfOk result (λ o. IfSome o (λ _. cursor.old.pos + 8 ≤ cursor.new.pos)) }
-{
-    match read_variant::<R, E, A>(scope, cursor, typ) {
-        Ok(Some(value)) => Ok(Some(OneOf::First(value))),
-        Ok(None) => match O::read_chosen(scope, cursor, typ) {
-            Ok(Some(other)) => Ok(Some(OneOf::Other(other))),
-            Ok(None) => Ok(None),
-            Err(failure) => Err(failure),
-        },
-        Err(failure) => Err(failure),
-    }
-}
-
-/// The last variant.
-impl<R: Rule, E: Element<A>, A: Allocator + Copy> VariantList<A> for Variant<R, E> {
-    type Read = E::Read;
-
-    ghost variants = { variant (codes "if " ++ R.condition) (wrapped E.form) no_variants };
-
-    ghost value = { λ own x. newtype_variant_value own (codes "if " ++ R.condition) (E.value x) };
+/// No variants.
+impl<T: ChoiceValue + Drop, A: Allocator + Copy> VariantList<T, A> for () {
+    ghost variants = { no_variants };
 
     ghost ruled = { λ content. refl };
 
     #[inline(always)]
     fn read_chosen<'b>(
-        scope: &Scope<'b, A>,
-        cursor: &mut Cursor<'b, A>,
-        typ: TtlvType,
-    ) -> Step<Option<E::Read>, A> {
-        read_last::<R, E, A>(scope, cursor, typ)
+        _scope: &Scope<'b, A>,
+        _cursor: &mut Cursor<'b, A>,
+        _typ: TtlvType,
+    ) -> Step<Option<T>, A> {
+        Ok(None)
+    }
+}
+
+// The variant, if its rule holds, or else one of the others.
+#[inline(always)]
+fn read_either<
+    'b,
+    R: VariantOf<E, T, A>,
+    E: Element<A>,
+    O: VariantList<T, A>,
+    T: ChoiceValue + Drop,
+    A: Allocator + Copy,
+>(
+    scope: &Scope<'b, A>,
+    cursor: &mut Cursor<'b, A>,
+    typ: TtlvType,
+) -> Step<Option<T>, A>
+    requires within { IsWithin scope.now cursor.old }
+    requires there { cursor.old.pos + 4 ≤ length scope.now.bytes.now }
+    ensures read { IsChosen T.own (variant (codes "if " ++ R.Rule.condition) (wrapped E.form) O.variants) T.value
+        typ scope.now cursor.old cursor.new result }
+    ensures within { IfOk result (λ _. IsWithin scope.now cursor.new) }
+    ensures further { IfOk result (λ o. IfSome o (λ _. cursor.old.pos + 8 ≤ cursor.new.pos)) }
+{
+    match read_content::<R, E, A>(scope, cursor, typ) {
+        Ok(Some(content)) => Ok(Some(R::from_content(content))),
+        Ok(None) => O::read_chosen(scope, cursor, typ),
+        Err(failure) => Err(failure),
     }
 }
 
 /// A variant, and others behind it.
-impl<R: Rule, E: Element<A>, O: VariantList<A>, A: Allocator + Copy> VariantList<A>
-    for (Variant<R, E>, O) {
-    type Read = OneOf<E::Read, O::Read>;
-
-    ghost variants = { variant (codes "if " ++ R.condition) (wrapped E.form) O.variants };
-
-    ghost value = { λ own. one_of (λ x. newtype_variant_value own (codes "if " ++ R.condition) (E.value x)) (O.value own) };
+impl<
+    R: VariantOf<E, T, A>,
+    E: Element<A>,
+    O: VariantList<T, A>,
+    T: ChoiceValue + Drop,
+    A: Allocator + Copy,
+> VariantList<T, A> for (Variant<R, E>, O) {
+    ghost variants = { variant (codes "if " ++ R.Rule.condition) (wrapped E.form) O.variants };
 
     ghost ruled = { λ content. O.ruled content };
 
@@ -228,20 +226,9 @@ impl<R: Rule, E: Element<A>, O: VariantList<A>, A: Allocator + Copy> VariantList
         scope: &Scope<'b, A>,
         cursor: &mut Cursor<'b, A>,
         typ: TtlvType,
-    ) -> Step<Option<OneOf<E::Read, O::Read>>, A> {
-        read_either::<R, E, O, A>(scope, cursor, typ)
+    ) -> Step<Option<T>, A> {
+        read_either::<R, E, O, T, A>(scope, cursor, typ)
     }
-}
-
-/// A choice: an enum's name in its form, and its variants.
-pub trait Choice<A: Allocator + Copy> {
-    ghost use Rattle.std.specs.Prelude.{ℕ, List};
-
-    /// The variants, in their order.
-    type Variants: VariantList<A>;
-
-    // The enum's name in its form.
-    ghost own: { List ℕ };
 }
 
 // No rule holds: the item is no number, or its number names no variant.
@@ -269,36 +256,22 @@ fn unnamed<'b, X: Drop, A: Allocator + Copy>(
     Err(in_struct(scope.alloc, pos + 16, scope.owner, "unknown variant"))
 }
 
-// An item as one of the variants.
+/// The next item, as the variant that the rules choose.
 #[inline(always)]
-fn read_one_of<'b, V: VariantList<A>, A: Allocator + Copy>(
+pub fn read_choice<'b, T: Choice<A>, A: Allocator + Copy>(
     scope: &Scope<'b, A>,
     cursor: &mut Cursor<'b, A>,
-) -> Step<V::Read, A>
+) -> Step<T, A>
     requires within { IsWithin scope.now cursor.old }
-    ensures read { (own : List ℕ) → IsReadTo (V.value own) cursor.new (at (outcome (enum own V.variants)) scope.now cursor.old) result }
+    ensures read { IsReadTo T.ChoiceValue.value cursor.new (at (outcome T.form) scope.now cursor.old) result }
     ensures within { IfOk result (λ _. IsWithin scope.now cursor.new) }
     ensures further { IfOk result (λ _. cursor.old.pos + 8 ≤ cursor.new.pos) }
 {
+    T::has_form();
     let typ = type_there(scope.alloc, scope.bytes, cursor.pos())?;
-    match V::read_chosen(scope, cursor, typ) {
+    match T::Variants::read_chosen(scope, cursor, typ) {
         Ok(Some(value)) => Ok(value),
         Ok(None) => unnamed(scope, cursor.pos(), typ),
         Err(failure) => Err(failure),
     }
-}
-
-/// The next item, as what the variant contains that the rules choose.
-#[inline(always)]
-pub fn read_choice<'b, C: Choice<A>, A: Allocator + Copy>(
-    scope: &Scope<'b, A>,
-    cursor: &mut Cursor<'b, A>,
-) -> Step<<C::Variants as VariantList<A>>::Read, A>
-    requires within { IsWithin scope.now cursor.old }
-    ensures read { IsReadTo (C.Variants.value C.own) cursor.new
-        (at (outcome (enum C.own C.Variants.variants)) scope.now cursor.old) result }
-    ensures within { IfOk result (λ _. IsWithin scope.now cursor.new) }
-    ensures further { IfOk result (λ _. cursor.old.pos + 8 ≤ cursor.new.pos) }
-{
-    read_one_of::<C::Variants, A>(scope, cursor)
 }

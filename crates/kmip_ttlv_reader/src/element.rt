@@ -5,7 +5,7 @@ ghost use Rattle.kmip_ttlv_base.specs.Values.{newtype_value, seq_value};
 ghost use Rattle.kmip_ttlv_base.specs.Forms.{seq};
 ghost use Rattle.kmip_ttlv_reader.specs.LeafForms.{form_of_leaf};
 ghost use Rattle.kmip_ttlv_reader.specs.Outcomes.{outcome};
-ghost use Rattle.kmip_ttlv_reader.specs.Spots.{IsWithin, IsReadTo, at, wrapper_name, wrapped_leaf, structure_form, structure_value};
+ghost use Rattle.kmip_ttlv_reader.specs.Spots.{IsWithin, IsReadTo, at, wrapper_name, wrapped_leaf};
 
 use crate::cursor::Cursor;
 use crate::failure::Step;
@@ -47,9 +47,9 @@ pub struct StructureElement<T> {
 impl<T: ReadNested<A>, A: Allocator + Copy> Element<A> for StructureElement<T> {
     type Read = T;
 
-    ghost form = { structure_form T.TAG T.fields T.denies_unknown };
+    ghost form = { T.form };
 
-    ghost value = { structure_value T.TAG T.values };
+    ghost value = { T.value };
 
     #[inline(always)]
     fn read_one<'b>(scope: &Scope<'b, A>, cursor: &mut Cursor<'b, A>) -> Step<T, A> {

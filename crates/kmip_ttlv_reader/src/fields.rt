@@ -1,5 +1,5 @@
-//! Fields that read themselves: each kind of field is a type, and the fields of a structure are pairs of the first and the
-//! others, up to `()`.
+//! Fields that read themselves: each kind of field is a type, and the fields of a structure are a tuple of up to four of them,
+//! or `Four` of them with others behind. What is read has the same layout.
 
 ghost use Rattle.std.specs.Prelude.{◌≡◌, ◌≤◌, true, false, length, IfOk};
 ghost use Rattle.kmip_ttlv_types.specs.Digits.{tag_text};
@@ -99,8 +99,13 @@ impl<A: Allocator + Copy> FieldList<A> for () {
     }
 }
 
-/// A field, and others behind it.
-impl<H: Field<A>, R: FieldList<A>, A: Allocator + Copy> FieldList<A> for (H, R) {
+// A field, and others behind it: what tuples are read by.
+#[derive(Drop)]
+struct Then<H, R> {
+    kind: PhantomData<(H, R)>,
+}
+
+impl<H: Field<A>, R: FieldList<A>, A: Allocator + Copy> FieldList<A> for Then<H, R> {
     type Read = (H::Read, R::Read);
 
     ghost fields = { field H.name H.form R.fields };
@@ -124,42 +129,148 @@ impl<H: Field<A>, R: FieldList<A>, A: Allocator + Copy> FieldList<A> for (H, R) 
     }
 }
 
-/// Four fields, and others behind them: the same as pairs of them. In pairs alone each field more takes the prover twice as
-/// long, so a longer list has these.
-#[derive(Drop)]
-pub struct Four<F1, F2, F3, F4, R> {
-    kind: PhantomData<(F1, (F2, (F3, (F4, R))))>,
-}
+/// One field.
+impl<F1: Field<A>, A: Allocator + Copy> FieldList<A> for (F1,) {
+    type Read = (F1::Read,);
 
-impl<
-    F1: Field<A>,
-    F2: Field<A>,
-    F3: Field<A>,
-    F4: Field<A>,
-    R: FieldList<A>,
-    A: Allocator + Copy,
-> FieldList<A> for Four<F1, F2, F3, F4, R> {
-    type Read = (F1::Read, (F2::Read, (F3::Read, (F4::Read, R::Read))));
+    ghost fields = { field F1.name F1.form no_fields };
 
-    ghost fields = { field F1.name F1.form (field F2.name F2.form (field F3.name F3.form (field F4.name F4.form R.fields))) };
-
-    ghost values = { λ x. value (F1.stands_for x.0) (value (F2.stands_for x.1.0) (value (F3.stands_for x.1.1.0)
-        (value (F4.stands_for x.1.1.1.0) (R.values x.1.1.1.1)))) };
+    ghost values = { λ x. value (F1.stands_for x.0) no_values };
 
     fn has_fields() -> bool {
         true
     }
 
     fn is_field(tag: TtlvTag) -> bool {
-        <(F1, (F2, (F3, (F4, R)))) as FieldList<A>>::is_field(tag)
+        <Then<F1, ()> as FieldList<A>>::is_field(tag)
     }
 
     #[inline(always)]
-    fn read<'b>(
-        scope: &Scope<'b, A>,
-        cursor: &mut Cursor<'b, A>,
-    ) -> Step<(F1::Read, (F2::Read, (F3::Read, (F4::Read, R::Read)))), A> {
-        <(F1, (F2, (F3, (F4, R)))) as FieldList<A>>::read(scope, cursor)
+    fn read<'b>(scope: &Scope<'b, A>, cursor: &mut Cursor<'b, A>) -> Step<(F1::Read,), A> {
+        match <Then<F1, ()> as FieldList<A>>::read(scope, cursor) {
+            Ok(fields) => {
+                let (first, ()) = fields;
+                Ok((first,))
+            }
+            Err(failure) => Err(failure),
+        }
+    }
+}
+
+/// Two fields.
+impl<F1: Field<A>, F2: Field<A>, A: Allocator + Copy> FieldList<A> for (F1, F2) {
+    type Read = (F1::Read, F2::Read);
+
+    ghost fields = { field F1.name F1.form (field F2.name F2.form no_fields) };
+
+    ghost values = { λ x. value (F1.stands_for x.0) (value (F2.stands_for x.1) no_values) };
+
+    fn has_fields() -> bool {
+        true
+    }
+
+    fn is_field(tag: TtlvTag) -> bool {
+        <Then<F1, Then<F2, ()>> as FieldList<A>>::is_field(tag)
+    }
+
+    #[inline(always)]
+    fn read<'b>(scope: &Scope<'b, A>, cursor: &mut Cursor<'b, A>) -> Step<(F1::Read, F2::Read), A> {
+        match <Then<F1, Then<F2, ()>> as FieldList<A>>::read(scope, cursor) {
+            Ok(fields) => {
+                let (first, (second, ())) = fields;
+                Ok((first, second))
+            }
+            Err(failure) => Err(failure),
+        }
+    }
+}
+
+/// Three fields.
+impl<F1: Field<A>, F2: Field<A>, F3: Field<A>, A: Allocator + Copy> FieldList<A> for (F1, F2, F3) {
+    type Read = (F1::Read, F2::Read, F3::Read);
+
+    ghost fields = { field F1.name F1.form (field F2.name F2.form (field F3.name F3.form no_fields)) };
+
+    ghost values = { λ x. value (F1.stands_for x.0) (value (F2.stands_for x.1) (value (F3.stands_for x.2) no_values)) };
+
+    fn has_fields() -> bool {
+        true
+    }
+
+    fn is_field(tag: TtlvTag) -> bool {
+        <Then<F1, Then<F2, Then<F3, ()>>> as FieldList<A>>::is_field(tag)
+    }
+
+    #[inline(always)]
+    fn read<'b>(scope: &Scope<'b, A>, cursor: &mut Cursor<'b, A>) -> Step<(F1::Read, F2::Read, F3::Read), A> {
+        match <Then<F1, Then<F2, Then<F3, ()>>> as FieldList<A>>::read(scope, cursor) {
+            Ok(fields) => {
+                let (first, (second, (third, ()))) = fields;
+                Ok((first, second, third))
+            }
+            Err(failure) => Err(failure),
+        }
+    }
+}
+
+/// Four fields.
+impl<F1: Field<A>, F2: Field<A>, F3: Field<A>, F4: Field<A>, A: Allocator + Copy> FieldList<A> for (F1, F2, F3, F4) {
+    type Read = (F1::Read, F2::Read, F3::Read, F4::Read);
+
+    ghost fields = { field F1.name F1.form (field F2.name F2.form (field F3.name F3.form (field F4.name F4.form no_fields))) };
+
+    ghost values = { λ x. value (F1.stands_for x.0) (value (F2.stands_for x.1) (value (F3.stands_for x.2) (value (F4.stands_for x.3) no_values))) };
+
+    fn has_fields() -> bool {
+        true
+    }
+
+    fn is_field(tag: TtlvTag) -> bool {
+        <Then<F1, Then<F2, Then<F3, Then<F4, ()>>>> as FieldList<A>>::is_field(tag)
+    }
+
+    #[inline(always)]
+    fn read<'b>(scope: &Scope<'b, A>, cursor: &mut Cursor<'b, A>) -> Step<(F1::Read, F2::Read, F3::Read, F4::Read), A> {
+        match <Then<F1, Then<F2, Then<F3, Then<F4, ()>>>> as FieldList<A>>::read(scope, cursor) {
+            Ok(fields) => {
+                let (first, (second, (third, (fourth, ())))) = fields;
+                Ok((first, second, third, fourth))
+            }
+            Err(failure) => Err(failure),
+        }
+    }
+}
+
+/// Four fields, and others behind them.
+#[derive(Drop)]
+pub struct Four<F1, F2, F3, F4, R> {
+    kind: PhantomData<(F1, F2, F3, F4, R)>,
+}
+
+impl<F1: Field<A>, F2: Field<A>, F3: Field<A>, F4: Field<A>, R: FieldList<A>, A: Allocator + Copy> FieldList<A> for Four<F1, F2, F3, F4, R> {
+    type Read = (F1::Read, F2::Read, F3::Read, F4::Read, R::Read);
+
+    ghost fields = { field F1.name F1.form (field F2.name F2.form (field F3.name F3.form (field F4.name F4.form R.fields))) };
+
+    ghost values = { λ x. value (F1.stands_for x.0) (value (F2.stands_for x.1) (value (F3.stands_for x.2) (value (F4.stands_for x.3) (R.values x.4)))) };
+
+    fn has_fields() -> bool {
+        true
+    }
+
+    fn is_field(tag: TtlvTag) -> bool {
+        <Then<F1, Then<F2, Then<F3, Then<F4, R>>>> as FieldList<A>>::is_field(tag)
+    }
+
+    #[inline(always)]
+    fn read<'b>(scope: &Scope<'b, A>, cursor: &mut Cursor<'b, A>) -> Step<(F1::Read, F2::Read, F3::Read, F4::Read, R::Read), A> {
+        match <Then<F1, Then<F2, Then<F3, Then<F4, R>>>> as FieldList<A>>::read(scope, cursor) {
+            Ok(fields) => {
+                let (first, (second, (third, (fourth, others)))) = fields;
+                Ok((first, second, third, fourth, others))
+            }
+            Err(failure) => Err(failure),
+        }
     }
 }
 

@@ -10,7 +10,7 @@ ghost use Rattle.kmip_ttlv_base.specs.Errors.{mismatch, view_of_serde};
 ghost use Rattle.kmip_ttlv_reader.specs.ReadFaults.{at_item};
 ghost use Rattle.kmip_ttlv_reader.specs.Results.{IsFailureOf};
 ghost use Rattle.kmip_ttlv_reader.specs.Rules.{rule, type_name, sides, in_brackets, equal, at_least, member, says};
-ghost use Rattle.kmip_ttlv_reader.specs.RuleParts.{wants, texts_of};
+ghost use Rattle.kmip_ttlv_reader.specs.RuleParts.{wants, texts_of, wanted};
 ghost use Rattle.kmip_ttlv_reader.specs.Verdicts.{verdict_of, mismatch_of};
 
 use crate::failure::{Cause, Failure, at_item};
@@ -81,33 +81,52 @@ pub fn rule<'n, 'b, A: Allocator + Copy>(
     }
 }
 
-/// A rule in parts: it holds where the last text kept under the tag is one of the texts. So a variant's rule is tested
-/// without its name being parsed.
+/// A rule in parts, by which it is tested without its name being parsed.
 #[derive(Clone, Copy)]
-pub struct RuleParts {
-    /// The tag.
-    pub tag: u32,
-    /// The texts.
-    pub texts: &'static [&'static str],
+pub enum RuleParts {
+    /// It holds where the last text kept under the tag is one of the texts.
+    Texts {
+        /// The tag.
+        tag: u32,
+        /// The texts.
+        texts: &'static [&'static str],
+    },
+    /// It holds of an item of this type.
+    Type(TtlvType),
 }
 
-/// Whether a rule in parts holds, by the kept texts.
+/// Whether a rule in parts holds, by the kept texts and of an item of this type.
 #[inline(always)]
-pub fn parts_hold<'b, A: Allocator + Copy>(parts: RuleParts, kept: &KeptTexts<'b, A>) -> bool
-    ensures { says result ≡ wants parts.tag (texts_of parts) kept.now }
+pub fn parts_hold<'b, A: Allocator + Copy>(
+    parts: RuleParts,
+    kept: &KeptTexts<'b, A>,
+    typ: TtlvType,
+) -> bool
+    ensures { says result ≡ wanted parts kept.now typ }
 {
-    match kept.last_under(parts.tag) {
-        Some(text) => is_among(text, parts.texts),
+    match parts {
+        RuleParts::Texts { tag, texts } => is_kept(tag, texts, kept),
+        RuleParts::Type(asked) => type_name(asked) == type_name(typ),
+    }
+}
+
+// Whether the last text kept under the tag is one of these.
+#[inline(always)]
+fn is_kept<'b, A: Allocator + Copy>(tag: u32, texts: &[&str], kept: &KeptTexts<'b, A>) -> bool
+    ensures { says result ≡ wants tag (texts_of texts.now) kept.now }
+{
+    match kept.last_under(tag) {
+        Some(text) => is_among(text, texts),
         None => false,
     }
 }
 
-// Whether a text is one of these.
-fn is_among(text: &str, texts: &[&str]) -> bool
-    ensures { result ≡ list_any (λ one. bytes_eq one.now text.now) texts.now }
+/// Whether a text is one of these.
+pub fn is_among(text: &str, texts: &[&str]) -> bool
+    ensures { result ≡ list_any (λ one. bytes_eq text.now one.now) texts.now }
 {
     for one in texts {
-        if *one == text {
+        if text == *one {
             return true;
         }
     }

@@ -5,7 +5,7 @@ ghost use Rattle.kmip_ttlv_types.specs.Digits.{tag_text};
 ghost use Rattle.kmip_ttlv_base.specs.Values.{seq_value};
 ghost use Rattle.kmip_ttlv_base.specs.Forms.{option, seq};
 ghost use Rattle.kmip_ttlv_reader.specs.Outcomes.{outcome, field_outcome, seq_outcome};
-ghost use Rattle.kmip_ttlv_reader.specs.Spots.{IsWithin, IsReadTo, at, structure_form, structure_value, optional_value, optional_values, values_by};
+ghost use Rattle.kmip_ttlv_reader.specs.Spots.{IsWithin, IsReadTo, at, optional_value, optional_values, values_by};
 
 use crate::cursor::{Cursor, field_there, is_tag, is_there};
 use crate::element::{Element, LeafElement, StructureElement};
@@ -210,9 +210,9 @@ impl<T: ReadNested<A>, A: Allocator + Copy> Field<A> for Several<T> {
 
     ghost name = { tag_text T.TAG };
 
-    ghost form = { seq (structure_form T.TAG T.fields T.denies_unknown) };
+    ghost form = { seq T.form };
 
-    ghost stands_for = { λ xs. seq_value (values_by (structure_value T.TAG T.values) xs.items) };
+    ghost stands_for = { λ xs. seq_value (values_by T.value xs.items) };
 
     fn has_tag(tag: TtlvTag) -> bool {
         is_tag(T::TAG, tag)
@@ -235,9 +235,9 @@ impl<T: ReadNested<A>, A: Allocator + Copy> Field<A> for OptionalSeveral<T> {
 
     ghost name = { tag_text T.TAG };
 
-    ghost form = { option (seq (structure_form T.TAG T.fields T.denies_unknown)) };
+    ghost form = { option (seq T.form) };
 
-    ghost stands_for = { λ xs. optional_values (structure_value T.TAG T.values) xs.items };
+    ghost stands_for = { λ xs. optional_values T.value xs.items };
 
     fn has_tag(tag: TtlvTag) -> bool {
         is_tag(T::TAG, tag)

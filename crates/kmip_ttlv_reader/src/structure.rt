@@ -1,10 +1,10 @@
 //! Types that stand for a structure and read themselves: a type reads its fields, and the calls here the header, what
 //! follows the fields, and the end.
 
-ghost use Rattle.std.specs.Prelude.{◌≡◌, ℕ, suc, ◌+◌, ◌<◌, ◌≤◌, ◌^◌, true, length, [], IfOk, IfErr};
+ghost use Rattle.std.specs.Prelude.{◌≡◌, ℕ, suc, ◌+◌, ◌<◌, ◌≤◌, ◌^◌, true, false, length, [], IfOk, IfErr};
 ghost use Rattle.kmip_ttlv_types.specs.Digits.{tag_text};
 ghost use Rattle.kmip_ttlv_base.specs.Values.{Value};
-ghost use Rattle.kmip_ttlv_reader.specs.Reads.{has_fields, names_tag, Begins};
+ghost use Rattle.kmip_ttlv_reader.specs.Reads.{has_fields, names_tag, is_struct, is_option, Begins};
 ghost use Rattle.kmip_ttlv_reader.specs.Outcomes.{outcome, field_outcome, opened, ignored, rest_outcome, all_outcome, struct_outcome, fields_outcome, first_outcome, root_outcome};
 ghost use Rattle.kmip_ttlv_reader.specs.Results.{IsStep};
 ghost use Rattle.kmip_ttlv_reader.specs.ReadResults.{IsReadAs, ErrorStands, early_end, sort_of};
@@ -23,19 +23,23 @@ use kmip_ttlv_base::types::{TtlvTag, TtlvType};
 use std::alloc::Allocator;
 use std::marker::PhantomData;
 
-/// A type that stands for a structure and reads itself from the bytes.
+/// A type that stands for a structure: it says which fields it has and how it is made of them, and the calls here read it.
 pub trait ReadStructure<A: Allocator + Copy>: Sized + Drop {
     ghost use Rattle.std.specs.Prelude.{ℕ, Bool};
-    ghost use Rattle.kmip_ttlv_base.specs.Values.{Values};
+    ghost use Rattle.kmip_ttlv_base.specs.Values.{Value};
+    ghost use Rattle.kmip_ttlv_base.specs.Forms.{Form};
+
+    // Its form, in a name of its own.
+    ghost form: { Form };
+
+    // The value that it stands for.
+    ghost value: { Self → Value };
 
     // The structure's tag.
     ghost TAG: { ℕ };
 
     // Whether items that no field names are refused.
     ghost DENIES_UNKNOWN: { Bool };
-
-    // The values of the fields.
-    ghost values: { Self → Values };
 
     /// The fields, in their order.
     type Fields: FieldList<A>;
@@ -48,38 +52,41 @@ pub trait ReadStructure<A: Allocator + Copy>: Sized + Drop {
 
     /// The value of these fields.
     fn from_fields(fields: <Self::Fields as FieldList<A>>::Read) -> Self
-        ensures { values result ≡ Self.Fields.values fields };
+        ensures { value result ≡ structure_value TAG Self.Fields.values fields };
+
+    /// Does nothing: its contract says that the form is that of a structure of this tag and these fields. The body is `{}`.
+    fn has_form()
+        ensures { form ≡ structure_form TAG Self.Fields.fields DENIES_UNKNOWN };
 }
 
-/// A type that stands for a structure, as a part of another: what its `ReadStructure` says, in names of its own. So what
-/// contains it is proved without a look at its fields.
+/// A type that stands for a structure, as a part of another. What contains it is proved by what this says, without a look at
+/// its fields.
 pub trait ReadNested<A: Allocator + Copy>: Sized + Drop {
-    ghost use Rattle.std.specs.Prelude.{ℕ, Bool};
-    ghost use Rattle.kmip_ttlv_base.specs.Values.{Values};
-    ghost use Rattle.kmip_ttlv_base.specs.Forms.{Fields};
+    ghost use Rattle.std.specs.Prelude.{ℕ};
+    ghost use Rattle.kmip_ttlv_base.specs.Values.{Value};
+    ghost use Rattle.kmip_ttlv_base.specs.Forms.{Form};
+
+    // Its form.
+    ghost form: { Form };
+
+    // The value that it stands for.
+    ghost value: { Self → Value };
 
     // The structure's tag.
     ghost TAG: { ℕ };
 
-    // The names and forms of the fields.
-    ghost fields: { Fields };
-
-    // Whether items that no field names are refused.
-    ghost denies_unknown: { Bool };
-
-    // The values of the fields.
-    ghost values: { Self → Values };
-
     /// The structure's tag.
     const TAG: u32;
 
-    /// The structure, header and all, from the cursor on: by `read_form`.
+    /// The structure, header and all, from the cursor on: by `read_structure`.
     fn read_nested<'b>(scope: &Scope<'b, A>, cursor: &mut Cursor<'b, A>) -> Step<Self, A>
         requires within { IsWithin scope.now cursor.old }
-        ensures read { IsReadTo (structure_value TAG values) cursor.new
-            (at (outcome (structure_form TAG fields denies_unknown)) scope.now cursor.old) result }
+        ensures read { IsReadTo value cursor.new (at (outcome form) scope.now cursor.old) result }
         ensures within { IfOk result (λ _. IsWithin scope.now cursor.new) }
         ensures further { IfOk result (λ _. cursor.old.pos + 8 ≤ cursor.new.pos) };
+
+    // It goes by its own name, and may not be absent.
+    ghost structured: { (is_struct form ≡ true) × (is_option form ≡ false) };
 }
 
 // Where the content of a structure of this tag ends.
@@ -149,26 +156,27 @@ fn read_rest<'b, T: ReadStructure<A>, A: Allocator + Copy>(
 fn read_content<'b, T: ReadStructure<A>, A: Allocator + Copy>(
     scope: &Scope<'b, A>,
     cursor: &mut Cursor<'b, A>,
-) -> Step<T, A>
+) -> Step<<T::Fields as FieldList<A>>::Read, A>
     requires within { IsWithin scope.now cursor.old }
-    ensures read { IsReadTo T.values cursor.new
+    ensures read { IsReadTo T.Fields.values cursor.new
         (at (all_outcome T.Fields.fields T.DENIES_UNKNOWN (fields_outcome T.Fields.fields)) scope.now cursor.old) result }
     ensures whole { IfOk result (λ _. (cursor.new.pos ≡ scope.now.end) × (scope.now.end ≤ length scope.now.bytes.now)) }
 {
     let fields = T::Fields::read(scope, cursor)?;
     let next = read_rest::<T, A>(scope, cursor.pos())?;
     cursor.go_to(next);
-    Ok(T::from_fields(fields))
+    Ok(fields)
 }
 
-/// A structure within another, header and all.
+// The fields of a structure within another, header and all.
 #[tactic(auto, unfolding(crate::specs::Outcomes::struct_outcome), using(crate::proofs::Steps::failure_then))]
-pub fn read_structure<'b, T: ReadStructure<A>, A: Allocator + Copy>(
+#[inline(always)]
+fn read_whole<'b, T: ReadStructure<A>, A: Allocator + Copy>(
     scope: &Scope<'b, A>,
     cursor: &mut Cursor<'b, A>,
-) -> Step<T, A>
+) -> Step<<T::Fields as FieldList<A>>::Read, A>
     requires within { IsWithin scope.now cursor.old }
-    ensures read { IsReadTo T.values cursor.new
+    ensures read { IsReadTo T.Fields.values cursor.new
         (at (struct_outcome (tag_text T.TAG) T.Fields.fields T.DENIES_UNKNOWN (fields_outcome T.Fields.fields)) scope.now cursor.old) result }
     ensures within { IfOk result (λ _. IsWithin scope.now cursor.new) }
     ensures further { IfOk result (λ _. cursor.old.pos + 8 ≤ cursor.new.pos) }
@@ -183,8 +191,8 @@ pub fn read_structure<'b, T: ReadStructure<A>, A: Allocator + Copy>(
         end,
     };
     cursor.go_to(pos + 8);
-    match read_content(&content, cursor) {
-        Ok(value) => {
+    match read_content::<T, A>(&content, cursor) {
+        Ok(fields) => {
             inside(
                 scope.alloc,
                 scope.bytes,
@@ -193,16 +201,36 @@ pub fn read_structure<'b, T: ReadStructure<A>, A: Allocator + Copy>(
                 TtlvType::Structure,
                 end,
             )?;
-            Ok(value)
+            Ok(fields)
         }
         Err(failure) => Err(within(owner, failure)),
     }
 }
 
-// The structure that a message is.
+/// A structure within another, header and all.
+pub fn read_structure<'b, T: ReadStructure<A>, A: Allocator + Copy>(
+    scope: &Scope<'b, A>,
+    cursor: &mut Cursor<'b, A>,
+) -> Step<T, A>
+    requires within { IsWithin scope.now cursor.old }
+    ensures read { IsReadTo T.value cursor.new (at (outcome T.form) scope.now cursor.old) result }
+    ensures within { IfOk result (λ _. IsWithin scope.now cursor.new) }
+    ensures further { IfOk result (λ _. cursor.old.pos + 8 ≤ cursor.new.pos) }
+{
+    T::has_form();
+    match read_whole::<T, A>(scope, cursor) {
+        Ok(fields) => Ok(T::from_fields(fields)),
+        Err(failure) => Err(failure),
+    }
+}
+
+// The fields of the structure that a message is.
 #[tactic(auto, unfolding(crate::specs::Outcomes::first_outcome), using(crate::proofs::Steps::failure_then))]
-fn read_first<T: ReadStructure<A>, A: Allocator + Copy>(alloc: A, bytes: &[u8]) -> Step<T, A>
-    ensures step { IsStep T.values (first_outcome (tag_text T.TAG) T.Fields.fields T.DENIES_UNKNOWN
+fn read_first<T: ReadStructure<A>, A: Allocator + Copy>(
+    alloc: A,
+    bytes: &[u8],
+) -> Step<<T::Fields as FieldList<A>>::Read, A>
+    ensures step { IsStep T.Fields.values (first_outcome (tag_text T.TAG) T.Fields.fields T.DENIES_UNKNOWN
         (fields_outcome T.Fields.fields) bytes.now) result }
 {
     let end = opened(alloc, T::TAG, bytes, 0)?;
@@ -214,19 +242,19 @@ fn read_first<T: ReadStructure<A>, A: Allocator + Copy>(alloc: A, bytes: &[u8]) 
         end,
     };
     let mut cursor = Cursor::new(alloc, 8);
-    match read_content(&content, &mut cursor) {
-        Ok(value) => Ok(value),
+    match read_content::<T, A>(&content, &mut cursor) {
+        Ok(fields) => Ok(fields),
         Err(failure) => Err(within(owner, failure)),
     }
 }
 
 // What a message is read as.
 fn read_root<T: ReadStructure<A>, A: Allocator + Copy>(alloc: A, bytes: &[u8]) -> Result<T, A>
-    ensures equals { IsReadAs (λ v x. v ≡ structure_value T.TAG T.values x)
-        (root_outcome (structure_form T.TAG T.Fields.fields T.DENIES_UNKNOWN) bytes.now) result }
+    ensures equals { IsReadAs (λ v x. v ≡ T.value x) (root_outcome T.form bytes.now) result }
 {
-    match read_first(alloc, bytes) {
-        Ok(value) => Ok(value),
+    T::has_form();
+    match read_first::<T, A>(alloc, bytes) {
+        Ok(fields) => Ok(T::from_fields(fields)),
         Err(failure) => Err(error(failure)),
     }
 }
@@ -243,32 +271,15 @@ pub fn read_message<T: ReadStructure<A>, A: Allocator + Copy>(
     bytes: &[u8],
 ) -> Result<T, A>
     // Which value comes, or which error and where: unless memory runs out, what the form reads the bytes as.
-    ensures equals { IsReadAs (λ v x. v ≡ structure_value T.TAG T.values x)
-        (root_outcome (structure_form T.TAG T.Fields.fields T.DENIES_UNKNOWN) bytes.now) result }
+    ensures equals { IsReadAs (λ v x. v ≡ T.value x) (root_outcome T.form bytes.now) result }
     // What is returned is the value of data with which the bytes begin.
-    ensures found { IfOk result (λ x. (v : Value)
-        × Begins (structure_form T.TAG T.Fields.fields T.DENIES_UNKNOWN) bytes.now v × (v ≡ structure_value T.TAG T.values x)) }
+    ensures found { IfOk result (λ x. (v : Value) × Begins T.form bytes.now v × (v ≡ T.value x)) }
     // Bytes with an error begin with no data; but for an early end, whatever bytes follow.
-    ensures refused { IfErr result (λ e. ErrorStands (structure_form T.TAG T.Fields.fields T.DENIES_UNKNOWN) bytes.now e) }
+    ensures refused { IfErr result (λ e. ErrorStands T.form bytes.now e) }
     // A Structure that is split into items at every depth never ends too early.
     ensures whole { IfErr result (λ e. BeginsWhole bytes.now → sort_of e ≡ early_end → ⊥) }
 {
     read_root(alloc, bytes)
-}
-
-/// A structure within another, as its form has it.
-#[inline(always)]
-pub fn read_form<'b, T: ReadStructure<A>, A: Allocator + Copy>(
-    scope: &Scope<'b, A>,
-    cursor: &mut Cursor<'b, A>,
-) -> Step<T, A>
-    requires within { IsWithin scope.now cursor.old }
-    ensures read { IsReadTo (structure_value T.TAG T.values) cursor.new
-        (at (outcome (structure_form T.TAG T.Fields.fields T.DENIES_UNKNOWN)) scope.now cursor.old) result }
-    ensures within { IfOk result (λ _. IsWithin scope.now cursor.new) }
-    ensures further { IfOk result (λ _. cursor.old.pos + 8 ≤ cursor.new.pos) }
-{
-    read_structure(scope, cursor)
 }
 
 /// A field that is a structure, of the tag that its type says.
@@ -282,9 +293,9 @@ impl<T: ReadNested<A>, A: Allocator + Copy> Field<A> for Nested<T> {
 
     ghost name = { tag_text T.TAG };
 
-    ghost form = { structure_form T.TAG T.fields T.denies_unknown };
+    ghost form = { T.form };
 
-    ghost stands_for = { structure_value T.TAG T.values };
+    ghost stands_for = { T.value };
 
     fn has_tag(tag: TtlvTag) -> bool {
         is_tag(T::TAG, tag)
@@ -311,9 +322,9 @@ impl<T: ReadNested<A>, A: Allocator + Copy> Field<A> for OptionalNested<T> {
 
     ghost name = { tag_text T.TAG };
 
-    ghost form = { option (structure_form T.TAG T.fields T.denies_unknown) };
+    ghost form = { option T.form };
 
-    ghost stands_for = { optional_value (structure_value T.TAG T.values) };
+    ghost stands_for = { optional_value T.value };
 
     fn has_tag(tag: TtlvTag) -> bool {
         is_tag(T::TAG, tag)

@@ -1,29 +1,18 @@
-use Rattle.std.proofs.Common.{ap, ◌∙◌}
-use Rattle.kmip_ttlv_reader.specs.Rules.{past}
+use Rattle.std.proofs.Common.{codes, ◌++◌}
+use Rattle.kmip_ttlv_base.specs.Forms.{wrapped}
+use Rattle.kmip_ttlv_reader.proofs.ChosenLemmas.{passed}
 use Rattle.kmip_ttlv_reader.proofs.choice.read_either.Goals as goal
 
 pub returns-in-Ok-Some-clause-read : goal.returns-in-Ok-Some-clause-read
 returns-in-Ok-Some-clause-read g c =
     let tried = rw c.in-Ok-Some.field-0-is at c.in-Ok-Some.ensures.read in
-    λ own number. tried own g.O.VariantList.variants number
+    λ number. rw c.from_content.ensures (tried g.T.ChoiceValue.own g.O.VariantList.variants number)
 
 pub returns-in-Err-clause-read : goal.returns-in-Err-clause-read
-returns-in-Err-clause-read g c = λ own number. c.in-Err.ensures.read own g.O.VariantList.variants number
+returns-in-Err-clause-read g c = λ number. c.in-Err.ensures.read g.T.ChoiceValue.own g.O.VariantList.variants number
 
-pub returns-in-Ok-Some-read_chosen-clause-read : goal.returns-in-Ok-Some-read_chosen-clause-read
-returns-in-Ok-Some-read_chosen-clause-read g c =
+pub returns-in-Ok-None-clause-read : goal.returns-in-Ok-None-clause-read
+returns-in-Ok-None-clause-read g c =
     let tried = rw c.in-Ok-None.field-0-is at c.in-Ok-None.ensures.read in
-    let chosen = rw (c.in-Ok-Some-read_chosen.field-0-is, tried.2) at c.in-Ok-Some-read_chosen.ensures.read in
-    λ own number. rw (tried.0 own g.O.VariantList.variants number) (chosen own number)
-
-pub returns-in-Ok-None-read_chosen-clause-read : goal.returns-in-Ok-None-read_chosen-clause-read
-returns-in-Ok-None-read_chosen-clause-read g c =
-    let tried = rw c.in-Ok-None.field-0-is at c.in-Ok-None.ensures.read in
-    let chosen = rw (c.in-Ok-None-read_chosen.field-0-is, tried.2) at c.in-Ok-None-read_chosen.ensures.read in
-    λ own. (tried.1 g.O.VariantList.variants ∙ ap (past 1) (chosen own).0, (chosen own).1)
-
-pub returns-in-Err-read_chosen-clause-read : goal.returns-in-Err-read_chosen-clause-read
-returns-in-Err-read_chosen-clause-read g c =
-    let tried = rw c.in-Ok-None.field-0-is at c.in-Ok-None.ensures.read in
-    let chosen = rw tried.2 at c.in-Err-read_chosen.ensures.read in
-    λ own number. rw (tried.0 own g.O.VariantList.variants number) (chosen own number)
+    let chosen = rw tried.2 at c.read_chosen.ensures.read in
+    passed g.T.ChoiceValue.own (codes "if " ++ g.R.Rule.condition) (wrapped g.E.Element.form) g.O.VariantList.variants g.T.ChoiceValue.value c.args.typ c.args.scope.now c.args.cursor.now c.read_chosen.new.cursor c.read_chosen.result tried.0 tried.1 chosen

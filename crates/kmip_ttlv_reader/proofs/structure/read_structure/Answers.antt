@@ -1,17 +1,25 @@
-use Rattle.std.proofs.Common.{◌+◌}
-use Rattle.kmip_ttlv_types.specs.Places.{tag_at}
-use Rattle.kmip_ttlv_reader.specs.Steps.{within}
-use Rattle.kmip_ttlv_reader.specs.Outcomes.{all_outcome, fields_outcome, struct_outcome}
+use Rattle.std.proofs.Common.{ap, ◌∙◌, sym}
+use Rattle.kmip_ttlv_types.specs.Digits.{tag_text}
+use Rattle.kmip_ttlv_base.specs.Values.{struct_value}
+use Rattle.kmip_ttlv_reader.specs.Steps.{mapped, reads}
+use Rattle.kmip_ttlv_reader.specs.Outcomes.{struct_outcome, fields_outcome}
+use Rattle.kmip_ttlv_reader.specs.Spots.{at}
+use Rattle.kmip_ttlv_reader.proofs.Loops.{struct_is}
 use Rattle.kmip_ttlv_reader.proofs.Steps.{failure_then}
 use Rattle.kmip_ttlv_reader.proofs.structure.read_structure.Goals as goal
 
+pub returns-in-Ok-clause-read : goal.returns-in-Ok-clause-read
+returns-in-Ok-clause-read g c =
+    let t = g.T.ReadStructure in
+    let spot = c.args.cursor.now in
+    let new = c.read_whole.new.cursor in
+    rw (c.has_form.ensures, struct_is (tag_text t.TAG) g.T.Fields.FieldList.fields t.DENIES_UNKNOWN c.args.scope.now.bytes.now c.args.scope.now.owner spot.kept spot.pos c.args.scope.now.end)
+    (ap (mapped (struct_value (tag_text t.TAG))) c.in-Ok.ensures.read ∙ ap (λ v. reads v new.kept new.pos) (sym c.from_fields.ensures))
+
 pub returns-in-Err-clause-read : goal.returns-in-Err-clause-read
-unfolding struct_outcome
 returns-in-Err-clause-read g c =
     let t = g.T.ReadStructure in
-    let b = c.args.scope.now.bytes.now in
-    let pos = c.args.cursor.now.pos in
-    let opens = rw (c.TAG.ensures, c.pos-pos.ensures) at c.in_ok-end.ensures.step in
-    let all = all_outcome g.T.Fields.FieldList.fields t.DENIES_UNKNOWN (fields_outcome g.T.Fields.FieldList.fields) b (tag_at b pos) c.args.cursor.now.kept (pos + 8) c.in_ok-end.end in
-    let read = rw (c.tag_at-owner.ensures, c.go_to.ensures, c.pos-pos.ensures) at c.in-Err.ensures.read in
-    rw opens (failure_then (within (tag_at b pos) all) _ c.within.result (rw (c.tag_at-owner.ensures, c.pos-pos.ensures) at (c.within.ensures all read)))
+    let spot = c.args.cursor.now in
+    let whole = at (struct_outcome (tag_text t.TAG) g.T.Fields.FieldList.fields t.DENIES_UNKNOWN (fields_outcome g.T.Fields.FieldList.fields)) c.args.scope.now spot in
+    rw (c.has_form.ensures, struct_is (tag_text t.TAG) g.T.Fields.FieldList.fields t.DENIES_UNKNOWN c.args.scope.now.bytes.now c.args.scope.now.owner spot.kept spot.pos c.args.scope.now.end)
+    (failure_then whole _ _ c.in-Err.ensures.read)

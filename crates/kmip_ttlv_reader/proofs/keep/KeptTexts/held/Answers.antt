@@ -1,7 +1,6 @@
-use Rattle.std.proofs.Common.{◌≡◌, ap, sym, ◌∙◌, option_map, Option, Some, None, nat_cmp}
+use Rattle.std.proofs.Common.{◌≡◌, ap, sym, ◌∙◌, option_map, Some, None, nat_cmp}
 use Rattle.std.specs.BTreeMap.{get}
 use Rattle.std.specs.Option.{option_copied}
-use Rattle.kmip_ttlv_reader.specs.declared.keep.HeldText.{HeldText}
 use Rattle.kmip_ttlv_reader.specs.HeldTexts.{held_of, in_rows}
 use Rattle.kmip_ttlv_reader.specs.Keeps.{last, with_number}
 use Rattle.kmip_ttlv_reader.proofs.HeldRows.{found_in, beside, alike}

@@ -1,5 +1,4 @@
-use Rattle.std.proofs.Common.{◌≡◌, drop, sym, ap, ◌∙◌, None}
-use Rattle.kmip_ttlv_reader.specs.HeldTexts.{in_rows}
+use Rattle.std.proofs.Common.{sym, ◌∙◌}
 use Rattle.kmip_ttlv_reader.proofs.HeldRows.{nothing_left}
 use Rattle.kmip_ttlv_reader.proofs.keep.Rows.held.Goals as goal
 

@@ -8,7 +8,7 @@ use Rattle.kmip_ttlv_reader.specs.Steps.{mapped}
 use Rattle.kmip_ttlv_reader.specs.Outcomes.{outcome}
 use Rattle.kmip_ttlv_reader.proofs.Steps.{failure_then}
 use Rattle.kmip_ttlv_reader.proofs.ChosenLemmas.{chosen_here, chosen_later, choice_fails}
-use Rattle.kmip_ttlv_reader.proofs.choice.read_variant.Goals as goal
+use Rattle.kmip_ttlv_reader.proofs.choice.read_content.Goals as goal
 
 pub returns-in_err-holds-clause-read : goal.returns-in_err-holds-clause-read
 returns-in_err-holds-clause-read g c =
