@@ -6,6 +6,7 @@ ghost use Rattle.std.specs.Int.{w32, w64};
 ghost use Rattle.std.specs.List.{list_any};
 ghost use Rattle.std.specs.Str.{bytes_eq};
 
+use kmip_ttlv_reader::rules::is_among;
 use std::alloc::Allocator;
 
 /// A type that says which of its values are sound. Every number that a program holds is, so of numbers it only proves their
@@ -82,21 +83,9 @@ pub fn is_absent_or_whole<A: Allocator>(bytes: &Option<Vec<u8, A>>) -> bool
     }
 }
 
-// Whether a text is one of these.
-fn is_one_of(text: &str, others: &[&str]) -> bool
-    ensures { result ≡ list_any (λ other. bytes_eq text.now other.now) others.now }
-{
-    for other in others {
-        if text == *other {
-            return true;
-        }
-    }
-    false
-}
-
 /// Whether a text is none of these. A choice goes by the text, or by the type of the item if the text names no variant.
 pub fn is_none_of(text: &str, others: &[&str]) -> bool
     ensures { IsTrue result ↔ (list_any (λ other. bytes_eq text.now other.now) others.now ≡ false) }
 {
-    !is_one_of(text, others)
+    !is_among(text, others)
 }
