@@ -3,7 +3,6 @@
 
 ghost use Rattle.std.specs.Prelude.{◌≡◌, ◌↔◌, refl, IsTrue, OnErr, OnOk, codes, false};
 ghost use Rattle.kmip_ttlv.specs.Forms.{enum, no_variants, unit, variant};
-ghost use Rattle.kmip_ttlv.specs.Spots.{fields_in, struct_fields};
 ghost use Rattle.kmip_ttlv.specs.Values.{unit_variant_value};
 ghost use Rattle.kmip_ttlv.specs.Visits.{Tells, leaf_value};
 ghost use Rattle.create_destroy.specs.Attributes.{attribute_value_form, written_attribute_value, read_attribute_value, attribute_value_content, ChoosesAttributeValue, attribute_form, written_attribute, read_attribute, template_form, written_template, read_template};
@@ -83,10 +82,21 @@ impl reader::Rule for AttributeValueAesRule {
 
     #[tactic(auto, unfolding(kmip_ttlv_reader::specs::RuleParts::parts_of))]
     fn parts() -> Option<reader::RuleParts> {
-        Some(reader::RuleParts {
+        Some(reader::RuleParts::Texts {
             tag: 0x42000A,
             texts: &["Cryptographic Algorithm"],
         })
+    }
+}
+
+impl<A: Allocator + Copy> reader::VariantOf<
+    reader::ItemElement<AttributeValueAes>,
+    AttributeValue,
+    A,
+> for AttributeValueAesRule {
+    #[tactic(auto, unfolding(kmip_ttlv_types::specs::Digits::six_digits, crate::specs::Attributes::read_attribute_value))]
+    fn from_content(_held: AttributeValueAes) -> AttributeValue {
+        AttributeValue::Aes
     }
 }
 
@@ -129,51 +139,40 @@ impl reader::Rule for AttributeValueIntegerRule {
 
     #[tactic(auto, unfolding(kmip_ttlv_reader::specs::RuleParts::parts_of))]
     fn parts() -> Option<reader::RuleParts> {
-        Some(reader::RuleParts {
+        Some(reader::RuleParts::Texts {
             tag: 0x42000A,
             texts: &["Cryptographic Length", "Cryptographic Usage Mask"],
         })
     }
 }
 
-// The variants from `Integer` on.
-type AttributeValueFromInteger = reader::Variant<AttributeValueIntegerRule, reader::BareLeaf<i32>>;
-
-// The one that was read as one of these.
-#[tactic(auto, unfolding(kmip_ttlv_types::specs::Digits::six_digits, crate::specs::Attributes::read_attribute_value))]
-#[inline(always)]
-fn attribute_value_from_integer<A: Allocator + Copy>(
-    read: <AttributeValueFromInteger as reader::VariantList<A>>::Read,
-) -> AttributeValue
-    ensures { read_attribute_value result ≡ ⟦<AttributeValueFromInteger as reader::VariantList<A>>⟧.value (codes "value") read }
-{
-    AttributeValue::Integer(read)
-}
-
-// The variants from `Aes` on.
-type AttributeValueFromAes = (
-    reader::Variant<AttributeValueAesRule, reader::ItemElement<AttributeValueAes>>,
-    AttributeValueFromInteger,
-);
-
-// The one that was read as one of these.
-#[tactic(auto, unfolding(kmip_ttlv_types::specs::Digits::six_digits, crate::specs::Attributes::read_attribute_value))]
-#[inline(always)]
-fn attribute_value_from_aes<A: Allocator + Copy>(
-    read: <AttributeValueFromAes as reader::VariantList<A>>::Read,
-) -> AttributeValue
-    ensures { read_attribute_value result ≡ ⟦<AttributeValueFromAes as reader::VariantList<A>>⟧.value (codes "value") read }
-{
-    match read {
-        reader::OneOf::First(_) => AttributeValue::Aes,
-        reader::OneOf::Other(other) => attribute_value_from_integer::<A>(other),
+impl<A: Allocator + Copy> reader::VariantOf<reader::BareLeaf<i32>, AttributeValue, A>
+    for AttributeValueIntegerRule {
+    #[tactic(auto, unfolding(kmip_ttlv_types::specs::Digits::six_digits, crate::specs::Attributes::read_attribute_value))]
+    fn from_content(held: i32) -> AttributeValue {
+        AttributeValue::Integer(held)
     }
 }
 
-impl<A: Allocator + Copy> reader::Choice<A> for AttributeValue {
+impl reader::ChoiceValue for AttributeValue {
     ghost own = { codes "value" };
 
-    type Variants = AttributeValueFromAes;
+    ghost value = { read_attribute_value };
+}
+
+impl<A: Allocator + Copy> reader::Choice<A> for AttributeValue {
+    ghost form = { attribute_value_form };
+
+    type Variants = (
+        reader::Variant<AttributeValueAesRule, reader::ItemElement<AttributeValueAes>>,
+        (
+            reader::Variant<AttributeValueIntegerRule, reader::BareLeaf<i32>>,
+            (),
+        ),
+    );
+
+    #[tactic(auto, unfolding(kmip_ttlv_types::specs::Digits::six_digits))]
+    fn has_form() {}
 }
 
 impl<A: Allocator + Copy> reader::ReadItem<A> for AttributeValue {
@@ -183,13 +182,11 @@ impl<A: Allocator + Copy> reader::ReadItem<A> for AttributeValue {
 
     ghost plain = { (refl, refl) };
 
-    #[tactic(auto, unfolding(kmip_ttlv_types::specs::Digits::six_digits, crate::specs::Attributes::read_attribute_value))]
     fn read_item<'b>(
         scope: &reader::Scope<'b, A>,
         cursor: &mut reader::Cursor<'b, A>,
     ) -> reader::Step<Self, A> {
-        let read = reader::read_choice::<Self, A>(scope, cursor)?;
-        Ok(attribute_value_from_aes::<A>(read))
+        reader::read_choice(scope, cursor)
     }
 }
 
@@ -217,45 +214,49 @@ impl<B: Allocator> Serialize for Attribute<B> {
 }
 
 impl<A: Allocator + Copy> reader::ReadStructure<A> for Attribute<A> {
+    ghost form = { attribute_form };
+
+    ghost value = { read_attribute };
+
     ghost TAG = { 0x420008 };
 
     ghost DENIES_UNKNOWN = { false };
 
-    ghost values = { λ x. fields_in (read_attribute x) };
-
     type Fields = (
         reader::Leaf<String<A>, 0x42000A>,
-        (reader::Item<AttributeValue, 0x42000B>, ()),
+        reader::Item<AttributeValue, 0x42000B>,
     );
 
     const TAG: u32 = 0x420008;
 
     const DENIES_UNKNOWN: bool = false;
 
+    #[tactic(auto, unfolding(kmip_ttlv_types::specs::Digits::six_digits))]
+    fn has_form() {}
+
     #[tactic(auto, unfolding(kmip_ttlv_types::specs::Digits::six_digits, crate::specs::Attributes::read_attribute))]
-    fn from_fields(fields: (String<A>, (AttributeValue, ()))) -> Self {
-        let (name, (value, ())) = fields;
+    fn from_fields(fields: (String<A>, AttributeValue)) -> Self {
+        let (name, value) = fields;
         Attribute { name, value }
     }
 }
 
 impl<A: Allocator + Copy> reader::ReadNested<A> for Attribute<A> {
+    ghost form = { attribute_form };
+
+    ghost value = { read_attribute };
+
     ghost TAG = { 0x420008 };
 
-    ghost fields = { struct_fields attribute_form };
-
-    ghost denies_unknown = { false };
-
-    ghost values = { λ x. fields_in (read_attribute x) };
+    ghost structured = { (refl, refl) };
 
     const TAG: u32 = 0x420008;
 
-    #[tactic(auto, unfolding(kmip_ttlv_types::specs::Digits::six_digits, crate::specs::Attributes::read_attribute))]
     fn read_nested<'b>(
         scope: &reader::Scope<'b, A>,
         cursor: &mut reader::Cursor<'b, A>,
     ) -> reader::Step<Self, A> {
-        reader::read_form(scope, cursor)
+        reader::read_structure(scope, cursor)
     }
 }
 
@@ -285,41 +286,45 @@ impl<A: Allocator> Template<A> {
 }
 
 impl<A: Allocator + Copy> reader::ReadStructure<A> for Template<A> {
+    ghost form = { template_form };
+
+    ghost value = { read_template };
+
     ghost TAG = { 0x420091 };
 
     ghost DENIES_UNKNOWN = { false };
 
-    ghost values = { λ x. fields_in (read_template x) };
-
-    type Fields = (reader::Several<Attribute<A>>, ());
+    type Fields = (reader::Several<Attribute<A>>,);
 
     const TAG: u32 = 0x420091;
 
     const DENIES_UNKNOWN: bool = false;
 
-    #[tactic(auto, unfolding(kmip_ttlv_types::specs::Digits::six_digits, crate::specs::Attributes::read_template, crate::specs::Attributes::read_attribute))]
-    fn from_fields(fields: (Vec<Attribute<A>, A>, ())) -> Self {
-        let (attributes, ()) = fields;
+    #[tactic(auto, unfolding(kmip_ttlv_types::specs::Digits::six_digits))]
+    fn has_form() {}
+
+    #[tactic(auto, unfolding(kmip_ttlv_types::specs::Digits::six_digits, crate::specs::Attributes::read_template))]
+    fn from_fields(fields: (Vec<Attribute<A>, A>,)) -> Self {
+        let (attributes,) = fields;
         Template { attributes }
     }
 }
 
 impl<A: Allocator + Copy> reader::ReadNested<A> for Template<A> {
+    ghost form = { template_form };
+
+    ghost value = { read_template };
+
     ghost TAG = { 0x420091 };
 
-    ghost fields = { struct_fields template_form };
-
-    ghost denies_unknown = { false };
-
-    ghost values = { λ x. fields_in (read_template x) };
+    ghost structured = { (refl, refl) };
 
     const TAG: u32 = 0x420091;
 
-    #[tactic(auto, unfolding(kmip_ttlv_types::specs::Digits::six_digits, crate::specs::Attributes::read_template))]
     fn read_nested<'b>(
         scope: &reader::Scope<'b, A>,
         cursor: &mut reader::Cursor<'b, A>,
     ) -> reader::Step<Self, A> {
-        reader::read_form(scope, cursor)
+        reader::read_structure(scope, cursor)
     }
 }

@@ -3,7 +3,6 @@
 
 ghost use Rattle.std.specs.Prelude.{◌≡◌, ◌↔◌, refl, IsTrue, OnErr, OnOk, codes, false, string_bytes};
 ghost use Rattle.kmip_ttlv.specs.Forms.{enum, no_variants, unit, variant};
-ghost use Rattle.kmip_ttlv.specs.Spots.{fields_in, struct_fields};
 ghost use Rattle.kmip_ttlv.specs.Values.{newtype_value, text_value, unit_variant_value};
 ghost use Rattle.kmip_ttlv.specs.Visits.{Tells};
 ghost use Rattle.get_messages.specs.Headers.{request_header_value};
@@ -45,45 +44,49 @@ impl<A: Allocator> CreatePayload<A> {
 }
 
 impl<A: Allocator + Copy> reader::ReadStructure<A> for CreatePayload<A> {
+    ghost form = { create_payload_form };
+
+    ghost value = { read_create_payload };
+
     ghost TAG = { 0x420079 };
 
     ghost DENIES_UNKNOWN = { false };
 
-    ghost values = { λ x. fields_in (read_create_payload x) };
-
     type Fields = (
         reader::Item<CreatePayloadObjectType, 0x420057>,
-        (reader::Nested<Template<A>>, ()),
+        reader::Nested<Template<A>>,
     );
 
     const TAG: u32 = 0x420079;
 
     const DENIES_UNKNOWN: bool = false;
 
-    #[tactic(auto, unfolding(kmip_ttlv_types::specs::Digits::six_digits, crate::specs::Requests::read_create_payload, crate::specs::Attributes::read_template))]
-    fn from_fields(fields: (CreatePayloadObjectType, (Template<A>, ()))) -> Self {
-        let (_, (template, ())) = fields;
+    #[tactic(auto, unfolding(kmip_ttlv_types::specs::Digits::six_digits))]
+    fn has_form() {}
+
+    #[tactic(auto, unfolding(kmip_ttlv_types::specs::Digits::six_digits, crate::specs::Requests::read_create_payload))]
+    fn from_fields(fields: (CreatePayloadObjectType, Template<A>)) -> Self {
+        let (_, template) = fields;
         CreatePayload { template }
     }
 }
 
 impl<A: Allocator + Copy> reader::ReadNested<A> for CreatePayload<A> {
+    ghost form = { create_payload_form };
+
+    ghost value = { read_create_payload };
+
     ghost TAG = { 0x420079 };
 
-    ghost fields = { struct_fields create_payload_form };
-
-    ghost denies_unknown = { false };
-
-    ghost values = { λ x. fields_in (read_create_payload x) };
+    ghost structured = { (refl, refl) };
 
     const TAG: u32 = 0x420079;
 
-    #[tactic(auto, unfolding(kmip_ttlv_types::specs::Digits::six_digits, crate::specs::Requests::read_create_payload))]
     fn read_nested<'b>(
         scope: &reader::Scope<'b, A>,
         cursor: &mut reader::Cursor<'b, A>,
     ) -> reader::Step<Self, A> {
-        reader::read_form(scope, cursor)
+        reader::read_structure(scope, cursor)
     }
 }
 
@@ -152,42 +155,46 @@ impl<A: Allocator> DestroyPayload<A> {
 }
 
 impl<A: Allocator + Copy> reader::ReadStructure<A> for DestroyPayload<A> {
+    ghost form = { destroy_payload_form };
+
+    ghost value = { read_destroy_payload };
+
     ghost TAG = { 0x420079 };
 
     ghost DENIES_UNKNOWN = { false };
 
-    ghost values = { λ x. fields_in (read_destroy_payload x) };
-
-    type Fields = (reader::Leaf<String<A>, 0x420094>, ());
+    type Fields = (reader::Leaf<String<A>, 0x420094>,);
 
     const TAG: u32 = 0x420079;
 
     const DENIES_UNKNOWN: bool = false;
 
+    #[tactic(auto, unfolding(kmip_ttlv_types::specs::Digits::six_digits))]
+    fn has_form() {}
+
     #[tactic(auto, unfolding(kmip_ttlv_types::specs::Digits::six_digits, crate::specs::Requests::read_destroy_payload))]
-    fn from_fields(fields: (String<A>, ())) -> Self {
-        let (unique_identifier, ()) = fields;
+    fn from_fields(fields: (String<A>,)) -> Self {
+        let (unique_identifier,) = fields;
         DestroyPayload { unique_identifier }
     }
 }
 
 impl<A: Allocator + Copy> reader::ReadNested<A> for DestroyPayload<A> {
+    ghost form = { destroy_payload_form };
+
+    ghost value = { read_destroy_payload };
+
     ghost TAG = { 0x420079 };
 
-    ghost fields = { struct_fields destroy_payload_form };
-
-    ghost denies_unknown = { false };
-
-    ghost values = { λ x. fields_in (read_destroy_payload x) };
+    ghost structured = { (refl, refl) };
 
     const TAG: u32 = 0x420079;
 
-    #[tactic(auto, unfolding(kmip_ttlv_types::specs::Digits::six_digits, crate::specs::Requests::read_destroy_payload))]
     fn read_nested<'b>(
         scope: &reader::Scope<'b, A>,
         cursor: &mut reader::Cursor<'b, A>,
     ) -> reader::Step<Self, A> {
-        reader::read_form(scope, cursor)
+        reader::read_structure(scope, cursor)
     }
 }
 
@@ -240,10 +247,21 @@ impl reader::Rule for RequestPayloadCreateRule {
 
     #[tactic(auto, unfolding(kmip_ttlv_reader::specs::RuleParts::parts_of))]
     fn parts() -> Option<reader::RuleParts> {
-        Some(reader::RuleParts {
+        Some(reader::RuleParts::Texts {
             tag: 0x42005C,
             texts: &["0x00000001"],
         })
+    }
+}
+
+impl<A: Allocator + Copy> reader::VariantOf<
+    reader::StructureElement<CreatePayload<A>>,
+    RequestPayload<A>,
+    A,
+> for RequestPayloadCreateRule {
+    #[tactic(auto, unfolding(kmip_ttlv_types::specs::Digits::six_digits, crate::specs::Requests::read_request_payload, crate::specs::Requests::read_create_payload))]
+    fn from_content(held: CreatePayload<A>) -> RequestPayload<A> {
+        RequestPayload::Create(held.template.attributes)
     }
 }
 
@@ -259,54 +277,43 @@ impl reader::Rule for RequestPayloadDestroyRule {
 
     #[tactic(auto, unfolding(kmip_ttlv_reader::specs::RuleParts::parts_of))]
     fn parts() -> Option<reader::RuleParts> {
-        Some(reader::RuleParts {
+        Some(reader::RuleParts::Texts {
             tag: 0x42005C,
             texts: &["0x00000014"],
         })
     }
 }
 
-// The variants from `Destroy` on.
-type RequestPayloadFromDestroy<A> = reader::Variant<
-    RequestPayloadDestroyRule,
+impl<A: Allocator + Copy> reader::VariantOf<
     reader::StructureElement<DestroyPayload<A>>,
->;
-
-// The one that was read as one of these.
-#[tactic(auto, unfolding(kmip_ttlv_types::specs::Digits::six_digits, crate::specs::Requests::read_request_payload, crate::specs::Requests::read_create_payload, crate::specs::Requests::read_destroy_payload))]
-#[inline(always)]
-fn request_payload_from_destroy<A: Allocator + Copy>(
-    read: <RequestPayloadFromDestroy<A> as reader::VariantList<A>>::Read,
-) -> RequestPayload<A>
-    ensures { read_request_payload result ≡ ⟦<RequestPayloadFromDestroy<A> as reader::VariantList<A>>⟧.value (codes "payload") read }
-{
-    RequestPayload::Destroy(read.unique_identifier)
-}
-
-// The variants from `Create` on.
-type RequestPayloadFromCreate<A> = (
-    reader::Variant<RequestPayloadCreateRule, reader::StructureElement<CreatePayload<A>>>,
-    RequestPayloadFromDestroy<A>,
-);
-
-// The one that was read as one of these.
-#[tactic(auto, unfolding(kmip_ttlv_types::specs::Digits::six_digits, crate::specs::Requests::read_request_payload, crate::specs::Requests::read_create_payload, crate::specs::Requests::read_destroy_payload))]
-#[inline(always)]
-fn request_payload_from_create<A: Allocator + Copy>(
-    read: <RequestPayloadFromCreate<A> as reader::VariantList<A>>::Read,
-) -> RequestPayload<A>
-    ensures { read_request_payload result ≡ ⟦<RequestPayloadFromCreate<A> as reader::VariantList<A>>⟧.value (codes "payload") read }
-{
-    match read {
-        reader::OneOf::First(held) => RequestPayload::Create(held.template.attributes),
-        reader::OneOf::Other(other) => request_payload_from_destroy(other),
+    RequestPayload<A>,
+    A,
+> for RequestPayloadDestroyRule {
+    #[tactic(auto, unfolding(kmip_ttlv_types::specs::Digits::six_digits, crate::specs::Requests::read_request_payload, crate::specs::Requests::read_destroy_payload))]
+    fn from_content(held: DestroyPayload<A>) -> RequestPayload<A> {
+        RequestPayload::Destroy(held.unique_identifier)
     }
 }
 
-impl<A: Allocator + Copy> reader::Choice<A> for RequestPayload<A> {
+impl<A: Allocator> reader::ChoiceValue for RequestPayload<A> {
     ghost own = { codes "payload" };
 
-    type Variants = RequestPayloadFromCreate<A>;
+    ghost value = { read_request_payload };
+}
+
+impl<A: Allocator + Copy> reader::Choice<A> for RequestPayload<A> {
+    ghost form = { request_payload_form };
+
+    type Variants = (
+        reader::Variant<RequestPayloadCreateRule, reader::StructureElement<CreatePayload<A>>>,
+        (
+            reader::Variant<RequestPayloadDestroyRule, reader::StructureElement<DestroyPayload<A>>>,
+            (),
+        ),
+    );
+
+    #[tactic(auto, unfolding(kmip_ttlv_types::specs::Digits::six_digits))]
+    fn has_form() {}
 }
 
 impl<A: Allocator + Copy> reader::ReadItem<A> for RequestPayload<A> {
@@ -316,13 +323,11 @@ impl<A: Allocator + Copy> reader::ReadItem<A> for RequestPayload<A> {
 
     ghost plain = { (refl, refl) };
 
-    #[tactic(auto, unfolding(kmip_ttlv_types::specs::Digits::six_digits, crate::specs::Requests::read_request_payload, crate::specs::Requests::read_create_payload, crate::specs::Requests::read_destroy_payload))]
     fn read_item<'b>(
         scope: &reader::Scope<'b, A>,
         cursor: &mut reader::Cursor<'b, A>,
     ) -> reader::Step<Self, A> {
-        let read = reader::read_choice::<Self, A>(scope, cursor)?;
-        Ok(request_payload_from_create(read))
+        reader::read_choice(scope, cursor)
     }
 }
 
@@ -350,45 +355,49 @@ impl<B: Allocator> Serialize for RequestItem<B> {
 }
 
 impl<A: Allocator + Copy> reader::ReadStructure<A> for RequestItem<A> {
+    ghost form = { request_item_form };
+
+    ghost value = { read_request_item };
+
     ghost TAG = { 0x42000F };
 
     ghost DENIES_UNKNOWN = { false };
 
-    ghost values = { λ x. fields_in (read_request_item x) };
-
     type Fields = (
         reader::Item<Operation, 0x42005C>,
-        (reader::Item<RequestPayload<A>, 0x420079>, ()),
+        reader::Item<RequestPayload<A>, 0x420079>,
     );
 
     const TAG: u32 = 0x42000F;
 
     const DENIES_UNKNOWN: bool = false;
 
+    #[tactic(auto, unfolding(kmip_ttlv_types::specs::Digits::six_digits))]
+    fn has_form() {}
+
     #[tactic(auto, unfolding(kmip_ttlv_types::specs::Digits::six_digits, crate::specs::Requests::read_request_item))]
-    fn from_fields(fields: (Operation, (RequestPayload<A>, ()))) -> Self {
-        let (operation, (payload, ())) = fields;
+    fn from_fields(fields: (Operation, RequestPayload<A>)) -> Self {
+        let (operation, payload) = fields;
         RequestItem { operation, payload }
     }
 }
 
 impl<A: Allocator + Copy> reader::ReadNested<A> for RequestItem<A> {
+    ghost form = { request_item_form };
+
+    ghost value = { read_request_item };
+
     ghost TAG = { 0x42000F };
 
-    ghost fields = { struct_fields request_item_form };
-
-    ghost denies_unknown = { false };
-
-    ghost values = { λ x. fields_in (read_request_item x) };
+    ghost structured = { (refl, refl) };
 
     const TAG: u32 = 0x42000F;
 
-    #[tactic(auto, unfolding(kmip_ttlv_types::specs::Digits::six_digits, crate::specs::Requests::read_request_item))]
     fn read_nested<'b>(
         scope: &reader::Scope<'b, A>,
         cursor: &mut reader::Cursor<'b, A>,
     ) -> reader::Step<Self, A> {
-        reader::read_form(scope, cursor)
+        reader::read_structure(scope, cursor)
     }
 }
 
@@ -457,24 +466,29 @@ impl<B: Allocator> Serialize for Request<B> {
 }
 
 impl<A: Allocator + Copy> reader::ReadStructure<A> for Request<A> {
+    ghost form = { request_form };
+
+    ghost value = { read_request };
+
     ghost TAG = { 0x420078 };
 
     ghost DENIES_UNKNOWN = { false };
 
-    ghost values = { λ x. fields_in (read_request x) };
-
     type Fields = (
         reader::Nested<RequestHeader>,
-        (reader::Several<RequestItem<A>>, ()),
+        reader::Several<RequestItem<A>>,
     );
 
     const TAG: u32 = 0x420078;
 
     const DENIES_UNKNOWN: bool = false;
 
-    #[tactic(auto, unfolding(kmip_ttlv_types::specs::Digits::six_digits, crate::specs::Requests::read_request, get_messages::specs::Headers::request_header_value, crate::specs::Requests::read_request_item))]
-    fn from_fields(fields: (RequestHeader, (Vec<RequestItem<A>, A>, ()))) -> Self {
-        let (header, (items, ())) = fields;
+    #[tactic(auto, unfolding(kmip_ttlv_types::specs::Digits::six_digits))]
+    fn has_form() {}
+
+    #[tactic(auto, unfolding(kmip_ttlv_types::specs::Digits::six_digits, crate::specs::Requests::read_request))]
+    fn from_fields(fields: (RequestHeader, Vec<RequestItem<A>, A>)) -> Self {
+        let (header, items) = fields;
         Request::with_header(header, items)
     }
 }
@@ -484,7 +498,6 @@ impl<A: Allocator + Copy> Decode<A> for Request<A> {
 
     ghost is_value = { λ v x. v ≡ read_request x };
 
-    #[tactic(auto, unfolding(kmip_ttlv_types::specs::Digits::six_digits, crate::specs::Requests::read_request))]
     fn decode(alloc: A, bytes: &[u8]) -> Result<Self, error::Error<A>> {
         reader::read_message(alloc, bytes)
     }

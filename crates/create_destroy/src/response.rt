@@ -3,7 +3,6 @@
 
 ghost use Rattle.std.specs.Prelude.{◌≡◌, ◌↔◌, refl, IsTrue, OnErr, OnOk, codes, false, string_bytes};
 ghost use Rattle.kmip_ttlv.specs.Forms.{enum, no_variants, unit, variant};
-ghost use Rattle.kmip_ttlv.specs.Spots.{fields_in, struct_fields};
 ghost use Rattle.kmip_ttlv.specs.Values.{newtype_value, text_value, unit_variant_value};
 ghost use Rattle.kmip_ttlv.specs.Visits.{Tells};
 ghost use Rattle.get_messages.specs.Headers.{response_header_value};
@@ -56,45 +55,49 @@ impl<A: Allocator> Created<A> {
 }
 
 impl<A: Allocator + Copy> reader::ReadStructure<A> for Created<A> {
+    ghost form = { created_form };
+
+    ghost value = { created_value };
+
     ghost TAG = { 0x42007C };
 
     ghost DENIES_UNKNOWN = { false };
 
-    ghost values = { λ x. fields_in (created_value x) };
-
     type Fields = (
         reader::Item<CreatedObjectType, 0x420057>,
-        (reader::Leaf<String<A>, 0x420094>, ()),
+        reader::Leaf<String<A>, 0x420094>,
     );
 
     const TAG: u32 = 0x42007C;
 
     const DENIES_UNKNOWN: bool = false;
 
+    #[tactic(auto, unfolding(kmip_ttlv_types::specs::Digits::six_digits))]
+    fn has_form() {}
+
     #[tactic(auto, unfolding(kmip_ttlv_types::specs::Digits::six_digits, crate::specs::Responses::created_value))]
-    fn from_fields(fields: (CreatedObjectType, (String<A>, ()))) -> Self {
-        let (_, (unique_identifier, ())) = fields;
+    fn from_fields(fields: (CreatedObjectType, String<A>)) -> Self {
+        let (_, unique_identifier) = fields;
         Created { unique_identifier }
     }
 }
 
 impl<A: Allocator + Copy> reader::ReadNested<A> for Created<A> {
+    ghost form = { created_form };
+
+    ghost value = { created_value };
+
     ghost TAG = { 0x42007C };
 
-    ghost fields = { struct_fields created_form };
-
-    ghost denies_unknown = { false };
-
-    ghost values = { λ x. fields_in (created_value x) };
+    ghost structured = { (refl, refl) };
 
     const TAG: u32 = 0x42007C;
 
-    #[tactic(auto, unfolding(kmip_ttlv_types::specs::Digits::six_digits, crate::specs::Responses::created_value))]
     fn read_nested<'b>(
         scope: &reader::Scope<'b, A>,
         cursor: &mut reader::Cursor<'b, A>,
     ) -> reader::Step<Self, A> {
-        reader::read_form(scope, cursor)
+        reader::read_structure(scope, cursor)
     }
 }
 
@@ -163,42 +166,46 @@ impl<A: Allocator> Destroyed<A> {
 }
 
 impl<A: Allocator + Copy> reader::ReadStructure<A> for Destroyed<A> {
+    ghost form = { destroyed_form };
+
+    ghost value = { destroyed_value };
+
     ghost TAG = { 0x42007C };
 
     ghost DENIES_UNKNOWN = { false };
 
-    ghost values = { λ x. fields_in (destroyed_value x) };
-
-    type Fields = (reader::Leaf<String<A>, 0x420094>, ());
+    type Fields = (reader::Leaf<String<A>, 0x420094>,);
 
     const TAG: u32 = 0x42007C;
 
     const DENIES_UNKNOWN: bool = false;
 
+    #[tactic(auto, unfolding(kmip_ttlv_types::specs::Digits::six_digits))]
+    fn has_form() {}
+
     #[tactic(auto, unfolding(kmip_ttlv_types::specs::Digits::six_digits, crate::specs::Responses::destroyed_value))]
-    fn from_fields(fields: (String<A>, ())) -> Self {
-        let (unique_identifier, ()) = fields;
+    fn from_fields(fields: (String<A>,)) -> Self {
+        let (unique_identifier,) = fields;
         Destroyed { unique_identifier }
     }
 }
 
 impl<A: Allocator + Copy> reader::ReadNested<A> for Destroyed<A> {
+    ghost form = { destroyed_form };
+
+    ghost value = { destroyed_value };
+
     ghost TAG = { 0x42007C };
 
-    ghost fields = { struct_fields destroyed_form };
-
-    ghost denies_unknown = { false };
-
-    ghost values = { λ x. fields_in (destroyed_value x) };
+    ghost structured = { (refl, refl) };
 
     const TAG: u32 = 0x42007C;
 
-    #[tactic(auto, unfolding(kmip_ttlv_types::specs::Digits::six_digits, crate::specs::Responses::destroyed_value))]
     fn read_nested<'b>(
         scope: &reader::Scope<'b, A>,
         cursor: &mut reader::Cursor<'b, A>,
     ) -> reader::Step<Self, A> {
-        reader::read_form(scope, cursor)
+        reader::read_structure(scope, cursor)
     }
 }
 
@@ -251,10 +258,21 @@ impl reader::Rule for ResponsePayloadCreateRule {
 
     #[tactic(auto, unfolding(kmip_ttlv_reader::specs::RuleParts::parts_of))]
     fn parts() -> Option<reader::RuleParts> {
-        Some(reader::RuleParts {
+        Some(reader::RuleParts::Texts {
             tag: 0x42005C,
             texts: &["0x00000001"],
         })
+    }
+}
+
+impl<A: Allocator + Copy> reader::VariantOf<
+    reader::StructureElement<Created<A>>,
+    ResponsePayload<A>,
+    A,
+> for ResponsePayloadCreateRule {
+    #[tactic(auto, unfolding(kmip_ttlv_types::specs::Digits::six_digits, crate::specs::Responses::read_response_payload, crate::specs::Responses::created_value))]
+    fn from_content(held: Created<A>) -> ResponsePayload<A> {
+        ResponsePayload::Create(held.unique_identifier)
     }
 }
 
@@ -270,54 +288,43 @@ impl reader::Rule for ResponsePayloadDestroyRule {
 
     #[tactic(auto, unfolding(kmip_ttlv_reader::specs::RuleParts::parts_of))]
     fn parts() -> Option<reader::RuleParts> {
-        Some(reader::RuleParts {
+        Some(reader::RuleParts::Texts {
             tag: 0x42005C,
             texts: &["0x00000014"],
         })
     }
 }
 
-// The variants from `Destroy` on.
-type ResponsePayloadFromDestroy<A> = reader::Variant<
-    ResponsePayloadDestroyRule,
+impl<A: Allocator + Copy> reader::VariantOf<
     reader::StructureElement<Destroyed<A>>,
->;
-
-// The one that was read as one of these.
-#[tactic(auto, unfolding(kmip_ttlv_types::specs::Digits::six_digits, crate::specs::Responses::read_response_payload, crate::specs::Responses::created_value, crate::specs::Responses::destroyed_value))]
-#[inline(always)]
-fn response_payload_from_destroy<A: Allocator + Copy>(
-    read: <ResponsePayloadFromDestroy<A> as reader::VariantList<A>>::Read,
-) -> ResponsePayload<A>
-    ensures { read_response_payload result ≡ ⟦<ResponsePayloadFromDestroy<A> as reader::VariantList<A>>⟧.value (codes "payload") read }
-{
-    ResponsePayload::Destroy(read.unique_identifier)
-}
-
-// The variants from `Create` on.
-type ResponsePayloadFromCreate<A> = (
-    reader::Variant<ResponsePayloadCreateRule, reader::StructureElement<Created<A>>>,
-    ResponsePayloadFromDestroy<A>,
-);
-
-// The one that was read as one of these.
-#[tactic(auto, unfolding(kmip_ttlv_types::specs::Digits::six_digits, crate::specs::Responses::read_response_payload, crate::specs::Responses::created_value, crate::specs::Responses::destroyed_value))]
-#[inline(always)]
-fn response_payload_from_create<A: Allocator + Copy>(
-    read: <ResponsePayloadFromCreate<A> as reader::VariantList<A>>::Read,
-) -> ResponsePayload<A>
-    ensures { read_response_payload result ≡ ⟦<ResponsePayloadFromCreate<A> as reader::VariantList<A>>⟧.value (codes "payload") read }
-{
-    match read {
-        reader::OneOf::First(held) => ResponsePayload::Create(held.unique_identifier),
-        reader::OneOf::Other(other) => response_payload_from_destroy(other),
+    ResponsePayload<A>,
+    A,
+> for ResponsePayloadDestroyRule {
+    #[tactic(auto, unfolding(kmip_ttlv_types::specs::Digits::six_digits, crate::specs::Responses::read_response_payload, crate::specs::Responses::destroyed_value))]
+    fn from_content(held: Destroyed<A>) -> ResponsePayload<A> {
+        ResponsePayload::Destroy(held.unique_identifier)
     }
 }
 
-impl<A: Allocator + Copy> reader::Choice<A> for ResponsePayload<A> {
+impl<A: Allocator> reader::ChoiceValue for ResponsePayload<A> {
     ghost own = { codes "payload" };
 
-    type Variants = ResponsePayloadFromCreate<A>;
+    ghost value = { read_response_payload };
+}
+
+impl<A: Allocator + Copy> reader::Choice<A> for ResponsePayload<A> {
+    ghost form = { response_payload_form };
+
+    type Variants = (
+        reader::Variant<ResponsePayloadCreateRule, reader::StructureElement<Created<A>>>,
+        (
+            reader::Variant<ResponsePayloadDestroyRule, reader::StructureElement<Destroyed<A>>>,
+            (),
+        ),
+    );
+
+    #[tactic(auto, unfolding(kmip_ttlv_types::specs::Digits::six_digits))]
+    fn has_form() {}
 }
 
 impl<A: Allocator + Copy> reader::ReadItem<A> for ResponsePayload<A> {
@@ -327,13 +334,11 @@ impl<A: Allocator + Copy> reader::ReadItem<A> for ResponsePayload<A> {
 
     ghost plain = { (refl, refl) };
 
-    #[tactic(auto, unfolding(kmip_ttlv_types::specs::Digits::six_digits, crate::specs::Responses::read_response_payload, crate::specs::Responses::created_value, crate::specs::Responses::destroyed_value))]
     fn read_item<'b>(
         scope: &reader::Scope<'b, A>,
         cursor: &mut reader::Cursor<'b, A>,
     ) -> reader::Step<Self, A> {
-        let read = reader::read_choice::<Self, A>(scope, cursor)?;
-        Ok(response_payload_from_create(read))
+        reader::read_choice(scope, cursor)
     }
 }
 
@@ -361,53 +366,50 @@ impl<B: Allocator> Serialize for ResponseItem<B> {
 }
 
 impl<A: Allocator + Copy> reader::ReadStructure<A> for ResponseItem<A> {
+    ghost form = { response_item_form };
+
+    ghost value = { read_response_item };
+
     ghost TAG = { 0x42000F };
 
     ghost DENIES_UNKNOWN = { false };
 
-    ghost values = { λ x. fields_in (read_response_item x) };
-
     type Fields = (
         reader::Item<Operation, 0x42005C>,
-        (
-            reader::Item<ResponseItemResultStatus, 0x42007F>,
-            (reader::Item<ResponsePayload<A>, 0x42007C>, ()),
-        ),
+        reader::Item<ResponseItemResultStatus, 0x42007F>,
+        reader::Item<ResponsePayload<A>, 0x42007C>,
     );
 
     const TAG: u32 = 0x42000F;
 
     const DENIES_UNKNOWN: bool = false;
 
+    #[tactic(auto, unfolding(kmip_ttlv_types::specs::Digits::six_digits))]
+    fn has_form() {}
+
     #[tactic(auto, unfolding(kmip_ttlv_types::specs::Digits::six_digits, crate::specs::Responses::read_response_item))]
-    fn from_fields(
-        fields: (
-            Operation,
-            (ResponseItemResultStatus, (ResponsePayload<A>, ())),
-        ),
-    ) -> Self {
-        let (operation, (_, (payload, ()))) = fields;
+    fn from_fields(fields: (Operation, ResponseItemResultStatus, ResponsePayload<A>)) -> Self {
+        let (operation, _, payload) = fields;
         ResponseItem { operation, payload }
     }
 }
 
 impl<A: Allocator + Copy> reader::ReadNested<A> for ResponseItem<A> {
+    ghost form = { response_item_form };
+
+    ghost value = { read_response_item };
+
     ghost TAG = { 0x42000F };
 
-    ghost fields = { struct_fields response_item_form };
-
-    ghost denies_unknown = { false };
-
-    ghost values = { λ x. fields_in (read_response_item x) };
+    ghost structured = { (refl, refl) };
 
     const TAG: u32 = 0x42000F;
 
-    #[tactic(auto, unfolding(kmip_ttlv_types::specs::Digits::six_digits, crate::specs::Responses::read_response_item))]
     fn read_nested<'b>(
         scope: &reader::Scope<'b, A>,
         cursor: &mut reader::Cursor<'b, A>,
     ) -> reader::Step<Self, A> {
-        reader::read_form(scope, cursor)
+        reader::read_structure(scope, cursor)
     }
 }
 
@@ -507,24 +509,29 @@ impl<B: Allocator> Serialize for Response<B> {
 }
 
 impl<A: Allocator + Copy> reader::ReadStructure<A> for Response<A> {
+    ghost form = { response_form };
+
+    ghost value = { read_response };
+
     ghost TAG = { 0x42007B };
 
     ghost DENIES_UNKNOWN = { false };
 
-    ghost values = { λ x. fields_in (read_response x) };
-
     type Fields = (
         reader::Nested<ResponseHeader>,
-        (reader::Several<ResponseItem<A>>, ()),
+        reader::Several<ResponseItem<A>>,
     );
 
     const TAG: u32 = 0x42007B;
 
     const DENIES_UNKNOWN: bool = false;
 
-    #[tactic(auto, unfolding(kmip_ttlv_types::specs::Digits::six_digits, crate::specs::Responses::read_response, get_messages::specs::Headers::response_header_value, crate::specs::Responses::read_response_item))]
-    fn from_fields(fields: (ResponseHeader, (Vec<ResponseItem<A>, A>, ()))) -> Self {
-        let (header, (items, ())) = fields;
+    #[tactic(auto, unfolding(kmip_ttlv_types::specs::Digits::six_digits))]
+    fn has_form() {}
+
+    #[tactic(auto, unfolding(kmip_ttlv_types::specs::Digits::six_digits, crate::specs::Responses::read_response))]
+    fn from_fields(fields: (ResponseHeader, Vec<ResponseItem<A>, A>)) -> Self {
+        let (header, items) = fields;
         Response::with_header(header, items)
     }
 }
@@ -534,7 +541,6 @@ impl<A: Allocator + Copy> Decode<A> for Response<A> {
 
     ghost is_value = { λ v x. v ≡ read_response x };
 
-    #[tactic(auto, unfolding(kmip_ttlv_types::specs::Digits::six_digits, crate::specs::Responses::read_response))]
     fn decode(alloc: A, bytes: &[u8]) -> Result<Self, error::Error<A>> {
         reader::read_message(alloc, bytes)
     }

@@ -1,8 +1,7 @@
 // Written by codegen from types.table: change that, and run codegen/codegen.
 //! What requests and responses begin with (KMIP 1.0, sections 6.1, 6.4 and 6.5).
 
-ghost use Rattle.std.specs.Prelude.{false};
-ghost use Rattle.kmip_ttlv.specs.Spots.{fields_in, struct_fields};
+ghost use Rattle.std.specs.Prelude.{refl, false};
 ghost use Rattle.get_messages.specs.Headers.{protocol_version_form, protocol_version_value, request_header_form, request_header_value, response_header_form, response_header_value};
 
 use kmip_ttlv::messages::writing;
@@ -33,45 +32,46 @@ impl Serialize for ProtocolVersion {
 }
 
 impl<A: Allocator + Copy> reader::ReadStructure<A> for ProtocolVersion {
+    ghost form = { protocol_version_form };
+
+    ghost value = { protocol_version_value };
+
     ghost TAG = { 0x420069 };
 
     ghost DENIES_UNKNOWN = { false };
 
-    ghost values = { λ x. fields_in (protocol_version_value x) };
-
-    type Fields = (
-        reader::Leaf<i32, 0x42006A>,
-        (reader::Leaf<i32, 0x42006B>, ()),
-    );
+    type Fields = (reader::Leaf<i32, 0x42006A>, reader::Leaf<i32, 0x42006B>);
 
     const TAG: u32 = 0x420069;
 
     const DENIES_UNKNOWN: bool = false;
 
+    #[tactic(auto, unfolding(kmip_ttlv_types::specs::Digits::six_digits))]
+    fn has_form() {}
+
     #[tactic(auto, unfolding(kmip_ttlv_types::specs::Digits::six_digits, crate::specs::Headers::protocol_version_value))]
-    fn from_fields(fields: (i32, (i32, ()))) -> Self {
-        let (major, (minor, ())) = fields;
+    fn from_fields(fields: (i32, i32)) -> Self {
+        let (major, minor) = fields;
         ProtocolVersion { major, minor }
     }
 }
 
 impl<A: Allocator + Copy> reader::ReadNested<A> for ProtocolVersion {
+    ghost form = { protocol_version_form };
+
+    ghost value = { protocol_version_value };
+
     ghost TAG = { 0x420069 };
 
-    ghost fields = { struct_fields protocol_version_form };
-
-    ghost denies_unknown = { false };
-
-    ghost values = { λ x. fields_in (protocol_version_value x) };
+    ghost structured = { (refl, refl) };
 
     const TAG: u32 = 0x420069;
 
-    #[tactic(auto, unfolding(kmip_ttlv_types::specs::Digits::six_digits, crate::specs::Headers::protocol_version_value))]
     fn read_nested<'b>(
         scope: &reader::Scope<'b, A>,
         cursor: &mut reader::Cursor<'b, A>,
     ) -> reader::Step<Self, A> {
-        reader::read_form(scope, cursor)
+        reader::read_structure(scope, cursor)
     }
 }
 
@@ -98,24 +98,26 @@ impl Serialize for RequestHeader {
 }
 
 impl<A: Allocator + Copy> reader::ReadStructure<A> for RequestHeader {
+    ghost form = { request_header_form };
+
+    ghost value = { request_header_value };
+
     ghost TAG = { 0x420077 };
 
     ghost DENIES_UNKNOWN = { false };
 
-    ghost values = { λ x. fields_in (request_header_value x) };
-
-    type Fields = (
-        reader::Nested<ProtocolVersion>,
-        (reader::Leaf<i32, 0x42000D>, ()),
-    );
+    type Fields = (reader::Nested<ProtocolVersion>, reader::Leaf<i32, 0x42000D>);
 
     const TAG: u32 = 0x420077;
 
     const DENIES_UNKNOWN: bool = false;
 
-    #[tactic(auto, unfolding(kmip_ttlv_types::specs::Digits::six_digits, crate::specs::Headers::request_header_value, crate::specs::Headers::protocol_version_value))]
-    fn from_fields(fields: (ProtocolVersion, (i32, ()))) -> Self {
-        let (version, (batch_count, ())) = fields;
+    #[tactic(auto, unfolding(kmip_ttlv_types::specs::Digits::six_digits))]
+    fn has_form() {}
+
+    #[tactic(auto, unfolding(kmip_ttlv_types::specs::Digits::six_digits, crate::specs::Headers::request_header_value))]
+    fn from_fields(fields: (ProtocolVersion, i32)) -> Self {
+        let (version, batch_count) = fields;
         RequestHeader {
             version,
             batch_count,
@@ -124,22 +126,21 @@ impl<A: Allocator + Copy> reader::ReadStructure<A> for RequestHeader {
 }
 
 impl<A: Allocator + Copy> reader::ReadNested<A> for RequestHeader {
+    ghost form = { request_header_form };
+
+    ghost value = { request_header_value };
+
     ghost TAG = { 0x420077 };
 
-    ghost fields = { struct_fields request_header_form };
-
-    ghost denies_unknown = { false };
-
-    ghost values = { λ x. fields_in (request_header_value x) };
+    ghost structured = { (refl, refl) };
 
     const TAG: u32 = 0x420077;
 
-    #[tactic(auto, unfolding(kmip_ttlv_types::specs::Digits::six_digits, crate::specs::Headers::request_header_value))]
     fn read_nested<'b>(
         scope: &reader::Scope<'b, A>,
         cursor: &mut reader::Cursor<'b, A>,
     ) -> reader::Step<Self, A> {
-        reader::read_form(scope, cursor)
+        reader::read_structure(scope, cursor)
     }
 }
 
@@ -168,27 +169,30 @@ impl Serialize for ResponseHeader {
 }
 
 impl<A: Allocator + Copy> reader::ReadStructure<A> for ResponseHeader {
+    ghost form = { response_header_form };
+
+    ghost value = { response_header_value };
+
     ghost TAG = { 0x42007A };
 
     ghost DENIES_UNKNOWN = { false };
 
-    ghost values = { λ x. fields_in (response_header_value x) };
-
     type Fields = (
         reader::Nested<ProtocolVersion>,
-        (
-            reader::Leaf<reader::DateTime, 0x420092>,
-            (reader::Leaf<i32, 0x42000D>, ()),
-        ),
+        reader::Leaf<reader::DateTime, 0x420092>,
+        reader::Leaf<i32, 0x42000D>,
     );
 
     const TAG: u32 = 0x42007A;
 
     const DENIES_UNKNOWN: bool = false;
 
-    #[tactic(auto, unfolding(kmip_ttlv_types::specs::Digits::six_digits, crate::specs::Headers::response_header_value, crate::specs::Headers::protocol_version_value))]
-    fn from_fields(fields: (ProtocolVersion, (reader::DateTime, (i32, ())))) -> Self {
-        let (version, (time_stamp, (batch_count, ()))) = fields;
+    #[tactic(auto, unfolding(kmip_ttlv_types::specs::Digits::six_digits))]
+    fn has_form() {}
+
+    #[tactic(auto, unfolding(kmip_ttlv_types::specs::Digits::six_digits, crate::specs::Headers::response_header_value))]
+    fn from_fields(fields: (ProtocolVersion, reader::DateTime, i32)) -> Self {
+        let (version, time_stamp, batch_count) = fields;
         ResponseHeader {
             version,
             time_stamp: time_stamp.0,
@@ -198,21 +202,20 @@ impl<A: Allocator + Copy> reader::ReadStructure<A> for ResponseHeader {
 }
 
 impl<A: Allocator + Copy> reader::ReadNested<A> for ResponseHeader {
+    ghost form = { response_header_form };
+
+    ghost value = { response_header_value };
+
     ghost TAG = { 0x42007A };
 
-    ghost fields = { struct_fields response_header_form };
-
-    ghost denies_unknown = { false };
-
-    ghost values = { λ x. fields_in (response_header_value x) };
+    ghost structured = { (refl, refl) };
 
     const TAG: u32 = 0x42007A;
 
-    #[tactic(auto, unfolding(kmip_ttlv_types::specs::Digits::six_digits, crate::specs::Headers::response_header_value))]
     fn read_nested<'b>(
         scope: &reader::Scope<'b, A>,
         cursor: &mut reader::Cursor<'b, A>,
     ) -> reader::Step<Self, A> {
-        reader::read_form(scope, cursor)
+        reader::read_structure(scope, cursor)
     }
 }

@@ -3,7 +3,6 @@
 
 ghost use Rattle.std.specs.Prelude.{refl, codes, false, true};
 ghost use Rattle.kmip_ttlv.specs.Forms.{enum, no_variants, unit, variant};
-ghost use Rattle.kmip_ttlv.specs.Spots.{fields_in, struct_fields};
 ghost use Rattle.kmip_ttlv.specs.Values.{unit_variant_value};
 ghost use Rattle.get_messages.specs.Keys.{key_value_form, key_value_value, key_length_form, key_length_value, key_block_form, written_key_block, read_key_block, symmetric_key_form, written_symmetric_key, read_symmetric_key};
 
@@ -35,42 +34,46 @@ impl<B: Allocator> Serialize for KeyValue<B> {
 }
 
 impl<A: Allocator + Copy> reader::ReadStructure<A> for KeyValue<A> {
+    ghost form = { key_value_form };
+
+    ghost value = { key_value_value };
+
     ghost TAG = { 0x420045 };
 
     ghost DENIES_UNKNOWN = { false };
 
-    ghost values = { λ x. fields_in (key_value_value x) };
-
-    type Fields = (reader::Leaf<Vec<u8, A>, 0x420043>, ());
+    type Fields = (reader::Leaf<Vec<u8, A>, 0x420043>,);
 
     const TAG: u32 = 0x420045;
 
     const DENIES_UNKNOWN: bool = false;
 
+    #[tactic(auto, unfolding(kmip_ttlv_types::specs::Digits::six_digits))]
+    fn has_form() {}
+
     #[tactic(auto, unfolding(kmip_ttlv_types::specs::Digits::six_digits, crate::specs::Keys::key_value_value))]
-    fn from_fields(fields: (Vec<u8, A>, ())) -> Self {
-        let (key_material, ()) = fields;
+    fn from_fields(fields: (Vec<u8, A>,)) -> Self {
+        let (key_material,) = fields;
         KeyValue { key_material }
     }
 }
 
 impl<A: Allocator + Copy> reader::ReadNested<A> for KeyValue<A> {
+    ghost form = { key_value_form };
+
+    ghost value = { key_value_value };
+
     ghost TAG = { 0x420045 };
 
-    ghost fields = { struct_fields key_value_form };
-
-    ghost denies_unknown = { false };
-
-    ghost values = { λ x. fields_in (key_value_value x) };
+    ghost structured = { (refl, refl) };
 
     const TAG: u32 = 0x420045;
 
-    #[tactic(auto, unfolding(kmip_ttlv_types::specs::Digits::six_digits, crate::specs::Keys::key_value_value))]
     fn read_nested<'b>(
         scope: &reader::Scope<'b, A>,
         cursor: &mut reader::Cursor<'b, A>,
     ) -> reader::Step<Self, A> {
-        reader::read_form(scope, cursor)
+        reader::read_structure(scope, cursor)
     }
 }
 
@@ -135,38 +138,40 @@ impl<B: Allocator> Serialize for KeyBlock<B> {
 }
 
 impl<A: Allocator + Copy> reader::ReadStructure<A> for KeyBlock<A> {
+    ghost form = { key_block_form };
+
+    ghost value = { read_key_block };
+
     ghost TAG = { 0x420040 };
 
     ghost DENIES_UNKNOWN = { true };
-
-    ghost values = { λ x. fields_in (read_key_block x) };
 
     type Fields = reader::Four<
         reader::Item<KeyBlockKeyFormatType, 0x420042>,
         reader::Nested<KeyValue<A>>,
         reader::Item<KeyBlockCryptographicAlgorithm, 0x420028>,
         reader::Item<KeyLength, 0x42002A>,
-        (reader::OptionalNested<KeyWrappingData<A>>, ()),
+        (reader::OptionalNested<KeyWrappingData<A>>,),
     >;
 
     const TAG: u32 = 0x420040;
 
     const DENIES_UNKNOWN: bool = true;
 
-    #[tactic(auto, unfolding(kmip_ttlv_types::specs::Digits::six_digits, crate::specs::Keys::read_key_block, crate::specs::Keys::key_value_value, crate::specs::Wrappings::read_key_wrapping_data))]
+    #[tactic(auto, unfolding(kmip_ttlv_types::specs::Digits::six_digits))]
+    fn has_form() {}
+
+    #[tactic(auto, unfolding(kmip_ttlv_types::specs::Digits::six_digits, crate::specs::Keys::read_key_block))]
     fn from_fields(
         fields: (
             KeyBlockKeyFormatType,
-            (
-                KeyValue<A>,
-                (
-                    KeyBlockCryptographicAlgorithm,
-                    (KeyLength, (Option<KeyWrappingData<A>>, ())),
-                ),
-            ),
+            KeyValue<A>,
+            KeyBlockCryptographicAlgorithm,
+            KeyLength,
+            (Option<KeyWrappingData<A>>,),
         ),
     ) -> Self {
-        let (_, (key_value, (_, (cryptographic_length, (key_wrapping_data, ()))))) = fields;
+        let (_, key_value, _, cryptographic_length, (key_wrapping_data,)) = fields;
         KeyBlock {
             key_value,
             cryptographic_length,
@@ -176,22 +181,21 @@ impl<A: Allocator + Copy> reader::ReadStructure<A> for KeyBlock<A> {
 }
 
 impl<A: Allocator + Copy> reader::ReadNested<A> for KeyBlock<A> {
+    ghost form = { key_block_form };
+
+    ghost value = { read_key_block };
+
     ghost TAG = { 0x420040 };
 
-    ghost fields = { struct_fields key_block_form };
-
-    ghost denies_unknown = { true };
-
-    ghost values = { λ x. fields_in (read_key_block x) };
+    ghost structured = { (refl, refl) };
 
     const TAG: u32 = 0x420040;
 
-    #[tactic(auto, unfolding(kmip_ttlv_types::specs::Digits::six_digits, crate::specs::Keys::read_key_block))]
     fn read_nested<'b>(
         scope: &reader::Scope<'b, A>,
         cursor: &mut reader::Cursor<'b, A>,
     ) -> reader::Step<Self, A> {
-        reader::read_form(scope, cursor)
+        reader::read_structure(scope, cursor)
     }
 }
 
@@ -270,41 +274,45 @@ impl<B: Allocator> Serialize for SymmetricKey<B> {
 }
 
 impl<A: Allocator + Copy> reader::ReadStructure<A> for SymmetricKey<A> {
+    ghost form = { symmetric_key_form };
+
+    ghost value = { read_symmetric_key };
+
     ghost TAG = { 0x42008F };
 
     ghost DENIES_UNKNOWN = { false };
 
-    ghost values = { λ x. fields_in (read_symmetric_key x) };
-
-    type Fields = (reader::Nested<KeyBlock<A>>, ());
+    type Fields = (reader::Nested<KeyBlock<A>>,);
 
     const TAG: u32 = 0x42008F;
 
     const DENIES_UNKNOWN: bool = false;
 
-    #[tactic(auto, unfolding(kmip_ttlv_types::specs::Digits::six_digits, crate::specs::Keys::read_symmetric_key, crate::specs::Keys::read_key_block))]
-    fn from_fields(fields: (KeyBlock<A>, ())) -> Self {
-        let (key_block, ()) = fields;
+    #[tactic(auto, unfolding(kmip_ttlv_types::specs::Digits::six_digits))]
+    fn has_form() {}
+
+    #[tactic(auto, unfolding(kmip_ttlv_types::specs::Digits::six_digits, crate::specs::Keys::read_symmetric_key))]
+    fn from_fields(fields: (KeyBlock<A>,)) -> Self {
+        let (key_block,) = fields;
         SymmetricKey { key_block }
     }
 }
 
 impl<A: Allocator + Copy> reader::ReadNested<A> for SymmetricKey<A> {
+    ghost form = { symmetric_key_form };
+
+    ghost value = { read_symmetric_key };
+
     ghost TAG = { 0x42008F };
 
-    ghost fields = { struct_fields symmetric_key_form };
-
-    ghost denies_unknown = { false };
-
-    ghost values = { λ x. fields_in (read_symmetric_key x) };
+    ghost structured = { (refl, refl) };
 
     const TAG: u32 = 0x42008F;
 
-    #[tactic(auto, unfolding(kmip_ttlv_types::specs::Digits::six_digits, crate::specs::Keys::read_symmetric_key))]
     fn read_nested<'b>(
         scope: &reader::Scope<'b, A>,
         cursor: &mut reader::Cursor<'b, A>,
     ) -> reader::Step<Self, A> {
-        reader::read_form(scope, cursor)
+        reader::read_structure(scope, cursor)
     }
 }

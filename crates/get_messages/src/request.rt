@@ -3,7 +3,6 @@
 
 ghost use Rattle.std.specs.Prelude.{◌≡◌, refl, codes, false};
 ghost use Rattle.kmip_ttlv.specs.Forms.{enum, no_variants, unit, variant};
-ghost use Rattle.kmip_ttlv.specs.Spots.{fields_in, struct_fields};
 ghost use Rattle.kmip_ttlv.specs.Values.{unit_variant_value};
 ghost use Rattle.get_messages.specs.Requests.{get_request_payload_form, get_request_payload_value, get_request_item_form, get_request_item_value, get_request_form, get_request_value};
 
@@ -35,42 +34,46 @@ impl<B: Allocator> Serialize for GetRequestPayload<B> {
 }
 
 impl<A: Allocator + Copy> reader::ReadStructure<A> for GetRequestPayload<A> {
+    ghost form = { get_request_payload_form };
+
+    ghost value = { get_request_payload_value };
+
     ghost TAG = { 0x420079 };
 
     ghost DENIES_UNKNOWN = { false };
 
-    ghost values = { λ x. fields_in (get_request_payload_value x) };
-
-    type Fields = (reader::Leaf<String<A>, 0x420094>, ());
+    type Fields = (reader::Leaf<String<A>, 0x420094>,);
 
     const TAG: u32 = 0x420079;
 
     const DENIES_UNKNOWN: bool = false;
 
+    #[tactic(auto, unfolding(kmip_ttlv_types::specs::Digits::six_digits))]
+    fn has_form() {}
+
     #[tactic(auto, unfolding(kmip_ttlv_types::specs::Digits::six_digits, crate::specs::Requests::get_request_payload_value))]
-    fn from_fields(fields: (String<A>, ())) -> Self {
-        let (unique_identifier, ()) = fields;
+    fn from_fields(fields: (String<A>,)) -> Self {
+        let (unique_identifier,) = fields;
         GetRequestPayload { unique_identifier }
     }
 }
 
 impl<A: Allocator + Copy> reader::ReadNested<A> for GetRequestPayload<A> {
+    ghost form = { get_request_payload_form };
+
+    ghost value = { get_request_payload_value };
+
     ghost TAG = { 0x420079 };
 
-    ghost fields = { struct_fields get_request_payload_form };
-
-    ghost denies_unknown = { false };
-
-    ghost values = { λ x. fields_in (get_request_payload_value x) };
+    ghost structured = { (refl, refl) };
 
     const TAG: u32 = 0x420079;
 
-    #[tactic(auto, unfolding(kmip_ttlv_types::specs::Digits::six_digits, crate::specs::Requests::get_request_payload_value))]
     fn read_nested<'b>(
         scope: &reader::Scope<'b, A>,
         cursor: &mut reader::Cursor<'b, A>,
     ) -> reader::Step<Self, A> {
-        reader::read_form(scope, cursor)
+        reader::read_structure(scope, cursor)
     }
 }
 
@@ -96,45 +99,49 @@ impl<B: Allocator> Serialize for GetRequestItem<B> {
 }
 
 impl<A: Allocator + Copy> reader::ReadStructure<A> for GetRequestItem<A> {
+    ghost form = { get_request_item_form };
+
+    ghost value = { get_request_item_value };
+
     ghost TAG = { 0x42000F };
 
     ghost DENIES_UNKNOWN = { false };
 
-    ghost values = { λ x. fields_in (get_request_item_value x) };
-
     type Fields = (
         reader::Item<GetRequestItemOperation, 0x42005C>,
-        (reader::Nested<GetRequestPayload<A>>, ()),
+        reader::Nested<GetRequestPayload<A>>,
     );
 
     const TAG: u32 = 0x42000F;
 
     const DENIES_UNKNOWN: bool = false;
 
-    #[tactic(auto, unfolding(kmip_ttlv_types::specs::Digits::six_digits, crate::specs::Requests::get_request_item_value, crate::specs::Requests::get_request_payload_value))]
-    fn from_fields(fields: (GetRequestItemOperation, (GetRequestPayload<A>, ()))) -> Self {
-        let (_, (payload, ())) = fields;
+    #[tactic(auto, unfolding(kmip_ttlv_types::specs::Digits::six_digits))]
+    fn has_form() {}
+
+    #[tactic(auto, unfolding(kmip_ttlv_types::specs::Digits::six_digits, crate::specs::Requests::get_request_item_value))]
+    fn from_fields(fields: (GetRequestItemOperation, GetRequestPayload<A>)) -> Self {
+        let (_, payload) = fields;
         GetRequestItem { payload }
     }
 }
 
 impl<A: Allocator + Copy> reader::ReadNested<A> for GetRequestItem<A> {
+    ghost form = { get_request_item_form };
+
+    ghost value = { get_request_item_value };
+
     ghost TAG = { 0x42000F };
 
-    ghost fields = { struct_fields get_request_item_form };
-
-    ghost denies_unknown = { false };
-
-    ghost values = { λ x. fields_in (get_request_item_value x) };
+    ghost structured = { (refl, refl) };
 
     const TAG: u32 = 0x42000F;
 
-    #[tactic(auto, unfolding(kmip_ttlv_types::specs::Digits::six_digits, crate::specs::Requests::get_request_item_value))]
     fn read_nested<'b>(
         scope: &reader::Scope<'b, A>,
         cursor: &mut reader::Cursor<'b, A>,
     ) -> reader::Step<Self, A> {
-        reader::read_form(scope, cursor)
+        reader::read_structure(scope, cursor)
     }
 }
 
@@ -189,24 +196,29 @@ impl<B: Allocator> Serialize for GetRequest<B> {
 }
 
 impl<A: Allocator + Copy> reader::ReadStructure<A> for GetRequest<A> {
+    ghost form = { get_request_form };
+
+    ghost value = { get_request_value };
+
     ghost TAG = { 0x420078 };
 
     ghost DENIES_UNKNOWN = { false };
 
-    ghost values = { λ x. fields_in (get_request_value x) };
-
     type Fields = (
         reader::Nested<RequestHeader>,
-        (reader::Nested<GetRequestItem<A>>, ()),
+        reader::Nested<GetRequestItem<A>>,
     );
 
     const TAG: u32 = 0x420078;
 
     const DENIES_UNKNOWN: bool = false;
 
-    #[tactic(auto, unfolding(kmip_ttlv_types::specs::Digits::six_digits, crate::specs::Requests::get_request_value, crate::specs::Headers::request_header_value, crate::specs::Requests::get_request_item_value))]
-    fn from_fields(fields: (RequestHeader, (GetRequestItem<A>, ()))) -> Self {
-        let (header, (item, ())) = fields;
+    #[tactic(auto, unfolding(kmip_ttlv_types::specs::Digits::six_digits))]
+    fn has_form() {}
+
+    #[tactic(auto, unfolding(kmip_ttlv_types::specs::Digits::six_digits, crate::specs::Requests::get_request_value))]
+    fn from_fields(fields: (RequestHeader, GetRequestItem<A>)) -> Self {
+        let (header, item) = fields;
         GetRequest { header, item }
     }
 }
@@ -216,7 +228,6 @@ impl<A: Allocator + Copy> Decode<A> for GetRequest<A> {
 
     ghost is_value = { λ v x. v ≡ get_request_value x };
 
-    #[tactic(auto, unfolding(kmip_ttlv_types::specs::Digits::six_digits, crate::specs::Requests::get_request_value))]
     fn decode(alloc: A, bytes: &[u8]) -> Result<Self, error::Error<A>> {
         reader::read_message(alloc, bytes)
     }

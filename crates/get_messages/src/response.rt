@@ -3,7 +3,6 @@
 
 ghost use Rattle.std.specs.Prelude.{◌≡◌, refl, codes, false};
 ghost use Rattle.kmip_ttlv.specs.Forms.{enum, no_variants, unit, variant};
-ghost use Rattle.kmip_ttlv.specs.Spots.{fields_in, struct_fields};
 ghost use Rattle.kmip_ttlv.specs.Values.{unit_variant_value};
 ghost use Rattle.get_messages.specs.Responses.{get_response_payload_form, written_get_response_payload, read_get_response_payload, get_response_item_form, written_get_response_item, read_get_response_item, get_response_form, written_get_response, read_get_response};
 
@@ -39,32 +38,30 @@ impl<B: Allocator> Serialize for GetResponsePayload<B> {
 }
 
 impl<A: Allocator + Copy> reader::ReadStructure<A> for GetResponsePayload<A> {
+    ghost form = { get_response_payload_form };
+
+    ghost value = { read_get_response_payload };
+
     ghost TAG = { 0x42007C };
 
     ghost DENIES_UNKNOWN = { false };
 
-    ghost values = { λ x. fields_in (read_get_response_payload x) };
-
     type Fields = (
         reader::Item<GetResponsePayloadObjectType, 0x420057>,
-        (
-            reader::Leaf<String<A>, 0x420094>,
-            (reader::Nested<SymmetricKey<A>>, ()),
-        ),
+        reader::Leaf<String<A>, 0x420094>,
+        reader::Nested<SymmetricKey<A>>,
     );
 
     const TAG: u32 = 0x42007C;
 
     const DENIES_UNKNOWN: bool = false;
 
-    #[tactic(auto, unfolding(kmip_ttlv_types::specs::Digits::six_digits, crate::specs::Responses::read_get_response_payload, crate::specs::Keys::read_symmetric_key))]
-    fn from_fields(
-        fields: (
-            GetResponsePayloadObjectType,
-            (String<A>, (SymmetricKey<A>, ())),
-        ),
-    ) -> Self {
-        let (_, (unique_identifier, (symmetric_key, ()))) = fields;
+    #[tactic(auto, unfolding(kmip_ttlv_types::specs::Digits::six_digits))]
+    fn has_form() {}
+
+    #[tactic(auto, unfolding(kmip_ttlv_types::specs::Digits::six_digits, crate::specs::Responses::read_get_response_payload))]
+    fn from_fields(fields: (GetResponsePayloadObjectType, String<A>, SymmetricKey<A>)) -> Self {
+        let (_, unique_identifier, symmetric_key) = fields;
         GetResponsePayload {
             unique_identifier,
             symmetric_key,
@@ -73,22 +70,21 @@ impl<A: Allocator + Copy> reader::ReadStructure<A> for GetResponsePayload<A> {
 }
 
 impl<A: Allocator + Copy> reader::ReadNested<A> for GetResponsePayload<A> {
+    ghost form = { get_response_payload_form };
+
+    ghost value = { read_get_response_payload };
+
     ghost TAG = { 0x42007C };
 
-    ghost fields = { struct_fields get_response_payload_form };
-
-    ghost denies_unknown = { false };
-
-    ghost values = { λ x. fields_in (read_get_response_payload x) };
+    ghost structured = { (refl, refl) };
 
     const TAG: u32 = 0x42007C;
 
-    #[tactic(auto, unfolding(kmip_ttlv_types::specs::Digits::six_digits, crate::specs::Responses::read_get_response_payload))]
     fn read_nested<'b>(
         scope: &reader::Scope<'b, A>,
         cursor: &mut reader::Cursor<'b, A>,
     ) -> reader::Step<Self, A> {
-        reader::read_form(scope, cursor)
+        reader::read_structure(scope, cursor)
     }
 }
 
@@ -141,53 +137,56 @@ impl<B: Allocator> Serialize for GetResponseItem<B> {
 }
 
 impl<A: Allocator + Copy> reader::ReadStructure<A> for GetResponseItem<A> {
+    ghost form = { get_response_item_form };
+
+    ghost value = { read_get_response_item };
+
     ghost TAG = { 0x42000F };
 
     ghost DENIES_UNKNOWN = { false };
 
-    ghost values = { λ x. fields_in (read_get_response_item x) };
-
     type Fields = (
         reader::Item<GetResponseItemOperation, 0x42005C>,
-        (
-            reader::Item<GetResponseItemResultStatus, 0x42007F>,
-            (reader::Nested<GetResponsePayload<A>>, ()),
-        ),
+        reader::Item<GetResponseItemResultStatus, 0x42007F>,
+        reader::Nested<GetResponsePayload<A>>,
     );
 
     const TAG: u32 = 0x42000F;
 
     const DENIES_UNKNOWN: bool = false;
 
-    #[tactic(auto, unfolding(kmip_ttlv_types::specs::Digits::six_digits, crate::specs::Responses::read_get_response_item, crate::specs::Responses::read_get_response_payload))]
+    #[tactic(auto, unfolding(kmip_ttlv_types::specs::Digits::six_digits))]
+    fn has_form() {}
+
+    #[tactic(auto, unfolding(kmip_ttlv_types::specs::Digits::six_digits, crate::specs::Responses::read_get_response_item))]
     fn from_fields(
         fields: (
             GetResponseItemOperation,
-            (GetResponseItemResultStatus, (GetResponsePayload<A>, ())),
+            GetResponseItemResultStatus,
+            GetResponsePayload<A>,
         ),
     ) -> Self {
-        let (_, (_, (payload, ()))) = fields;
+        let (_, _, payload) = fields;
         GetResponseItem { payload }
     }
 }
 
 impl<A: Allocator + Copy> reader::ReadNested<A> for GetResponseItem<A> {
+    ghost form = { get_response_item_form };
+
+    ghost value = { read_get_response_item };
+
     ghost TAG = { 0x42000F };
 
-    ghost fields = { struct_fields get_response_item_form };
-
-    ghost denies_unknown = { false };
-
-    ghost values = { λ x. fields_in (read_get_response_item x) };
+    ghost structured = { (refl, refl) };
 
     const TAG: u32 = 0x42000F;
 
-    #[tactic(auto, unfolding(kmip_ttlv_types::specs::Digits::six_digits, crate::specs::Responses::read_get_response_item))]
     fn read_nested<'b>(
         scope: &reader::Scope<'b, A>,
         cursor: &mut reader::Cursor<'b, A>,
     ) -> reader::Step<Self, A> {
-        reader::read_form(scope, cursor)
+        reader::read_structure(scope, cursor)
     }
 }
 
@@ -269,24 +268,29 @@ impl<B: Allocator> Serialize for GetResponse<B> {
 }
 
 impl<A: Allocator + Copy> reader::ReadStructure<A> for GetResponse<A> {
+    ghost form = { get_response_form };
+
+    ghost value = { read_get_response };
+
     ghost TAG = { 0x42007B };
 
     ghost DENIES_UNKNOWN = { false };
 
-    ghost values = { λ x. fields_in (read_get_response x) };
-
     type Fields = (
         reader::Nested<ResponseHeader>,
-        (reader::Nested<GetResponseItem<A>>, ()),
+        reader::Nested<GetResponseItem<A>>,
     );
 
     const TAG: u32 = 0x42007B;
 
     const DENIES_UNKNOWN: bool = false;
 
-    #[tactic(auto, unfolding(kmip_ttlv_types::specs::Digits::six_digits, crate::specs::Responses::read_get_response, crate::specs::Headers::response_header_value, crate::specs::Responses::read_get_response_item))]
-    fn from_fields(fields: (ResponseHeader, (GetResponseItem<A>, ()))) -> Self {
-        let (header, (item, ())) = fields;
+    #[tactic(auto, unfolding(kmip_ttlv_types::specs::Digits::six_digits))]
+    fn has_form() {}
+
+    #[tactic(auto, unfolding(kmip_ttlv_types::specs::Digits::six_digits, crate::specs::Responses::read_get_response))]
+    fn from_fields(fields: (ResponseHeader, GetResponseItem<A>)) -> Self {
+        let (header, item) = fields;
         GetResponse { header, item }
     }
 }
@@ -296,7 +300,6 @@ impl<A: Allocator + Copy> Decode<A> for GetResponse<A> {
 
     ghost is_value = { λ v x. v ≡ read_get_response x };
 
-    #[tactic(auto, unfolding(kmip_ttlv_types::specs::Digits::six_digits, crate::specs::Responses::read_get_response))]
     fn decode(alloc: A, bytes: &[u8]) -> Result<Self, error::Error<A>> {
         reader::read_message(alloc, bytes)
     }

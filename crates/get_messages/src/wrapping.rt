@@ -2,7 +2,6 @@
 //! How a key is wrapped (KMIP 1.0, sections 2.1.5, 3.6 and 9.1.3.2).
 
 ghost use Rattle.std.specs.Prelude.{◌≡◌, refl, codes, true};
-ghost use Rattle.kmip_ttlv.specs.Spots.{fields_in, struct_fields};
 ghost use Rattle.get_messages.specs.Wrappings.{wrapping_method_form, wrapping_method_value, wrapping_method_number, wrapping_method_variants, block_cipher_mode_form, block_cipher_mode_value, block_cipher_mode_number, block_cipher_mode_variants, padding_method_form, padding_method_value, padding_method_number, padding_method_variants, hashing_algorithm_form, hashing_algorithm_value, hashing_algorithm_number, hashing_algorithm_variants, role_type_form, role_type_value, role_type_number, role_type_variants, cryptographic_parameters_form, written_cryptographic_parameters, read_cryptographic_parameters, encryption_key_information_form, written_encryption_key_information, read_encryption_key_information, mac_signature_key_information_form, written_mac_signature_key_information, read_mac_signature_key_information, key_wrapping_data_form, written_key_wrapping_data, read_key_wrapping_data};
 
 use kmip_ttlv::messages::writing;
@@ -543,35 +542,38 @@ impl Serialize for CryptographicParameters {
 }
 
 impl<A: Allocator + Copy> reader::ReadStructure<A> for CryptographicParameters {
+    ghost form = { cryptographic_parameters_form };
+
+    ghost value = { read_cryptographic_parameters };
+
     ghost TAG = { 0x42002B };
 
     ghost DENIES_UNKNOWN = { true };
 
-    ghost values = { λ x. fields_in (read_cryptographic_parameters x) };
-
-    type Fields = reader::Four<
+    type Fields = (
         reader::OptionalItem<BlockCipherMode, 0x420011>,
         reader::OptionalItem<PaddingMethod, 0x42005F>,
         reader::OptionalItem<HashingAlgorithm, 0x420038>,
         reader::OptionalItem<RoleType, 0x420083>,
-        (),
-    >;
+    );
 
     const TAG: u32 = 0x42002B;
 
     const DENIES_UNKNOWN: bool = true;
 
+    #[tactic(auto, unfolding(kmip_ttlv_types::specs::Digits::six_digits))]
+    fn has_form() {}
+
     #[tactic(auto, unfolding(kmip_ttlv_types::specs::Digits::six_digits, crate::specs::Wrappings::read_cryptographic_parameters))]
     fn from_fields(
         fields: (
             Option<BlockCipherMode>,
-            (
-                Option<PaddingMethod>,
-                (Option<HashingAlgorithm>, (Option<RoleType>, ())),
-            ),
+            Option<PaddingMethod>,
+            Option<HashingAlgorithm>,
+            Option<RoleType>,
         ),
     ) -> Self {
-        let (block_cipher_mode, (padding_method, (hashing_algorithm, (role_type, ())))) = fields;
+        let (block_cipher_mode, padding_method, hashing_algorithm, role_type) = fields;
         CryptographicParameters {
             block_cipher_mode,
             padding_method,
@@ -582,22 +584,21 @@ impl<A: Allocator + Copy> reader::ReadStructure<A> for CryptographicParameters {
 }
 
 impl<A: Allocator + Copy> reader::ReadNested<A> for CryptographicParameters {
+    ghost form = { cryptographic_parameters_form };
+
+    ghost value = { read_cryptographic_parameters };
+
     ghost TAG = { 0x42002B };
 
-    ghost fields = { struct_fields cryptographic_parameters_form };
-
-    ghost denies_unknown = { true };
-
-    ghost values = { λ x. fields_in (read_cryptographic_parameters x) };
+    ghost structured = { (refl, refl) };
 
     const TAG: u32 = 0x42002B;
 
-    #[tactic(auto, unfolding(kmip_ttlv_types::specs::Digits::six_digits, crate::specs::Wrappings::read_cryptographic_parameters))]
     fn read_nested<'b>(
         scope: &reader::Scope<'b, A>,
         cursor: &mut reader::Cursor<'b, A>,
     ) -> reader::Step<Self, A> {
-        reader::read_form(scope, cursor)
+        reader::read_structure(scope, cursor)
     }
 }
 
@@ -624,24 +625,29 @@ impl<B: Allocator> Serialize for EncryptionKeyInformation<B> {
 }
 
 impl<A: Allocator + Copy> reader::ReadStructure<A> for EncryptionKeyInformation<A> {
+    ghost form = { encryption_key_information_form };
+
+    ghost value = { read_encryption_key_information };
+
     ghost TAG = { 0x420036 };
 
     ghost DENIES_UNKNOWN = { true };
 
-    ghost values = { λ x. fields_in (read_encryption_key_information x) };
-
     type Fields = (
         reader::Leaf<String<A>, 0x420094>,
-        (reader::OptionalNested<CryptographicParameters>, ()),
+        reader::OptionalNested<CryptographicParameters>,
     );
 
     const TAG: u32 = 0x420036;
 
     const DENIES_UNKNOWN: bool = true;
 
-    #[tactic(auto, unfolding(kmip_ttlv_types::specs::Digits::six_digits, crate::specs::Wrappings::read_encryption_key_information, crate::specs::Wrappings::read_cryptographic_parameters))]
-    fn from_fields(fields: (String<A>, (Option<CryptographicParameters>, ()))) -> Self {
-        let (unique_identifier, (cryptographic_parameters, ())) = fields;
+    #[tactic(auto, unfolding(kmip_ttlv_types::specs::Digits::six_digits))]
+    fn has_form() {}
+
+    #[tactic(auto, unfolding(kmip_ttlv_types::specs::Digits::six_digits, crate::specs::Wrappings::read_encryption_key_information))]
+    fn from_fields(fields: (String<A>, Option<CryptographicParameters>)) -> Self {
+        let (unique_identifier, cryptographic_parameters) = fields;
         EncryptionKeyInformation {
             unique_identifier,
             cryptographic_parameters,
@@ -650,22 +656,21 @@ impl<A: Allocator + Copy> reader::ReadStructure<A> for EncryptionKeyInformation<
 }
 
 impl<A: Allocator + Copy> reader::ReadNested<A> for EncryptionKeyInformation<A> {
+    ghost form = { encryption_key_information_form };
+
+    ghost value = { read_encryption_key_information };
+
     ghost TAG = { 0x420036 };
 
-    ghost fields = { struct_fields encryption_key_information_form };
-
-    ghost denies_unknown = { true };
-
-    ghost values = { λ x. fields_in (read_encryption_key_information x) };
+    ghost structured = { (refl, refl) };
 
     const TAG: u32 = 0x420036;
 
-    #[tactic(auto, unfolding(kmip_ttlv_types::specs::Digits::six_digits, crate::specs::Wrappings::read_encryption_key_information))]
     fn read_nested<'b>(
         scope: &reader::Scope<'b, A>,
         cursor: &mut reader::Cursor<'b, A>,
     ) -> reader::Step<Self, A> {
-        reader::read_form(scope, cursor)
+        reader::read_structure(scope, cursor)
     }
 }
 
@@ -692,24 +697,29 @@ impl<B: Allocator> Serialize for MacSignatureKeyInformation<B> {
 }
 
 impl<A: Allocator + Copy> reader::ReadStructure<A> for MacSignatureKeyInformation<A> {
+    ghost form = { mac_signature_key_information_form };
+
+    ghost value = { read_mac_signature_key_information };
+
     ghost TAG = { 0x42004E };
 
     ghost DENIES_UNKNOWN = { true };
 
-    ghost values = { λ x. fields_in (read_mac_signature_key_information x) };
-
     type Fields = (
         reader::Leaf<String<A>, 0x420094>,
-        (reader::OptionalNested<CryptographicParameters>, ()),
+        reader::OptionalNested<CryptographicParameters>,
     );
 
     const TAG: u32 = 0x42004E;
 
     const DENIES_UNKNOWN: bool = true;
 
-    #[tactic(auto, unfolding(kmip_ttlv_types::specs::Digits::six_digits, crate::specs::Wrappings::read_mac_signature_key_information, crate::specs::Wrappings::read_cryptographic_parameters))]
-    fn from_fields(fields: (String<A>, (Option<CryptographicParameters>, ()))) -> Self {
-        let (unique_identifier, (cryptographic_parameters, ())) = fields;
+    #[tactic(auto, unfolding(kmip_ttlv_types::specs::Digits::six_digits))]
+    fn has_form() {}
+
+    #[tactic(auto, unfolding(kmip_ttlv_types::specs::Digits::six_digits, crate::specs::Wrappings::read_mac_signature_key_information))]
+    fn from_fields(fields: (String<A>, Option<CryptographicParameters>)) -> Self {
+        let (unique_identifier, cryptographic_parameters) = fields;
         MacSignatureKeyInformation {
             unique_identifier,
             cryptographic_parameters,
@@ -718,22 +728,21 @@ impl<A: Allocator + Copy> reader::ReadStructure<A> for MacSignatureKeyInformatio
 }
 
 impl<A: Allocator + Copy> reader::ReadNested<A> for MacSignatureKeyInformation<A> {
+    ghost form = { mac_signature_key_information_form };
+
+    ghost value = { read_mac_signature_key_information };
+
     ghost TAG = { 0x42004E };
 
-    ghost fields = { struct_fields mac_signature_key_information_form };
-
-    ghost denies_unknown = { true };
-
-    ghost values = { λ x. fields_in (read_mac_signature_key_information x) };
+    ghost structured = { (refl, refl) };
 
     const TAG: u32 = 0x42004E;
 
-    #[tactic(auto, unfolding(kmip_ttlv_types::specs::Digits::six_digits, crate::specs::Wrappings::read_mac_signature_key_information))]
     fn read_nested<'b>(
         scope: &reader::Scope<'b, A>,
         cursor: &mut reader::Cursor<'b, A>,
     ) -> reader::Step<Self, A> {
-        reader::read_form(scope, cursor)
+        reader::read_structure(scope, cursor)
     }
 }
 
@@ -769,43 +778,45 @@ impl<B: Allocator> Serialize for KeyWrappingData<B> {
 }
 
 impl<A: Allocator + Copy> reader::ReadStructure<A> for KeyWrappingData<A> {
+    ghost form = { key_wrapping_data_form };
+
+    ghost value = { read_key_wrapping_data };
+
     ghost TAG = { 0x420046 };
 
     ghost DENIES_UNKNOWN = { true };
-
-    ghost values = { λ x. fields_in (read_key_wrapping_data x) };
 
     type Fields = reader::Four<
         reader::Item<WrappingMethod, 0x42009E>,
         reader::OptionalNested<EncryptionKeyInformation<A>>,
         reader::OptionalNested<MacSignatureKeyInformation<A>>,
         reader::OptionalLeaf<Vec<u8, A>, 0x42004D>,
-        (reader::OptionalLeaf<Vec<u8, A>, 0x42003D>, ()),
+        (reader::OptionalLeaf<Vec<u8, A>, 0x42003D>,),
     >;
 
     const TAG: u32 = 0x420046;
 
     const DENIES_UNKNOWN: bool = true;
 
-    #[tactic(auto, unfolding(kmip_ttlv_types::specs::Digits::six_digits, crate::specs::Wrappings::read_key_wrapping_data, crate::specs::Wrappings::read_encryption_key_information, crate::specs::Wrappings::read_mac_signature_key_information))]
+    #[tactic(auto, unfolding(kmip_ttlv_types::specs::Digits::six_digits))]
+    fn has_form() {}
+
+    #[tactic(auto, unfolding(kmip_ttlv_types::specs::Digits::six_digits, crate::specs::Wrappings::read_key_wrapping_data))]
     fn from_fields(
         fields: (
             WrappingMethod,
-            (
-                Option<EncryptionKeyInformation<A>>,
-                (
-                    Option<MacSignatureKeyInformation<A>>,
-                    (Option<Vec<u8, A>>, (Option<Vec<u8, A>>, ())),
-                ),
-            ),
+            Option<EncryptionKeyInformation<A>>,
+            Option<MacSignatureKeyInformation<A>>,
+            Option<Vec<u8, A>>,
+            (Option<Vec<u8, A>>,),
         ),
     ) -> Self {
         let (
             wrapping_method,
-            (
-                encryption_key_information,
-                (mac_signature_key_information, (mac_signature, (iv_counter_nonce, ()))),
-            ),
+            encryption_key_information,
+            mac_signature_key_information,
+            mac_signature,
+            (iv_counter_nonce,),
         ) = fields;
         KeyWrappingData {
             wrapping_method,
@@ -818,21 +829,20 @@ impl<A: Allocator + Copy> reader::ReadStructure<A> for KeyWrappingData<A> {
 }
 
 impl<A: Allocator + Copy> reader::ReadNested<A> for KeyWrappingData<A> {
+    ghost form = { key_wrapping_data_form };
+
+    ghost value = { read_key_wrapping_data };
+
     ghost TAG = { 0x420046 };
 
-    ghost fields = { struct_fields key_wrapping_data_form };
-
-    ghost denies_unknown = { true };
-
-    ghost values = { λ x. fields_in (read_key_wrapping_data x) };
+    ghost structured = { (refl, refl) };
 
     const TAG: u32 = 0x420046;
 
-    #[tactic(auto, unfolding(kmip_ttlv_types::specs::Digits::six_digits, crate::specs::Wrappings::read_key_wrapping_data))]
     fn read_nested<'b>(
         scope: &reader::Scope<'b, A>,
         cursor: &mut reader::Cursor<'b, A>,
     ) -> reader::Step<Self, A> {
-        reader::read_form(scope, cursor)
+        reader::read_structure(scope, cursor)
     }
 }

@@ -131,25 +131,27 @@ interval_value_form = (newtype (codes "Transparent:0x42000B") interval)
 abbrev pub interval_value_value : IntervalValue → Value
 interval_value_value x = newtype_value (codes "Transparent:0x42000B") (interval_value x.seconds)
 
--- the variants of a `AttributeStructure` from `ApplicationSpecificInformation` on
-abbrev pub attribute_structure_variants_10 : Variants
-attribute_structure_variants_10 =
+-- the variants of a `AttributeStructure` from `RevocationReason` on
+abbrev pub attribute_structure_variants_8 : Variants
+attribute_structure_variants_8 =
+    variant (codes "if 0x42000A==Revocation Reason") (wrapped
+    revocation_reason_form) (
+    variant (codes "if 0x42000A==Link") (wrapped
+    link_form) (
     variant (codes "if 0x42000A==Application Specific Information") (wrapped
-    application_specific_information_form) no_variants
+    application_specific_information_form) no_variants))
 
--- the variants of a `AttributeStructure` from `CertificateIssuer` on
-abbrev pub attribute_structure_variants_5 : Variants
-attribute_structure_variants_5 =
+-- the variants of a `AttributeStructure` from `CertificateSubject` on
+abbrev pub attribute_structure_variants_4 : Variants
+attribute_structure_variants_4 =
+    variant (codes "if 0x42000A==Certificate Subject") (wrapped
+    certificate_subject_form) (
     variant (codes "if 0x42000A==Certificate Issuer") (wrapped
     certificate_issuer_form) (
     variant (codes "if 0x42000A==Digest") (wrapped
     digest_form) (
     variant (codes "if 0x42000A==Usage Limits") (wrapped
-    usage_limits_form) (
-    variant (codes "if 0x42000A==Revocation Reason") (wrapped
-    revocation_reason_form) (
-    variant (codes "if 0x42000A==Link") (wrapped
-    link_form) attribute_structure_variants_10))))
+    usage_limits_form) attribute_structure_variants_8)))
 
 -- the form of a `AttributeStructure`
 abbrev pub attribute_structure_form : Form
@@ -162,9 +164,7 @@ attribute_structure_form =
     variant (codes "if 0x42000A==Cryptographic Domain Parameters") (wrapped
     cryptographic_domain_parameters_form) (
     variant (codes "if 0x42000A==Certificate Identifier") (wrapped
-    certificate_identifier_form) (
-    variant (codes "if 0x42000A==Certificate Subject") (wrapped
-    certificate_subject_form) attribute_structure_variants_5)))))
+    certificate_identifier_form) attribute_structure_variants_4))))
 
 -- what a `AttributeStructure` holds, as it is written
 unfoldable pub attribute_structure_content : {A : Type 0} → AttributeStructure A → Value
@@ -196,56 +196,52 @@ unfoldable pub written_attribute_structure : {A : Type 0} → AttributeStructure
 written_attribute_structure x =
     newtype_variant_value (codes "Override:0x42000B") (codes "Transparent") (attribute_structure_content x)
 
--- what is read of a `AttributeStructure`, as an enum of this name
-abbrev pub attribute_structure_as : {A : Type 0} → List ℕ → AttributeStructure A → Value
-attribute_structure_as own (attribute_structure.Name x) =
-    newtype_variant_value own
-    (codes "if 0x42000A==Name")
-    (read_name x)
-attribute_structure_as own (attribute_structure.CryptographicParameters x) =
-    newtype_variant_value own
-    (codes "if 0x42000A==Cryptographic Parameters")
-    (read_cryptographic_parameters x)
-attribute_structure_as own (attribute_structure.CryptographicDomainParameters x) =
-    newtype_variant_value own
-    (codes "if 0x42000A==Cryptographic Domain Parameters")
-    (read_cryptographic_domain_parameters x)
-attribute_structure_as own (attribute_structure.CertificateIdentifier x) =
-    newtype_variant_value own
-    (codes "if 0x42000A==Certificate Identifier")
-    (read_certificate_identifier x)
-attribute_structure_as own (attribute_structure.CertificateSubject x) =
-    newtype_variant_value own
-    (codes "if 0x42000A==Certificate Subject")
-    (read_certificate_subject x)
-attribute_structure_as own (attribute_structure.CertificateIssuer x) =
-    newtype_variant_value own
-    (codes "if 0x42000A==Certificate Issuer")
-    (read_certificate_issuer x)
-attribute_structure_as own (attribute_structure.Digest x) =
-    newtype_variant_value own
-    (codes "if 0x42000A==Digest")
-    (read_digest x)
-attribute_structure_as own (attribute_structure.UsageLimits x) =
-    newtype_variant_value own
-    (codes "if 0x42000A==Usage Limits")
-    (read_usage_limits x)
-attribute_structure_as own (attribute_structure.RevocationReason x) =
-    newtype_variant_value own
-    (codes "if 0x42000A==Revocation Reason")
-    (read_revocation_reason x)
-attribute_structure_as own (attribute_structure.Link x) =
-    newtype_variant_value own
-    (codes "if 0x42000A==Link")
-    (read_link x)
-attribute_structure_as own (attribute_structure.ApplicationSpecificInformation x) =
-    newtype_variant_value own
-    (codes "if 0x42000A==Application Specific Information")
-    (application_specific_information_value x)
-
 -- what is read of a `AttributeStructure`
 unfoldable pub read_attribute_structure : {A : Type 0} → AttributeStructure A → Value
-read_attribute_structure x = attribute_structure_as (codes "structure") x
+read_attribute_structure (attribute_structure.Name x) =
+    newtype_variant_value (codes "structure")
+    (codes "if 0x42000A==Name")
+    (read_name x)
+read_attribute_structure (attribute_structure.CryptographicParameters x) =
+    newtype_variant_value (codes "structure")
+    (codes "if 0x42000A==Cryptographic Parameters")
+    (read_cryptographic_parameters x)
+read_attribute_structure (attribute_structure.CryptographicDomainParameters x) =
+    newtype_variant_value (codes "structure")
+    (codes "if 0x42000A==Cryptographic Domain Parameters")
+    (read_cryptographic_domain_parameters x)
+read_attribute_structure (attribute_structure.CertificateIdentifier x) =
+    newtype_variant_value (codes "structure")
+    (codes "if 0x42000A==Certificate Identifier")
+    (read_certificate_identifier x)
+read_attribute_structure (attribute_structure.CertificateSubject x) =
+    newtype_variant_value (codes "structure")
+    (codes "if 0x42000A==Certificate Subject")
+    (read_certificate_subject x)
+read_attribute_structure (attribute_structure.CertificateIssuer x) =
+    newtype_variant_value (codes "structure")
+    (codes "if 0x42000A==Certificate Issuer")
+    (read_certificate_issuer x)
+read_attribute_structure (attribute_structure.Digest x) =
+    newtype_variant_value (codes "structure")
+    (codes "if 0x42000A==Digest")
+    (read_digest x)
+read_attribute_structure (attribute_structure.UsageLimits x) =
+    newtype_variant_value (codes "structure")
+    (codes "if 0x42000A==Usage Limits")
+    (read_usage_limits x)
+read_attribute_structure (attribute_structure.RevocationReason x) =
+    newtype_variant_value (codes "structure")
+    (codes "if 0x42000A==Revocation Reason")
+    (read_revocation_reason x)
+read_attribute_structure (attribute_structure.Link x) =
+    newtype_variant_value (codes "structure")
+    (codes "if 0x42000A==Link")
+    (read_link x)
+read_attribute_structure (attribute_structure.ApplicationSpecificInformation x) =
+    newtype_variant_value (codes "structure")
+    (codes "if 0x42000A==Application Specific Information")
+    (application_specific_information_value x)
 
 -- what is read of the bytes of a `AttributeStructure`
 unfoldable pub returned_attribute_structure : {A : Type 0} → AttributeStructure A → Value
@@ -308,31 +304,37 @@ ChoosesAttributeStructure said (attribute_structure.RevocationReason x) = (said 
 ChoosesAttributeStructure said (attribute_structure.Link x) = (said ≡ codes "Link")
 ChoosesAttributeStructure said (attribute_structure.ApplicationSpecificInformation x) = (said ≡ codes "Application Specific Information")
 
--- the variants of a `AttributeValue` from `ByteString` on
-abbrev pub attribute_value_variants_10 : Variants
-attribute_value_variants_10 =
-    variant (codes "if type==ByteString") (wrapped
-    byte_string_value_form) (
-    variant (codes "if type==DateTime") (wrapped
-    date_time_value_form) (
+-- the variants of a `AttributeValue` from `Interval` on
+abbrev pub attribute_value_variants_12 : Variants
+attribute_value_variants_12 =
     variant (codes "if type==Interval") (wrapped
     interval_value_form) (
     variant (codes "if type==Structure") (wrapped
-    attribute_structure_form) no_variants)))
+    attribute_structure_form) no_variants)
 
--- the variants of a `AttributeValue` from `LongInteger` on
-abbrev pub attribute_value_variants_5 : Variants
-attribute_value_variants_5 =
+-- the variants of a `AttributeValue` from `Boolean` on
+abbrev pub attribute_value_variants_8 : Variants
+attribute_value_variants_8 =
+    variant (codes "if type==Boolean") (wrapped
+    boolean_value_form) (
+    variant (codes "if type==TextString") (wrapped
+    text_string_value_form) (
+    variant (codes "if type==ByteString") (wrapped
+    byte_string_value_form) (
+    variant (codes "if type==DateTime") (wrapped
+    date_time_value_form) attribute_value_variants_12)))
+
+-- the variants of a `AttributeValue` from `Integer` on
+abbrev pub attribute_value_variants_4 : Variants
+attribute_value_variants_4 =
+    variant (codes "if type==Integer") (wrapped
+    integer_value_form) (
     variant (codes "if type==LongInteger") (wrapped
     long_integer_value_form) (
     variant (codes "if type==BigInteger") (wrapped
     big_integer_value_form) (
     variant (codes "if type==Enumeration") (wrapped
-    enumeration_value_form) (
-    variant (codes "if type==Boolean") (wrapped
-    boolean_value_form) (
-    variant (codes "if type==TextString") (wrapped
-    text_string_value_form) attribute_value_variants_10))))
+    enumeration_value_form) attribute_value_variants_8)))
 
 -- the form of a `AttributeValue`
 abbrev pub attribute_value_form : Form
@@ -345,9 +347,7 @@ attribute_value_form =
     variant (codes "if 0x42000A==Certificate Type") (wrapped
     certificate_type_form) (
     variant (codes "if 0x42000A==State") (wrapped
-    state_form) (
-    variant (codes "if type==Integer") (wrapped
-    integer_value_form) attribute_value_variants_5)))))
+    state_form) attribute_value_variants_4))))
 
 -- what a `AttributeValue` holds, as it is written
 unfoldable pub attribute_value_content : {A : Type 0} → AttributeValue A → Value
@@ -385,68 +385,64 @@ unfoldable pub written_attribute_value : {A : Type 0} → AttributeValue A → V
 written_attribute_value x =
     newtype_variant_value (codes "Override:0x42000B") (codes "Transparent") (attribute_value_content x)
 
--- what is read of a `AttributeValue`, as an enum of this name
-abbrev pub attribute_value_as : {A : Type 0} → List ℕ → AttributeValue A → Value
-attribute_value_as own (attribute_value.ObjectType x) =
-    newtype_variant_value own
-    (codes "if 0x42000A==Object Type")
-    (read_object_type x)
-attribute_value_as own (attribute_value.CryptographicAlgorithm x) =
-    newtype_variant_value own
-    (codes "if 0x42000A==Cryptographic Algorithm")
-    (read_cryptographic_algorithm x)
-attribute_value_as own (attribute_value.CertificateType x) =
-    newtype_variant_value own
-    (codes "if 0x42000A==Certificate Type")
-    (read_certificate_type x)
-attribute_value_as own (attribute_value.State x) =
-    newtype_variant_value own
-    (codes "if 0x42000A==State")
-    (read_state x)
-attribute_value_as own (attribute_value.Integer x) =
-    newtype_variant_value own
-    (codes "if type==Integer")
-    (integer_value_value x)
-attribute_value_as own (attribute_value.LongInteger x) =
-    newtype_variant_value own
-    (codes "if type==LongInteger")
-    (long_integer_value_value x)
-attribute_value_as own (attribute_value.BigInteger x) =
-    newtype_variant_value own
-    (codes "if type==BigInteger")
-    (big_integer_value_value x)
-attribute_value_as own (attribute_value.Enumeration x) =
-    newtype_variant_value own
-    (codes "if type==Enumeration")
-    (enumeration_value_value x)
-attribute_value_as own (attribute_value.Boolean x) =
-    newtype_variant_value own
-    (codes "if type==Boolean")
-    (boolean_value_value x)
-attribute_value_as own (attribute_value.TextString x) =
-    newtype_variant_value own
-    (codes "if type==TextString")
-    (text_string_value_value x)
-attribute_value_as own (attribute_value.ByteString x) =
-    newtype_variant_value own
-    (codes "if type==ByteString")
-    (byte_string_value_value x)
-attribute_value_as own (attribute_value.DateTime x) =
-    newtype_variant_value own
-    (codes "if type==DateTime")
-    (date_time_value_value x)
-attribute_value_as own (attribute_value.Interval x) =
-    newtype_variant_value own
-    (codes "if type==Interval")
-    (interval_value_value x)
-attribute_value_as own (attribute_value.Structure x) =
-    newtype_variant_value own
-    (codes "if type==Structure")
-    (read_attribute_structure x)
-
 -- what is read of a `AttributeValue`
 unfoldable pub read_attribute_value : {A : Type 0} → AttributeValue A → Value
-read_attribute_value x = attribute_value_as (codes "value") x
+read_attribute_value (attribute_value.ObjectType x) =
+    newtype_variant_value (codes "value")
+    (codes "if 0x42000A==Object Type")
+    (read_object_type x)
+read_attribute_value (attribute_value.CryptographicAlgorithm x) =
+    newtype_variant_value (codes "value")
+    (codes "if 0x42000A==Cryptographic Algorithm")
+    (read_cryptographic_algorithm x)
+read_attribute_value (attribute_value.CertificateType x) =
+    newtype_variant_value (codes "value")
+    (codes "if 0x42000A==Certificate Type")
+    (read_certificate_type x)
+read_attribute_value (attribute_value.State x) =
+    newtype_variant_value (codes "value")
+    (codes "if 0x42000A==State")
+    (read_state x)
+read_attribute_value (attribute_value.Integer x) =
+    newtype_variant_value (codes "value")
+    (codes "if type==Integer")
+    (integer_value_value x)
+read_attribute_value (attribute_value.LongInteger x) =
+    newtype_variant_value (codes "value")
+    (codes "if type==LongInteger")
+    (long_integer_value_value x)
+read_attribute_value (attribute_value.BigInteger x) =
+    newtype_variant_value (codes "value")
+    (codes "if type==BigInteger")
+    (big_integer_value_value x)
+read_attribute_value (attribute_value.Enumeration x) =
+    newtype_variant_value (codes "value")
+    (codes "if type==Enumeration")
+    (enumeration_value_value x)
+read_attribute_value (attribute_value.Boolean x) =
+    newtype_variant_value (codes "value")
+    (codes "if type==Boolean")
+    (boolean_value_value x)
+read_attribute_value (attribute_value.TextString x) =
+    newtype_variant_value (codes "value")
+    (codes "if type==TextString")
+    (text_string_value_value x)
+read_attribute_value (attribute_value.ByteString x) =
+    newtype_variant_value (codes "value")
+    (codes "if type==ByteString")
+    (byte_string_value_value x)
+read_attribute_value (attribute_value.DateTime x) =
+    newtype_variant_value (codes "value")
+    (codes "if type==DateTime")
+    (date_time_value_value x)
+read_attribute_value (attribute_value.Interval x) =
+    newtype_variant_value (codes "value")
+    (codes "if type==Interval")
+    (interval_value_value x)
+read_attribute_value (attribute_value.Structure x) =
+    newtype_variant_value (codes "value")
+    (codes "if type==Structure")
+    (read_attribute_structure x)
 
 -- what is read of the bytes of a `AttributeValue`
 unfoldable pub returned_attribute_value : {A : Type 0} → AttributeValue A → Value

@@ -1,11 +1,10 @@
 // Written by codegen from types.table: change that, and run codegen/codegen.
 //! An attribute: its name, its index and what it says (KMIP 1.0, section 2.1.1).
 
-ghost use Rattle.std.specs.Prelude.{◌≡◌, ◌↔◌, refl, IsTrue, List, OnErr, OnOk, codes, true, ℕ};
+ghost use Rattle.std.specs.Prelude.{◌↔◌, refl, IsTrue, OnErr, OnOk, codes, true};
 ghost use Rattle.kmip_ttlv.specs.Returns.{IsNoneOf};
-ghost use Rattle.kmip_ttlv.specs.Spots.{fields_in, struct_fields};
 ghost use Rattle.kmip_ttlv.specs.Visits.{Tells};
-ghost use Rattle.kmip_attributes.specs.Attributes.{attribute_name_form, attribute_name_value, attribute_index_form, attribute_index_value, integer_value_form, integer_value_value, long_integer_value_form, long_integer_value_value, big_integer_value_form, big_integer_value_value, enumeration_value_form, enumeration_value_value, boolean_value_form, boolean_value_value, text_string_value_form, text_string_value_value, byte_string_value_form, byte_string_value_value, date_time_value_form, date_time_value_value, interval_value_form, interval_value_value, attribute_structure_form, written_attribute_structure, read_attribute_structure, attribute_structure_content, ChoosesAttributeStructure, attribute_structure_as, attribute_structure_variants_5, attribute_structure_variants_10, attribute_value_form, written_attribute_value, read_attribute_value, attribute_value_content, ChoosesAttributeValue, attribute_value_names, attribute_value_as, attribute_value_variants_5, attribute_value_variants_10, attribute_form, written_attribute, read_attribute};
+ghost use Rattle.kmip_attributes.specs.Attributes.{attribute_name_form, attribute_name_value, attribute_index_form, attribute_index_value, integer_value_form, integer_value_value, long_integer_value_form, long_integer_value_value, big_integer_value_form, big_integer_value_value, enumeration_value_form, enumeration_value_value, boolean_value_form, boolean_value_value, text_string_value_form, text_string_value_value, byte_string_value_form, byte_string_value_value, date_time_value_form, date_time_value_value, interval_value_form, interval_value_value, attribute_structure_form, written_attribute_structure, read_attribute_structure, attribute_structure_content, ChoosesAttributeStructure, attribute_structure_variants_4, attribute_structure_variants_8, attribute_value_form, written_attribute_value, read_attribute_value, attribute_value_content, ChoosesAttributeValue, attribute_value_names, attribute_value_variants_4, attribute_value_variants_8, attribute_value_variants_12, attribute_form, written_attribute, read_attribute};
 
 use crate::structures::{
     ApplicationSpecificInformation, CertificateIdentifier, CertificateIssuer, CertificateSubject,
@@ -20,7 +19,6 @@ use kmip_ttlv::shape::Serialize;
 use kmip_ttlv::types::TtlvType;
 use kmip_ttlv::visit::Visitor;
 use std::alloc::{AllocError, Allocator, Global};
-use std::marker::PhantomData;
 
 /// What names an attribute.
 #[derive(Drop)]
@@ -479,10 +477,21 @@ impl reader::Rule for AttributeStructureNameRule {
 
     #[tactic(auto, unfolding(kmip_ttlv_reader::specs::RuleParts::parts_of))]
     fn parts() -> Option<reader::RuleParts> {
-        Some(reader::RuleParts {
+        Some(reader::RuleParts::Texts {
             tag: 0x42000A,
             texts: &["Name"],
         })
+    }
+}
+
+impl<A: Allocator + Copy> reader::VariantOf<
+    reader::StructureElement<Name<A>>,
+    AttributeStructure<A>,
+    A,
+> for AttributeStructureNameRule {
+    #[tactic(auto, unfolding(kmip_ttlv_types::specs::Digits::six_digits, crate::specs::Attributes::read_attribute_structure))]
+    fn from_content(held: Name<A>) -> AttributeStructure<A> {
+        AttributeStructure::Name(held)
     }
 }
 
@@ -498,10 +507,21 @@ impl reader::Rule for AttributeStructureCryptographicParametersRule {
 
     #[tactic(auto, unfolding(kmip_ttlv_reader::specs::RuleParts::parts_of))]
     fn parts() -> Option<reader::RuleParts> {
-        Some(reader::RuleParts {
+        Some(reader::RuleParts::Texts {
             tag: 0x42000A,
             texts: &["Cryptographic Parameters"],
         })
+    }
+}
+
+impl<A: Allocator + Copy> reader::VariantOf<
+    reader::StructureElement<CryptographicParameters>,
+    AttributeStructure<A>,
+    A,
+> for AttributeStructureCryptographicParametersRule {
+    #[tactic(auto, unfolding(kmip_ttlv_types::specs::Digits::six_digits, crate::specs::Attributes::read_attribute_structure))]
+    fn from_content(held: CryptographicParameters) -> AttributeStructure<A> {
+        AttributeStructure::CryptographicParameters(held)
     }
 }
 
@@ -517,10 +537,21 @@ impl reader::Rule for AttributeStructureCryptographicDomainParametersRule {
 
     #[tactic(auto, unfolding(kmip_ttlv_reader::specs::RuleParts::parts_of))]
     fn parts() -> Option<reader::RuleParts> {
-        Some(reader::RuleParts {
+        Some(reader::RuleParts::Texts {
             tag: 0x42000A,
             texts: &["Cryptographic Domain Parameters"],
         })
+    }
+}
+
+impl<A: Allocator + Copy> reader::VariantOf<
+    reader::StructureElement<CryptographicDomainParameters>,
+    AttributeStructure<A>,
+    A,
+> for AttributeStructureCryptographicDomainParametersRule {
+    #[tactic(auto, unfolding(kmip_ttlv_types::specs::Digits::six_digits, crate::specs::Attributes::read_attribute_structure))]
+    fn from_content(held: CryptographicDomainParameters) -> AttributeStructure<A> {
+        AttributeStructure::CryptographicDomainParameters(held)
     }
 }
 
@@ -536,10 +567,21 @@ impl reader::Rule for AttributeStructureCertificateIdentifierRule {
 
     #[tactic(auto, unfolding(kmip_ttlv_reader::specs::RuleParts::parts_of))]
     fn parts() -> Option<reader::RuleParts> {
-        Some(reader::RuleParts {
+        Some(reader::RuleParts::Texts {
             tag: 0x42000A,
             texts: &["Certificate Identifier"],
         })
+    }
+}
+
+impl<A: Allocator + Copy> reader::VariantOf<
+    reader::StructureElement<CertificateIdentifier<A>>,
+    AttributeStructure<A>,
+    A,
+> for AttributeStructureCertificateIdentifierRule {
+    #[tactic(auto, unfolding(kmip_ttlv_types::specs::Digits::six_digits, crate::specs::Attributes::read_attribute_structure))]
+    fn from_content(held: CertificateIdentifier<A>) -> AttributeStructure<A> {
+        AttributeStructure::CertificateIdentifier(held)
     }
 }
 
@@ -555,10 +597,21 @@ impl reader::Rule for AttributeStructureCertificateSubjectRule {
 
     #[tactic(auto, unfolding(kmip_ttlv_reader::specs::RuleParts::parts_of))]
     fn parts() -> Option<reader::RuleParts> {
-        Some(reader::RuleParts {
+        Some(reader::RuleParts::Texts {
             tag: 0x42000A,
             texts: &["Certificate Subject"],
         })
+    }
+}
+
+impl<A: Allocator + Copy> reader::VariantOf<
+    reader::StructureElement<CertificateSubject<A>>,
+    AttributeStructure<A>,
+    A,
+> for AttributeStructureCertificateSubjectRule {
+    #[tactic(auto, unfolding(kmip_ttlv_types::specs::Digits::six_digits, crate::specs::Attributes::read_attribute_structure))]
+    fn from_content(held: CertificateSubject<A>) -> AttributeStructure<A> {
+        AttributeStructure::CertificateSubject(held)
     }
 }
 
@@ -574,10 +627,21 @@ impl reader::Rule for AttributeStructureCertificateIssuerRule {
 
     #[tactic(auto, unfolding(kmip_ttlv_reader::specs::RuleParts::parts_of))]
     fn parts() -> Option<reader::RuleParts> {
-        Some(reader::RuleParts {
+        Some(reader::RuleParts::Texts {
             tag: 0x42000A,
             texts: &["Certificate Issuer"],
         })
+    }
+}
+
+impl<A: Allocator + Copy> reader::VariantOf<
+    reader::StructureElement<CertificateIssuer<A>>,
+    AttributeStructure<A>,
+    A,
+> for AttributeStructureCertificateIssuerRule {
+    #[tactic(auto, unfolding(kmip_ttlv_types::specs::Digits::six_digits, crate::specs::Attributes::read_attribute_structure))]
+    fn from_content(held: CertificateIssuer<A>) -> AttributeStructure<A> {
+        AttributeStructure::CertificateIssuer(held)
     }
 }
 
@@ -593,10 +657,21 @@ impl reader::Rule for AttributeStructureDigestRule {
 
     #[tactic(auto, unfolding(kmip_ttlv_reader::specs::RuleParts::parts_of))]
     fn parts() -> Option<reader::RuleParts> {
-        Some(reader::RuleParts {
+        Some(reader::RuleParts::Texts {
             tag: 0x42000A,
             texts: &["Digest"],
         })
+    }
+}
+
+impl<A: Allocator + Copy> reader::VariantOf<
+    reader::StructureElement<Digest<A>>,
+    AttributeStructure<A>,
+    A,
+> for AttributeStructureDigestRule {
+    #[tactic(auto, unfolding(kmip_ttlv_types::specs::Digits::six_digits, crate::specs::Attributes::read_attribute_structure))]
+    fn from_content(held: Digest<A>) -> AttributeStructure<A> {
+        AttributeStructure::Digest(held)
     }
 }
 
@@ -612,10 +687,21 @@ impl reader::Rule for AttributeStructureUsageLimitsRule {
 
     #[tactic(auto, unfolding(kmip_ttlv_reader::specs::RuleParts::parts_of))]
     fn parts() -> Option<reader::RuleParts> {
-        Some(reader::RuleParts {
+        Some(reader::RuleParts::Texts {
             tag: 0x42000A,
             texts: &["Usage Limits"],
         })
+    }
+}
+
+impl<A: Allocator + Copy> reader::VariantOf<
+    reader::StructureElement<UsageLimits>,
+    AttributeStructure<A>,
+    A,
+> for AttributeStructureUsageLimitsRule {
+    #[tactic(auto, unfolding(kmip_ttlv_types::specs::Digits::six_digits, crate::specs::Attributes::read_attribute_structure))]
+    fn from_content(held: UsageLimits) -> AttributeStructure<A> {
+        AttributeStructure::UsageLimits(held)
     }
 }
 
@@ -631,10 +717,21 @@ impl reader::Rule for AttributeStructureRevocationReasonRule {
 
     #[tactic(auto, unfolding(kmip_ttlv_reader::specs::RuleParts::parts_of))]
     fn parts() -> Option<reader::RuleParts> {
-        Some(reader::RuleParts {
+        Some(reader::RuleParts::Texts {
             tag: 0x42000A,
             texts: &["Revocation Reason"],
         })
+    }
+}
+
+impl<A: Allocator + Copy> reader::VariantOf<
+    reader::StructureElement<RevocationReason<A>>,
+    AttributeStructure<A>,
+    A,
+> for AttributeStructureRevocationReasonRule {
+    #[tactic(auto, unfolding(kmip_ttlv_types::specs::Digits::six_digits, crate::specs::Attributes::read_attribute_structure))]
+    fn from_content(held: RevocationReason<A>) -> AttributeStructure<A> {
+        AttributeStructure::RevocationReason(held)
     }
 }
 
@@ -650,10 +747,21 @@ impl reader::Rule for AttributeStructureLinkRule {
 
     #[tactic(auto, unfolding(kmip_ttlv_reader::specs::RuleParts::parts_of))]
     fn parts() -> Option<reader::RuleParts> {
-        Some(reader::RuleParts {
+        Some(reader::RuleParts::Texts {
             tag: 0x42000A,
             texts: &["Link"],
         })
+    }
+}
+
+impl<A: Allocator + Copy> reader::VariantOf<
+    reader::StructureElement<Link<A>>,
+    AttributeStructure<A>,
+    A,
+> for AttributeStructureLinkRule {
+    #[tactic(auto, unfolding(kmip_ttlv_types::specs::Digits::six_digits, crate::specs::Attributes::read_attribute_structure))]
+    fn from_content(held: Link<A>) -> AttributeStructure<A> {
+        AttributeStructure::Link(held)
     }
 }
 
@@ -669,319 +777,133 @@ impl reader::Rule for AttributeStructureApplicationSpecificInformationRule {
 
     #[tactic(auto, unfolding(kmip_ttlv_reader::specs::RuleParts::parts_of))]
     fn parts() -> Option<reader::RuleParts> {
-        Some(reader::RuleParts {
+        Some(reader::RuleParts::Texts {
             tag: 0x42000A,
             texts: &["Application Specific Information"],
         })
     }
 }
 
-// The variants from `ApplicationSpecificInformation` on.
-type AttributeStructureFromApplicationSpecificInformation<A> = reader::Variant<
-    AttributeStructureApplicationSpecificInformationRule,
+impl<A: Allocator + Copy> reader::VariantOf<
     reader::StructureElement<ApplicationSpecificInformation<A>>,
->;
-
-// The one that was read as one of these.
-#[tactic(auto, unfolding(kmip_ttlv_types::specs::Digits::six_digits, crate::specs::Attributes::read_attribute_structure, crate::specs::Structures::read_name, crate::specs::Structures::read_cryptographic_parameters, crate::specs::Structures::read_cryptographic_domain_parameters, crate::specs::Structures::read_certificate_identifier, crate::specs::Structures::read_certificate_subject, crate::specs::Structures::read_certificate_issuer, crate::specs::Structures::read_digest, crate::specs::Structures::read_usage_limits, crate::specs::Structures::read_revocation_reason, crate::specs::Structures::read_link, crate::specs::Structures::application_specific_information_value))]
-#[inline(always)]
-fn attribute_structure_from_application_specific_information<A: Allocator + Copy>(
-    read: <AttributeStructureFromApplicationSpecificInformation<A> as reader::VariantList<A>>::Read,
-) -> AttributeStructure<A>
-    ensures { (own : List ℕ) → attribute_structure_as own result ≡ ⟦<AttributeStructureFromApplicationSpecificInformation<A> as reader::VariantList<A>>⟧.value own read }
-{
-    AttributeStructure::ApplicationSpecificInformation(read)
+    AttributeStructure<A>,
+    A,
+> for AttributeStructureApplicationSpecificInformationRule {
+    #[tactic(auto, unfolding(kmip_ttlv_types::specs::Digits::six_digits, crate::specs::Attributes::read_attribute_structure))]
+    fn from_content(held: ApplicationSpecificInformation<A>) -> AttributeStructure<A> {
+        AttributeStructure::ApplicationSpecificInformation(held)
+    }
 }
 
-/// The variants of `AttributeStructure` from `ApplicationSpecificInformation` on, as one.
-#[derive(Drop)]
-pub struct AttributeStructureLater10<A> {
-    kind: PhantomData<A>,
-}
+/// The variants of `AttributeStructure` from `CertificateSubject` on.
+pub struct AttributeStructureLater4;
 
-impl<A: Allocator + Copy> reader::VariantList<A> for AttributeStructureLater10<A> {
-    type Read = AttributeStructure<A>;
+impl<A: Allocator + Copy> reader::VariantList<AttributeStructure<A>, A>
+    for AttributeStructureLater4 {
+    ghost variants = { attribute_structure_variants_4 };
 
-    ghost variants = { attribute_structure_variants_10 };
-
-    ghost value = { attribute_structure_as };
-
-    #[tactic(auto, unfolding(kmip_ttlv_types::specs::Digits::six_digits, crate::specs::Attributes::read_attribute_structure, crate::specs::Structures::read_name, crate::specs::Structures::read_cryptographic_parameters, crate::specs::Structures::read_cryptographic_domain_parameters, crate::specs::Structures::read_certificate_identifier, crate::specs::Structures::read_certificate_subject, crate::specs::Structures::read_certificate_issuer, crate::specs::Structures::read_digest, crate::specs::Structures::read_usage_limits, crate::specs::Structures::read_revocation_reason, crate::specs::Structures::read_link, crate::specs::Structures::application_specific_information_value))]
     fn read_chosen<'b>(
         scope: &reader::Scope<'b, A>,
         cursor: &mut reader::Cursor<'b, A>,
         typ: TtlvType,
     ) -> reader::Step<Option<AttributeStructure<A>>, A> {
-        match <AttributeStructureFromApplicationSpecificInformation<A> as reader::VariantList<
-            A,
-        >>::read_chosen(scope, cursor, typ)
-        {
-            Ok(Some(read)) => Ok(Some(attribute_structure_from_application_specific_information(
-                read,
-            ))),
-            Ok(None) => Ok(None),
-            Err(failure) => Err(failure),
-        }
+        <(
+            reader::Variant<
+                AttributeStructureCertificateSubjectRule,
+                reader::StructureElement<CertificateSubject<A>>,
+            >,
+            (
+                reader::Variant<
+                    AttributeStructureCertificateIssuerRule,
+                    reader::StructureElement<CertificateIssuer<A>>,
+                >,
+                (
+                    reader::Variant<
+                        AttributeStructureDigestRule,
+                        reader::StructureElement<Digest<A>>,
+                    >,
+                    (
+                        reader::Variant<
+                            AttributeStructureUsageLimitsRule,
+                            reader::StructureElement<UsageLimits>,
+                        >,
+                        AttributeStructureLater8,
+                    ),
+                ),
+            ),
+        ) as reader::VariantList<AttributeStructure<A>, A>>::read_chosen(scope, cursor, typ)
     }
 
     ghost ruled = { λ content. refl };
 }
 
-// The variants from `Link` on.
-type AttributeStructureFromLink<A> = (
-    reader::Variant<AttributeStructureLinkRule, reader::StructureElement<Link<A>>>,
-    AttributeStructureLater10<A>,
-);
+/// The variants of `AttributeStructure` from `RevocationReason` on.
+pub struct AttributeStructureLater8;
 
-// The one that was read as one of these.
-#[tactic(auto, unfolding(kmip_ttlv_types::specs::Digits::six_digits, crate::specs::Attributes::read_attribute_structure, crate::specs::Structures::read_name, crate::specs::Structures::read_cryptographic_parameters, crate::specs::Structures::read_cryptographic_domain_parameters, crate::specs::Structures::read_certificate_identifier, crate::specs::Structures::read_certificate_subject, crate::specs::Structures::read_certificate_issuer, crate::specs::Structures::read_digest, crate::specs::Structures::read_usage_limits, crate::specs::Structures::read_revocation_reason, crate::specs::Structures::read_link, crate::specs::Structures::application_specific_information_value))]
-#[inline(always)]
-fn attribute_structure_from_link<A: Allocator + Copy>(
-    read: <AttributeStructureFromLink<A> as reader::VariantList<A>>::Read,
-) -> AttributeStructure<A>
-    ensures { (own : List ℕ) → attribute_structure_as own result ≡ ⟦<AttributeStructureFromLink<A> as reader::VariantList<A>>⟧.value own read }
-{
-    match read {
-        reader::OneOf::First(held) => AttributeStructure::Link(held),
-        reader::OneOf::Other(other) => other,
-    }
-}
+impl<A: Allocator + Copy> reader::VariantList<AttributeStructure<A>, A>
+    for AttributeStructureLater8 {
+    ghost variants = { attribute_structure_variants_8 };
 
-// The variants from `RevocationReason` on.
-type AttributeStructureFromRevocationReason<A> = (
-    reader::Variant<
-        AttributeStructureRevocationReasonRule,
-        reader::StructureElement<RevocationReason<A>>,
-    >,
-    AttributeStructureFromLink<A>,
-);
-
-// The one that was read as one of these.
-#[tactic(auto, unfolding(kmip_ttlv_types::specs::Digits::six_digits, crate::specs::Attributes::read_attribute_structure, crate::specs::Structures::read_name, crate::specs::Structures::read_cryptographic_parameters, crate::specs::Structures::read_cryptographic_domain_parameters, crate::specs::Structures::read_certificate_identifier, crate::specs::Structures::read_certificate_subject, crate::specs::Structures::read_certificate_issuer, crate::specs::Structures::read_digest, crate::specs::Structures::read_usage_limits, crate::specs::Structures::read_revocation_reason, crate::specs::Structures::read_link, crate::specs::Structures::application_specific_information_value))]
-#[inline(always)]
-fn attribute_structure_from_revocation_reason<A: Allocator + Copy>(
-    read: <AttributeStructureFromRevocationReason<A> as reader::VariantList<A>>::Read,
-) -> AttributeStructure<A>
-    ensures { (own : List ℕ) → attribute_structure_as own result ≡ ⟦<AttributeStructureFromRevocationReason<A> as reader::VariantList<A>>⟧.value own read }
-{
-    match read {
-        reader::OneOf::First(held) => AttributeStructure::RevocationReason(held),
-        reader::OneOf::Other(other) => attribute_structure_from_link(other),
-    }
-}
-
-// The variants from `UsageLimits` on.
-type AttributeStructureFromUsageLimits<A> = (
-    reader::Variant<AttributeStructureUsageLimitsRule, reader::StructureElement<UsageLimits>>,
-    AttributeStructureFromRevocationReason<A>,
-);
-
-// The one that was read as one of these.
-#[tactic(auto, unfolding(kmip_ttlv_types::specs::Digits::six_digits, crate::specs::Attributes::read_attribute_structure, crate::specs::Structures::read_name, crate::specs::Structures::read_cryptographic_parameters, crate::specs::Structures::read_cryptographic_domain_parameters, crate::specs::Structures::read_certificate_identifier, crate::specs::Structures::read_certificate_subject, crate::specs::Structures::read_certificate_issuer, crate::specs::Structures::read_digest, crate::specs::Structures::read_usage_limits, crate::specs::Structures::read_revocation_reason, crate::specs::Structures::read_link, crate::specs::Structures::application_specific_information_value))]
-#[inline(always)]
-fn attribute_structure_from_usage_limits<A: Allocator + Copy>(
-    read: <AttributeStructureFromUsageLimits<A> as reader::VariantList<A>>::Read,
-) -> AttributeStructure<A>
-    ensures { (own : List ℕ) → attribute_structure_as own result ≡ ⟦<AttributeStructureFromUsageLimits<A> as reader::VariantList<A>>⟧.value own read }
-{
-    match read {
-        reader::OneOf::First(held) => AttributeStructure::UsageLimits(held),
-        reader::OneOf::Other(other) => attribute_structure_from_revocation_reason(other),
-    }
-}
-
-// The variants from `Digest` on.
-type AttributeStructureFromDigest<A> = (
-    reader::Variant<AttributeStructureDigestRule, reader::StructureElement<Digest<A>>>,
-    AttributeStructureFromUsageLimits<A>,
-);
-
-// The one that was read as one of these.
-#[tactic(auto, unfolding(kmip_ttlv_types::specs::Digits::six_digits, crate::specs::Attributes::read_attribute_structure, crate::specs::Structures::read_name, crate::specs::Structures::read_cryptographic_parameters, crate::specs::Structures::read_cryptographic_domain_parameters, crate::specs::Structures::read_certificate_identifier, crate::specs::Structures::read_certificate_subject, crate::specs::Structures::read_certificate_issuer, crate::specs::Structures::read_digest, crate::specs::Structures::read_usage_limits, crate::specs::Structures::read_revocation_reason, crate::specs::Structures::read_link, crate::specs::Structures::application_specific_information_value))]
-#[inline(always)]
-fn attribute_structure_from_digest<A: Allocator + Copy>(
-    read: <AttributeStructureFromDigest<A> as reader::VariantList<A>>::Read,
-) -> AttributeStructure<A>
-    ensures { (own : List ℕ) → attribute_structure_as own result ≡ ⟦<AttributeStructureFromDigest<A> as reader::VariantList<A>>⟧.value own read }
-{
-    match read {
-        reader::OneOf::First(held) => AttributeStructure::Digest(held),
-        reader::OneOf::Other(other) => attribute_structure_from_usage_limits(other),
-    }
-}
-
-// The variants from `CertificateIssuer` on.
-type AttributeStructureFromCertificateIssuer<A> = (
-    reader::Variant<
-        AttributeStructureCertificateIssuerRule,
-        reader::StructureElement<CertificateIssuer<A>>,
-    >,
-    AttributeStructureFromDigest<A>,
-);
-
-// The one that was read as one of these.
-#[tactic(auto, unfolding(kmip_ttlv_types::specs::Digits::six_digits, crate::specs::Attributes::read_attribute_structure, crate::specs::Structures::read_name, crate::specs::Structures::read_cryptographic_parameters, crate::specs::Structures::read_cryptographic_domain_parameters, crate::specs::Structures::read_certificate_identifier, crate::specs::Structures::read_certificate_subject, crate::specs::Structures::read_certificate_issuer, crate::specs::Structures::read_digest, crate::specs::Structures::read_usage_limits, crate::specs::Structures::read_revocation_reason, crate::specs::Structures::read_link, crate::specs::Structures::application_specific_information_value))]
-#[inline(always)]
-fn attribute_structure_from_certificate_issuer<A: Allocator + Copy>(
-    read: <AttributeStructureFromCertificateIssuer<A> as reader::VariantList<A>>::Read,
-) -> AttributeStructure<A>
-    ensures { (own : List ℕ) → attribute_structure_as own result ≡ ⟦<AttributeStructureFromCertificateIssuer<A> as reader::VariantList<A>>⟧.value own read }
-{
-    match read {
-        reader::OneOf::First(held) => AttributeStructure::CertificateIssuer(held),
-        reader::OneOf::Other(other) => attribute_structure_from_digest(other),
-    }
-}
-
-/// The variants of `AttributeStructure` from `CertificateIssuer` on, as one.
-#[derive(Drop)]
-pub struct AttributeStructureLater5<A> {
-    kind: PhantomData<A>,
-}
-
-impl<A: Allocator + Copy> reader::VariantList<A> for AttributeStructureLater5<A> {
-    type Read = AttributeStructure<A>;
-
-    ghost variants = { attribute_structure_variants_5 };
-
-    ghost value = { attribute_structure_as };
-
-    #[tactic(auto, unfolding(kmip_ttlv_types::specs::Digits::six_digits, crate::specs::Attributes::read_attribute_structure, crate::specs::Structures::read_name, crate::specs::Structures::read_cryptographic_parameters, crate::specs::Structures::read_cryptographic_domain_parameters, crate::specs::Structures::read_certificate_identifier, crate::specs::Structures::read_certificate_subject, crate::specs::Structures::read_certificate_issuer, crate::specs::Structures::read_digest, crate::specs::Structures::read_usage_limits, crate::specs::Structures::read_revocation_reason, crate::specs::Structures::read_link, crate::specs::Structures::application_specific_information_value))]
     fn read_chosen<'b>(
         scope: &reader::Scope<'b, A>,
         cursor: &mut reader::Cursor<'b, A>,
         typ: TtlvType,
     ) -> reader::Step<Option<AttributeStructure<A>>, A> {
-        match <AttributeStructureFromCertificateIssuer<A> as reader::VariantList<A>>::read_chosen(
-            scope, cursor, typ,
-        ) {
-            Ok(Some(read)) => Ok(Some(attribute_structure_from_certificate_issuer(read))),
-            Ok(None) => Ok(None),
-            Err(failure) => Err(failure),
-        }
+        <(
+            reader::Variant<
+                AttributeStructureRevocationReasonRule,
+                reader::StructureElement<RevocationReason<A>>,
+            >,
+            (
+                reader::Variant<AttributeStructureLinkRule, reader::StructureElement<Link<A>>>,
+                (
+                    reader::Variant<
+                        AttributeStructureApplicationSpecificInformationRule,
+                        reader::StructureElement<ApplicationSpecificInformation<A>>,
+                    >,
+                    (),
+                ),
+            ),
+        ) as reader::VariantList<AttributeStructure<A>, A>>::read_chosen(scope, cursor, typ)
     }
 
     ghost ruled = { λ content. refl };
 }
 
-// The variants from `CertificateSubject` on.
-type AttributeStructureFromCertificateSubject<A> = (
-    reader::Variant<
-        AttributeStructureCertificateSubjectRule,
-        reader::StructureElement<CertificateSubject<A>>,
-    >,
-    AttributeStructureLater5<A>,
-);
+impl<A: Allocator> reader::ChoiceValue for AttributeStructure<A> {
+    ghost own = { codes "structure" };
 
-// The one that was read as one of these.
-#[tactic(auto, unfolding(kmip_ttlv_types::specs::Digits::six_digits, crate::specs::Attributes::read_attribute_structure, crate::specs::Structures::read_name, crate::specs::Structures::read_cryptographic_parameters, crate::specs::Structures::read_cryptographic_domain_parameters, crate::specs::Structures::read_certificate_identifier, crate::specs::Structures::read_certificate_subject, crate::specs::Structures::read_certificate_issuer, crate::specs::Structures::read_digest, crate::specs::Structures::read_usage_limits, crate::specs::Structures::read_revocation_reason, crate::specs::Structures::read_link, crate::specs::Structures::application_specific_information_value))]
-#[inline(always)]
-fn attribute_structure_from_certificate_subject<A: Allocator + Copy>(
-    read: <AttributeStructureFromCertificateSubject<A> as reader::VariantList<A>>::Read,
-) -> AttributeStructure<A>
-    ensures { (own : List ℕ) → attribute_structure_as own result ≡ ⟦<AttributeStructureFromCertificateSubject<A> as reader::VariantList<A>>⟧.value own read }
-{
-    match read {
-        reader::OneOf::First(held) => AttributeStructure::CertificateSubject(held),
-        reader::OneOf::Other(other) => other,
-    }
-}
-
-// The variants from `CertificateIdentifier` on.
-type AttributeStructureFromCertificateIdentifier<A> = (
-    reader::Variant<
-        AttributeStructureCertificateIdentifierRule,
-        reader::StructureElement<CertificateIdentifier<A>>,
-    >,
-    AttributeStructureFromCertificateSubject<A>,
-);
-
-// The one that was read as one of these.
-#[tactic(auto, unfolding(kmip_ttlv_types::specs::Digits::six_digits, crate::specs::Attributes::read_attribute_structure, crate::specs::Structures::read_name, crate::specs::Structures::read_cryptographic_parameters, crate::specs::Structures::read_cryptographic_domain_parameters, crate::specs::Structures::read_certificate_identifier, crate::specs::Structures::read_certificate_subject, crate::specs::Structures::read_certificate_issuer, crate::specs::Structures::read_digest, crate::specs::Structures::read_usage_limits, crate::specs::Structures::read_revocation_reason, crate::specs::Structures::read_link, crate::specs::Structures::application_specific_information_value))]
-#[inline(always)]
-fn attribute_structure_from_certificate_identifier<A: Allocator + Copy>(
-    read: <AttributeStructureFromCertificateIdentifier<A> as reader::VariantList<A>>::Read,
-) -> AttributeStructure<A>
-    ensures { (own : List ℕ) → attribute_structure_as own result ≡ ⟦<AttributeStructureFromCertificateIdentifier<A> as reader::VariantList<A>>⟧.value own read }
-{
-    match read {
-        reader::OneOf::First(held) => AttributeStructure::CertificateIdentifier(held),
-        reader::OneOf::Other(other) => attribute_structure_from_certificate_subject(other),
-    }
-}
-
-// The variants from `CryptographicDomainParameters` on.
-type AttributeStructureFromCryptographicDomainParameters<A> = (
-    reader::Variant<
-        AttributeStructureCryptographicDomainParametersRule,
-        reader::StructureElement<CryptographicDomainParameters>,
-    >,
-    AttributeStructureFromCertificateIdentifier<A>,
-);
-
-// The one that was read as one of these.
-#[tactic(auto, unfolding(kmip_ttlv_types::specs::Digits::six_digits, crate::specs::Attributes::read_attribute_structure, crate::specs::Structures::read_name, crate::specs::Structures::read_cryptographic_parameters, crate::specs::Structures::read_cryptographic_domain_parameters, crate::specs::Structures::read_certificate_identifier, crate::specs::Structures::read_certificate_subject, crate::specs::Structures::read_certificate_issuer, crate::specs::Structures::read_digest, crate::specs::Structures::read_usage_limits, crate::specs::Structures::read_revocation_reason, crate::specs::Structures::read_link, crate::specs::Structures::application_specific_information_value))]
-#[inline(always)]
-fn attribute_structure_from_cryptographic_domain_parameters<A: Allocator + Copy>(
-    read: <AttributeStructureFromCryptographicDomainParameters<A> as reader::VariantList<A>>::Read,
-) -> AttributeStructure<A>
-    ensures { (own : List ℕ) → attribute_structure_as own result ≡ ⟦<AttributeStructureFromCryptographicDomainParameters<A> as reader::VariantList<A>>⟧.value own read }
-{
-    match read {
-        reader::OneOf::First(held) => AttributeStructure::CryptographicDomainParameters(held),
-        reader::OneOf::Other(other) => attribute_structure_from_certificate_identifier(other),
-    }
-}
-
-// The variants from `CryptographicParameters` on.
-type AttributeStructureFromCryptographicParameters<A> = (
-    reader::Variant<
-        AttributeStructureCryptographicParametersRule,
-        reader::StructureElement<CryptographicParameters>,
-    >,
-    AttributeStructureFromCryptographicDomainParameters<A>,
-);
-
-// The one that was read as one of these.
-#[tactic(auto, unfolding(kmip_ttlv_types::specs::Digits::six_digits, crate::specs::Attributes::read_attribute_structure, crate::specs::Structures::read_name, crate::specs::Structures::read_cryptographic_parameters, crate::specs::Structures::read_cryptographic_domain_parameters, crate::specs::Structures::read_certificate_identifier, crate::specs::Structures::read_certificate_subject, crate::specs::Structures::read_certificate_issuer, crate::specs::Structures::read_digest, crate::specs::Structures::read_usage_limits, crate::specs::Structures::read_revocation_reason, crate::specs::Structures::read_link, crate::specs::Structures::application_specific_information_value))]
-#[inline(always)]
-fn attribute_structure_from_cryptographic_parameters<A: Allocator + Copy>(
-    read: <AttributeStructureFromCryptographicParameters<A> as reader::VariantList<A>>::Read,
-) -> AttributeStructure<A>
-    ensures { (own : List ℕ) → attribute_structure_as own result ≡ ⟦<AttributeStructureFromCryptographicParameters<A> as reader::VariantList<A>>⟧.value own read }
-{
-    match read {
-        reader::OneOf::First(held) => AttributeStructure::CryptographicParameters(held),
-        reader::OneOf::Other(other) => attribute_structure_from_cryptographic_domain_parameters(
-            other,
-        ),
-    }
-}
-
-// The variants from `Name` on.
-type AttributeStructureFromName<A> = (
-    reader::Variant<AttributeStructureNameRule, reader::StructureElement<Name<A>>>,
-    AttributeStructureFromCryptographicParameters<A>,
-);
-
-// The one that was read as one of these.
-#[tactic(auto, unfolding(kmip_ttlv_types::specs::Digits::six_digits, crate::specs::Attributes::read_attribute_structure, crate::specs::Structures::read_name, crate::specs::Structures::read_cryptographic_parameters, crate::specs::Structures::read_cryptographic_domain_parameters, crate::specs::Structures::read_certificate_identifier, crate::specs::Structures::read_certificate_subject, crate::specs::Structures::read_certificate_issuer, crate::specs::Structures::read_digest, crate::specs::Structures::read_usage_limits, crate::specs::Structures::read_revocation_reason, crate::specs::Structures::read_link, crate::specs::Structures::application_specific_information_value))]
-#[inline(always)]
-fn attribute_structure_from_name<A: Allocator + Copy>(
-    read: <AttributeStructureFromName<A> as reader::VariantList<A>>::Read,
-) -> AttributeStructure<A>
-    ensures { (own : List ℕ) → attribute_structure_as own result ≡ ⟦<AttributeStructureFromName<A> as reader::VariantList<A>>⟧.value own read }
-{
-    match read {
-        reader::OneOf::First(held) => AttributeStructure::Name(held),
-        reader::OneOf::Other(other) => attribute_structure_from_cryptographic_parameters(other),
-    }
+    ghost value = { read_attribute_structure };
 }
 
 impl<A: Allocator + Copy> reader::Choice<A> for AttributeStructure<A> {
-    ghost own = { codes "structure" };
+    ghost form = { attribute_structure_form };
 
-    type Variants = AttributeStructureFromName<A>;
+    type Variants = (
+        reader::Variant<AttributeStructureNameRule, reader::StructureElement<Name<A>>>,
+        (
+            reader::Variant<
+                AttributeStructureCryptographicParametersRule,
+                reader::StructureElement<CryptographicParameters>,
+            >,
+            (
+                reader::Variant<
+                    AttributeStructureCryptographicDomainParametersRule,
+                    reader::StructureElement<CryptographicDomainParameters>,
+                >,
+                (
+                    reader::Variant<
+                        AttributeStructureCertificateIdentifierRule,
+                        reader::StructureElement<CertificateIdentifier<A>>,
+                    >,
+                    AttributeStructureLater4,
+                ),
+            ),
+        ),
+    );
+
+    #[tactic(auto, unfolding(kmip_ttlv_types::specs::Digits::six_digits))]
+    fn has_form() {}
 }
 
 impl<A: Allocator + Copy> reader::ReadItem<A> for AttributeStructure<A> {
@@ -991,13 +913,11 @@ impl<A: Allocator + Copy> reader::ReadItem<A> for AttributeStructure<A> {
 
     ghost plain = { (refl, refl) };
 
-    #[tactic(auto, unfolding(kmip_ttlv_types::specs::Digits::six_digits, crate::specs::Attributes::read_attribute_structure, crate::specs::Structures::read_name, crate::specs::Structures::read_cryptographic_parameters, crate::specs::Structures::read_cryptographic_domain_parameters, crate::specs::Structures::read_certificate_identifier, crate::specs::Structures::read_certificate_subject, crate::specs::Structures::read_certificate_issuer, crate::specs::Structures::read_digest, crate::specs::Structures::read_usage_limits, crate::specs::Structures::read_revocation_reason, crate::specs::Structures::read_link, crate::specs::Structures::application_specific_information_value))]
     fn read_item<'b>(
         scope: &reader::Scope<'b, A>,
         cursor: &mut reader::Cursor<'b, A>,
     ) -> reader::Step<Self, A> {
-        let read = reader::read_choice::<Self, A>(scope, cursor)?;
-        Ok(attribute_structure_from_name(read))
+        reader::read_choice(scope, cursor)
     }
 }
 
@@ -1124,10 +1044,18 @@ impl reader::Rule for AttributeValueObjectTypeRule {
 
     #[tactic(auto, unfolding(kmip_ttlv_reader::specs::RuleParts::parts_of))]
     fn parts() -> Option<reader::RuleParts> {
-        Some(reader::RuleParts {
+        Some(reader::RuleParts::Texts {
             tag: 0x42000A,
             texts: &["Object Type"],
         })
+    }
+}
+
+impl<A: Allocator + Copy> reader::VariantOf<reader::ItemElement<ObjectType>, AttributeValue<A>, A>
+    for AttributeValueObjectTypeRule {
+    #[tactic(auto, unfolding(kmip_ttlv_types::specs::Digits::six_digits, crate::specs::Attributes::read_attribute_value))]
+    fn from_content(held: ObjectType) -> AttributeValue<A> {
+        AttributeValue::ObjectType(held)
     }
 }
 
@@ -1143,10 +1071,21 @@ impl reader::Rule for AttributeValueCryptographicAlgorithmRule {
 
     #[tactic(auto, unfolding(kmip_ttlv_reader::specs::RuleParts::parts_of))]
     fn parts() -> Option<reader::RuleParts> {
-        Some(reader::RuleParts {
+        Some(reader::RuleParts::Texts {
             tag: 0x42000A,
             texts: &["Cryptographic Algorithm"],
         })
+    }
+}
+
+impl<A: Allocator + Copy> reader::VariantOf<
+    reader::ItemElement<CryptographicAlgorithm>,
+    AttributeValue<A>,
+    A,
+> for AttributeValueCryptographicAlgorithmRule {
+    #[tactic(auto, unfolding(kmip_ttlv_types::specs::Digits::six_digits, crate::specs::Attributes::read_attribute_value))]
+    fn from_content(held: CryptographicAlgorithm) -> AttributeValue<A> {
+        AttributeValue::CryptographicAlgorithm(held)
     }
 }
 
@@ -1162,10 +1101,21 @@ impl reader::Rule for AttributeValueCertificateTypeRule {
 
     #[tactic(auto, unfolding(kmip_ttlv_reader::specs::RuleParts::parts_of))]
     fn parts() -> Option<reader::RuleParts> {
-        Some(reader::RuleParts {
+        Some(reader::RuleParts::Texts {
             tag: 0x42000A,
             texts: &["Certificate Type"],
         })
+    }
+}
+
+impl<A: Allocator + Copy> reader::VariantOf<
+    reader::ItemElement<CertificateType>,
+    AttributeValue<A>,
+    A,
+> for AttributeValueCertificateTypeRule {
+    #[tactic(auto, unfolding(kmip_ttlv_types::specs::Digits::six_digits, crate::specs::Attributes::read_attribute_value))]
+    fn from_content(held: CertificateType) -> AttributeValue<A> {
+        AttributeValue::CertificateType(held)
     }
 }
 
@@ -1181,10 +1131,18 @@ impl reader::Rule for AttributeValueStateRule {
 
     #[tactic(auto, unfolding(kmip_ttlv_reader::specs::RuleParts::parts_of))]
     fn parts() -> Option<reader::RuleParts> {
-        Some(reader::RuleParts {
+        Some(reader::RuleParts::Texts {
             tag: 0x42000A,
             texts: &["State"],
         })
+    }
+}
+
+impl<A: Allocator + Copy> reader::VariantOf<reader::ItemElement<State>, AttributeValue<A>, A>
+    for AttributeValueStateRule {
+    #[tactic(auto, unfolding(kmip_ttlv_types::specs::Digits::six_digits, crate::specs::Attributes::read_attribute_value))]
+    fn from_content(held: State) -> AttributeValue<A> {
+        AttributeValue::State(held)
     }
 }
 
@@ -1197,6 +1155,19 @@ impl reader::Rule for AttributeValueIntegerRule {
     fn name() -> &'static str {
         "if type==Integer"
     }
+
+    #[tactic(auto, unfolding(kmip_ttlv_reader::specs::RuleParts::equal_sides))]
+    fn parts() -> Option<reader::RuleParts> {
+        Some(reader::RuleParts::Type(TtlvType::Integer))
+    }
+}
+
+impl<A: Allocator + Copy> reader::VariantOf<reader::ItemElement<IntegerValue>, AttributeValue<A>, A>
+    for AttributeValueIntegerRule {
+    #[tactic(auto, unfolding(kmip_ttlv_types::specs::Digits::six_digits, crate::specs::Attributes::read_attribute_value))]
+    fn from_content(held: IntegerValue) -> AttributeValue<A> {
+        AttributeValue::Integer(held)
+    }
 }
 
 /// The rule that chooses `AttributeValue::LongInteger`.
@@ -1207,6 +1178,22 @@ impl reader::Rule for AttributeValueLongIntegerRule {
 
     fn name() -> &'static str {
         "if type==LongInteger"
+    }
+
+    #[tactic(auto, unfolding(kmip_ttlv_reader::specs::RuleParts::equal_sides))]
+    fn parts() -> Option<reader::RuleParts> {
+        Some(reader::RuleParts::Type(TtlvType::LongInteger))
+    }
+}
+
+impl<A: Allocator + Copy> reader::VariantOf<
+    reader::ItemElement<LongIntegerValue>,
+    AttributeValue<A>,
+    A,
+> for AttributeValueLongIntegerRule {
+    #[tactic(auto, unfolding(kmip_ttlv_types::specs::Digits::six_digits, crate::specs::Attributes::read_attribute_value))]
+    fn from_content(held: LongIntegerValue) -> AttributeValue<A> {
+        AttributeValue::LongInteger(held)
     }
 }
 
@@ -1219,6 +1206,22 @@ impl reader::Rule for AttributeValueBigIntegerRule {
     fn name() -> &'static str {
         "if type==BigInteger"
     }
+
+    #[tactic(auto, unfolding(kmip_ttlv_reader::specs::RuleParts::equal_sides))]
+    fn parts() -> Option<reader::RuleParts> {
+        Some(reader::RuleParts::Type(TtlvType::BigInteger))
+    }
+}
+
+impl<A: Allocator + Copy> reader::VariantOf<
+    reader::ItemElement<BigIntegerValue<A>>,
+    AttributeValue<A>,
+    A,
+> for AttributeValueBigIntegerRule {
+    #[tactic(auto, unfolding(kmip_ttlv_types::specs::Digits::six_digits, crate::specs::Attributes::read_attribute_value))]
+    fn from_content(held: BigIntegerValue<A>) -> AttributeValue<A> {
+        AttributeValue::BigInteger(held)
+    }
 }
 
 /// The rule that chooses `AttributeValue::Enumeration`.
@@ -1229,6 +1232,22 @@ impl reader::Rule for AttributeValueEnumerationRule {
 
     fn name() -> &'static str {
         "if type==Enumeration"
+    }
+
+    #[tactic(auto, unfolding(kmip_ttlv_reader::specs::RuleParts::equal_sides))]
+    fn parts() -> Option<reader::RuleParts> {
+        Some(reader::RuleParts::Type(TtlvType::Enumeration))
+    }
+}
+
+impl<A: Allocator + Copy> reader::VariantOf<
+    reader::ItemElement<EnumerationValue>,
+    AttributeValue<A>,
+    A,
+> for AttributeValueEnumerationRule {
+    #[tactic(auto, unfolding(kmip_ttlv_types::specs::Digits::six_digits, crate::specs::Attributes::read_attribute_value))]
+    fn from_content(held: EnumerationValue) -> AttributeValue<A> {
+        AttributeValue::Enumeration(held)
     }
 }
 
@@ -1241,6 +1260,19 @@ impl reader::Rule for AttributeValueBooleanRule {
     fn name() -> &'static str {
         "if type==Boolean"
     }
+
+    #[tactic(auto, unfolding(kmip_ttlv_reader::specs::RuleParts::equal_sides))]
+    fn parts() -> Option<reader::RuleParts> {
+        Some(reader::RuleParts::Type(TtlvType::Boolean))
+    }
+}
+
+impl<A: Allocator + Copy> reader::VariantOf<reader::ItemElement<BooleanValue>, AttributeValue<A>, A>
+    for AttributeValueBooleanRule {
+    #[tactic(auto, unfolding(kmip_ttlv_types::specs::Digits::six_digits, crate::specs::Attributes::read_attribute_value))]
+    fn from_content(held: BooleanValue) -> AttributeValue<A> {
+        AttributeValue::Boolean(held)
+    }
 }
 
 /// The rule that chooses `AttributeValue::TextString`.
@@ -1251,6 +1283,22 @@ impl reader::Rule for AttributeValueTextStringRule {
 
     fn name() -> &'static str {
         "if type==TextString"
+    }
+
+    #[tactic(auto, unfolding(kmip_ttlv_reader::specs::RuleParts::equal_sides))]
+    fn parts() -> Option<reader::RuleParts> {
+        Some(reader::RuleParts::Type(TtlvType::TextString))
+    }
+}
+
+impl<A: Allocator + Copy> reader::VariantOf<
+    reader::ItemElement<TextStringValue<A>>,
+    AttributeValue<A>,
+    A,
+> for AttributeValueTextStringRule {
+    #[tactic(auto, unfolding(kmip_ttlv_types::specs::Digits::six_digits, crate::specs::Attributes::read_attribute_value))]
+    fn from_content(held: TextStringValue<A>) -> AttributeValue<A> {
+        AttributeValue::TextString(held)
     }
 }
 
@@ -1263,6 +1311,22 @@ impl reader::Rule for AttributeValueByteStringRule {
     fn name() -> &'static str {
         "if type==ByteString"
     }
+
+    #[tactic(auto, unfolding(kmip_ttlv_reader::specs::RuleParts::equal_sides))]
+    fn parts() -> Option<reader::RuleParts> {
+        Some(reader::RuleParts::Type(TtlvType::ByteString))
+    }
+}
+
+impl<A: Allocator + Copy> reader::VariantOf<
+    reader::ItemElement<ByteStringValue<A>>,
+    AttributeValue<A>,
+    A,
+> for AttributeValueByteStringRule {
+    #[tactic(auto, unfolding(kmip_ttlv_types::specs::Digits::six_digits, crate::specs::Attributes::read_attribute_value))]
+    fn from_content(held: ByteStringValue<A>) -> AttributeValue<A> {
+        AttributeValue::ByteString(held)
+    }
 }
 
 /// The rule that chooses `AttributeValue::DateTime`.
@@ -1273,6 +1337,22 @@ impl reader::Rule for AttributeValueDateTimeRule {
 
     fn name() -> &'static str {
         "if type==DateTime"
+    }
+
+    #[tactic(auto, unfolding(kmip_ttlv_reader::specs::RuleParts::equal_sides))]
+    fn parts() -> Option<reader::RuleParts> {
+        Some(reader::RuleParts::Type(TtlvType::DateTime))
+    }
+}
+
+impl<A: Allocator + Copy> reader::VariantOf<
+    reader::ItemElement<DateTimeValue>,
+    AttributeValue<A>,
+    A,
+> for AttributeValueDateTimeRule {
+    #[tactic(auto, unfolding(kmip_ttlv_types::specs::Digits::six_digits, crate::specs::Attributes::read_attribute_value))]
+    fn from_content(held: DateTimeValue) -> AttributeValue<A> {
+        AttributeValue::DateTime(held)
     }
 }
 
@@ -1285,6 +1365,22 @@ impl reader::Rule for AttributeValueIntervalRule {
     fn name() -> &'static str {
         "if type==Interval"
     }
+
+    #[tactic(auto, unfolding(kmip_ttlv_reader::specs::RuleParts::equal_sides))]
+    fn parts() -> Option<reader::RuleParts> {
+        Some(reader::RuleParts::Type(TtlvType::Interval))
+    }
+}
+
+impl<A: Allocator + Copy> reader::VariantOf<
+    reader::ItemElement<IntervalValue>,
+    AttributeValue<A>,
+    A,
+> for AttributeValueIntervalRule {
+    #[tactic(auto, unfolding(kmip_ttlv_types::specs::Digits::six_digits, crate::specs::Attributes::read_attribute_value))]
+    fn from_content(held: IntervalValue) -> AttributeValue<A> {
+        AttributeValue::Interval(held)
+    }
 }
 
 /// The rule that chooses `AttributeValue::Structure`.
@@ -1296,354 +1392,157 @@ impl reader::Rule for AttributeValueStructureRule {
     fn name() -> &'static str {
         "if type==Structure"
     }
+
+    #[tactic(auto, unfolding(kmip_ttlv_reader::specs::RuleParts::equal_sides))]
+    fn parts() -> Option<reader::RuleParts> {
+        Some(reader::RuleParts::Type(TtlvType::Structure))
+    }
 }
 
-// The variants from `Structure` on.
-type AttributeValueFromStructure<A> = reader::Variant<
-    AttributeValueStructureRule,
+impl<A: Allocator + Copy> reader::VariantOf<
     reader::ItemElement<AttributeStructure<A>>,
->;
-
-// The one that was read as one of these.
-#[tactic(auto, unfolding(kmip_ttlv_types::specs::Digits::six_digits, crate::specs::Attributes::read_attribute_value))]
-#[inline(always)]
-fn attribute_value_from_structure<A: Allocator + Copy>(
-    read: <AttributeValueFromStructure<A> as reader::VariantList<A>>::Read,
-) -> AttributeValue<A>
-    ensures { (own : List ℕ) → attribute_value_as own result ≡ ⟦<AttributeValueFromStructure<A> as reader::VariantList<A>>⟧.value own read }
-{
-    AttributeValue::Structure(read)
-}
-
-// The variants from `Interval` on.
-type AttributeValueFromInterval<A> = (
-    reader::Variant<AttributeValueIntervalRule, reader::ItemElement<IntervalValue>>,
-    AttributeValueFromStructure<A>,
-);
-
-// The one that was read as one of these.
-#[tactic(auto, unfolding(kmip_ttlv_types::specs::Digits::six_digits, crate::specs::Attributes::read_attribute_value))]
-#[inline(always)]
-fn attribute_value_from_interval<A: Allocator + Copy>(
-    read: <AttributeValueFromInterval<A> as reader::VariantList<A>>::Read,
-) -> AttributeValue<A>
-    ensures { (own : List ℕ) → attribute_value_as own result ≡ ⟦<AttributeValueFromInterval<A> as reader::VariantList<A>>⟧.value own read }
-{
-    match read {
-        reader::OneOf::First(held) => AttributeValue::Interval(held),
-        reader::OneOf::Other(other) => attribute_value_from_structure(other),
-    }
-}
-
-// The variants from `DateTime` on.
-type AttributeValueFromDateTime<A> = (
-    reader::Variant<AttributeValueDateTimeRule, reader::ItemElement<DateTimeValue>>,
-    AttributeValueFromInterval<A>,
-);
-
-// The one that was read as one of these.
-#[tactic(auto, unfolding(kmip_ttlv_types::specs::Digits::six_digits, crate::specs::Attributes::read_attribute_value))]
-#[inline(always)]
-fn attribute_value_from_date_time<A: Allocator + Copy>(
-    read: <AttributeValueFromDateTime<A> as reader::VariantList<A>>::Read,
-) -> AttributeValue<A>
-    ensures { (own : List ℕ) → attribute_value_as own result ≡ ⟦<AttributeValueFromDateTime<A> as reader::VariantList<A>>⟧.value own read }
-{
-    match read {
-        reader::OneOf::First(held) => AttributeValue::DateTime(held),
-        reader::OneOf::Other(other) => attribute_value_from_interval(other),
-    }
-}
-
-// The variants from `ByteString` on.
-type AttributeValueFromByteString<A> = (
-    reader::Variant<AttributeValueByteStringRule, reader::ItemElement<ByteStringValue<A>>>,
-    AttributeValueFromDateTime<A>,
-);
-
-// The one that was read as one of these.
-#[tactic(auto, unfolding(kmip_ttlv_types::specs::Digits::six_digits, crate::specs::Attributes::read_attribute_value))]
-#[inline(always)]
-fn attribute_value_from_byte_string<A: Allocator + Copy>(
-    read: <AttributeValueFromByteString<A> as reader::VariantList<A>>::Read,
-) -> AttributeValue<A>
-    ensures { (own : List ℕ) → attribute_value_as own result ≡ ⟦<AttributeValueFromByteString<A> as reader::VariantList<A>>⟧.value own read }
-{
-    match read {
-        reader::OneOf::First(held) => AttributeValue::ByteString(held),
-        reader::OneOf::Other(other) => attribute_value_from_date_time(other),
-    }
-}
-
-/// The variants of `AttributeValue` from `ByteString` on, as one.
-#[derive(Drop)]
-pub struct AttributeValueLater10<A> {
-    kind: PhantomData<A>,
-}
-
-impl<A: Allocator + Copy> reader::VariantList<A> for AttributeValueLater10<A> {
-    type Read = AttributeValue<A>;
-
-    ghost variants = { attribute_value_variants_10 };
-
-    ghost value = { attribute_value_as };
-
+    AttributeValue<A>,
+    A,
+> for AttributeValueStructureRule {
     #[tactic(auto, unfolding(kmip_ttlv_types::specs::Digits::six_digits, crate::specs::Attributes::read_attribute_value))]
+    fn from_content(held: AttributeStructure<A>) -> AttributeValue<A> {
+        AttributeValue::Structure(held)
+    }
+}
+
+/// The variants of `AttributeValue` from `Integer` on.
+pub struct AttributeValueLater4;
+
+impl<A: Allocator + Copy> reader::VariantList<AttributeValue<A>, A> for AttributeValueLater4 {
+    ghost variants = { attribute_value_variants_4 };
+
     fn read_chosen<'b>(
         scope: &reader::Scope<'b, A>,
         cursor: &mut reader::Cursor<'b, A>,
         typ: TtlvType,
     ) -> reader::Step<Option<AttributeValue<A>>, A> {
-        match <AttributeValueFromByteString<A> as reader::VariantList<A>>::read_chosen(
-            scope, cursor, typ,
-        ) {
-            Ok(Some(read)) => Ok(Some(attribute_value_from_byte_string(read))),
-            Ok(None) => Ok(None),
-            Err(failure) => Err(failure),
-        }
+        <(
+            reader::Variant<AttributeValueIntegerRule, reader::ItemElement<IntegerValue>>,
+            (
+                reader::Variant<
+                    AttributeValueLongIntegerRule,
+                    reader::ItemElement<LongIntegerValue>,
+                >,
+                (
+                    reader::Variant<
+                        AttributeValueBigIntegerRule,
+                        reader::ItemElement<BigIntegerValue<A>>,
+                    >,
+                    (
+                        reader::Variant<
+                            AttributeValueEnumerationRule,
+                            reader::ItemElement<EnumerationValue>,
+                        >,
+                        AttributeValueLater8,
+                    ),
+                ),
+            ),
+        ) as reader::VariantList<AttributeValue<A>, A>>::read_chosen(scope, cursor, typ)
     }
 
     ghost ruled = { λ content. refl };
 }
 
-// The variants from `TextString` on.
-type AttributeValueFromTextString<A> = (
-    reader::Variant<AttributeValueTextStringRule, reader::ItemElement<TextStringValue<A>>>,
-    AttributeValueLater10<A>,
-);
+/// The variants of `AttributeValue` from `Boolean` on.
+pub struct AttributeValueLater8;
 
-// The one that was read as one of these.
-#[tactic(auto, unfolding(kmip_ttlv_types::specs::Digits::six_digits, crate::specs::Attributes::read_attribute_value))]
-#[inline(always)]
-fn attribute_value_from_text_string<A: Allocator + Copy>(
-    read: <AttributeValueFromTextString<A> as reader::VariantList<A>>::Read,
-) -> AttributeValue<A>
-    ensures { (own : List ℕ) → attribute_value_as own result ≡ ⟦<AttributeValueFromTextString<A> as reader::VariantList<A>>⟧.value own read }
-{
-    match read {
-        reader::OneOf::First(held) => AttributeValue::TextString(held),
-        reader::OneOf::Other(other) => other,
-    }
-}
+impl<A: Allocator + Copy> reader::VariantList<AttributeValue<A>, A> for AttributeValueLater8 {
+    ghost variants = { attribute_value_variants_8 };
 
-// The variants from `Boolean` on.
-type AttributeValueFromBoolean<A> = (
-    reader::Variant<AttributeValueBooleanRule, reader::ItemElement<BooleanValue>>,
-    AttributeValueFromTextString<A>,
-);
-
-// The one that was read as one of these.
-#[tactic(auto, unfolding(kmip_ttlv_types::specs::Digits::six_digits, crate::specs::Attributes::read_attribute_value))]
-#[inline(always)]
-fn attribute_value_from_boolean<A: Allocator + Copy>(
-    read: <AttributeValueFromBoolean<A> as reader::VariantList<A>>::Read,
-) -> AttributeValue<A>
-    ensures { (own : List ℕ) → attribute_value_as own result ≡ ⟦<AttributeValueFromBoolean<A> as reader::VariantList<A>>⟧.value own read }
-{
-    match read {
-        reader::OneOf::First(held) => AttributeValue::Boolean(held),
-        reader::OneOf::Other(other) => attribute_value_from_text_string(other),
-    }
-}
-
-// The variants from `Enumeration` on.
-type AttributeValueFromEnumeration<A> = (
-    reader::Variant<AttributeValueEnumerationRule, reader::ItemElement<EnumerationValue>>,
-    AttributeValueFromBoolean<A>,
-);
-
-// The one that was read as one of these.
-#[tactic(auto, unfolding(kmip_ttlv_types::specs::Digits::six_digits, crate::specs::Attributes::read_attribute_value))]
-#[inline(always)]
-fn attribute_value_from_enumeration<A: Allocator + Copy>(
-    read: <AttributeValueFromEnumeration<A> as reader::VariantList<A>>::Read,
-) -> AttributeValue<A>
-    ensures { (own : List ℕ) → attribute_value_as own result ≡ ⟦<AttributeValueFromEnumeration<A> as reader::VariantList<A>>⟧.value own read }
-{
-    match read {
-        reader::OneOf::First(held) => AttributeValue::Enumeration(held),
-        reader::OneOf::Other(other) => attribute_value_from_boolean(other),
-    }
-}
-
-// The variants from `BigInteger` on.
-type AttributeValueFromBigInteger<A> = (
-    reader::Variant<AttributeValueBigIntegerRule, reader::ItemElement<BigIntegerValue<A>>>,
-    AttributeValueFromEnumeration<A>,
-);
-
-// The one that was read as one of these.
-#[tactic(auto, unfolding(kmip_ttlv_types::specs::Digits::six_digits, crate::specs::Attributes::read_attribute_value))]
-#[inline(always)]
-fn attribute_value_from_big_integer<A: Allocator + Copy>(
-    read: <AttributeValueFromBigInteger<A> as reader::VariantList<A>>::Read,
-) -> AttributeValue<A>
-    ensures { (own : List ℕ) → attribute_value_as own result ≡ ⟦<AttributeValueFromBigInteger<A> as reader::VariantList<A>>⟧.value own read }
-{
-    match read {
-        reader::OneOf::First(held) => AttributeValue::BigInteger(held),
-        reader::OneOf::Other(other) => attribute_value_from_enumeration(other),
-    }
-}
-
-// The variants from `LongInteger` on.
-type AttributeValueFromLongInteger<A> = (
-    reader::Variant<AttributeValueLongIntegerRule, reader::ItemElement<LongIntegerValue>>,
-    AttributeValueFromBigInteger<A>,
-);
-
-// The one that was read as one of these.
-#[tactic(auto, unfolding(kmip_ttlv_types::specs::Digits::six_digits, crate::specs::Attributes::read_attribute_value))]
-#[inline(always)]
-fn attribute_value_from_long_integer<A: Allocator + Copy>(
-    read: <AttributeValueFromLongInteger<A> as reader::VariantList<A>>::Read,
-) -> AttributeValue<A>
-    ensures { (own : List ℕ) → attribute_value_as own result ≡ ⟦<AttributeValueFromLongInteger<A> as reader::VariantList<A>>⟧.value own read }
-{
-    match read {
-        reader::OneOf::First(held) => AttributeValue::LongInteger(held),
-        reader::OneOf::Other(other) => attribute_value_from_big_integer(other),
-    }
-}
-
-/// The variants of `AttributeValue` from `LongInteger` on, as one.
-#[derive(Drop)]
-pub struct AttributeValueLater5<A> {
-    kind: PhantomData<A>,
-}
-
-impl<A: Allocator + Copy> reader::VariantList<A> for AttributeValueLater5<A> {
-    type Read = AttributeValue<A>;
-
-    ghost variants = { attribute_value_variants_5 };
-
-    ghost value = { attribute_value_as };
-
-    #[tactic(auto, unfolding(kmip_ttlv_types::specs::Digits::six_digits, crate::specs::Attributes::read_attribute_value))]
     fn read_chosen<'b>(
         scope: &reader::Scope<'b, A>,
         cursor: &mut reader::Cursor<'b, A>,
         typ: TtlvType,
     ) -> reader::Step<Option<AttributeValue<A>>, A> {
-        match <AttributeValueFromLongInteger<A> as reader::VariantList<A>>::read_chosen(
-            scope, cursor, typ,
-        ) {
-            Ok(Some(read)) => Ok(Some(attribute_value_from_long_integer(read))),
-            Ok(None) => Ok(None),
-            Err(failure) => Err(failure),
-        }
+        <(
+            reader::Variant<AttributeValueBooleanRule, reader::ItemElement<BooleanValue>>,
+            (
+                reader::Variant<
+                    AttributeValueTextStringRule,
+                    reader::ItemElement<TextStringValue<A>>,
+                >,
+                (
+                    reader::Variant<
+                        AttributeValueByteStringRule,
+                        reader::ItemElement<ByteStringValue<A>>,
+                    >,
+                    (
+                        reader::Variant<
+                            AttributeValueDateTimeRule,
+                            reader::ItemElement<DateTimeValue>,
+                        >,
+                        AttributeValueLater12,
+                    ),
+                ),
+            ),
+        ) as reader::VariantList<AttributeValue<A>, A>>::read_chosen(scope, cursor, typ)
     }
 
     ghost ruled = { λ content. refl };
 }
 
-// The variants from `Integer` on.
-type AttributeValueFromInteger<A> = (
-    reader::Variant<AttributeValueIntegerRule, reader::ItemElement<IntegerValue>>,
-    AttributeValueLater5<A>,
-);
+/// The variants of `AttributeValue` from `Interval` on.
+pub struct AttributeValueLater12;
 
-// The one that was read as one of these.
-#[tactic(auto, unfolding(kmip_ttlv_types::specs::Digits::six_digits, crate::specs::Attributes::read_attribute_value))]
-#[inline(always)]
-fn attribute_value_from_integer<A: Allocator + Copy>(
-    read: <AttributeValueFromInteger<A> as reader::VariantList<A>>::Read,
-) -> AttributeValue<A>
-    ensures { (own : List ℕ) → attribute_value_as own result ≡ ⟦<AttributeValueFromInteger<A> as reader::VariantList<A>>⟧.value own read }
-{
-    match read {
-        reader::OneOf::First(held) => AttributeValue::Integer(held),
-        reader::OneOf::Other(other) => other,
+impl<A: Allocator + Copy> reader::VariantList<AttributeValue<A>, A> for AttributeValueLater12 {
+    ghost variants = { attribute_value_variants_12 };
+
+    fn read_chosen<'b>(
+        scope: &reader::Scope<'b, A>,
+        cursor: &mut reader::Cursor<'b, A>,
+        typ: TtlvType,
+    ) -> reader::Step<Option<AttributeValue<A>>, A> {
+        <(
+            reader::Variant<AttributeValueIntervalRule, reader::ItemElement<IntervalValue>>,
+            (
+                reader::Variant<
+                    AttributeValueStructureRule,
+                    reader::ItemElement<AttributeStructure<A>>,
+                >,
+                (),
+            ),
+        ) as reader::VariantList<AttributeValue<A>, A>>::read_chosen(scope, cursor, typ)
     }
+
+    ghost ruled = { λ content. refl };
 }
 
-// The variants from `State` on.
-type AttributeValueFromState<A> = (
-    reader::Variant<AttributeValueStateRule, reader::ItemElement<State>>,
-    AttributeValueFromInteger<A>,
-);
+impl<A: Allocator> reader::ChoiceValue for AttributeValue<A> {
+    ghost own = { codes "value" };
 
-// The one that was read as one of these.
-#[tactic(auto, unfolding(kmip_ttlv_types::specs::Digits::six_digits, crate::specs::Attributes::read_attribute_value))]
-#[inline(always)]
-fn attribute_value_from_state<A: Allocator + Copy>(
-    read: <AttributeValueFromState<A> as reader::VariantList<A>>::Read,
-) -> AttributeValue<A>
-    ensures { (own : List ℕ) → attribute_value_as own result ≡ ⟦<AttributeValueFromState<A> as reader::VariantList<A>>⟧.value own read }
-{
-    match read {
-        reader::OneOf::First(held) => AttributeValue::State(held),
-        reader::OneOf::Other(other) => attribute_value_from_integer(other),
-    }
-}
-
-// The variants from `CertificateType` on.
-type AttributeValueFromCertificateType<A> = (
-    reader::Variant<AttributeValueCertificateTypeRule, reader::ItemElement<CertificateType>>,
-    AttributeValueFromState<A>,
-);
-
-// The one that was read as one of these.
-#[tactic(auto, unfolding(kmip_ttlv_types::specs::Digits::six_digits, crate::specs::Attributes::read_attribute_value))]
-#[inline(always)]
-fn attribute_value_from_certificate_type<A: Allocator + Copy>(
-    read: <AttributeValueFromCertificateType<A> as reader::VariantList<A>>::Read,
-) -> AttributeValue<A>
-    ensures { (own : List ℕ) → attribute_value_as own result ≡ ⟦<AttributeValueFromCertificateType<A> as reader::VariantList<A>>⟧.value own read }
-{
-    match read {
-        reader::OneOf::First(held) => AttributeValue::CertificateType(held),
-        reader::OneOf::Other(other) => attribute_value_from_state(other),
-    }
-}
-
-// The variants from `CryptographicAlgorithm` on.
-type AttributeValueFromCryptographicAlgorithm<A> = (
-    reader::Variant<
-        AttributeValueCryptographicAlgorithmRule,
-        reader::ItemElement<CryptographicAlgorithm>,
-    >,
-    AttributeValueFromCertificateType<A>,
-);
-
-// The one that was read as one of these.
-#[tactic(auto, unfolding(kmip_ttlv_types::specs::Digits::six_digits, crate::specs::Attributes::read_attribute_value))]
-#[inline(always)]
-fn attribute_value_from_cryptographic_algorithm<A: Allocator + Copy>(
-    read: <AttributeValueFromCryptographicAlgorithm<A> as reader::VariantList<A>>::Read,
-) -> AttributeValue<A>
-    ensures { (own : List ℕ) → attribute_value_as own result ≡ ⟦<AttributeValueFromCryptographicAlgorithm<A> as reader::VariantList<A>>⟧.value own read }
-{
-    match read {
-        reader::OneOf::First(held) => AttributeValue::CryptographicAlgorithm(held),
-        reader::OneOf::Other(other) => attribute_value_from_certificate_type(other),
-    }
-}
-
-// The variants from `ObjectType` on.
-type AttributeValueFromObjectType<A> = (
-    reader::Variant<AttributeValueObjectTypeRule, reader::ItemElement<ObjectType>>,
-    AttributeValueFromCryptographicAlgorithm<A>,
-);
-
-// The one that was read as one of these.
-#[tactic(auto, unfolding(kmip_ttlv_types::specs::Digits::six_digits, crate::specs::Attributes::read_attribute_value))]
-#[inline(always)]
-fn attribute_value_from_object_type<A: Allocator + Copy>(
-    read: <AttributeValueFromObjectType<A> as reader::VariantList<A>>::Read,
-) -> AttributeValue<A>
-    ensures { (own : List ℕ) → attribute_value_as own result ≡ ⟦<AttributeValueFromObjectType<A> as reader::VariantList<A>>⟧.value own read }
-{
-    match read {
-        reader::OneOf::First(held) => AttributeValue::ObjectType(held),
-        reader::OneOf::Other(other) => attribute_value_from_cryptographic_algorithm(other),
-    }
+    ghost value = { read_attribute_value };
 }
 
 impl<A: Allocator + Copy> reader::Choice<A> for AttributeValue<A> {
-    ghost own = { codes "value" };
+    ghost form = { attribute_value_form };
 
-    type Variants = AttributeValueFromObjectType<A>;
+    type Variants = (
+        reader::Variant<AttributeValueObjectTypeRule, reader::ItemElement<ObjectType>>,
+        (
+            reader::Variant<
+                AttributeValueCryptographicAlgorithmRule,
+                reader::ItemElement<CryptographicAlgorithm>,
+            >,
+            (
+                reader::Variant<
+                    AttributeValueCertificateTypeRule,
+                    reader::ItemElement<CertificateType>,
+                >,
+                (
+                    reader::Variant<AttributeValueStateRule, reader::ItemElement<State>>,
+                    AttributeValueLater4,
+                ),
+            ),
+        ),
+    );
+
+    #[tactic(auto, unfolding(kmip_ttlv_types::specs::Digits::six_digits))]
+    fn has_form() {}
 }
 
 impl<A: Allocator + Copy> reader::ReadItem<A> for AttributeValue<A> {
@@ -1653,13 +1552,11 @@ impl<A: Allocator + Copy> reader::ReadItem<A> for AttributeValue<A> {
 
     ghost plain = { (refl, refl) };
 
-    #[tactic(auto, unfolding(kmip_ttlv_types::specs::Digits::six_digits, crate::specs::Attributes::read_attribute_value))]
     fn read_item<'b>(
         scope: &reader::Scope<'b, A>,
         cursor: &mut reader::Cursor<'b, A>,
     ) -> reader::Step<Self, A> {
-        let read = reader::read_choice::<Self, A>(scope, cursor)?;
-        Ok(attribute_value_from_object_type(read))
+        reader::read_choice(scope, cursor)
     }
 }
 
@@ -1689,47 +1586,49 @@ impl<B: Allocator> Serialize for Attribute<B> {
 }
 
 impl<A: Allocator + Copy> reader::ReadStructure<A> for Attribute<A> {
+    ghost form = { attribute_form };
+
+    ghost value = { read_attribute };
+
     ghost TAG = { 0x420008 };
 
     ghost DENIES_UNKNOWN = { true };
 
-    ghost values = { λ x. fields_in (read_attribute x) };
-
     type Fields = (
         reader::Leaf<String<A>, 0x42000A>,
-        (
-            reader::OptionalItem<AttributeIndex, 0x420009>,
-            (reader::Item<AttributeValue<A>, 0x42000B>, ()),
-        ),
+        reader::OptionalItem<AttributeIndex, 0x420009>,
+        reader::Item<AttributeValue<A>, 0x42000B>,
     );
 
     const TAG: u32 = 0x420008;
 
     const DENIES_UNKNOWN: bool = true;
 
+    #[tactic(auto, unfolding(kmip_ttlv_types::specs::Digits::six_digits))]
+    fn has_form() {}
+
     #[tactic(auto, unfolding(kmip_ttlv_types::specs::Digits::six_digits, crate::specs::Attributes::read_attribute))]
-    fn from_fields(fields: (String<A>, (Option<AttributeIndex>, (AttributeValue<A>, ())))) -> Self {
-        let (name, (index, (value, ()))) = fields;
+    fn from_fields(fields: (String<A>, Option<AttributeIndex>, AttributeValue<A>)) -> Self {
+        let (name, index, value) = fields;
         Attribute { name, index, value }
     }
 }
 
 impl<A: Allocator + Copy> reader::ReadNested<A> for Attribute<A> {
+    ghost form = { attribute_form };
+
+    ghost value = { read_attribute };
+
     ghost TAG = { 0x420008 };
 
-    ghost fields = { struct_fields attribute_form };
-
-    ghost denies_unknown = { true };
-
-    ghost values = { λ x. fields_in (read_attribute x) };
+    ghost structured = { (refl, refl) };
 
     const TAG: u32 = 0x420008;
 
-    #[tactic(auto, unfolding(kmip_ttlv_types::specs::Digits::six_digits, crate::specs::Attributes::read_attribute))]
     fn read_nested<'b>(
         scope: &reader::Scope<'b, A>,
         cursor: &mut reader::Cursor<'b, A>,
     ) -> reader::Step<Self, A> {
-        reader::read_form(scope, cursor)
+        reader::read_structure(scope, cursor)
     }
 }

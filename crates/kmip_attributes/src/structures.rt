@@ -2,7 +2,6 @@
 //! What attributes that are structures say (KMIP 1.0, section 3), under the tag of an Attribute Value.
 
 ghost use Rattle.std.specs.Prelude.{refl, true};
-ghost use Rattle.kmip_ttlv.specs.Spots.{fields_in, struct_fields};
 ghost use Rattle.kmip_attributes.specs.Structures.{name_form, written_name, read_name, cryptographic_parameters_form, written_cryptographic_parameters, read_cryptographic_parameters, qlength_form, qlength_value, cryptographic_domain_parameters_form, written_cryptographic_domain_parameters, read_cryptographic_domain_parameters, certificate_identifier_form, written_certificate_identifier, read_certificate_identifier, certificate_subject_alternative_name_form, certificate_subject_alternative_name_value, certificate_subject_form, written_certificate_subject, read_certificate_subject, certificate_issuer_alternative_name_form, certificate_issuer_alternative_name_value, certificate_issuer_form, written_certificate_issuer, read_certificate_issuer, digest_form, written_digest, read_digest, usage_limits_count_form, usage_limits_count_value, usage_limits_form, written_usage_limits, read_usage_limits, revocation_reason_form, written_revocation_reason, read_revocation_reason, link_form, written_link, read_link, application_specific_information_form, application_specific_information_value};
 
 use crate::values::{
@@ -39,45 +38,49 @@ impl<B: Allocator> Serialize for Name<B> {
 }
 
 impl<A: Allocator + Copy> reader::ReadStructure<A> for Name<A> {
+    ghost form = { name_form };
+
+    ghost value = { read_name };
+
     ghost TAG = { 0x42000B };
 
     ghost DENIES_UNKNOWN = { true };
 
-    ghost values = { λ x. fields_in (read_name x) };
-
     type Fields = (
         reader::Leaf<String<A>, 0x420055>,
-        (reader::Item<NameType, 0x420054>, ()),
+        reader::Item<NameType, 0x420054>,
     );
 
     const TAG: u32 = 0x42000B;
 
     const DENIES_UNKNOWN: bool = true;
 
+    #[tactic(auto, unfolding(kmip_ttlv_types::specs::Digits::six_digits))]
+    fn has_form() {}
+
     #[tactic(auto, unfolding(kmip_ttlv_types::specs::Digits::six_digits, crate::specs::Structures::read_name))]
-    fn from_fields(fields: (String<A>, (NameType, ()))) -> Self {
-        let (value, (name_type, ())) = fields;
+    fn from_fields(fields: (String<A>, NameType)) -> Self {
+        let (value, name_type) = fields;
         Name { value, name_type }
     }
 }
 
 impl<A: Allocator + Copy> reader::ReadNested<A> for Name<A> {
+    ghost form = { name_form };
+
+    ghost value = { read_name };
+
     ghost TAG = { 0x42000B };
 
-    ghost fields = { struct_fields name_form };
-
-    ghost denies_unknown = { true };
-
-    ghost values = { λ x. fields_in (read_name x) };
+    ghost structured = { (refl, refl) };
 
     const TAG: u32 = 0x42000B;
 
-    #[tactic(auto, unfolding(kmip_ttlv_types::specs::Digits::six_digits, crate::specs::Structures::read_name))]
     fn read_nested<'b>(
         scope: &reader::Scope<'b, A>,
         cursor: &mut reader::Cursor<'b, A>,
     ) -> reader::Step<Self, A> {
-        reader::read_form(scope, cursor)
+        reader::read_structure(scope, cursor)
     }
 }
 
@@ -109,36 +112,38 @@ impl Serialize for CryptographicParameters {
 }
 
 impl<A: Allocator + Copy> reader::ReadStructure<A> for CryptographicParameters {
+    ghost form = { cryptographic_parameters_form };
+
+    ghost value = { read_cryptographic_parameters };
+
     ghost TAG = { 0x42000B };
 
     ghost DENIES_UNKNOWN = { true };
 
-    ghost values = { λ x. fields_in (read_cryptographic_parameters x) };
-
-    type Fields = reader::Four<
+    type Fields = (
         reader::OptionalItem<BlockCipherMode, 0x420011>,
         reader::OptionalItem<PaddingMethod, 0x42005F>,
         reader::OptionalItem<HashingAlgorithm, 0x420038>,
         reader::OptionalItem<KeyRoleType, 0x420083>,
-        (),
-    >;
+    );
 
     const TAG: u32 = 0x42000B;
 
     const DENIES_UNKNOWN: bool = true;
 
+    #[tactic(auto, unfolding(kmip_ttlv_types::specs::Digits::six_digits))]
+    fn has_form() {}
+
     #[tactic(auto, unfolding(kmip_ttlv_types::specs::Digits::six_digits, crate::specs::Structures::read_cryptographic_parameters))]
     fn from_fields(
         fields: (
             Option<BlockCipherMode>,
-            (
-                Option<PaddingMethod>,
-                (Option<HashingAlgorithm>, (Option<KeyRoleType>, ())),
-            ),
+            Option<PaddingMethod>,
+            Option<HashingAlgorithm>,
+            Option<KeyRoleType>,
         ),
     ) -> Self {
-        let (block_cipher_mode, (padding_method, (hashing_algorithm, (key_role_type, ())))) =
-            fields;
+        let (block_cipher_mode, padding_method, hashing_algorithm, key_role_type) = fields;
         CryptographicParameters {
             block_cipher_mode,
             padding_method,
@@ -149,22 +154,21 @@ impl<A: Allocator + Copy> reader::ReadStructure<A> for CryptographicParameters {
 }
 
 impl<A: Allocator + Copy> reader::ReadNested<A> for CryptographicParameters {
+    ghost form = { cryptographic_parameters_form };
+
+    ghost value = { read_cryptographic_parameters };
+
     ghost TAG = { 0x42000B };
 
-    ghost fields = { struct_fields cryptographic_parameters_form };
-
-    ghost denies_unknown = { true };
-
-    ghost values = { λ x. fields_in (read_cryptographic_parameters x) };
+    ghost structured = { (refl, refl) };
 
     const TAG: u32 = 0x42000B;
 
-    #[tactic(auto, unfolding(kmip_ttlv_types::specs::Digits::six_digits, crate::specs::Structures::read_cryptographic_parameters))]
     fn read_nested<'b>(
         scope: &reader::Scope<'b, A>,
         cursor: &mut reader::Cursor<'b, A>,
     ) -> reader::Step<Self, A> {
-        reader::read_form(scope, cursor)
+        reader::read_structure(scope, cursor)
     }
 }
 
@@ -223,24 +227,29 @@ impl Serialize for CryptographicDomainParameters {
 }
 
 impl<A: Allocator + Copy> reader::ReadStructure<A> for CryptographicDomainParameters {
+    ghost form = { cryptographic_domain_parameters_form };
+
+    ghost value = { read_cryptographic_domain_parameters };
+
     ghost TAG = { 0x42000B };
 
     ghost DENIES_UNKNOWN = { true };
 
-    ghost values = { λ x. fields_in (read_cryptographic_domain_parameters x) };
-
     type Fields = (
         reader::OptionalItem<Qlength, 0x420073>,
-        (reader::OptionalItem<RecommendedCurve, 0x420075>, ()),
+        reader::OptionalItem<RecommendedCurve, 0x420075>,
     );
 
     const TAG: u32 = 0x42000B;
 
     const DENIES_UNKNOWN: bool = true;
 
+    #[tactic(auto, unfolding(kmip_ttlv_types::specs::Digits::six_digits))]
+    fn has_form() {}
+
     #[tactic(auto, unfolding(kmip_ttlv_types::specs::Digits::six_digits, crate::specs::Structures::read_cryptographic_domain_parameters))]
-    fn from_fields(fields: (Option<Qlength>, (Option<RecommendedCurve>, ()))) -> Self {
-        let (qlength, (recommended_curve, ())) = fields;
+    fn from_fields(fields: (Option<Qlength>, Option<RecommendedCurve>)) -> Self {
+        let (qlength, recommended_curve) = fields;
         CryptographicDomainParameters {
             qlength,
             recommended_curve,
@@ -249,22 +258,21 @@ impl<A: Allocator + Copy> reader::ReadStructure<A> for CryptographicDomainParame
 }
 
 impl<A: Allocator + Copy> reader::ReadNested<A> for CryptographicDomainParameters {
+    ghost form = { cryptographic_domain_parameters_form };
+
+    ghost value = { read_cryptographic_domain_parameters };
+
     ghost TAG = { 0x42000B };
 
-    ghost fields = { struct_fields cryptographic_domain_parameters_form };
-
-    ghost denies_unknown = { true };
-
-    ghost values = { λ x. fields_in (read_cryptographic_domain_parameters x) };
+    ghost structured = { (refl, refl) };
 
     const TAG: u32 = 0x42000B;
 
-    #[tactic(auto, unfolding(kmip_ttlv_types::specs::Digits::six_digits, crate::specs::Structures::read_cryptographic_domain_parameters))]
     fn read_nested<'b>(
         scope: &reader::Scope<'b, A>,
         cursor: &mut reader::Cursor<'b, A>,
     ) -> reader::Step<Self, A> {
-        reader::read_form(scope, cursor)
+        reader::read_structure(scope, cursor)
     }
 }
 
@@ -291,24 +299,29 @@ impl<B: Allocator> Serialize for CertificateIdentifier<B> {
 }
 
 impl<A: Allocator + Copy> reader::ReadStructure<A> for CertificateIdentifier<A> {
+    ghost form = { certificate_identifier_form };
+
+    ghost value = { read_certificate_identifier };
+
     ghost TAG = { 0x42000B };
 
     ghost DENIES_UNKNOWN = { true };
 
-    ghost values = { λ x. fields_in (read_certificate_identifier x) };
-
     type Fields = (
         reader::Leaf<String<A>, 0x42003B>,
-        (reader::OptionalLeaf<String<A>, 0x420087>, ()),
+        reader::OptionalLeaf<String<A>, 0x420087>,
     );
 
     const TAG: u32 = 0x42000B;
 
     const DENIES_UNKNOWN: bool = true;
 
+    #[tactic(auto, unfolding(kmip_ttlv_types::specs::Digits::six_digits))]
+    fn has_form() {}
+
     #[tactic(auto, unfolding(kmip_ttlv_types::specs::Digits::six_digits, crate::specs::Structures::read_certificate_identifier))]
-    fn from_fields(fields: (String<A>, (Option<String<A>>, ()))) -> Self {
-        let (issuer, (serial_number, ())) = fields;
+    fn from_fields(fields: (String<A>, Option<String<A>>)) -> Self {
+        let (issuer, serial_number) = fields;
         CertificateIdentifier {
             issuer,
             serial_number,
@@ -317,22 +330,21 @@ impl<A: Allocator + Copy> reader::ReadStructure<A> for CertificateIdentifier<A> 
 }
 
 impl<A: Allocator + Copy> reader::ReadNested<A> for CertificateIdentifier<A> {
+    ghost form = { certificate_identifier_form };
+
+    ghost value = { read_certificate_identifier };
+
     ghost TAG = { 0x42000B };
 
-    ghost fields = { struct_fields certificate_identifier_form };
-
-    ghost denies_unknown = { true };
-
-    ghost values = { λ x. fields_in (read_certificate_identifier x) };
+    ghost structured = { (refl, refl) };
 
     const TAG: u32 = 0x42000B;
 
-    #[tactic(auto, unfolding(kmip_ttlv_types::specs::Digits::six_digits, crate::specs::Structures::read_certificate_identifier))]
     fn read_nested<'b>(
         scope: &reader::Scope<'b, A>,
         cursor: &mut reader::Cursor<'b, A>,
     ) -> reader::Step<Self, A> {
-        reader::read_form(scope, cursor)
+        reader::read_structure(scope, cursor)
     }
 }
 
@@ -393,32 +405,29 @@ impl<B: Allocator> Serialize for CertificateSubject<B> {
 }
 
 impl<A: Allocator + Copy> reader::ReadStructure<A> for CertificateSubject<A> {
+    ghost form = { certificate_subject_form };
+
+    ghost value = { read_certificate_subject };
+
     ghost TAG = { 0x42000B };
 
     ghost DENIES_UNKNOWN = { true };
 
-    ghost values = { λ x. fields_in (read_certificate_subject x) };
-
     type Fields = (
         reader::Leaf<String<A>, 0x42001C>,
-        (
-            reader::OptionalSeveralItems<CertificateSubjectAlternativeName<A>, 0x42001B>,
-            (),
-        ),
+        reader::OptionalSeveralItems<CertificateSubjectAlternativeName<A>, 0x42001B>,
     );
 
     const TAG: u32 = 0x42000B;
 
     const DENIES_UNKNOWN: bool = true;
 
+    #[tactic(auto, unfolding(kmip_ttlv_types::specs::Digits::six_digits))]
+    fn has_form() {}
+
     #[tactic(auto, unfolding(kmip_ttlv_types::specs::Digits::six_digits, crate::specs::Structures::read_certificate_subject))]
-    fn from_fields(
-        fields: (
-            String<A>,
-            (Vec<CertificateSubjectAlternativeName<A>, A>, ()),
-        ),
-    ) -> Self {
-        let (distinguished_name, (alternative_names, ())) = fields;
+    fn from_fields(fields: (String<A>, Vec<CertificateSubjectAlternativeName<A>, A>)) -> Self {
+        let (distinguished_name, alternative_names) = fields;
         CertificateSubject {
             distinguished_name,
             alternative_names,
@@ -427,22 +436,21 @@ impl<A: Allocator + Copy> reader::ReadStructure<A> for CertificateSubject<A> {
 }
 
 impl<A: Allocator + Copy> reader::ReadNested<A> for CertificateSubject<A> {
+    ghost form = { certificate_subject_form };
+
+    ghost value = { read_certificate_subject };
+
     ghost TAG = { 0x42000B };
 
-    ghost fields = { struct_fields certificate_subject_form };
-
-    ghost denies_unknown = { true };
-
-    ghost values = { λ x. fields_in (read_certificate_subject x) };
+    ghost structured = { (refl, refl) };
 
     const TAG: u32 = 0x42000B;
 
-    #[tactic(auto, unfolding(kmip_ttlv_types::specs::Digits::six_digits, crate::specs::Structures::read_certificate_subject))]
     fn read_nested<'b>(
         scope: &reader::Scope<'b, A>,
         cursor: &mut reader::Cursor<'b, A>,
     ) -> reader::Step<Self, A> {
-        reader::read_form(scope, cursor)
+        reader::read_structure(scope, cursor)
     }
 }
 
@@ -503,27 +511,29 @@ impl<B: Allocator> Serialize for CertificateIssuer<B> {
 }
 
 impl<A: Allocator + Copy> reader::ReadStructure<A> for CertificateIssuer<A> {
+    ghost form = { certificate_issuer_form };
+
+    ghost value = { read_certificate_issuer };
+
     ghost TAG = { 0x42000B };
 
     ghost DENIES_UNKNOWN = { true };
 
-    ghost values = { λ x. fields_in (read_certificate_issuer x) };
-
     type Fields = (
         reader::Leaf<String<A>, 0x420017>,
-        (
-            reader::OptionalSeveralItems<CertificateIssuerAlternativeName<A>, 0x420016>,
-            (),
-        ),
+        reader::OptionalSeveralItems<CertificateIssuerAlternativeName<A>, 0x420016>,
     );
 
     const TAG: u32 = 0x42000B;
 
     const DENIES_UNKNOWN: bool = true;
 
+    #[tactic(auto, unfolding(kmip_ttlv_types::specs::Digits::six_digits))]
+    fn has_form() {}
+
     #[tactic(auto, unfolding(kmip_ttlv_types::specs::Digits::six_digits, crate::specs::Structures::read_certificate_issuer))]
-    fn from_fields(fields: (String<A>, (Vec<CertificateIssuerAlternativeName<A>, A>, ()))) -> Self {
-        let (distinguished_name, (alternative_names, ())) = fields;
+    fn from_fields(fields: (String<A>, Vec<CertificateIssuerAlternativeName<A>, A>)) -> Self {
+        let (distinguished_name, alternative_names) = fields;
         CertificateIssuer {
             distinguished_name,
             alternative_names,
@@ -532,22 +542,21 @@ impl<A: Allocator + Copy> reader::ReadStructure<A> for CertificateIssuer<A> {
 }
 
 impl<A: Allocator + Copy> reader::ReadNested<A> for CertificateIssuer<A> {
+    ghost form = { certificate_issuer_form };
+
+    ghost value = { read_certificate_issuer };
+
     ghost TAG = { 0x42000B };
 
-    ghost fields = { struct_fields certificate_issuer_form };
-
-    ghost denies_unknown = { true };
-
-    ghost values = { λ x. fields_in (read_certificate_issuer x) };
+    ghost structured = { (refl, refl) };
 
     const TAG: u32 = 0x42000B;
 
-    #[tactic(auto, unfolding(kmip_ttlv_types::specs::Digits::six_digits, crate::specs::Structures::read_certificate_issuer))]
     fn read_nested<'b>(
         scope: &reader::Scope<'b, A>,
         cursor: &mut reader::Cursor<'b, A>,
     ) -> reader::Step<Self, A> {
-        reader::read_form(scope, cursor)
+        reader::read_structure(scope, cursor)
     }
 }
 
@@ -577,32 +586,30 @@ impl<B: Allocator> Serialize for Digest<B> {
 }
 
 impl<A: Allocator + Copy> reader::ReadStructure<A> for Digest<A> {
+    ghost form = { digest_form };
+
+    ghost value = { read_digest };
+
     ghost TAG = { 0x42000B };
 
     ghost DENIES_UNKNOWN = { true };
 
-    ghost values = { λ x. fields_in (read_digest x) };
-
     type Fields = (
         reader::Item<HashingAlgorithm, 0x420038>,
-        (
-            reader::OptionalLeaf<Vec<u8, A>, 0x420035>,
-            (reader::OptionalItem<KeyFormatType, 0x420042>, ()),
-        ),
+        reader::OptionalLeaf<Vec<u8, A>, 0x420035>,
+        reader::OptionalItem<KeyFormatType, 0x420042>,
     );
 
     const TAG: u32 = 0x42000B;
 
     const DENIES_UNKNOWN: bool = true;
 
+    #[tactic(auto, unfolding(kmip_ttlv_types::specs::Digits::six_digits))]
+    fn has_form() {}
+
     #[tactic(auto, unfolding(kmip_ttlv_types::specs::Digits::six_digits, crate::specs::Structures::read_digest))]
-    fn from_fields(
-        fields: (
-            HashingAlgorithm,
-            (Option<Vec<u8, A>>, (Option<KeyFormatType>, ())),
-        ),
-    ) -> Self {
-        let (hashing_algorithm, (digest_value, (key_format_type, ()))) = fields;
+    fn from_fields(fields: (HashingAlgorithm, Option<Vec<u8, A>>, Option<KeyFormatType>)) -> Self {
+        let (hashing_algorithm, digest_value, key_format_type) = fields;
         Digest {
             hashing_algorithm,
             digest_value,
@@ -612,22 +619,21 @@ impl<A: Allocator + Copy> reader::ReadStructure<A> for Digest<A> {
 }
 
 impl<A: Allocator + Copy> reader::ReadNested<A> for Digest<A> {
+    ghost form = { digest_form };
+
+    ghost value = { read_digest };
+
     ghost TAG = { 0x42000B };
 
-    ghost fields = { struct_fields digest_form };
-
-    ghost denies_unknown = { true };
-
-    ghost values = { λ x. fields_in (read_digest x) };
+    ghost structured = { (refl, refl) };
 
     const TAG: u32 = 0x42000B;
 
-    #[tactic(auto, unfolding(kmip_ttlv_types::specs::Digits::six_digits, crate::specs::Structures::read_digest))]
     fn read_nested<'b>(
         scope: &reader::Scope<'b, A>,
         cursor: &mut reader::Cursor<'b, A>,
     ) -> reader::Step<Self, A> {
-        reader::read_form(scope, cursor)
+        reader::read_structure(scope, cursor)
     }
 }
 
@@ -689,48 +695,50 @@ impl Serialize for UsageLimits {
 }
 
 impl<A: Allocator + Copy> reader::ReadStructure<A> for UsageLimits {
+    ghost form = { usage_limits_form };
+
+    ghost value = { read_usage_limits };
+
     ghost TAG = { 0x42000B };
 
     ghost DENIES_UNKNOWN = { true };
 
-    ghost values = { λ x. fields_in (read_usage_limits x) };
-
     type Fields = (
         reader::Leaf<i64, 0x420097>,
-        (
-            reader::OptionalItem<UsageLimitsCount, 0x420096>,
-            (reader::Item<UsageLimitsUnit, 0x420098>, ()),
-        ),
+        reader::OptionalItem<UsageLimitsCount, 0x420096>,
+        reader::Item<UsageLimitsUnit, 0x420098>,
     );
 
     const TAG: u32 = 0x42000B;
 
     const DENIES_UNKNOWN: bool = true;
 
+    #[tactic(auto, unfolding(kmip_ttlv_types::specs::Digits::six_digits))]
+    fn has_form() {}
+
     #[tactic(auto, unfolding(kmip_ttlv_types::specs::Digits::six_digits, crate::specs::Structures::read_usage_limits))]
-    fn from_fields(fields: (i64, (Option<UsageLimitsCount>, (UsageLimitsUnit, ())))) -> Self {
-        let (total, (count, (unit, ()))) = fields;
+    fn from_fields(fields: (i64, Option<UsageLimitsCount>, UsageLimitsUnit)) -> Self {
+        let (total, count, unit) = fields;
         UsageLimits { total, count, unit }
     }
 }
 
 impl<A: Allocator + Copy> reader::ReadNested<A> for UsageLimits {
+    ghost form = { usage_limits_form };
+
+    ghost value = { read_usage_limits };
+
     ghost TAG = { 0x42000B };
 
-    ghost fields = { struct_fields usage_limits_form };
-
-    ghost denies_unknown = { true };
-
-    ghost values = { λ x. fields_in (read_usage_limits x) };
+    ghost structured = { (refl, refl) };
 
     const TAG: u32 = 0x42000B;
 
-    #[tactic(auto, unfolding(kmip_ttlv_types::specs::Digits::six_digits, crate::specs::Structures::read_usage_limits))]
     fn read_nested<'b>(
         scope: &reader::Scope<'b, A>,
         cursor: &mut reader::Cursor<'b, A>,
     ) -> reader::Step<Self, A> {
-        reader::read_form(scope, cursor)
+        reader::read_structure(scope, cursor)
     }
 }
 
@@ -757,45 +765,49 @@ impl<B: Allocator> Serialize for RevocationReason<B> {
 }
 
 impl<A: Allocator + Copy> reader::ReadStructure<A> for RevocationReason<A> {
+    ghost form = { revocation_reason_form };
+
+    ghost value = { read_revocation_reason };
+
     ghost TAG = { 0x42000B };
 
     ghost DENIES_UNKNOWN = { true };
 
-    ghost values = { λ x. fields_in (read_revocation_reason x) };
-
     type Fields = (
         reader::Item<RevocationReasonCode, 0x420082>,
-        (reader::OptionalLeaf<String<A>, 0x420080>, ()),
+        reader::OptionalLeaf<String<A>, 0x420080>,
     );
 
     const TAG: u32 = 0x42000B;
 
     const DENIES_UNKNOWN: bool = true;
 
+    #[tactic(auto, unfolding(kmip_ttlv_types::specs::Digits::six_digits))]
+    fn has_form() {}
+
     #[tactic(auto, unfolding(kmip_ttlv_types::specs::Digits::six_digits, crate::specs::Structures::read_revocation_reason))]
-    fn from_fields(fields: (RevocationReasonCode, (Option<String<A>>, ()))) -> Self {
-        let (code, (message, ())) = fields;
+    fn from_fields(fields: (RevocationReasonCode, Option<String<A>>)) -> Self {
+        let (code, message) = fields;
         RevocationReason { code, message }
     }
 }
 
 impl<A: Allocator + Copy> reader::ReadNested<A> for RevocationReason<A> {
+    ghost form = { revocation_reason_form };
+
+    ghost value = { read_revocation_reason };
+
     ghost TAG = { 0x42000B };
 
-    ghost fields = { struct_fields revocation_reason_form };
-
-    ghost denies_unknown = { true };
-
-    ghost values = { λ x. fields_in (read_revocation_reason x) };
+    ghost structured = { (refl, refl) };
 
     const TAG: u32 = 0x42000B;
 
-    #[tactic(auto, unfolding(kmip_ttlv_types::specs::Digits::six_digits, crate::specs::Structures::read_revocation_reason))]
     fn read_nested<'b>(
         scope: &reader::Scope<'b, A>,
         cursor: &mut reader::Cursor<'b, A>,
     ) -> reader::Step<Self, A> {
-        reader::read_form(scope, cursor)
+        reader::read_structure(scope, cursor)
     }
 }
 
@@ -827,24 +839,29 @@ impl<B: Allocator> Serialize for Link<B> {
 }
 
 impl<A: Allocator + Copy> reader::ReadStructure<A> for Link<A> {
+    ghost form = { link_form };
+
+    ghost value = { read_link };
+
     ghost TAG = { 0x42000B };
 
     ghost DENIES_UNKNOWN = { true };
 
-    ghost values = { λ x. fields_in (read_link x) };
-
     type Fields = (
         reader::Item<LinkType, 0x42004B>,
-        (reader::Leaf<String<A>, 0x42004C>, ()),
+        reader::Leaf<String<A>, 0x42004C>,
     );
 
     const TAG: u32 = 0x42000B;
 
     const DENIES_UNKNOWN: bool = true;
 
+    #[tactic(auto, unfolding(kmip_ttlv_types::specs::Digits::six_digits))]
+    fn has_form() {}
+
     #[tactic(auto, unfolding(kmip_ttlv_types::specs::Digits::six_digits, crate::specs::Structures::read_link))]
-    fn from_fields(fields: (LinkType, (String<A>, ()))) -> Self {
-        let (link_type, (linked_object_identifier, ())) = fields;
+    fn from_fields(fields: (LinkType, String<A>)) -> Self {
+        let (link_type, linked_object_identifier) = fields;
         Link {
             link_type,
             linked_object_identifier,
@@ -853,22 +870,21 @@ impl<A: Allocator + Copy> reader::ReadStructure<A> for Link<A> {
 }
 
 impl<A: Allocator + Copy> reader::ReadNested<A> for Link<A> {
+    ghost form = { link_form };
+
+    ghost value = { read_link };
+
     ghost TAG = { 0x42000B };
 
-    ghost fields = { struct_fields link_form };
-
-    ghost denies_unknown = { true };
-
-    ghost values = { λ x. fields_in (read_link x) };
+    ghost structured = { (refl, refl) };
 
     const TAG: u32 = 0x42000B;
 
-    #[tactic(auto, unfolding(kmip_ttlv_types::specs::Digits::six_digits, crate::specs::Structures::read_link))]
     fn read_nested<'b>(
         scope: &reader::Scope<'b, A>,
         cursor: &mut reader::Cursor<'b, A>,
     ) -> reader::Step<Self, A> {
-        reader::read_form(scope, cursor)
+        reader::read_structure(scope, cursor)
     }
 }
 
@@ -896,44 +912,48 @@ impl<B: Allocator> Serialize for ApplicationSpecificInformation<B> {
 }
 
 impl<A: Allocator + Copy> reader::ReadStructure<A> for ApplicationSpecificInformation<A> {
+    ghost form = { application_specific_information_form };
+
+    ghost value = { application_specific_information_value };
+
     ghost TAG = { 0x42000B };
 
     ghost DENIES_UNKNOWN = { true };
 
-    ghost values = { λ x. fields_in (application_specific_information_value x) };
-
     type Fields = (
         reader::Leaf<String<A>, 0x420003>,
-        (reader::Leaf<String<A>, 0x420002>, ()),
+        reader::Leaf<String<A>, 0x420002>,
     );
 
     const TAG: u32 = 0x42000B;
 
     const DENIES_UNKNOWN: bool = true;
 
+    #[tactic(auto, unfolding(kmip_ttlv_types::specs::Digits::six_digits))]
+    fn has_form() {}
+
     #[tactic(auto, unfolding(kmip_ttlv_types::specs::Digits::six_digits, crate::specs::Structures::application_specific_information_value))]
-    fn from_fields(fields: (String<A>, (String<A>, ()))) -> Self {
-        let (namespace, (data, ())) = fields;
+    fn from_fields(fields: (String<A>, String<A>)) -> Self {
+        let (namespace, data) = fields;
         ApplicationSpecificInformation { namespace, data }
     }
 }
 
 impl<A: Allocator + Copy> reader::ReadNested<A> for ApplicationSpecificInformation<A> {
+    ghost form = { application_specific_information_form };
+
+    ghost value = { application_specific_information_value };
+
     ghost TAG = { 0x42000B };
 
-    ghost fields = { struct_fields application_specific_information_form };
-
-    ghost denies_unknown = { true };
-
-    ghost values = { λ x. fields_in (application_specific_information_value x) };
+    ghost structured = { (refl, refl) };
 
     const TAG: u32 = 0x42000B;
 
-    #[tactic(auto, unfolding(kmip_ttlv_types::specs::Digits::six_digits, crate::specs::Structures::application_specific_information_value))]
     fn read_nested<'b>(
         scope: &reader::Scope<'b, A>,
         cursor: &mut reader::Cursor<'b, A>,
     ) -> reader::Step<Self, A> {
-        reader::read_form(scope, cursor)
+        reader::read_structure(scope, cursor)
     }
 }

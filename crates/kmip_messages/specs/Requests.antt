@@ -570,33 +570,39 @@ read_discover_versions_request x =
     struct_value (codes "0x420079") (
     value (optional_sequence protocol_version_value x.versions.items) no_values)
 
--- the variants of a `RequestPayload` from `Activate` on
-abbrev pub request_payload_variants_10 : Variants
-request_payload_variants_10 =
-    variant (codes "if 0x42005C==0x00000012") (wrapped
-    object_request_form) (
-    variant (codes "if 0x42005C==0x00000013") (wrapped
-    revoke_request_form) (
+-- the variants of a `RequestPayload` from `Destroy` on
+abbrev pub request_payload_variants_12 : Variants
+request_payload_variants_12 =
     variant (codes "if 0x42005C==0x00000014") (wrapped
     object_request_form) (
     variant (codes "if 0x42005C==0x00000018") (wrapped
     query_request_form) (
     variant (codes "if 0x42005C==0x0000001E") (wrapped
-    discover_versions_request_form) no_variants))))
+    discover_versions_request_form) no_variants))
 
--- the variants of a `RequestPayload` from `GetAttributes` on
-abbrev pub request_payload_variants_5 : Variants
-request_payload_variants_5 =
+-- the variants of a `RequestPayload` from `ModifyAttribute` on
+abbrev pub request_payload_variants_8 : Variants
+request_payload_variants_8 =
+    variant (codes "if 0x42005C==0x0000000E") (wrapped
+    attribute_request_form) (
+    variant (codes "if 0x42005C==0x0000000F") (wrapped
+    delete_attribute_request_form) (
+    variant (codes "if 0x42005C==0x00000012") (wrapped
+    object_request_form) (
+    variant (codes "if 0x42005C==0x00000013") (wrapped
+    revoke_request_form) request_payload_variants_12)))
+
+-- the variants of a `RequestPayload` from `Get` on
+abbrev pub request_payload_variants_4 : Variants
+request_payload_variants_4 =
+    variant (codes "if 0x42005C==0x0000000A") (wrapped
+    get_request_form) (
     variant (codes "if 0x42005C==0x0000000B") (wrapped
     get_attributes_request_form) (
     variant (codes "if 0x42005C==0x0000000C") (wrapped
     object_request_form) (
     variant (codes "if 0x42005C==0x0000000D") (wrapped
-    attribute_request_form) (
-    variant (codes "if 0x42005C==0x0000000E") (wrapped
-    attribute_request_form) (
-    variant (codes "if 0x42005C==0x0000000F") (wrapped
-    delete_attribute_request_form) request_payload_variants_10))))
+    attribute_request_form) request_payload_variants_8)))
 
 -- the form of a `RequestPayload`
 abbrev pub request_payload_form : Form
@@ -609,9 +615,7 @@ request_payload_form =
     variant (codes "if 0x42005C==0x00000003") (wrapped
     register_request_form) (
     variant (codes "if 0x42005C==0x00000008") (wrapped
-    locate_request_form) (
-    variant (codes "if 0x42005C==0x0000000A") (wrapped
-    get_request_form) request_payload_variants_5)))))
+    locate_request_form) request_payload_variants_4))))
 
 -- what is written of a `RequestPayload`
 unfoldable pub written_request_payload : {A : Type 0} → RequestPayload A → Value
@@ -646,72 +650,68 @@ written_request_payload (request_payload.Query x) =
 written_request_payload (request_payload.DiscoverVersions x) =
     written_discover_versions_request x
 
--- what is read of a `RequestPayload`, as an enum of this name
-abbrev pub request_payload_as : {A : Type 0} → List ℕ → RequestPayload A → Value
-request_payload_as own (request_payload.Create x) =
-    newtype_variant_value own
-    (codes "if 0x42005C==0x00000001")
-    (read_create_request x)
-request_payload_as own (request_payload.CreateKeyPair x) =
-    newtype_variant_value own
-    (codes "if 0x42005C==0x00000002")
-    (read_create_key_pair_request x)
-request_payload_as own (request_payload.Register x) =
-    newtype_variant_value own
-    (codes "if 0x42005C==0x00000003")
-    (read_register_request x)
-request_payload_as own (request_payload.Locate x) =
-    newtype_variant_value own
-    (codes "if 0x42005C==0x00000008")
-    (read_locate_request x)
-request_payload_as own (request_payload.Get x) =
-    newtype_variant_value own
-    (codes "if 0x42005C==0x0000000A")
-    (read_get_request x)
-request_payload_as own (request_payload.GetAttributes x) =
-    newtype_variant_value own
-    (codes "if 0x42005C==0x0000000B")
-    (read_get_attributes_request x)
-request_payload_as own (request_payload.GetAttributeList x) =
-    newtype_variant_value own
-    (codes "if 0x42005C==0x0000000C")
-    (read_object_request x)
-request_payload_as own (request_payload.AddAttribute x) =
-    newtype_variant_value own
-    (codes "if 0x42005C==0x0000000D")
-    (read_attribute_request x)
-request_payload_as own (request_payload.ModifyAttribute x) =
-    newtype_variant_value own
-    (codes "if 0x42005C==0x0000000E")
-    (read_attribute_request x)
-request_payload_as own (request_payload.DeleteAttribute x) =
-    newtype_variant_value own
-    (codes "if 0x42005C==0x0000000F")
-    (read_delete_attribute_request x)
-request_payload_as own (request_payload.Activate x) =
-    newtype_variant_value own
-    (codes "if 0x42005C==0x00000012")
-    (read_object_request x)
-request_payload_as own (request_payload.Revoke x) =
-    newtype_variant_value own
-    (codes "if 0x42005C==0x00000013")
-    (read_revoke_request x)
-request_payload_as own (request_payload.Destroy x) =
-    newtype_variant_value own
-    (codes "if 0x42005C==0x00000014")
-    (read_object_request x)
-request_payload_as own (request_payload.Query x) =
-    newtype_variant_value own
-    (codes "if 0x42005C==0x00000018")
-    (read_query_request x)
-request_payload_as own (request_payload.DiscoverVersions x) =
-    newtype_variant_value own
-    (codes "if 0x42005C==0x0000001E")
-    (read_discover_versions_request x)
-
 -- what is read of a `RequestPayload`
 unfoldable pub read_request_payload : {A : Type 0} → RequestPayload A → Value
-read_request_payload x = request_payload_as (codes "payload") x
+read_request_payload (request_payload.Create x) =
+    newtype_variant_value (codes "payload")
+    (codes "if 0x42005C==0x00000001")
+    (read_create_request x)
+read_request_payload (request_payload.CreateKeyPair x) =
+    newtype_variant_value (codes "payload")
+    (codes "if 0x42005C==0x00000002")
+    (read_create_key_pair_request x)
+read_request_payload (request_payload.Register x) =
+    newtype_variant_value (codes "payload")
+    (codes "if 0x42005C==0x00000003")
+    (read_register_request x)
+read_request_payload (request_payload.Locate x) =
+    newtype_variant_value (codes "payload")
+    (codes "if 0x42005C==0x00000008")
+    (read_locate_request x)
+read_request_payload (request_payload.Get x) =
+    newtype_variant_value (codes "payload")
+    (codes "if 0x42005C==0x0000000A")
+    (read_get_request x)
+read_request_payload (request_payload.GetAttributes x) =
+    newtype_variant_value (codes "payload")
+    (codes "if 0x42005C==0x0000000B")
+    (read_get_attributes_request x)
+read_request_payload (request_payload.GetAttributeList x) =
+    newtype_variant_value (codes "payload")
+    (codes "if 0x42005C==0x0000000C")
+    (read_object_request x)
+read_request_payload (request_payload.AddAttribute x) =
+    newtype_variant_value (codes "payload")
+    (codes "if 0x42005C==0x0000000D")
+    (read_attribute_request x)
+read_request_payload (request_payload.ModifyAttribute x) =
+    newtype_variant_value (codes "payload")
+    (codes "if 0x42005C==0x0000000E")
+    (read_attribute_request x)
+read_request_payload (request_payload.DeleteAttribute x) =
+    newtype_variant_value (codes "payload")
+    (codes "if 0x42005C==0x0000000F")
+    (read_delete_attribute_request x)
+read_request_payload (request_payload.Activate x) =
+    newtype_variant_value (codes "payload")
+    (codes "if 0x42005C==0x00000012")
+    (read_object_request x)
+read_request_payload (request_payload.Revoke x) =
+    newtype_variant_value (codes "payload")
+    (codes "if 0x42005C==0x00000013")
+    (read_revoke_request x)
+read_request_payload (request_payload.Destroy x) =
+    newtype_variant_value (codes "payload")
+    (codes "if 0x42005C==0x00000014")
+    (read_object_request x)
+read_request_payload (request_payload.Query x) =
+    newtype_variant_value (codes "payload")
+    (codes "if 0x42005C==0x00000018")
+    (read_query_request x)
+read_request_payload (request_payload.DiscoverVersions x) =
+    newtype_variant_value (codes "payload")
+    (codes "if 0x42005C==0x0000001E")
+    (read_discover_versions_request x)
 
 -- what is read of the bytes of a `RequestPayload`
 unfoldable pub returned_request_payload : {A : Type 0} → RequestPayload A → Value

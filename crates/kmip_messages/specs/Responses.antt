@@ -390,33 +390,39 @@ read_discover_versions_response x =
     struct_value (codes "0x42007C") (
     value (optional_sequence protocol_version_value x.versions.items) no_values)
 
--- the variants of a `ResponsePayload` from `Activate` on
-abbrev pub response_payload_variants_10 : Variants
-response_payload_variants_10 =
-    variant (codes "if 0x42005C==0x00000012") (wrapped
-    object_response_form) (
-    variant (codes "if 0x42005C==0x00000013") (wrapped
-    object_response_form) (
+-- the variants of a `ResponsePayload` from `Destroy` on
+abbrev pub response_payload_variants_12 : Variants
+response_payload_variants_12 =
     variant (codes "if 0x42005C==0x00000014") (wrapped
     object_response_form) (
     variant (codes "if 0x42005C==0x00000018") (wrapped
     query_response_form) (
     variant (codes "if 0x42005C==0x0000001E") (wrapped
-    discover_versions_response_form) no_variants))))
+    discover_versions_response_form) no_variants))
 
--- the variants of a `ResponsePayload` from `GetAttributes` on
-abbrev pub response_payload_variants_5 : Variants
-response_payload_variants_5 =
+-- the variants of a `ResponsePayload` from `ModifyAttribute` on
+abbrev pub response_payload_variants_8 : Variants
+response_payload_variants_8 =
+    variant (codes "if 0x42005C==0x0000000E") (wrapped
+    attribute_response_form) (
+    variant (codes "if 0x42005C==0x0000000F") (wrapped
+    attribute_response_form) (
+    variant (codes "if 0x42005C==0x00000012") (wrapped
+    object_response_form) (
+    variant (codes "if 0x42005C==0x00000013") (wrapped
+    object_response_form) response_payload_variants_12)))
+
+-- the variants of a `ResponsePayload` from `Get` on
+abbrev pub response_payload_variants_4 : Variants
+response_payload_variants_4 =
+    variant (codes "if 0x42005C==0x0000000A") (wrapped
+    get_response_form) (
     variant (codes "if 0x42005C==0x0000000B") (wrapped
     get_attributes_response_form) (
     variant (codes "if 0x42005C==0x0000000C") (wrapped
     get_attribute_list_response_form) (
     variant (codes "if 0x42005C==0x0000000D") (wrapped
-    attribute_response_form) (
-    variant (codes "if 0x42005C==0x0000000E") (wrapped
-    attribute_response_form) (
-    variant (codes "if 0x42005C==0x0000000F") (wrapped
-    attribute_response_form) response_payload_variants_10))))
+    attribute_response_form) response_payload_variants_8)))
 
 -- the form of a `ResponsePayload`
 abbrev pub response_payload_form : Form
@@ -429,9 +435,7 @@ response_payload_form =
     variant (codes "if 0x42005C==0x00000003") (wrapped
     register_response_form) (
     variant (codes "if 0x42005C==0x00000008") (wrapped
-    locate_response_form) (
-    variant (codes "if 0x42005C==0x0000000A") (wrapped
-    get_response_form) response_payload_variants_5)))))
+    locate_response_form) response_payload_variants_4))))
 
 -- what is written of a `ResponsePayload`
 unfoldable pub written_response_payload : {A : Type 0} → ResponsePayload A → Value
@@ -466,72 +470,68 @@ written_response_payload (response_payload.Query x) =
 written_response_payload (response_payload.DiscoverVersions x) =
     written_discover_versions_response x
 
--- what is read of a `ResponsePayload`, as an enum of this name
-abbrev pub response_payload_as : {A : Type 0} → List ℕ → ResponsePayload A → Value
-response_payload_as own (response_payload.Create x) =
-    newtype_variant_value own
-    (codes "if 0x42005C==0x00000001")
-    (read_create_response x)
-response_payload_as own (response_payload.CreateKeyPair x) =
-    newtype_variant_value own
-    (codes "if 0x42005C==0x00000002")
-    (read_create_key_pair_response x)
-response_payload_as own (response_payload.Register x) =
-    newtype_variant_value own
-    (codes "if 0x42005C==0x00000003")
-    (read_register_response x)
-response_payload_as own (response_payload.Locate x) =
-    newtype_variant_value own
-    (codes "if 0x42005C==0x00000008")
-    (read_locate_response x)
-response_payload_as own (response_payload.Get x) =
-    newtype_variant_value own
-    (codes "if 0x42005C==0x0000000A")
-    (read_get_response x)
-response_payload_as own (response_payload.GetAttributes x) =
-    newtype_variant_value own
-    (codes "if 0x42005C==0x0000000B")
-    (read_get_attributes_response x)
-response_payload_as own (response_payload.GetAttributeList x) =
-    newtype_variant_value own
-    (codes "if 0x42005C==0x0000000C")
-    (read_get_attribute_list_response x)
-response_payload_as own (response_payload.AddAttribute x) =
-    newtype_variant_value own
-    (codes "if 0x42005C==0x0000000D")
-    (read_attribute_response x)
-response_payload_as own (response_payload.ModifyAttribute x) =
-    newtype_variant_value own
-    (codes "if 0x42005C==0x0000000E")
-    (read_attribute_response x)
-response_payload_as own (response_payload.DeleteAttribute x) =
-    newtype_variant_value own
-    (codes "if 0x42005C==0x0000000F")
-    (read_attribute_response x)
-response_payload_as own (response_payload.Activate x) =
-    newtype_variant_value own
-    (codes "if 0x42005C==0x00000012")
-    (object_response_value x)
-response_payload_as own (response_payload.Revoke x) =
-    newtype_variant_value own
-    (codes "if 0x42005C==0x00000013")
-    (object_response_value x)
-response_payload_as own (response_payload.Destroy x) =
-    newtype_variant_value own
-    (codes "if 0x42005C==0x00000014")
-    (object_response_value x)
-response_payload_as own (response_payload.Query x) =
-    newtype_variant_value own
-    (codes "if 0x42005C==0x00000018")
-    (read_query_response x)
-response_payload_as own (response_payload.DiscoverVersions x) =
-    newtype_variant_value own
-    (codes "if 0x42005C==0x0000001E")
-    (read_discover_versions_response x)
-
 -- what is read of a `ResponsePayload`
 unfoldable pub read_response_payload : {A : Type 0} → ResponsePayload A → Value
-read_response_payload x = response_payload_as (codes "payload") x
+read_response_payload (response_payload.Create x) =
+    newtype_variant_value (codes "payload")
+    (codes "if 0x42005C==0x00000001")
+    (read_create_response x)
+read_response_payload (response_payload.CreateKeyPair x) =
+    newtype_variant_value (codes "payload")
+    (codes "if 0x42005C==0x00000002")
+    (read_create_key_pair_response x)
+read_response_payload (response_payload.Register x) =
+    newtype_variant_value (codes "payload")
+    (codes "if 0x42005C==0x00000003")
+    (read_register_response x)
+read_response_payload (response_payload.Locate x) =
+    newtype_variant_value (codes "payload")
+    (codes "if 0x42005C==0x00000008")
+    (read_locate_response x)
+read_response_payload (response_payload.Get x) =
+    newtype_variant_value (codes "payload")
+    (codes "if 0x42005C==0x0000000A")
+    (read_get_response x)
+read_response_payload (response_payload.GetAttributes x) =
+    newtype_variant_value (codes "payload")
+    (codes "if 0x42005C==0x0000000B")
+    (read_get_attributes_response x)
+read_response_payload (response_payload.GetAttributeList x) =
+    newtype_variant_value (codes "payload")
+    (codes "if 0x42005C==0x0000000C")
+    (read_get_attribute_list_response x)
+read_response_payload (response_payload.AddAttribute x) =
+    newtype_variant_value (codes "payload")
+    (codes "if 0x42005C==0x0000000D")
+    (read_attribute_response x)
+read_response_payload (response_payload.ModifyAttribute x) =
+    newtype_variant_value (codes "payload")
+    (codes "if 0x42005C==0x0000000E")
+    (read_attribute_response x)
+read_response_payload (response_payload.DeleteAttribute x) =
+    newtype_variant_value (codes "payload")
+    (codes "if 0x42005C==0x0000000F")
+    (read_attribute_response x)
+read_response_payload (response_payload.Activate x) =
+    newtype_variant_value (codes "payload")
+    (codes "if 0x42005C==0x00000012")
+    (object_response_value x)
+read_response_payload (response_payload.Revoke x) =
+    newtype_variant_value (codes "payload")
+    (codes "if 0x42005C==0x00000013")
+    (object_response_value x)
+read_response_payload (response_payload.Destroy x) =
+    newtype_variant_value (codes "payload")
+    (codes "if 0x42005C==0x00000014")
+    (object_response_value x)
+read_response_payload (response_payload.Query x) =
+    newtype_variant_value (codes "payload")
+    (codes "if 0x42005C==0x00000018")
+    (read_query_response x)
+read_response_payload (response_payload.DiscoverVersions x) =
+    newtype_variant_value (codes "payload")
+    (codes "if 0x42005C==0x0000001E")
+    (read_discover_versions_response x)
 
 -- what is read of the bytes of a `ResponsePayload`
 unfoldable pub returned_response_payload : {A : Type 0} → ResponsePayload A → Value

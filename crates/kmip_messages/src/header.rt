@@ -5,7 +5,6 @@ ghost use Rattle.std.specs.Prelude.{◌≡◌, ◌↔◌, ◌==◌, refl, IsTrue
 ghost use Rattle.std.proofs.Common.{rules};
 ghost use Rattle.std.specs.Cmp.Rules.{comparing};
 ghost use Rattle.std.specs.Ordering.{on};
-ghost use Rattle.kmip_ttlv.specs.Spots.{fields_in, struct_fields};
 ghost use Rattle.kmip_messages.specs.Headers.{protocol_version_form, protocol_version_value, credential_type_form, written_credential_type, read_credential_type, credential_type_number, credential_type_read_number, username_and_password_form, written_username_and_password, read_username_and_password, device_form, written_device, read_device, credential_value_form, written_credential_value, read_credential_value, ChoosesCredentialValue, ChoosesCredentialValueNumber, credential_form, written_credential, read_credential, authentication_form, written_authentication, read_authentication, batch_error_continuation_option_form, written_batch_error_continuation_option, read_batch_error_continuation_option, batch_error_continuation_option_number, batch_error_continuation_option_read_number, maximum_response_size_form, maximum_response_size_value, time_stamp_form, time_stamp_value, batch_count_form, batch_count_value, request_header_form, written_request_header, read_request_header, response_header_form, response_header_value, operation_form, written_operation, read_operation, operation_number, operation_read_number, message_extension_form, message_extension_value};
 
 use kmip_ttlv::messages::writing;
@@ -36,45 +35,46 @@ impl Serialize for ProtocolVersion {
 }
 
 impl<A: Allocator + Copy> reader::ReadStructure<A> for ProtocolVersion {
+    ghost form = { protocol_version_form };
+
+    ghost value = { protocol_version_value };
+
     ghost TAG = { 0x420069 };
 
     ghost DENIES_UNKNOWN = { true };
 
-    ghost values = { λ x. fields_in (protocol_version_value x) };
-
-    type Fields = (
-        reader::Leaf<i32, 0x42006A>,
-        (reader::Leaf<i32, 0x42006B>, ()),
-    );
+    type Fields = (reader::Leaf<i32, 0x42006A>, reader::Leaf<i32, 0x42006B>);
 
     const TAG: u32 = 0x420069;
 
     const DENIES_UNKNOWN: bool = true;
 
+    #[tactic(auto, unfolding(kmip_ttlv_types::specs::Digits::six_digits))]
+    fn has_form() {}
+
     #[tactic(auto, unfolding(kmip_ttlv_types::specs::Digits::six_digits, crate::specs::Headers::protocol_version_value))]
-    fn from_fields(fields: (i32, (i32, ()))) -> Self {
-        let (major, (minor, ())) = fields;
+    fn from_fields(fields: (i32, i32)) -> Self {
+        let (major, minor) = fields;
         ProtocolVersion { major, minor }
     }
 }
 
 impl<A: Allocator + Copy> reader::ReadNested<A> for ProtocolVersion {
+    ghost form = { protocol_version_form };
+
+    ghost value = { protocol_version_value };
+
     ghost TAG = { 0x420069 };
 
-    ghost fields = { struct_fields protocol_version_form };
-
-    ghost denies_unknown = { true };
-
-    ghost values = { λ x. fields_in (protocol_version_value x) };
+    ghost structured = { (refl, refl) };
 
     const TAG: u32 = 0x420069;
 
-    #[tactic(auto, unfolding(kmip_ttlv_types::specs::Digits::six_digits, crate::specs::Headers::protocol_version_value))]
     fn read_nested<'b>(
         scope: &reader::Scope<'b, A>,
         cursor: &mut reader::Cursor<'b, A>,
     ) -> reader::Step<Self, A> {
-        reader::read_form(scope, cursor)
+        reader::read_structure(scope, cursor)
     }
 }
 
@@ -177,45 +177,49 @@ impl<B: Allocator> Serialize for UsernameAndPassword<B> {
 }
 
 impl<A: Allocator + Copy> reader::ReadStructure<A> for UsernameAndPassword<A> {
+    ghost form = { username_and_password_form };
+
+    ghost value = { read_username_and_password };
+
     ghost TAG = { 0x420025 };
 
     ghost DENIES_UNKNOWN = { true };
 
-    ghost values = { λ x. fields_in (read_username_and_password x) };
-
     type Fields = (
         reader::Leaf<String<A>, 0x420099>,
-        (reader::OptionalLeaf<String<A>, 0x4200A1>, ()),
+        reader::OptionalLeaf<String<A>, 0x4200A1>,
     );
 
     const TAG: u32 = 0x420025;
 
     const DENIES_UNKNOWN: bool = true;
 
+    #[tactic(auto, unfolding(kmip_ttlv_types::specs::Digits::six_digits))]
+    fn has_form() {}
+
     #[tactic(auto, unfolding(kmip_ttlv_types::specs::Digits::six_digits, crate::specs::Headers::read_username_and_password))]
-    fn from_fields(fields: (String<A>, (Option<String<A>>, ()))) -> Self {
-        let (username, (password, ())) = fields;
+    fn from_fields(fields: (String<A>, Option<String<A>>)) -> Self {
+        let (username, password) = fields;
         UsernameAndPassword { username, password }
     }
 }
 
 impl<A: Allocator + Copy> reader::ReadNested<A> for UsernameAndPassword<A> {
+    ghost form = { username_and_password_form };
+
+    ghost value = { read_username_and_password };
+
     ghost TAG = { 0x420025 };
 
-    ghost fields = { struct_fields username_and_password_form };
-
-    ghost denies_unknown = { true };
-
-    ghost values = { λ x. fields_in (read_username_and_password x) };
+    ghost structured = { (refl, refl) };
 
     const TAG: u32 = 0x420025;
 
-    #[tactic(auto, unfolding(kmip_ttlv_types::specs::Digits::six_digits, crate::specs::Headers::read_username_and_password))]
     fn read_nested<'b>(
         scope: &reader::Scope<'b, A>,
         cursor: &mut reader::Cursor<'b, A>,
     ) -> reader::Step<Self, A> {
-        reader::read_form(scope, cursor)
+        reader::read_structure(scope, cursor)
     }
 }
 
@@ -254,11 +258,13 @@ impl<B: Allocator> Serialize for Device<B> {
 }
 
 impl<A: Allocator + Copy> reader::ReadStructure<A> for Device<A> {
+    ghost form = { device_form };
+
+    ghost value = { read_device };
+
     ghost TAG = { 0x420025 };
 
     ghost DENIES_UNKNOWN = { true };
-
-    ghost values = { λ x. fields_in (read_device x) };
 
     type Fields = reader::Four<
         reader::OptionalLeaf<String<A>, 0x4200B0>,
@@ -267,7 +273,7 @@ impl<A: Allocator + Copy> reader::ReadStructure<A> for Device<A> {
         reader::OptionalLeaf<String<A>, 0x4200AB>,
         (
             reader::OptionalLeaf<String<A>, 0x4200A9>,
-            (reader::OptionalLeaf<String<A>, 0x4200AA>, ()),
+            reader::OptionalLeaf<String<A>, 0x4200AA>,
         ),
     >;
 
@@ -275,31 +281,25 @@ impl<A: Allocator + Copy> reader::ReadStructure<A> for Device<A> {
 
     const DENIES_UNKNOWN: bool = true;
 
+    #[tactic(auto, unfolding(kmip_ttlv_types::specs::Digits::six_digits))]
+    fn has_form() {}
+
     #[tactic(auto, unfolding(kmip_ttlv_types::specs::Digits::six_digits, crate::specs::Headers::read_device))]
     fn from_fields(
         fields: (
             Option<String<A>>,
-            (
-                Option<String<A>>,
-                (
-                    Option<String<A>>,
-                    (
-                        Option<String<A>>,
-                        (Option<String<A>>, (Option<String<A>>, ())),
-                    ),
-                ),
-            ),
+            Option<String<A>>,
+            Option<String<A>>,
+            Option<String<A>>,
+            (Option<String<A>>, Option<String<A>>),
         ),
     ) -> Self {
         let (
             device_serial_number,
-            (
-                password,
-                (
-                    device_identifier,
-                    (network_identifier, (machine_identifier, (media_identifier, ()))),
-                ),
-            ),
+            password,
+            device_identifier,
+            network_identifier,
+            (machine_identifier, media_identifier),
         ) = fields;
         Device {
             device_serial_number,
@@ -313,22 +313,21 @@ impl<A: Allocator + Copy> reader::ReadStructure<A> for Device<A> {
 }
 
 impl<A: Allocator + Copy> reader::ReadNested<A> for Device<A> {
+    ghost form = { device_form };
+
+    ghost value = { read_device };
+
     ghost TAG = { 0x420025 };
 
-    ghost fields = { struct_fields device_form };
-
-    ghost denies_unknown = { true };
-
-    ghost values = { λ x. fields_in (read_device x) };
+    ghost structured = { (refl, refl) };
 
     const TAG: u32 = 0x420025;
 
-    #[tactic(auto, unfolding(kmip_ttlv_types::specs::Digits::six_digits, crate::specs::Headers::read_device))]
     fn read_nested<'b>(
         scope: &reader::Scope<'b, A>,
         cursor: &mut reader::Cursor<'b, A>,
     ) -> reader::Step<Self, A> {
-        reader::read_form(scope, cursor)
+        reader::read_structure(scope, cursor)
     }
 }
 
@@ -388,10 +387,21 @@ impl reader::Rule for CredentialValueUsernameAndPasswordRule {
 
     #[tactic(auto, unfolding(kmip_ttlv_reader::specs::RuleParts::parts_of))]
     fn parts() -> Option<reader::RuleParts> {
-        Some(reader::RuleParts {
+        Some(reader::RuleParts::Texts {
             tag: 0x420024,
             texts: &["0x00000001"],
         })
+    }
+}
+
+impl<A: Allocator + Copy> reader::VariantOf<
+    reader::StructureElement<UsernameAndPassword<A>>,
+    CredentialValue<A>,
+    A,
+> for CredentialValueUsernameAndPasswordRule {
+    #[tactic(auto, unfolding(kmip_ttlv_types::specs::Digits::six_digits, crate::specs::Headers::read_credential_value))]
+    fn from_content(held: UsernameAndPassword<A>) -> CredentialValue<A> {
+        CredentialValue::UsernameAndPassword(held)
     }
 }
 
@@ -407,57 +417,46 @@ impl reader::Rule for CredentialValueDeviceRule {
 
     #[tactic(auto, unfolding(kmip_ttlv_reader::specs::RuleParts::parts_of))]
     fn parts() -> Option<reader::RuleParts> {
-        Some(reader::RuleParts {
+        Some(reader::RuleParts::Texts {
             tag: 0x420024,
             texts: &["0x00000002"],
         })
     }
 }
 
-// The variants from `Device` on.
-type CredentialValueFromDevice<A> = reader::Variant<
-    CredentialValueDeviceRule,
+impl<A: Allocator + Copy> reader::VariantOf<
     reader::StructureElement<Device<A>>,
->;
-
-// The one that was read as one of these.
-#[tactic(auto, unfolding(kmip_ttlv_types::specs::Digits::six_digits, crate::specs::Headers::read_credential_value, crate::specs::Headers::read_username_and_password, crate::specs::Headers::read_device))]
-#[inline(always)]
-fn credential_value_from_device<A: Allocator + Copy>(
-    read: <CredentialValueFromDevice<A> as reader::VariantList<A>>::Read,
-) -> CredentialValue<A>
-    ensures { read_credential_value result ≡ ⟦<CredentialValueFromDevice<A> as reader::VariantList<A>>⟧.value (codes "credential") read }
-{
-    CredentialValue::Device(read)
-}
-
-// The variants from `UsernameAndPassword` on.
-type CredentialValueFromUsernameAndPassword<A> = (
-    reader::Variant<
-        CredentialValueUsernameAndPasswordRule,
-        reader::StructureElement<UsernameAndPassword<A>>,
-    >,
-    CredentialValueFromDevice<A>,
-);
-
-// The one that was read as one of these.
-#[tactic(auto, unfolding(kmip_ttlv_types::specs::Digits::six_digits, crate::specs::Headers::read_credential_value, crate::specs::Headers::read_username_and_password, crate::specs::Headers::read_device))]
-#[inline(always)]
-fn credential_value_from_username_and_password<A: Allocator + Copy>(
-    read: <CredentialValueFromUsernameAndPassword<A> as reader::VariantList<A>>::Read,
-) -> CredentialValue<A>
-    ensures { read_credential_value result ≡ ⟦<CredentialValueFromUsernameAndPassword<A> as reader::VariantList<A>>⟧.value (codes "credential") read }
-{
-    match read {
-        reader::OneOf::First(held) => CredentialValue::UsernameAndPassword(held),
-        reader::OneOf::Other(other) => credential_value_from_device(other),
+    CredentialValue<A>,
+    A,
+> for CredentialValueDeviceRule {
+    #[tactic(auto, unfolding(kmip_ttlv_types::specs::Digits::six_digits, crate::specs::Headers::read_credential_value))]
+    fn from_content(held: Device<A>) -> CredentialValue<A> {
+        CredentialValue::Device(held)
     }
 }
 
-impl<A: Allocator + Copy> reader::Choice<A> for CredentialValue<A> {
+impl<A: Allocator> reader::ChoiceValue for CredentialValue<A> {
     ghost own = { codes "credential" };
 
-    type Variants = CredentialValueFromUsernameAndPassword<A>;
+    ghost value = { read_credential_value };
+}
+
+impl<A: Allocator + Copy> reader::Choice<A> for CredentialValue<A> {
+    ghost form = { credential_value_form };
+
+    type Variants = (
+        reader::Variant<
+            CredentialValueUsernameAndPasswordRule,
+            reader::StructureElement<UsernameAndPassword<A>>,
+        >,
+        (
+            reader::Variant<CredentialValueDeviceRule, reader::StructureElement<Device<A>>>,
+            (),
+        ),
+    );
+
+    #[tactic(auto, unfolding(kmip_ttlv_types::specs::Digits::six_digits))]
+    fn has_form() {}
 }
 
 impl<A: Allocator + Copy> reader::ReadItem<A> for CredentialValue<A> {
@@ -467,13 +466,11 @@ impl<A: Allocator + Copy> reader::ReadItem<A> for CredentialValue<A> {
 
     ghost plain = { (refl, refl) };
 
-    #[tactic(auto, unfolding(kmip_ttlv_types::specs::Digits::six_digits, crate::specs::Headers::read_credential_value, crate::specs::Headers::read_username_and_password, crate::specs::Headers::read_device))]
     fn read_item<'b>(
         scope: &reader::Scope<'b, A>,
         cursor: &mut reader::Cursor<'b, A>,
     ) -> reader::Step<Self, A> {
-        let read = reader::read_choice::<Self, A>(scope, cursor)?;
-        Ok(credential_value_from_username_and_password(read))
+        reader::read_choice(scope, cursor)
     }
 }
 
@@ -501,24 +498,29 @@ impl<B: Allocator> Serialize for Credential<B> {
 }
 
 impl<A: Allocator + Copy> reader::ReadStructure<A> for Credential<A> {
+    ghost form = { credential_form };
+
+    ghost value = { read_credential };
+
     ghost TAG = { 0x420023 };
 
     ghost DENIES_UNKNOWN = { true };
 
-    ghost values = { λ x. fields_in (read_credential x) };
-
     type Fields = (
         reader::Item<CredentialType, 0x420024>,
-        (reader::Item<CredentialValue<A>, 0x420025>, ()),
+        reader::Item<CredentialValue<A>, 0x420025>,
     );
 
     const TAG: u32 = 0x420023;
 
     const DENIES_UNKNOWN: bool = true;
 
+    #[tactic(auto, unfolding(kmip_ttlv_types::specs::Digits::six_digits))]
+    fn has_form() {}
+
     #[tactic(auto, unfolding(kmip_ttlv_types::specs::Digits::six_digits, crate::specs::Headers::read_credential))]
-    fn from_fields(fields: (CredentialType, (CredentialValue<A>, ()))) -> Self {
-        let (credential_type, (credential_value, ())) = fields;
+    fn from_fields(fields: (CredentialType, CredentialValue<A>)) -> Self {
+        let (credential_type, credential_value) = fields;
         Credential {
             credential_type,
             credential_value,
@@ -527,22 +529,21 @@ impl<A: Allocator + Copy> reader::ReadStructure<A> for Credential<A> {
 }
 
 impl<A: Allocator + Copy> reader::ReadNested<A> for Credential<A> {
+    ghost form = { credential_form };
+
+    ghost value = { read_credential };
+
     ghost TAG = { 0x420023 };
 
-    ghost fields = { struct_fields credential_form };
-
-    ghost denies_unknown = { true };
-
-    ghost values = { λ x. fields_in (read_credential x) };
+    ghost structured = { (refl, refl) };
 
     const TAG: u32 = 0x420023;
 
-    #[tactic(auto, unfolding(kmip_ttlv_types::specs::Digits::six_digits, crate::specs::Headers::read_credential))]
     fn read_nested<'b>(
         scope: &reader::Scope<'b, A>,
         cursor: &mut reader::Cursor<'b, A>,
     ) -> reader::Step<Self, A> {
-        reader::read_form(scope, cursor)
+        reader::read_structure(scope, cursor)
     }
 }
 
@@ -567,42 +568,46 @@ impl<B: Allocator> Serialize for Authentication<B> {
 }
 
 impl<A: Allocator + Copy> reader::ReadStructure<A> for Authentication<A> {
+    ghost form = { authentication_form };
+
+    ghost value = { read_authentication };
+
     ghost TAG = { 0x42000C };
 
     ghost DENIES_UNKNOWN = { true };
 
-    ghost values = { λ x. fields_in (read_authentication x) };
-
-    type Fields = (reader::Several<Credential<A>>, ());
+    type Fields = (reader::Several<Credential<A>>,);
 
     const TAG: u32 = 0x42000C;
 
     const DENIES_UNKNOWN: bool = true;
 
-    #[tactic(auto, unfolding(kmip_ttlv_types::specs::Digits::six_digits, crate::specs::Headers::read_authentication, crate::specs::Headers::read_credential))]
-    fn from_fields(fields: (Vec<Credential<A>, A>, ())) -> Self {
-        let (credentials, ()) = fields;
+    #[tactic(auto, unfolding(kmip_ttlv_types::specs::Digits::six_digits))]
+    fn has_form() {}
+
+    #[tactic(auto, unfolding(kmip_ttlv_types::specs::Digits::six_digits, crate::specs::Headers::read_authentication))]
+    fn from_fields(fields: (Vec<Credential<A>, A>,)) -> Self {
+        let (credentials,) = fields;
         Authentication { credentials }
     }
 }
 
 impl<A: Allocator + Copy> reader::ReadNested<A> for Authentication<A> {
+    ghost form = { authentication_form };
+
+    ghost value = { read_authentication };
+
     ghost TAG = { 0x42000C };
 
-    ghost fields = { struct_fields authentication_form };
-
-    ghost denies_unknown = { true };
-
-    ghost values = { λ x. fields_in (read_authentication x) };
+    ghost structured = { (refl, refl) };
 
     const TAG: u32 = 0x42000C;
 
-    #[tactic(auto, unfolding(kmip_ttlv_types::specs::Digits::six_digits, crate::specs::Headers::read_authentication))]
     fn read_nested<'b>(
         scope: &reader::Scope<'b, A>,
         cursor: &mut reader::Cursor<'b, A>,
     ) -> reader::Step<Self, A> {
-        reader::read_form(scope, cursor)
+        reader::read_structure(scope, cursor)
     }
 }
 
@@ -830,64 +835,55 @@ impl<B: Allocator> Serialize for RequestHeader<B> {
 }
 
 impl<A: Allocator + Copy> reader::ReadStructure<A> for RequestHeader<A> {
+    ghost form = { request_header_form };
+
+    ghost value = { read_request_header };
+
     ghost TAG = { 0x420077 };
 
     ghost DENIES_UNKNOWN = { true };
-
-    ghost values = { λ x. fields_in (read_request_header x) };
 
     type Fields = reader::Four<
         reader::Nested<ProtocolVersion>,
         reader::OptionalItem<MaximumResponseSize, 0x420050>,
         reader::OptionalLeaf<bool, 0x420007>,
         reader::OptionalNested<Authentication<A>>,
-        reader::Four<
+        (
             reader::OptionalItem<BatchErrorContinuationOption, 0x42000E>,
             reader::OptionalLeaf<bool, 0x420010>,
             reader::OptionalItem<TimeStamp, 0x420092>,
             reader::Item<BatchCount, 0x42000D>,
-            (),
-        >,
+        ),
     >;
 
     const TAG: u32 = 0x420077;
 
     const DENIES_UNKNOWN: bool = true;
 
-    #[tactic(auto, unfolding(kmip_ttlv_types::specs::Digits::six_digits, crate::specs::Headers::read_request_header, crate::specs::Headers::protocol_version_value, crate::specs::Headers::read_authentication))]
+    #[tactic(auto, unfolding(kmip_ttlv_types::specs::Digits::six_digits))]
+    fn has_form() {}
+
+    #[tactic(auto, unfolding(kmip_ttlv_types::specs::Digits::six_digits, crate::specs::Headers::read_request_header))]
     fn from_fields(
         fields: (
             ProtocolVersion,
+            Option<MaximumResponseSize>,
+            Option<bool>,
+            Option<Authentication<A>>,
             (
-                Option<MaximumResponseSize>,
-                (
-                    Option<bool>,
-                    (
-                        Option<Authentication<A>>,
-                        (
-                            Option<BatchErrorContinuationOption>,
-                            (Option<bool>, (Option<TimeStamp>, (BatchCount, ()))),
-                        ),
-                    ),
-                ),
+                Option<BatchErrorContinuationOption>,
+                Option<bool>,
+                Option<TimeStamp>,
+                BatchCount,
             ),
         ),
     ) -> Self {
         let (
             version,
-            (
-                maximum_response_size,
-                (
-                    asynchronous_indicator,
-                    (
-                        authentication,
-                        (
-                            batch_error_continuation_option,
-                            (batch_order_option, (time_stamp, (batch_count, ()))),
-                        ),
-                    ),
-                ),
-            ),
+            maximum_response_size,
+            asynchronous_indicator,
+            authentication,
+            (batch_error_continuation_option, batch_order_option, time_stamp, batch_count),
         ) = fields;
         RequestHeader {
             version,
@@ -903,22 +899,21 @@ impl<A: Allocator + Copy> reader::ReadStructure<A> for RequestHeader<A> {
 }
 
 impl<A: Allocator + Copy> reader::ReadNested<A> for RequestHeader<A> {
+    ghost form = { request_header_form };
+
+    ghost value = { read_request_header };
+
     ghost TAG = { 0x420077 };
 
-    ghost fields = { struct_fields request_header_form };
-
-    ghost denies_unknown = { true };
-
-    ghost values = { λ x. fields_in (read_request_header x) };
+    ghost structured = { (refl, refl) };
 
     const TAG: u32 = 0x420077;
 
-    #[tactic(auto, unfolding(kmip_ttlv_types::specs::Digits::six_digits, crate::specs::Headers::read_request_header))]
     fn read_nested<'b>(
         scope: &reader::Scope<'b, A>,
         cursor: &mut reader::Cursor<'b, A>,
     ) -> reader::Step<Self, A> {
-        reader::read_form(scope, cursor)
+        reader::read_structure(scope, cursor)
     }
 }
 
@@ -947,27 +942,30 @@ impl Serialize for ResponseHeader {
 }
 
 impl<A: Allocator + Copy> reader::ReadStructure<A> for ResponseHeader {
+    ghost form = { response_header_form };
+
+    ghost value = { response_header_value };
+
     ghost TAG = { 0x42007A };
 
     ghost DENIES_UNKNOWN = { true };
 
-    ghost values = { λ x. fields_in (response_header_value x) };
-
     type Fields = (
         reader::Nested<ProtocolVersion>,
-        (
-            reader::Leaf<reader::DateTime, 0x420092>,
-            (reader::Leaf<i32, 0x42000D>, ()),
-        ),
+        reader::Leaf<reader::DateTime, 0x420092>,
+        reader::Leaf<i32, 0x42000D>,
     );
 
     const TAG: u32 = 0x42007A;
 
     const DENIES_UNKNOWN: bool = true;
 
-    #[tactic(auto, unfolding(kmip_ttlv_types::specs::Digits::six_digits, crate::specs::Headers::response_header_value, crate::specs::Headers::protocol_version_value))]
-    fn from_fields(fields: (ProtocolVersion, (reader::DateTime, (i32, ())))) -> Self {
-        let (version, (time_stamp, (batch_count, ()))) = fields;
+    #[tactic(auto, unfolding(kmip_ttlv_types::specs::Digits::six_digits))]
+    fn has_form() {}
+
+    #[tactic(auto, unfolding(kmip_ttlv_types::specs::Digits::six_digits, crate::specs::Headers::response_header_value))]
+    fn from_fields(fields: (ProtocolVersion, reader::DateTime, i32)) -> Self {
+        let (version, time_stamp, batch_count) = fields;
         ResponseHeader {
             version,
             time_stamp: time_stamp.0,
@@ -977,22 +975,21 @@ impl<A: Allocator + Copy> reader::ReadStructure<A> for ResponseHeader {
 }
 
 impl<A: Allocator + Copy> reader::ReadNested<A> for ResponseHeader {
+    ghost form = { response_header_form };
+
+    ghost value = { response_header_value };
+
     ghost TAG = { 0x42007A };
 
-    ghost fields = { struct_fields response_header_form };
-
-    ghost denies_unknown = { true };
-
-    ghost values = { λ x. fields_in (response_header_value x) };
+    ghost structured = { (refl, refl) };
 
     const TAG: u32 = 0x42007A;
 
-    #[tactic(auto, unfolding(kmip_ttlv_types::specs::Digits::six_digits, crate::specs::Headers::response_header_value))]
     fn read_nested<'b>(
         scope: &reader::Scope<'b, A>,
         cursor: &mut reader::Cursor<'b, A>,
     ) -> reader::Step<Self, A> {
-        reader::read_form(scope, cursor)
+        reader::read_structure(scope, cursor)
     }
 }
 
@@ -1204,24 +1201,29 @@ impl<B: Allocator> Serialize for MessageExtension<B> {
 }
 
 impl<A: Allocator + Copy> reader::ReadStructure<A> for MessageExtension<A> {
+    ghost form = { message_extension_form };
+
+    ghost value = { message_extension_value };
+
     ghost TAG = { 0x420051 };
 
     ghost DENIES_UNKNOWN = { false };
 
-    ghost values = { λ x. fields_in (message_extension_value x) };
-
     type Fields = (
         reader::Leaf<String<A>, 0x42009D>,
-        (reader::Leaf<bool, 0x420026>, ()),
+        reader::Leaf<bool, 0x420026>,
     );
 
     const TAG: u32 = 0x420051;
 
     const DENIES_UNKNOWN: bool = false;
 
+    #[tactic(auto, unfolding(kmip_ttlv_types::specs::Digits::six_digits))]
+    fn has_form() {}
+
     #[tactic(auto, unfolding(kmip_ttlv_types::specs::Digits::six_digits, crate::specs::Headers::message_extension_value))]
-    fn from_fields(fields: (String<A>, (bool, ()))) -> Self {
-        let (vendor_identification, (criticality_indicator, ())) = fields;
+    fn from_fields(fields: (String<A>, bool)) -> Self {
+        let (vendor_identification, criticality_indicator) = fields;
         MessageExtension {
             vendor_identification,
             criticality_indicator,
@@ -1230,21 +1232,20 @@ impl<A: Allocator + Copy> reader::ReadStructure<A> for MessageExtension<A> {
 }
 
 impl<A: Allocator + Copy> reader::ReadNested<A> for MessageExtension<A> {
+    ghost form = { message_extension_form };
+
+    ghost value = { message_extension_value };
+
     ghost TAG = { 0x420051 };
 
-    ghost fields = { struct_fields message_extension_form };
-
-    ghost denies_unknown = { false };
-
-    ghost values = { λ x. fields_in (message_extension_value x) };
+    ghost structured = { (refl, refl) };
 
     const TAG: u32 = 0x420051;
 
-    #[tactic(auto, unfolding(kmip_ttlv_types::specs::Digits::six_digits, crate::specs::Headers::message_extension_value))]
     fn read_nested<'b>(
         scope: &reader::Scope<'b, A>,
         cursor: &mut reader::Cursor<'b, A>,
     ) -> reader::Step<Self, A> {
-        reader::read_form(scope, cursor)
+        reader::read_structure(scope, cursor)
     }
 }

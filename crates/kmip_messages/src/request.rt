@@ -1,12 +1,11 @@
 // Written by codegen from types.table: change that, and run codegen/codegen.
 //! What is asked for (KMIP 1.0, section 4).
 
-ghost use Rattle.std.specs.Prelude.{◌≡◌, ◌↔◌, ◌==◌, refl, IsTrue, List, Some, codes, true, ℕ};
+ghost use Rattle.std.specs.Prelude.{◌≡◌, ◌↔◌, ◌==◌, refl, IsTrue, Some, codes, true};
 ghost use Rattle.std.proofs.Common.{rules};
 ghost use Rattle.std.specs.Cmp.Rules.{comparing};
 ghost use Rattle.std.specs.Ordering.{on};
-ghost use Rattle.kmip_ttlv.specs.Spots.{fields_in, struct_fields};
-ghost use Rattle.kmip_messages.specs.Requests.{create_request_form, written_create_request, read_create_request, create_key_pair_request_form, written_create_key_pair_request, read_create_key_pair_request, register_request_form, written_register_request, read_register_request, IsRegisterRequestObject, maximum_items_form, maximum_items_value, storage_status_mask_form, storage_status_mask_value, locate_request_form, written_locate_request, read_locate_request, key_wrapping_specification_form, written_key_wrapping_specification, read_key_wrapping_specification, get_request_form, written_get_request, read_get_request, get_attributes_request_form, written_get_attributes_request, read_get_attributes_request, attribute_request_form, written_attribute_request, read_attribute_request, delete_attribute_request_form, written_delete_attribute_request, read_delete_attribute_request, object_request_form, written_object_request, read_object_request, revocation_reason_given_form, written_revocation_reason_given, read_revocation_reason_given, compromise_occurrence_date_form, compromise_occurrence_date_value, revoke_request_form, written_revoke_request, read_revoke_request, query_function_form, written_query_function, read_query_function, query_function_number, query_function_read_number, query_request_form, written_query_request, read_query_request, discover_versions_request_form, written_discover_versions_request, read_discover_versions_request, request_payload_form, written_request_payload, read_request_payload, ChoosesRequestPayload, request_payload_as, request_payload_variants_5, request_payload_variants_10, ChoosesRequestPayloadNumber, request_item_form, written_request_item, read_request_item, request_form, written_request, read_request};
+ghost use Rattle.kmip_messages.specs.Requests.{create_request_form, written_create_request, read_create_request, create_key_pair_request_form, written_create_key_pair_request, read_create_key_pair_request, register_request_form, written_register_request, read_register_request, IsRegisterRequestObject, maximum_items_form, maximum_items_value, storage_status_mask_form, storage_status_mask_value, locate_request_form, written_locate_request, read_locate_request, key_wrapping_specification_form, written_key_wrapping_specification, read_key_wrapping_specification, get_request_form, written_get_request, read_get_request, get_attributes_request_form, written_get_attributes_request, read_get_attributes_request, attribute_request_form, written_attribute_request, read_attribute_request, delete_attribute_request_form, written_delete_attribute_request, read_delete_attribute_request, object_request_form, written_object_request, read_object_request, revocation_reason_given_form, written_revocation_reason_given, read_revocation_reason_given, compromise_occurrence_date_form, compromise_occurrence_date_value, revoke_request_form, written_revoke_request, read_revoke_request, query_function_form, written_query_function, read_query_function, query_function_number, query_function_read_number, query_request_form, written_query_request, read_query_request, discover_versions_request_form, written_discover_versions_request, read_discover_versions_request, request_payload_form, written_request_payload, read_request_payload, ChoosesRequestPayload, request_payload_variants_4, request_payload_variants_8, request_payload_variants_12, ChoosesRequestPayloadNumber, request_item_form, written_request_item, read_request_item, request_form, written_request, read_request};
 
 use crate::header::{MessageExtension, Operation, ProtocolVersion, RequestHeader};
 use crate::template::{
@@ -29,7 +28,6 @@ use kmip_ttlv::types::TtlvType;
 use kmip_ttlv::visit::Visitor;
 use kmip_ttlv::{error, reader};
 use std::alloc::{AllocError, Allocator, Global};
-use std::marker::PhantomData;
 
 /// A symmetric key is to be made (section 4.1).
 #[derive(Drop)]
@@ -55,24 +53,29 @@ impl<B: Allocator> Serialize for CreateRequest<B> {
 }
 
 impl<A: Allocator + Copy> reader::ReadStructure<A> for CreateRequest<A> {
+    ghost form = { create_request_form };
+
+    ghost value = { read_create_request };
+
     ghost TAG = { 0x420079 };
 
     ghost DENIES_UNKNOWN = { true };
 
-    ghost values = { λ x. fields_in (read_create_request x) };
-
     type Fields = (
         reader::Item<ObjectType, 0x420057>,
-        (reader::Nested<TemplateAttribute<A>>, ()),
+        reader::Nested<TemplateAttribute<A>>,
     );
 
     const TAG: u32 = 0x420079;
 
     const DENIES_UNKNOWN: bool = true;
 
-    #[tactic(auto, unfolding(kmip_ttlv_types::specs::Digits::six_digits, crate::specs::Requests::read_create_request, crate::specs::Templates::read_template_attribute))]
-    fn from_fields(fields: (ObjectType, (TemplateAttribute<A>, ()))) -> Self {
-        let (object_type, (template_attribute, ())) = fields;
+    #[tactic(auto, unfolding(kmip_ttlv_types::specs::Digits::six_digits))]
+    fn has_form() {}
+
+    #[tactic(auto, unfolding(kmip_ttlv_types::specs::Digits::six_digits, crate::specs::Requests::read_create_request))]
+    fn from_fields(fields: (ObjectType, TemplateAttribute<A>)) -> Self {
+        let (object_type, template_attribute) = fields;
         CreateRequest {
             object_type,
             template_attribute,
@@ -81,22 +84,21 @@ impl<A: Allocator + Copy> reader::ReadStructure<A> for CreateRequest<A> {
 }
 
 impl<A: Allocator + Copy> reader::ReadNested<A> for CreateRequest<A> {
+    ghost form = { create_request_form };
+
+    ghost value = { read_create_request };
+
     ghost TAG = { 0x420079 };
 
-    ghost fields = { struct_fields create_request_form };
-
-    ghost denies_unknown = { true };
-
-    ghost values = { λ x. fields_in (read_create_request x) };
+    ghost structured = { (refl, refl) };
 
     const TAG: u32 = 0x420079;
 
-    #[tactic(auto, unfolding(kmip_ttlv_types::specs::Digits::six_digits, crate::specs::Requests::read_create_request))]
     fn read_nested<'b>(
         scope: &reader::Scope<'b, A>,
         cursor: &mut reader::Cursor<'b, A>,
     ) -> reader::Step<Self, A> {
-        reader::read_form(scope, cursor)
+        reader::read_structure(scope, cursor)
     }
 }
 
@@ -126,35 +128,36 @@ impl<B: Allocator> Serialize for CreateKeyPairRequest<B> {
 }
 
 impl<A: Allocator + Copy> reader::ReadStructure<A> for CreateKeyPairRequest<A> {
+    ghost form = { create_key_pair_request_form };
+
+    ghost value = { read_create_key_pair_request };
+
     ghost TAG = { 0x420079 };
 
     ghost DENIES_UNKNOWN = { true };
 
-    ghost values = { λ x. fields_in (read_create_key_pair_request x) };
-
     type Fields = (
         reader::OptionalNested<CommonTemplateAttribute<A>>,
-        (
-            reader::OptionalNested<PrivateKeyTemplateAttribute<A>>,
-            (reader::OptionalNested<PublicKeyTemplateAttribute<A>>, ()),
-        ),
+        reader::OptionalNested<PrivateKeyTemplateAttribute<A>>,
+        reader::OptionalNested<PublicKeyTemplateAttribute<A>>,
     );
 
     const TAG: u32 = 0x420079;
 
     const DENIES_UNKNOWN: bool = true;
 
-    #[tactic(auto, unfolding(kmip_ttlv_types::specs::Digits::six_digits, crate::specs::Requests::read_create_key_pair_request, crate::specs::Templates::read_common_template_attribute, crate::specs::Templates::read_private_key_template_attribute, crate::specs::Templates::read_public_key_template_attribute))]
+    #[tactic(auto, unfolding(kmip_ttlv_types::specs::Digits::six_digits))]
+    fn has_form() {}
+
+    #[tactic(auto, unfolding(kmip_ttlv_types::specs::Digits::six_digits, crate::specs::Requests::read_create_key_pair_request))]
     fn from_fields(
         fields: (
             Option<CommonTemplateAttribute<A>>,
-            (
-                Option<PrivateKeyTemplateAttribute<A>>,
-                (Option<PublicKeyTemplateAttribute<A>>, ()),
-            ),
+            Option<PrivateKeyTemplateAttribute<A>>,
+            Option<PublicKeyTemplateAttribute<A>>,
         ),
     ) -> Self {
-        let (common, (private_key, (public_key, ()))) = fields;
+        let (common, private_key, public_key) = fields;
         CreateKeyPairRequest {
             common,
             private_key,
@@ -164,22 +167,21 @@ impl<A: Allocator + Copy> reader::ReadStructure<A> for CreateKeyPairRequest<A> {
 }
 
 impl<A: Allocator + Copy> reader::ReadNested<A> for CreateKeyPairRequest<A> {
+    ghost form = { create_key_pair_request_form };
+
+    ghost value = { read_create_key_pair_request };
+
     ghost TAG = { 0x420079 };
 
-    ghost fields = { struct_fields create_key_pair_request_form };
-
-    ghost denies_unknown = { true };
-
-    ghost values = { λ x. fields_in (read_create_key_pair_request x) };
+    ghost structured = { (refl, refl) };
 
     const TAG: u32 = 0x420079;
 
-    #[tactic(auto, unfolding(kmip_ttlv_types::specs::Digits::six_digits, crate::specs::Requests::read_create_key_pair_request))]
     fn read_nested<'b>(
         scope: &reader::Scope<'b, A>,
         cursor: &mut reader::Cursor<'b, A>,
     ) -> reader::Step<Self, A> {
-        reader::read_form(scope, cursor)
+        reader::read_structure(scope, cursor)
     }
 }
 
@@ -274,11 +276,13 @@ impl<B: Allocator> Serialize for RegisterRequest<B> {
 }
 
 impl<A: Allocator + Copy> reader::ReadStructure<A> for RegisterRequest<A> {
+    ghost form = { register_request_form };
+
+    ghost value = { read_register_request };
+
     ghost TAG = { 0x420079 };
 
     ghost DENIES_UNKNOWN = { true };
-
-    ghost values = { λ x. fields_in (read_register_request x) };
 
     type Fields = reader::Four<
         reader::Item<ObjectType, 0x420057>,
@@ -292,7 +296,7 @@ impl<A: Allocator + Copy> reader::ReadStructure<A> for RegisterRequest<A> {
             reader::OptionalNested<Template<A>>,
             (
                 reader::OptionalNested<SecretData<A>>,
-                (reader::OptionalNested<OpaqueObject<A>>, ()),
+                reader::OptionalNested<OpaqueObject<A>>,
             ),
         >,
     >;
@@ -301,52 +305,31 @@ impl<A: Allocator + Copy> reader::ReadStructure<A> for RegisterRequest<A> {
 
     const DENIES_UNKNOWN: bool = true;
 
-    #[tactic(auto, unfolding(kmip_ttlv_types::specs::Digits::six_digits, crate::specs::Requests::read_register_request, crate::specs::Templates::read_template_attribute, kmip_objects::specs::Objects::read_certificate, kmip_objects::specs::Objects::read_symmetric_key, kmip_objects::specs::Objects::read_public_key, kmip_objects::specs::Objects::read_private_key, kmip_objects::specs::Objects::read_split_key, kmip_objects::specs::Objects::read_template, kmip_objects::specs::Objects::read_secret_data, kmip_objects::specs::Objects::read_opaque_object))]
+    #[tactic(auto, unfolding(kmip_ttlv_types::specs::Digits::six_digits))]
+    fn has_form() {}
+
+    #[tactic(auto, unfolding(kmip_ttlv_types::specs::Digits::six_digits, crate::specs::Requests::read_register_request))]
     fn from_fields(
         fields: (
             ObjectType,
+            TemplateAttribute<A>,
+            Option<Certificate<A>>,
+            Option<SymmetricKey<A>>,
             (
-                TemplateAttribute<A>,
-                (
-                    Option<Certificate<A>>,
-                    (
-                        Option<SymmetricKey<A>>,
-                        (
-                            Option<PublicKey<A>>,
-                            (
-                                Option<PrivateKey<A>>,
-                                (
-                                    Option<SplitKey<A>>,
-                                    (
-                                        Option<Template<A>>,
-                                        (Option<SecretData<A>>, (Option<OpaqueObject<A>>, ())),
-                                    ),
-                                ),
-                            ),
-                        ),
-                    ),
-                ),
+                Option<PublicKey<A>>,
+                Option<PrivateKey<A>>,
+                Option<SplitKey<A>>,
+                Option<Template<A>>,
+                (Option<SecretData<A>>, Option<OpaqueObject<A>>),
             ),
         ),
     ) -> Self {
         let (
             object_type,
-            (
-                template_attribute,
-                (
-                    certificate,
-                    (
-                        symmetric_key,
-                        (
-                            public_key,
-                            (
-                                private_key,
-                                (split_key, (template, (secret_data, (opaque_object, ())))),
-                            ),
-                        ),
-                    ),
-                ),
-            ),
+            template_attribute,
+            certificate,
+            symmetric_key,
+            (public_key, private_key, split_key, template, (secret_data, opaque_object)),
         ) = fields;
         RegisterRequest {
             object_type,
@@ -364,22 +347,21 @@ impl<A: Allocator + Copy> reader::ReadStructure<A> for RegisterRequest<A> {
 }
 
 impl<A: Allocator + Copy> reader::ReadNested<A> for RegisterRequest<A> {
+    ghost form = { register_request_form };
+
+    ghost value = { read_register_request };
+
     ghost TAG = { 0x420079 };
 
-    ghost fields = { struct_fields register_request_form };
-
-    ghost denies_unknown = { true };
-
-    ghost values = { λ x. fields_in (read_register_request x) };
+    ghost structured = { (refl, refl) };
 
     const TAG: u32 = 0x420079;
 
-    #[tactic(auto, unfolding(kmip_ttlv_types::specs::Digits::six_digits, crate::specs::Requests::read_register_request))]
     fn read_nested<'b>(
         scope: &reader::Scope<'b, A>,
         cursor: &mut reader::Cursor<'b, A>,
     ) -> reader::Step<Self, A> {
-        reader::read_form(scope, cursor)
+        reader::read_structure(scope, cursor)
     }
 }
 
@@ -475,32 +457,36 @@ impl<B: Allocator> Serialize for LocateRequest<B> {
 }
 
 impl<A: Allocator + Copy> reader::ReadStructure<A> for LocateRequest<A> {
+    ghost form = { locate_request_form };
+
+    ghost value = { read_locate_request };
+
     ghost TAG = { 0x420079 };
 
     ghost DENIES_UNKNOWN = { true };
 
-    ghost values = { λ x. fields_in (read_locate_request x) };
-
     type Fields = (
         reader::OptionalItem<MaximumItems, 0x42004F>,
-        (
-            reader::OptionalItem<StorageStatusMask, 0x42008E>,
-            (reader::OptionalSeveral<Attribute<A>>, ()),
-        ),
+        reader::OptionalItem<StorageStatusMask, 0x42008E>,
+        reader::OptionalSeveral<Attribute<A>>,
     );
 
     const TAG: u32 = 0x420079;
 
     const DENIES_UNKNOWN: bool = true;
 
-    #[tactic(auto, unfolding(kmip_ttlv_types::specs::Digits::six_digits, crate::specs::Requests::read_locate_request, kmip_attributes::specs::Attributes::read_attribute))]
+    #[tactic(auto, unfolding(kmip_ttlv_types::specs::Digits::six_digits))]
+    fn has_form() {}
+
+    #[tactic(auto, unfolding(kmip_ttlv_types::specs::Digits::six_digits, crate::specs::Requests::read_locate_request))]
     fn from_fields(
         fields: (
             Option<MaximumItems>,
-            (Option<StorageStatusMask>, (Vec<Attribute<A>, A>, ())),
+            Option<StorageStatusMask>,
+            Vec<Attribute<A>, A>,
         ),
     ) -> Self {
-        let (maximum_items, (storage_status_mask, (attributes, ()))) = fields;
+        let (maximum_items, storage_status_mask, attributes) = fields;
         LocateRequest {
             maximum_items,
             storage_status_mask,
@@ -510,22 +496,21 @@ impl<A: Allocator + Copy> reader::ReadStructure<A> for LocateRequest<A> {
 }
 
 impl<A: Allocator + Copy> reader::ReadNested<A> for LocateRequest<A> {
+    ghost form = { locate_request_form };
+
+    ghost value = { read_locate_request };
+
     ghost TAG = { 0x420079 };
 
-    ghost fields = { struct_fields locate_request_form };
-
-    ghost denies_unknown = { true };
-
-    ghost values = { λ x. fields_in (read_locate_request x) };
+    ghost structured = { (refl, refl) };
 
     const TAG: u32 = 0x420079;
 
-    #[tactic(auto, unfolding(kmip_ttlv_types::specs::Digits::six_digits, crate::specs::Requests::read_locate_request))]
     fn read_nested<'b>(
         scope: &reader::Scope<'b, A>,
         cursor: &mut reader::Cursor<'b, A>,
     ) -> reader::Step<Self, A> {
-        reader::read_form(scope, cursor)
+        reader::read_structure(scope, cursor)
     }
 }
 
@@ -561,43 +546,45 @@ impl<B: Allocator> Serialize for KeyWrappingSpecification<B> {
 }
 
 impl<A: Allocator + Copy> reader::ReadStructure<A> for KeyWrappingSpecification<A> {
+    ghost form = { key_wrapping_specification_form };
+
+    ghost value = { read_key_wrapping_specification };
+
     ghost TAG = { 0x420047 };
 
     ghost DENIES_UNKNOWN = { true };
-
-    ghost values = { λ x. fields_in (read_key_wrapping_specification x) };
 
     type Fields = reader::Four<
         reader::Item<WrappingMethod, 0x42009E>,
         reader::OptionalNested<EncryptionKeyInformation<A>>,
         reader::OptionalNested<MacSignatureKeyInformation<A>>,
         reader::OptionalSeveralItems<AttributeName<A>, 0x42000A>,
-        (reader::OptionalItem<EncodingOption, 0x4200A3>, ()),
+        (reader::OptionalItem<EncodingOption, 0x4200A3>,),
     >;
 
     const TAG: u32 = 0x420047;
 
     const DENIES_UNKNOWN: bool = true;
 
-    #[tactic(auto, unfolding(kmip_ttlv_types::specs::Digits::six_digits, crate::specs::Requests::read_key_wrapping_specification, kmip_objects::specs::Keys::read_encryption_key_information, kmip_objects::specs::Keys::read_mac_signature_key_information))]
+    #[tactic(auto, unfolding(kmip_ttlv_types::specs::Digits::six_digits))]
+    fn has_form() {}
+
+    #[tactic(auto, unfolding(kmip_ttlv_types::specs::Digits::six_digits, crate::specs::Requests::read_key_wrapping_specification))]
     fn from_fields(
         fields: (
             WrappingMethod,
-            (
-                Option<EncryptionKeyInformation<A>>,
-                (
-                    Option<MacSignatureKeyInformation<A>>,
-                    (Vec<AttributeName<A>, A>, (Option<EncodingOption>, ())),
-                ),
-            ),
+            Option<EncryptionKeyInformation<A>>,
+            Option<MacSignatureKeyInformation<A>>,
+            Vec<AttributeName<A>, A>,
+            (Option<EncodingOption>,),
         ),
     ) -> Self {
         let (
             wrapping_method,
-            (
-                encryption_key_information,
-                (mac_signature_key_information, (attribute_names, (encoding_option, ()))),
-            ),
+            encryption_key_information,
+            mac_signature_key_information,
+            attribute_names,
+            (encoding_option,),
         ) = fields;
         KeyWrappingSpecification {
             wrapping_method,
@@ -610,22 +597,21 @@ impl<A: Allocator + Copy> reader::ReadStructure<A> for KeyWrappingSpecification<
 }
 
 impl<A: Allocator + Copy> reader::ReadNested<A> for KeyWrappingSpecification<A> {
+    ghost form = { key_wrapping_specification_form };
+
+    ghost value = { read_key_wrapping_specification };
+
     ghost TAG = { 0x420047 };
 
-    ghost fields = { struct_fields key_wrapping_specification_form };
-
-    ghost denies_unknown = { true };
-
-    ghost values = { λ x. fields_in (read_key_wrapping_specification x) };
+    ghost structured = { (refl, refl) };
 
     const TAG: u32 = 0x420047;
 
-    #[tactic(auto, unfolding(kmip_ttlv_types::specs::Digits::six_digits, crate::specs::Requests::read_key_wrapping_specification))]
     fn read_nested<'b>(
         scope: &reader::Scope<'b, A>,
         cursor: &mut reader::Cursor<'b, A>,
     ) -> reader::Step<Self, A> {
-        reader::read_form(scope, cursor)
+        reader::read_structure(scope, cursor)
     }
 }
 
@@ -658,41 +644,39 @@ impl<B: Allocator> Serialize for GetRequest<B> {
 }
 
 impl<A: Allocator + Copy> reader::ReadStructure<A> for GetRequest<A> {
+    ghost form = { get_request_form };
+
+    ghost value = { read_get_request };
+
     ghost TAG = { 0x420079 };
 
     ghost DENIES_UNKNOWN = { true };
 
-    ghost values = { λ x. fields_in (read_get_request x) };
-
-    type Fields = reader::Four<
+    type Fields = (
         reader::OptionalLeaf<String<A>, 0x420094>,
         reader::OptionalItem<KeyFormatType, 0x420042>,
         reader::OptionalItem<KeyCompressionType, 0x420041>,
         reader::OptionalNested<KeyWrappingSpecification<A>>,
-        (),
-    >;
+    );
 
     const TAG: u32 = 0x420079;
 
     const DENIES_UNKNOWN: bool = true;
 
-    #[tactic(auto, unfolding(kmip_ttlv_types::specs::Digits::six_digits, crate::specs::Requests::read_get_request, crate::specs::Requests::read_key_wrapping_specification))]
+    #[tactic(auto, unfolding(kmip_ttlv_types::specs::Digits::six_digits))]
+    fn has_form() {}
+
+    #[tactic(auto, unfolding(kmip_ttlv_types::specs::Digits::six_digits, crate::specs::Requests::read_get_request))]
     fn from_fields(
         fields: (
             Option<String<A>>,
-            (
-                Option<KeyFormatType>,
-                (
-                    Option<KeyCompressionType>,
-                    (Option<KeyWrappingSpecification<A>>, ()),
-                ),
-            ),
+            Option<KeyFormatType>,
+            Option<KeyCompressionType>,
+            Option<KeyWrappingSpecification<A>>,
         ),
     ) -> Self {
-        let (
-            unique_identifier,
-            (key_format_type, (key_compression_type, (key_wrapping_specification, ()))),
-        ) = fields;
+        let (unique_identifier, key_format_type, key_compression_type, key_wrapping_specification) =
+            fields;
         GetRequest {
             unique_identifier,
             key_format_type,
@@ -703,22 +687,21 @@ impl<A: Allocator + Copy> reader::ReadStructure<A> for GetRequest<A> {
 }
 
 impl<A: Allocator + Copy> reader::ReadNested<A> for GetRequest<A> {
+    ghost form = { get_request_form };
+
+    ghost value = { read_get_request };
+
     ghost TAG = { 0x420079 };
 
-    ghost fields = { struct_fields get_request_form };
-
-    ghost denies_unknown = { true };
-
-    ghost values = { λ x. fields_in (read_get_request x) };
+    ghost structured = { (refl, refl) };
 
     const TAG: u32 = 0x420079;
 
-    #[tactic(auto, unfolding(kmip_ttlv_types::specs::Digits::six_digits, crate::specs::Requests::read_get_request))]
     fn read_nested<'b>(
         scope: &reader::Scope<'b, A>,
         cursor: &mut reader::Cursor<'b, A>,
     ) -> reader::Step<Self, A> {
-        reader::read_form(scope, cursor)
+        reader::read_structure(scope, cursor)
     }
 }
 
@@ -745,24 +728,29 @@ impl<B: Allocator> Serialize for GetAttributesRequest<B> {
 }
 
 impl<A: Allocator + Copy> reader::ReadStructure<A> for GetAttributesRequest<A> {
+    ghost form = { get_attributes_request_form };
+
+    ghost value = { read_get_attributes_request };
+
     ghost TAG = { 0x420079 };
 
     ghost DENIES_UNKNOWN = { true };
 
-    ghost values = { λ x. fields_in (read_get_attributes_request x) };
-
     type Fields = (
         reader::OptionalLeaf<String<A>, 0x420094>,
-        (reader::OptionalSeveralItems<AttributeName<A>, 0x42000A>, ()),
+        reader::OptionalSeveralItems<AttributeName<A>, 0x42000A>,
     );
 
     const TAG: u32 = 0x420079;
 
     const DENIES_UNKNOWN: bool = true;
 
+    #[tactic(auto, unfolding(kmip_ttlv_types::specs::Digits::six_digits))]
+    fn has_form() {}
+
     #[tactic(auto, unfolding(kmip_ttlv_types::specs::Digits::six_digits, crate::specs::Requests::read_get_attributes_request))]
-    fn from_fields(fields: (Option<String<A>>, (Vec<AttributeName<A>, A>, ()))) -> Self {
-        let (unique_identifier, (attribute_names, ())) = fields;
+    fn from_fields(fields: (Option<String<A>>, Vec<AttributeName<A>, A>)) -> Self {
+        let (unique_identifier, attribute_names) = fields;
         GetAttributesRequest {
             unique_identifier,
             attribute_names,
@@ -771,22 +759,21 @@ impl<A: Allocator + Copy> reader::ReadStructure<A> for GetAttributesRequest<A> {
 }
 
 impl<A: Allocator + Copy> reader::ReadNested<A> for GetAttributesRequest<A> {
+    ghost form = { get_attributes_request_form };
+
+    ghost value = { read_get_attributes_request };
+
     ghost TAG = { 0x420079 };
 
-    ghost fields = { struct_fields get_attributes_request_form };
-
-    ghost denies_unknown = { true };
-
-    ghost values = { λ x. fields_in (read_get_attributes_request x) };
+    ghost structured = { (refl, refl) };
 
     const TAG: u32 = 0x420079;
 
-    #[tactic(auto, unfolding(kmip_ttlv_types::specs::Digits::six_digits, crate::specs::Requests::read_get_attributes_request))]
     fn read_nested<'b>(
         scope: &reader::Scope<'b, A>,
         cursor: &mut reader::Cursor<'b, A>,
     ) -> reader::Step<Self, A> {
-        reader::read_form(scope, cursor)
+        reader::read_structure(scope, cursor)
     }
 }
 
@@ -813,24 +800,29 @@ impl<B: Allocator> Serialize for AttributeRequest<B> {
 }
 
 impl<A: Allocator + Copy> reader::ReadStructure<A> for AttributeRequest<A> {
+    ghost form = { attribute_request_form };
+
+    ghost value = { read_attribute_request };
+
     ghost TAG = { 0x420079 };
 
     ghost DENIES_UNKNOWN = { true };
 
-    ghost values = { λ x. fields_in (read_attribute_request x) };
-
     type Fields = (
         reader::OptionalLeaf<String<A>, 0x420094>,
-        (reader::Nested<Attribute<A>>, ()),
+        reader::Nested<Attribute<A>>,
     );
 
     const TAG: u32 = 0x420079;
 
     const DENIES_UNKNOWN: bool = true;
 
-    #[tactic(auto, unfolding(kmip_ttlv_types::specs::Digits::six_digits, crate::specs::Requests::read_attribute_request, kmip_attributes::specs::Attributes::read_attribute))]
-    fn from_fields(fields: (Option<String<A>>, (Attribute<A>, ()))) -> Self {
-        let (unique_identifier, (attribute, ())) = fields;
+    #[tactic(auto, unfolding(kmip_ttlv_types::specs::Digits::six_digits))]
+    fn has_form() {}
+
+    #[tactic(auto, unfolding(kmip_ttlv_types::specs::Digits::six_digits, crate::specs::Requests::read_attribute_request))]
+    fn from_fields(fields: (Option<String<A>>, Attribute<A>)) -> Self {
+        let (unique_identifier, attribute) = fields;
         AttributeRequest {
             unique_identifier,
             attribute,
@@ -839,22 +831,21 @@ impl<A: Allocator + Copy> reader::ReadStructure<A> for AttributeRequest<A> {
 }
 
 impl<A: Allocator + Copy> reader::ReadNested<A> for AttributeRequest<A> {
+    ghost form = { attribute_request_form };
+
+    ghost value = { read_attribute_request };
+
     ghost TAG = { 0x420079 };
 
-    ghost fields = { struct_fields attribute_request_form };
-
-    ghost denies_unknown = { true };
-
-    ghost values = { λ x. fields_in (read_attribute_request x) };
+    ghost structured = { (refl, refl) };
 
     const TAG: u32 = 0x420079;
 
-    #[tactic(auto, unfolding(kmip_ttlv_types::specs::Digits::six_digits, crate::specs::Requests::read_attribute_request))]
     fn read_nested<'b>(
         scope: &reader::Scope<'b, A>,
         cursor: &mut reader::Cursor<'b, A>,
     ) -> reader::Step<Self, A> {
-        reader::read_form(scope, cursor)
+        reader::read_structure(scope, cursor)
     }
 }
 
@@ -884,27 +875,30 @@ impl<B: Allocator> Serialize for DeleteAttributeRequest<B> {
 }
 
 impl<A: Allocator + Copy> reader::ReadStructure<A> for DeleteAttributeRequest<A> {
+    ghost form = { delete_attribute_request_form };
+
+    ghost value = { read_delete_attribute_request };
+
     ghost TAG = { 0x420079 };
 
     ghost DENIES_UNKNOWN = { true };
 
-    ghost values = { λ x. fields_in (read_delete_attribute_request x) };
-
     type Fields = (
         reader::OptionalLeaf<String<A>, 0x420094>,
-        (
-            reader::Leaf<String<A>, 0x42000A>,
-            (reader::OptionalItem<AttributeIndex, 0x420009>, ()),
-        ),
+        reader::Leaf<String<A>, 0x42000A>,
+        reader::OptionalItem<AttributeIndex, 0x420009>,
     );
 
     const TAG: u32 = 0x420079;
 
     const DENIES_UNKNOWN: bool = true;
 
+    #[tactic(auto, unfolding(kmip_ttlv_types::specs::Digits::six_digits))]
+    fn has_form() {}
+
     #[tactic(auto, unfolding(kmip_ttlv_types::specs::Digits::six_digits, crate::specs::Requests::read_delete_attribute_request))]
-    fn from_fields(fields: (Option<String<A>>, (String<A>, (Option<AttributeIndex>, ())))) -> Self {
-        let (unique_identifier, (attribute_name, (attribute_index, ()))) = fields;
+    fn from_fields(fields: (Option<String<A>>, String<A>, Option<AttributeIndex>)) -> Self {
+        let (unique_identifier, attribute_name, attribute_index) = fields;
         DeleteAttributeRequest {
             unique_identifier,
             attribute_name,
@@ -914,22 +908,21 @@ impl<A: Allocator + Copy> reader::ReadStructure<A> for DeleteAttributeRequest<A>
 }
 
 impl<A: Allocator + Copy> reader::ReadNested<A> for DeleteAttributeRequest<A> {
+    ghost form = { delete_attribute_request_form };
+
+    ghost value = { read_delete_attribute_request };
+
     ghost TAG = { 0x420079 };
 
-    ghost fields = { struct_fields delete_attribute_request_form };
-
-    ghost denies_unknown = { true };
-
-    ghost values = { λ x. fields_in (read_delete_attribute_request x) };
+    ghost structured = { (refl, refl) };
 
     const TAG: u32 = 0x420079;
 
-    #[tactic(auto, unfolding(kmip_ttlv_types::specs::Digits::six_digits, crate::specs::Requests::read_delete_attribute_request))]
     fn read_nested<'b>(
         scope: &reader::Scope<'b, A>,
         cursor: &mut reader::Cursor<'b, A>,
     ) -> reader::Step<Self, A> {
-        reader::read_form(scope, cursor)
+        reader::read_structure(scope, cursor)
     }
 }
 
@@ -953,42 +946,46 @@ impl<B: Allocator> Serialize for ObjectRequest<B> {
 }
 
 impl<A: Allocator + Copy> reader::ReadStructure<A> for ObjectRequest<A> {
+    ghost form = { object_request_form };
+
+    ghost value = { read_object_request };
+
     ghost TAG = { 0x420079 };
 
     ghost DENIES_UNKNOWN = { true };
 
-    ghost values = { λ x. fields_in (read_object_request x) };
-
-    type Fields = (reader::OptionalLeaf<String<A>, 0x420094>, ());
+    type Fields = (reader::OptionalLeaf<String<A>, 0x420094>,);
 
     const TAG: u32 = 0x420079;
 
     const DENIES_UNKNOWN: bool = true;
 
+    #[tactic(auto, unfolding(kmip_ttlv_types::specs::Digits::six_digits))]
+    fn has_form() {}
+
     #[tactic(auto, unfolding(kmip_ttlv_types::specs::Digits::six_digits, crate::specs::Requests::read_object_request))]
-    fn from_fields(fields: (Option<String<A>>, ())) -> Self {
-        let (unique_identifier, ()) = fields;
+    fn from_fields(fields: (Option<String<A>>,)) -> Self {
+        let (unique_identifier,) = fields;
         ObjectRequest { unique_identifier }
     }
 }
 
 impl<A: Allocator + Copy> reader::ReadNested<A> for ObjectRequest<A> {
+    ghost form = { object_request_form };
+
+    ghost value = { read_object_request };
+
     ghost TAG = { 0x420079 };
 
-    ghost fields = { struct_fields object_request_form };
-
-    ghost denies_unknown = { true };
-
-    ghost values = { λ x. fields_in (read_object_request x) };
+    ghost structured = { (refl, refl) };
 
     const TAG: u32 = 0x420079;
 
-    #[tactic(auto, unfolding(kmip_ttlv_types::specs::Digits::six_digits, crate::specs::Requests::read_object_request))]
     fn read_nested<'b>(
         scope: &reader::Scope<'b, A>,
         cursor: &mut reader::Cursor<'b, A>,
     ) -> reader::Step<Self, A> {
-        reader::read_form(scope, cursor)
+        reader::read_structure(scope, cursor)
     }
 }
 
@@ -1015,45 +1012,49 @@ impl<B: Allocator> Serialize for RevocationReasonGiven<B> {
 }
 
 impl<A: Allocator + Copy> reader::ReadStructure<A> for RevocationReasonGiven<A> {
+    ghost form = { revocation_reason_given_form };
+
+    ghost value = { read_revocation_reason_given };
+
     ghost TAG = { 0x420081 };
 
     ghost DENIES_UNKNOWN = { true };
 
-    ghost values = { λ x. fields_in (read_revocation_reason_given x) };
-
     type Fields = (
         reader::Item<RevocationReasonCode, 0x420082>,
-        (reader::OptionalLeaf<String<A>, 0x420080>, ()),
+        reader::OptionalLeaf<String<A>, 0x420080>,
     );
 
     const TAG: u32 = 0x420081;
 
     const DENIES_UNKNOWN: bool = true;
 
+    #[tactic(auto, unfolding(kmip_ttlv_types::specs::Digits::six_digits))]
+    fn has_form() {}
+
     #[tactic(auto, unfolding(kmip_ttlv_types::specs::Digits::six_digits, crate::specs::Requests::read_revocation_reason_given))]
-    fn from_fields(fields: (RevocationReasonCode, (Option<String<A>>, ()))) -> Self {
-        let (code, (message, ())) = fields;
+    fn from_fields(fields: (RevocationReasonCode, Option<String<A>>)) -> Self {
+        let (code, message) = fields;
         RevocationReasonGiven { code, message }
     }
 }
 
 impl<A: Allocator + Copy> reader::ReadNested<A> for RevocationReasonGiven<A> {
+    ghost form = { revocation_reason_given_form };
+
+    ghost value = { read_revocation_reason_given };
+
     ghost TAG = { 0x420081 };
 
-    ghost fields = { struct_fields revocation_reason_given_form };
-
-    ghost denies_unknown = { true };
-
-    ghost values = { λ x. fields_in (read_revocation_reason_given x) };
+    ghost structured = { (refl, refl) };
 
     const TAG: u32 = 0x420081;
 
-    #[tactic(auto, unfolding(kmip_ttlv_types::specs::Digits::six_digits, crate::specs::Requests::read_revocation_reason_given))]
     fn read_nested<'b>(
         scope: &reader::Scope<'b, A>,
         cursor: &mut reader::Cursor<'b, A>,
     ) -> reader::Step<Self, A> {
-        reader::read_form(scope, cursor)
+        reader::read_structure(scope, cursor)
     }
 }
 
@@ -1116,35 +1117,36 @@ impl<B: Allocator> Serialize for RevokeRequest<B> {
 }
 
 impl<A: Allocator + Copy> reader::ReadStructure<A> for RevokeRequest<A> {
+    ghost form = { revoke_request_form };
+
+    ghost value = { read_revoke_request };
+
     ghost TAG = { 0x420079 };
 
     ghost DENIES_UNKNOWN = { true };
 
-    ghost values = { λ x. fields_in (read_revoke_request x) };
-
     type Fields = (
         reader::OptionalLeaf<String<A>, 0x420094>,
-        (
-            reader::Nested<RevocationReasonGiven<A>>,
-            (reader::OptionalItem<CompromiseOccurrenceDate, 0x420021>, ()),
-        ),
+        reader::Nested<RevocationReasonGiven<A>>,
+        reader::OptionalItem<CompromiseOccurrenceDate, 0x420021>,
     );
 
     const TAG: u32 = 0x420079;
 
     const DENIES_UNKNOWN: bool = true;
 
-    #[tactic(auto, unfolding(kmip_ttlv_types::specs::Digits::six_digits, crate::specs::Requests::read_revoke_request, crate::specs::Requests::read_revocation_reason_given))]
+    #[tactic(auto, unfolding(kmip_ttlv_types::specs::Digits::six_digits))]
+    fn has_form() {}
+
+    #[tactic(auto, unfolding(kmip_ttlv_types::specs::Digits::six_digits, crate::specs::Requests::read_revoke_request))]
     fn from_fields(
         fields: (
             Option<String<A>>,
-            (
-                RevocationReasonGiven<A>,
-                (Option<CompromiseOccurrenceDate>, ()),
-            ),
+            RevocationReasonGiven<A>,
+            Option<CompromiseOccurrenceDate>,
         ),
     ) -> Self {
-        let (unique_identifier, (revocation_reason, (compromise_occurrence_date, ()))) = fields;
+        let (unique_identifier, revocation_reason, compromise_occurrence_date) = fields;
         RevokeRequest {
             unique_identifier,
             revocation_reason,
@@ -1154,22 +1156,21 @@ impl<A: Allocator + Copy> reader::ReadStructure<A> for RevokeRequest<A> {
 }
 
 impl<A: Allocator + Copy> reader::ReadNested<A> for RevokeRequest<A> {
+    ghost form = { revoke_request_form };
+
+    ghost value = { read_revoke_request };
+
     ghost TAG = { 0x420079 };
 
-    ghost fields = { struct_fields revoke_request_form };
-
-    ghost denies_unknown = { true };
-
-    ghost values = { λ x. fields_in (read_revoke_request x) };
+    ghost structured = { (refl, refl) };
 
     const TAG: u32 = 0x420079;
 
-    #[tactic(auto, unfolding(kmip_ttlv_types::specs::Digits::six_digits, crate::specs::Requests::read_revoke_request))]
     fn read_nested<'b>(
         scope: &reader::Scope<'b, A>,
         cursor: &mut reader::Cursor<'b, A>,
     ) -> reader::Step<Self, A> {
-        reader::read_form(scope, cursor)
+        reader::read_structure(scope, cursor)
     }
 }
 
@@ -1278,42 +1279,46 @@ impl<B: Allocator> Serialize for QueryRequest<B> {
 }
 
 impl<A: Allocator + Copy> reader::ReadStructure<A> for QueryRequest<A> {
+    ghost form = { query_request_form };
+
+    ghost value = { read_query_request };
+
     ghost TAG = { 0x420079 };
 
     ghost DENIES_UNKNOWN = { true };
 
-    ghost values = { λ x. fields_in (read_query_request x) };
-
-    type Fields = (reader::SeveralItems<QueryFunction, 0x420074>, ());
+    type Fields = (reader::SeveralItems<QueryFunction, 0x420074>,);
 
     const TAG: u32 = 0x420079;
 
     const DENIES_UNKNOWN: bool = true;
 
+    #[tactic(auto, unfolding(kmip_ttlv_types::specs::Digits::six_digits))]
+    fn has_form() {}
+
     #[tactic(auto, unfolding(kmip_ttlv_types::specs::Digits::six_digits, crate::specs::Requests::read_query_request))]
-    fn from_fields(fields: (Vec<QueryFunction, A>, ())) -> Self {
-        let (functions, ()) = fields;
+    fn from_fields(fields: (Vec<QueryFunction, A>,)) -> Self {
+        let (functions,) = fields;
         QueryRequest { functions }
     }
 }
 
 impl<A: Allocator + Copy> reader::ReadNested<A> for QueryRequest<A> {
+    ghost form = { query_request_form };
+
+    ghost value = { read_query_request };
+
     ghost TAG = { 0x420079 };
 
-    ghost fields = { struct_fields query_request_form };
-
-    ghost denies_unknown = { true };
-
-    ghost values = { λ x. fields_in (read_query_request x) };
+    ghost structured = { (refl, refl) };
 
     const TAG: u32 = 0x420079;
 
-    #[tactic(auto, unfolding(kmip_ttlv_types::specs::Digits::six_digits, crate::specs::Requests::read_query_request))]
     fn read_nested<'b>(
         scope: &reader::Scope<'b, A>,
         cursor: &mut reader::Cursor<'b, A>,
     ) -> reader::Step<Self, A> {
-        reader::read_form(scope, cursor)
+        reader::read_structure(scope, cursor)
     }
 }
 
@@ -1338,42 +1343,46 @@ impl<B: Allocator> Serialize for DiscoverVersionsRequest<B> {
 }
 
 impl<A: Allocator + Copy> reader::ReadStructure<A> for DiscoverVersionsRequest<A> {
+    ghost form = { discover_versions_request_form };
+
+    ghost value = { read_discover_versions_request };
+
     ghost TAG = { 0x420079 };
 
     ghost DENIES_UNKNOWN = { true };
 
-    ghost values = { λ x. fields_in (read_discover_versions_request x) };
-
-    type Fields = (reader::OptionalSeveral<ProtocolVersion>, ());
+    type Fields = (reader::OptionalSeveral<ProtocolVersion>,);
 
     const TAG: u32 = 0x420079;
 
     const DENIES_UNKNOWN: bool = true;
 
-    #[tactic(auto, unfolding(kmip_ttlv_types::specs::Digits::six_digits, crate::specs::Requests::read_discover_versions_request, crate::specs::Headers::protocol_version_value))]
-    fn from_fields(fields: (Vec<ProtocolVersion, A>, ())) -> Self {
-        let (versions, ()) = fields;
+    #[tactic(auto, unfolding(kmip_ttlv_types::specs::Digits::six_digits))]
+    fn has_form() {}
+
+    #[tactic(auto, unfolding(kmip_ttlv_types::specs::Digits::six_digits, crate::specs::Requests::read_discover_versions_request))]
+    fn from_fields(fields: (Vec<ProtocolVersion, A>,)) -> Self {
+        let (versions,) = fields;
         DiscoverVersionsRequest { versions }
     }
 }
 
 impl<A: Allocator + Copy> reader::ReadNested<A> for DiscoverVersionsRequest<A> {
+    ghost form = { discover_versions_request_form };
+
+    ghost value = { read_discover_versions_request };
+
     ghost TAG = { 0x420079 };
 
-    ghost fields = { struct_fields discover_versions_request_form };
-
-    ghost denies_unknown = { true };
-
-    ghost values = { λ x. fields_in (read_discover_versions_request x) };
+    ghost structured = { (refl, refl) };
 
     const TAG: u32 = 0x420079;
 
-    #[tactic(auto, unfolding(kmip_ttlv_types::specs::Digits::six_digits, crate::specs::Requests::read_discover_versions_request))]
     fn read_nested<'b>(
         scope: &reader::Scope<'b, A>,
         cursor: &mut reader::Cursor<'b, A>,
     ) -> reader::Step<Self, A> {
-        reader::read_form(scope, cursor)
+        reader::read_structure(scope, cursor)
     }
 }
 
@@ -1498,10 +1507,21 @@ impl reader::Rule for RequestPayloadCreateRule {
 
     #[tactic(auto, unfolding(kmip_ttlv_reader::specs::RuleParts::parts_of))]
     fn parts() -> Option<reader::RuleParts> {
-        Some(reader::RuleParts {
+        Some(reader::RuleParts::Texts {
             tag: 0x42005C,
             texts: &["0x00000001"],
         })
+    }
+}
+
+impl<A: Allocator + Copy> reader::VariantOf<
+    reader::StructureElement<CreateRequest<A>>,
+    RequestPayload<A>,
+    A,
+> for RequestPayloadCreateRule {
+    #[tactic(auto, unfolding(kmip_ttlv_types::specs::Digits::six_digits, crate::specs::Requests::read_request_payload))]
+    fn from_content(held: CreateRequest<A>) -> RequestPayload<A> {
+        RequestPayload::Create(held)
     }
 }
 
@@ -1517,10 +1537,21 @@ impl reader::Rule for RequestPayloadCreateKeyPairRule {
 
     #[tactic(auto, unfolding(kmip_ttlv_reader::specs::RuleParts::parts_of))]
     fn parts() -> Option<reader::RuleParts> {
-        Some(reader::RuleParts {
+        Some(reader::RuleParts::Texts {
             tag: 0x42005C,
             texts: &["0x00000002"],
         })
+    }
+}
+
+impl<A: Allocator + Copy> reader::VariantOf<
+    reader::StructureElement<CreateKeyPairRequest<A>>,
+    RequestPayload<A>,
+    A,
+> for RequestPayloadCreateKeyPairRule {
+    #[tactic(auto, unfolding(kmip_ttlv_types::specs::Digits::six_digits, crate::specs::Requests::read_request_payload))]
+    fn from_content(held: CreateKeyPairRequest<A>) -> RequestPayload<A> {
+        RequestPayload::CreateKeyPair(held)
     }
 }
 
@@ -1536,10 +1567,21 @@ impl reader::Rule for RequestPayloadRegisterRule {
 
     #[tactic(auto, unfolding(kmip_ttlv_reader::specs::RuleParts::parts_of))]
     fn parts() -> Option<reader::RuleParts> {
-        Some(reader::RuleParts {
+        Some(reader::RuleParts::Texts {
             tag: 0x42005C,
             texts: &["0x00000003"],
         })
+    }
+}
+
+impl<A: Allocator + Copy> reader::VariantOf<
+    reader::StructureElement<RegisterRequest<A>>,
+    RequestPayload<A>,
+    A,
+> for RequestPayloadRegisterRule {
+    #[tactic(auto, unfolding(kmip_ttlv_types::specs::Digits::six_digits, crate::specs::Requests::read_request_payload))]
+    fn from_content(held: RegisterRequest<A>) -> RequestPayload<A> {
+        RequestPayload::Register(held)
     }
 }
 
@@ -1555,10 +1597,21 @@ impl reader::Rule for RequestPayloadLocateRule {
 
     #[tactic(auto, unfolding(kmip_ttlv_reader::specs::RuleParts::parts_of))]
     fn parts() -> Option<reader::RuleParts> {
-        Some(reader::RuleParts {
+        Some(reader::RuleParts::Texts {
             tag: 0x42005C,
             texts: &["0x00000008"],
         })
+    }
+}
+
+impl<A: Allocator + Copy> reader::VariantOf<
+    reader::StructureElement<LocateRequest<A>>,
+    RequestPayload<A>,
+    A,
+> for RequestPayloadLocateRule {
+    #[tactic(auto, unfolding(kmip_ttlv_types::specs::Digits::six_digits, crate::specs::Requests::read_request_payload))]
+    fn from_content(held: LocateRequest<A>) -> RequestPayload<A> {
+        RequestPayload::Locate(held)
     }
 }
 
@@ -1574,10 +1627,21 @@ impl reader::Rule for RequestPayloadGetRule {
 
     #[tactic(auto, unfolding(kmip_ttlv_reader::specs::RuleParts::parts_of))]
     fn parts() -> Option<reader::RuleParts> {
-        Some(reader::RuleParts {
+        Some(reader::RuleParts::Texts {
             tag: 0x42005C,
             texts: &["0x0000000A"],
         })
+    }
+}
+
+impl<A: Allocator + Copy> reader::VariantOf<
+    reader::StructureElement<GetRequest<A>>,
+    RequestPayload<A>,
+    A,
+> for RequestPayloadGetRule {
+    #[tactic(auto, unfolding(kmip_ttlv_types::specs::Digits::six_digits, crate::specs::Requests::read_request_payload))]
+    fn from_content(held: GetRequest<A>) -> RequestPayload<A> {
+        RequestPayload::Get(held)
     }
 }
 
@@ -1593,10 +1657,21 @@ impl reader::Rule for RequestPayloadGetAttributesRule {
 
     #[tactic(auto, unfolding(kmip_ttlv_reader::specs::RuleParts::parts_of))]
     fn parts() -> Option<reader::RuleParts> {
-        Some(reader::RuleParts {
+        Some(reader::RuleParts::Texts {
             tag: 0x42005C,
             texts: &["0x0000000B"],
         })
+    }
+}
+
+impl<A: Allocator + Copy> reader::VariantOf<
+    reader::StructureElement<GetAttributesRequest<A>>,
+    RequestPayload<A>,
+    A,
+> for RequestPayloadGetAttributesRule {
+    #[tactic(auto, unfolding(kmip_ttlv_types::specs::Digits::six_digits, crate::specs::Requests::read_request_payload))]
+    fn from_content(held: GetAttributesRequest<A>) -> RequestPayload<A> {
+        RequestPayload::GetAttributes(held)
     }
 }
 
@@ -1612,10 +1687,21 @@ impl reader::Rule for RequestPayloadGetAttributeListRule {
 
     #[tactic(auto, unfolding(kmip_ttlv_reader::specs::RuleParts::parts_of))]
     fn parts() -> Option<reader::RuleParts> {
-        Some(reader::RuleParts {
+        Some(reader::RuleParts::Texts {
             tag: 0x42005C,
             texts: &["0x0000000C"],
         })
+    }
+}
+
+impl<A: Allocator + Copy> reader::VariantOf<
+    reader::StructureElement<ObjectRequest<A>>,
+    RequestPayload<A>,
+    A,
+> for RequestPayloadGetAttributeListRule {
+    #[tactic(auto, unfolding(kmip_ttlv_types::specs::Digits::six_digits, crate::specs::Requests::read_request_payload))]
+    fn from_content(held: ObjectRequest<A>) -> RequestPayload<A> {
+        RequestPayload::GetAttributeList(held)
     }
 }
 
@@ -1631,10 +1717,21 @@ impl reader::Rule for RequestPayloadAddAttributeRule {
 
     #[tactic(auto, unfolding(kmip_ttlv_reader::specs::RuleParts::parts_of))]
     fn parts() -> Option<reader::RuleParts> {
-        Some(reader::RuleParts {
+        Some(reader::RuleParts::Texts {
             tag: 0x42005C,
             texts: &["0x0000000D"],
         })
+    }
+}
+
+impl<A: Allocator + Copy> reader::VariantOf<
+    reader::StructureElement<AttributeRequest<A>>,
+    RequestPayload<A>,
+    A,
+> for RequestPayloadAddAttributeRule {
+    #[tactic(auto, unfolding(kmip_ttlv_types::specs::Digits::six_digits, crate::specs::Requests::read_request_payload))]
+    fn from_content(held: AttributeRequest<A>) -> RequestPayload<A> {
+        RequestPayload::AddAttribute(held)
     }
 }
 
@@ -1650,10 +1747,21 @@ impl reader::Rule for RequestPayloadModifyAttributeRule {
 
     #[tactic(auto, unfolding(kmip_ttlv_reader::specs::RuleParts::parts_of))]
     fn parts() -> Option<reader::RuleParts> {
-        Some(reader::RuleParts {
+        Some(reader::RuleParts::Texts {
             tag: 0x42005C,
             texts: &["0x0000000E"],
         })
+    }
+}
+
+impl<A: Allocator + Copy> reader::VariantOf<
+    reader::StructureElement<AttributeRequest<A>>,
+    RequestPayload<A>,
+    A,
+> for RequestPayloadModifyAttributeRule {
+    #[tactic(auto, unfolding(kmip_ttlv_types::specs::Digits::six_digits, crate::specs::Requests::read_request_payload))]
+    fn from_content(held: AttributeRequest<A>) -> RequestPayload<A> {
+        RequestPayload::ModifyAttribute(held)
     }
 }
 
@@ -1669,10 +1777,21 @@ impl reader::Rule for RequestPayloadDeleteAttributeRule {
 
     #[tactic(auto, unfolding(kmip_ttlv_reader::specs::RuleParts::parts_of))]
     fn parts() -> Option<reader::RuleParts> {
-        Some(reader::RuleParts {
+        Some(reader::RuleParts::Texts {
             tag: 0x42005C,
             texts: &["0x0000000F"],
         })
+    }
+}
+
+impl<A: Allocator + Copy> reader::VariantOf<
+    reader::StructureElement<DeleteAttributeRequest<A>>,
+    RequestPayload<A>,
+    A,
+> for RequestPayloadDeleteAttributeRule {
+    #[tactic(auto, unfolding(kmip_ttlv_types::specs::Digits::six_digits, crate::specs::Requests::read_request_payload))]
+    fn from_content(held: DeleteAttributeRequest<A>) -> RequestPayload<A> {
+        RequestPayload::DeleteAttribute(held)
     }
 }
 
@@ -1688,10 +1807,21 @@ impl reader::Rule for RequestPayloadActivateRule {
 
     #[tactic(auto, unfolding(kmip_ttlv_reader::specs::RuleParts::parts_of))]
     fn parts() -> Option<reader::RuleParts> {
-        Some(reader::RuleParts {
+        Some(reader::RuleParts::Texts {
             tag: 0x42005C,
             texts: &["0x00000012"],
         })
+    }
+}
+
+impl<A: Allocator + Copy> reader::VariantOf<
+    reader::StructureElement<ObjectRequest<A>>,
+    RequestPayload<A>,
+    A,
+> for RequestPayloadActivateRule {
+    #[tactic(auto, unfolding(kmip_ttlv_types::specs::Digits::six_digits, crate::specs::Requests::read_request_payload))]
+    fn from_content(held: ObjectRequest<A>) -> RequestPayload<A> {
+        RequestPayload::Activate(held)
     }
 }
 
@@ -1707,10 +1837,21 @@ impl reader::Rule for RequestPayloadRevokeRule {
 
     #[tactic(auto, unfolding(kmip_ttlv_reader::specs::RuleParts::parts_of))]
     fn parts() -> Option<reader::RuleParts> {
-        Some(reader::RuleParts {
+        Some(reader::RuleParts::Texts {
             tag: 0x42005C,
             texts: &["0x00000013"],
         })
+    }
+}
+
+impl<A: Allocator + Copy> reader::VariantOf<
+    reader::StructureElement<RevokeRequest<A>>,
+    RequestPayload<A>,
+    A,
+> for RequestPayloadRevokeRule {
+    #[tactic(auto, unfolding(kmip_ttlv_types::specs::Digits::six_digits, crate::specs::Requests::read_request_payload))]
+    fn from_content(held: RevokeRequest<A>) -> RequestPayload<A> {
+        RequestPayload::Revoke(held)
     }
 }
 
@@ -1726,10 +1867,21 @@ impl reader::Rule for RequestPayloadDestroyRule {
 
     #[tactic(auto, unfolding(kmip_ttlv_reader::specs::RuleParts::parts_of))]
     fn parts() -> Option<reader::RuleParts> {
-        Some(reader::RuleParts {
+        Some(reader::RuleParts::Texts {
             tag: 0x42005C,
             texts: &["0x00000014"],
         })
+    }
+}
+
+impl<A: Allocator + Copy> reader::VariantOf<
+    reader::StructureElement<ObjectRequest<A>>,
+    RequestPayload<A>,
+    A,
+> for RequestPayloadDestroyRule {
+    #[tactic(auto, unfolding(kmip_ttlv_types::specs::Digits::six_digits, crate::specs::Requests::read_request_payload))]
+    fn from_content(held: ObjectRequest<A>) -> RequestPayload<A> {
+        RequestPayload::Destroy(held)
     }
 }
 
@@ -1745,10 +1897,21 @@ impl reader::Rule for RequestPayloadQueryRule {
 
     #[tactic(auto, unfolding(kmip_ttlv_reader::specs::RuleParts::parts_of))]
     fn parts() -> Option<reader::RuleParts> {
-        Some(reader::RuleParts {
+        Some(reader::RuleParts::Texts {
             tag: 0x42005C,
             texts: &["0x00000018"],
         })
+    }
+}
+
+impl<A: Allocator + Copy> reader::VariantOf<
+    reader::StructureElement<QueryRequest<A>>,
+    RequestPayload<A>,
+    A,
+> for RequestPayloadQueryRule {
+    #[tactic(auto, unfolding(kmip_ttlv_types::specs::Digits::six_digits, crate::specs::Requests::read_request_payload))]
+    fn from_content(held: QueryRequest<A>) -> RequestPayload<A> {
+        RequestPayload::Query(held)
     }
 }
 
@@ -1764,388 +1927,166 @@ impl reader::Rule for RequestPayloadDiscoverVersionsRule {
 
     #[tactic(auto, unfolding(kmip_ttlv_reader::specs::RuleParts::parts_of))]
     fn parts() -> Option<reader::RuleParts> {
-        Some(reader::RuleParts {
+        Some(reader::RuleParts::Texts {
             tag: 0x42005C,
             texts: &["0x0000001E"],
         })
     }
 }
 
-// The variants from `DiscoverVersions` on.
-type RequestPayloadFromDiscoverVersions<A> = reader::Variant<
-    RequestPayloadDiscoverVersionsRule,
+impl<A: Allocator + Copy> reader::VariantOf<
     reader::StructureElement<DiscoverVersionsRequest<A>>,
->;
-
-// The one that was read as one of these.
-#[tactic(auto, unfolding(kmip_ttlv_types::specs::Digits::six_digits, crate::specs::Requests::read_request_payload, crate::specs::Requests::read_create_request, crate::specs::Requests::read_create_key_pair_request, crate::specs::Requests::read_register_request, crate::specs::Requests::read_locate_request, crate::specs::Requests::read_get_request, crate::specs::Requests::read_get_attributes_request, crate::specs::Requests::read_object_request, crate::specs::Requests::read_attribute_request, crate::specs::Requests::read_delete_attribute_request, crate::specs::Requests::read_revoke_request, crate::specs::Requests::read_query_request, crate::specs::Requests::read_discover_versions_request))]
-#[inline(always)]
-fn request_payload_from_discover_versions<A: Allocator + Copy>(
-    read: <RequestPayloadFromDiscoverVersions<A> as reader::VariantList<A>>::Read,
-) -> RequestPayload<A>
-    ensures { (own : List ℕ) → request_payload_as own result ≡ ⟦<RequestPayloadFromDiscoverVersions<A> as reader::VariantList<A>>⟧.value own read }
-{
-    RequestPayload::DiscoverVersions(read)
-}
-
-// The variants from `Query` on.
-type RequestPayloadFromQuery<A> = (
-    reader::Variant<RequestPayloadQueryRule, reader::StructureElement<QueryRequest<A>>>,
-    RequestPayloadFromDiscoverVersions<A>,
-);
-
-// The one that was read as one of these.
-#[tactic(auto, unfolding(kmip_ttlv_types::specs::Digits::six_digits, crate::specs::Requests::read_request_payload, crate::specs::Requests::read_create_request, crate::specs::Requests::read_create_key_pair_request, crate::specs::Requests::read_register_request, crate::specs::Requests::read_locate_request, crate::specs::Requests::read_get_request, crate::specs::Requests::read_get_attributes_request, crate::specs::Requests::read_object_request, crate::specs::Requests::read_attribute_request, crate::specs::Requests::read_delete_attribute_request, crate::specs::Requests::read_revoke_request, crate::specs::Requests::read_query_request, crate::specs::Requests::read_discover_versions_request))]
-#[inline(always)]
-fn request_payload_from_query<A: Allocator + Copy>(
-    read: <RequestPayloadFromQuery<A> as reader::VariantList<A>>::Read,
-) -> RequestPayload<A>
-    ensures { (own : List ℕ) → request_payload_as own result ≡ ⟦<RequestPayloadFromQuery<A> as reader::VariantList<A>>⟧.value own read }
-{
-    match read {
-        reader::OneOf::First(held) => RequestPayload::Query(held),
-        reader::OneOf::Other(other) => request_payload_from_discover_versions(other),
+    RequestPayload<A>,
+    A,
+> for RequestPayloadDiscoverVersionsRule {
+    #[tactic(auto, unfolding(kmip_ttlv_types::specs::Digits::six_digits, crate::specs::Requests::read_request_payload))]
+    fn from_content(held: DiscoverVersionsRequest<A>) -> RequestPayload<A> {
+        RequestPayload::DiscoverVersions(held)
     }
 }
 
-// The variants from `Destroy` on.
-type RequestPayloadFromDestroy<A> = (
-    reader::Variant<RequestPayloadDestroyRule, reader::StructureElement<ObjectRequest<A>>>,
-    RequestPayloadFromQuery<A>,
-);
+/// The variants of `RequestPayload` from `Get` on.
+pub struct RequestPayloadLater4;
 
-// The one that was read as one of these.
-#[tactic(auto, unfolding(kmip_ttlv_types::specs::Digits::six_digits, crate::specs::Requests::read_request_payload, crate::specs::Requests::read_create_request, crate::specs::Requests::read_create_key_pair_request, crate::specs::Requests::read_register_request, crate::specs::Requests::read_locate_request, crate::specs::Requests::read_get_request, crate::specs::Requests::read_get_attributes_request, crate::specs::Requests::read_object_request, crate::specs::Requests::read_attribute_request, crate::specs::Requests::read_delete_attribute_request, crate::specs::Requests::read_revoke_request, crate::specs::Requests::read_query_request, crate::specs::Requests::read_discover_versions_request))]
-#[inline(always)]
-fn request_payload_from_destroy<A: Allocator + Copy>(
-    read: <RequestPayloadFromDestroy<A> as reader::VariantList<A>>::Read,
-) -> RequestPayload<A>
-    ensures { (own : List ℕ) → request_payload_as own result ≡ ⟦<RequestPayloadFromDestroy<A> as reader::VariantList<A>>⟧.value own read }
-{
-    match read {
-        reader::OneOf::First(held) => RequestPayload::Destroy(held),
-        reader::OneOf::Other(other) => request_payload_from_query(other),
-    }
-}
+impl<A: Allocator + Copy> reader::VariantList<RequestPayload<A>, A> for RequestPayloadLater4 {
+    ghost variants = { request_payload_variants_4 };
 
-// The variants from `Revoke` on.
-type RequestPayloadFromRevoke<A> = (
-    reader::Variant<RequestPayloadRevokeRule, reader::StructureElement<RevokeRequest<A>>>,
-    RequestPayloadFromDestroy<A>,
-);
-
-// The one that was read as one of these.
-#[tactic(auto, unfolding(kmip_ttlv_types::specs::Digits::six_digits, crate::specs::Requests::read_request_payload, crate::specs::Requests::read_create_request, crate::specs::Requests::read_create_key_pair_request, crate::specs::Requests::read_register_request, crate::specs::Requests::read_locate_request, crate::specs::Requests::read_get_request, crate::specs::Requests::read_get_attributes_request, crate::specs::Requests::read_object_request, crate::specs::Requests::read_attribute_request, crate::specs::Requests::read_delete_attribute_request, crate::specs::Requests::read_revoke_request, crate::specs::Requests::read_query_request, crate::specs::Requests::read_discover_versions_request))]
-#[inline(always)]
-fn request_payload_from_revoke<A: Allocator + Copy>(
-    read: <RequestPayloadFromRevoke<A> as reader::VariantList<A>>::Read,
-) -> RequestPayload<A>
-    ensures { (own : List ℕ) → request_payload_as own result ≡ ⟦<RequestPayloadFromRevoke<A> as reader::VariantList<A>>⟧.value own read }
-{
-    match read {
-        reader::OneOf::First(held) => RequestPayload::Revoke(held),
-        reader::OneOf::Other(other) => request_payload_from_destroy(other),
-    }
-}
-
-// The variants from `Activate` on.
-type RequestPayloadFromActivate<A> = (
-    reader::Variant<RequestPayloadActivateRule, reader::StructureElement<ObjectRequest<A>>>,
-    RequestPayloadFromRevoke<A>,
-);
-
-// The one that was read as one of these.
-#[tactic(auto, unfolding(kmip_ttlv_types::specs::Digits::six_digits, crate::specs::Requests::read_request_payload, crate::specs::Requests::read_create_request, crate::specs::Requests::read_create_key_pair_request, crate::specs::Requests::read_register_request, crate::specs::Requests::read_locate_request, crate::specs::Requests::read_get_request, crate::specs::Requests::read_get_attributes_request, crate::specs::Requests::read_object_request, crate::specs::Requests::read_attribute_request, crate::specs::Requests::read_delete_attribute_request, crate::specs::Requests::read_revoke_request, crate::specs::Requests::read_query_request, crate::specs::Requests::read_discover_versions_request))]
-#[inline(always)]
-fn request_payload_from_activate<A: Allocator + Copy>(
-    read: <RequestPayloadFromActivate<A> as reader::VariantList<A>>::Read,
-) -> RequestPayload<A>
-    ensures { (own : List ℕ) → request_payload_as own result ≡ ⟦<RequestPayloadFromActivate<A> as reader::VariantList<A>>⟧.value own read }
-{
-    match read {
-        reader::OneOf::First(held) => RequestPayload::Activate(held),
-        reader::OneOf::Other(other) => request_payload_from_revoke(other),
-    }
-}
-
-/// The variants of `RequestPayload` from `Activate` on, as one.
-#[derive(Drop)]
-pub struct RequestPayloadLater10<A> {
-    kind: PhantomData<A>,
-}
-
-impl<A: Allocator + Copy> reader::VariantList<A> for RequestPayloadLater10<A> {
-    type Read = RequestPayload<A>;
-
-    ghost variants = { request_payload_variants_10 };
-
-    ghost value = { request_payload_as };
-
-    #[tactic(auto, unfolding(kmip_ttlv_types::specs::Digits::six_digits, crate::specs::Requests::read_request_payload, crate::specs::Requests::read_create_request, crate::specs::Requests::read_create_key_pair_request, crate::specs::Requests::read_register_request, crate::specs::Requests::read_locate_request, crate::specs::Requests::read_get_request, crate::specs::Requests::read_get_attributes_request, crate::specs::Requests::read_object_request, crate::specs::Requests::read_attribute_request, crate::specs::Requests::read_delete_attribute_request, crate::specs::Requests::read_revoke_request, crate::specs::Requests::read_query_request, crate::specs::Requests::read_discover_versions_request))]
     fn read_chosen<'b>(
         scope: &reader::Scope<'b, A>,
         cursor: &mut reader::Cursor<'b, A>,
         typ: TtlvType,
     ) -> reader::Step<Option<RequestPayload<A>>, A> {
-        match <RequestPayloadFromActivate<A> as reader::VariantList<A>>::read_chosen(
-            scope, cursor, typ,
-        ) {
-            Ok(Some(read)) => Ok(Some(request_payload_from_activate(read))),
-            Ok(None) => Ok(None),
-            Err(failure) => Err(failure),
-        }
+        <(
+            reader::Variant<RequestPayloadGetRule, reader::StructureElement<GetRequest<A>>>,
+            (
+                reader::Variant<
+                    RequestPayloadGetAttributesRule,
+                    reader::StructureElement<GetAttributesRequest<A>>,
+                >,
+                (
+                    reader::Variant<
+                        RequestPayloadGetAttributeListRule,
+                        reader::StructureElement<ObjectRequest<A>>,
+                    >,
+                    (
+                        reader::Variant<
+                            RequestPayloadAddAttributeRule,
+                            reader::StructureElement<AttributeRequest<A>>,
+                        >,
+                        RequestPayloadLater8,
+                    ),
+                ),
+            ),
+        ) as reader::VariantList<RequestPayload<A>, A>>::read_chosen(scope, cursor, typ)
     }
 
     ghost ruled = { λ content. refl };
 }
 
-// The variants from `DeleteAttribute` on.
-type RequestPayloadFromDeleteAttribute<A> = (
-    reader::Variant<
-        RequestPayloadDeleteAttributeRule,
-        reader::StructureElement<DeleteAttributeRequest<A>>,
-    >,
-    RequestPayloadLater10<A>,
-);
+/// The variants of `RequestPayload` from `ModifyAttribute` on.
+pub struct RequestPayloadLater8;
 
-// The one that was read as one of these.
-#[tactic(auto, unfolding(kmip_ttlv_types::specs::Digits::six_digits, crate::specs::Requests::read_request_payload, crate::specs::Requests::read_create_request, crate::specs::Requests::read_create_key_pair_request, crate::specs::Requests::read_register_request, crate::specs::Requests::read_locate_request, crate::specs::Requests::read_get_request, crate::specs::Requests::read_get_attributes_request, crate::specs::Requests::read_object_request, crate::specs::Requests::read_attribute_request, crate::specs::Requests::read_delete_attribute_request, crate::specs::Requests::read_revoke_request, crate::specs::Requests::read_query_request, crate::specs::Requests::read_discover_versions_request))]
-#[inline(always)]
-fn request_payload_from_delete_attribute<A: Allocator + Copy>(
-    read: <RequestPayloadFromDeleteAttribute<A> as reader::VariantList<A>>::Read,
-) -> RequestPayload<A>
-    ensures { (own : List ℕ) → request_payload_as own result ≡ ⟦<RequestPayloadFromDeleteAttribute<A> as reader::VariantList<A>>⟧.value own read }
-{
-    match read {
-        reader::OneOf::First(held) => RequestPayload::DeleteAttribute(held),
-        reader::OneOf::Other(other) => other,
-    }
-}
+impl<A: Allocator + Copy> reader::VariantList<RequestPayload<A>, A> for RequestPayloadLater8 {
+    ghost variants = { request_payload_variants_8 };
 
-// The variants from `ModifyAttribute` on.
-type RequestPayloadFromModifyAttribute<A> = (
-    reader::Variant<
-        RequestPayloadModifyAttributeRule,
-        reader::StructureElement<AttributeRequest<A>>,
-    >,
-    RequestPayloadFromDeleteAttribute<A>,
-);
-
-// The one that was read as one of these.
-#[tactic(auto, unfolding(kmip_ttlv_types::specs::Digits::six_digits, crate::specs::Requests::read_request_payload, crate::specs::Requests::read_create_request, crate::specs::Requests::read_create_key_pair_request, crate::specs::Requests::read_register_request, crate::specs::Requests::read_locate_request, crate::specs::Requests::read_get_request, crate::specs::Requests::read_get_attributes_request, crate::specs::Requests::read_object_request, crate::specs::Requests::read_attribute_request, crate::specs::Requests::read_delete_attribute_request, crate::specs::Requests::read_revoke_request, crate::specs::Requests::read_query_request, crate::specs::Requests::read_discover_versions_request))]
-#[inline(always)]
-fn request_payload_from_modify_attribute<A: Allocator + Copy>(
-    read: <RequestPayloadFromModifyAttribute<A> as reader::VariantList<A>>::Read,
-) -> RequestPayload<A>
-    ensures { (own : List ℕ) → request_payload_as own result ≡ ⟦<RequestPayloadFromModifyAttribute<A> as reader::VariantList<A>>⟧.value own read }
-{
-    match read {
-        reader::OneOf::First(held) => RequestPayload::ModifyAttribute(held),
-        reader::OneOf::Other(other) => request_payload_from_delete_attribute(other),
-    }
-}
-
-// The variants from `AddAttribute` on.
-type RequestPayloadFromAddAttribute<A> = (
-    reader::Variant<RequestPayloadAddAttributeRule, reader::StructureElement<AttributeRequest<A>>>,
-    RequestPayloadFromModifyAttribute<A>,
-);
-
-// The one that was read as one of these.
-#[tactic(auto, unfolding(kmip_ttlv_types::specs::Digits::six_digits, crate::specs::Requests::read_request_payload, crate::specs::Requests::read_create_request, crate::specs::Requests::read_create_key_pair_request, crate::specs::Requests::read_register_request, crate::specs::Requests::read_locate_request, crate::specs::Requests::read_get_request, crate::specs::Requests::read_get_attributes_request, crate::specs::Requests::read_object_request, crate::specs::Requests::read_attribute_request, crate::specs::Requests::read_delete_attribute_request, crate::specs::Requests::read_revoke_request, crate::specs::Requests::read_query_request, crate::specs::Requests::read_discover_versions_request))]
-#[inline(always)]
-fn request_payload_from_add_attribute<A: Allocator + Copy>(
-    read: <RequestPayloadFromAddAttribute<A> as reader::VariantList<A>>::Read,
-) -> RequestPayload<A>
-    ensures { (own : List ℕ) → request_payload_as own result ≡ ⟦<RequestPayloadFromAddAttribute<A> as reader::VariantList<A>>⟧.value own read }
-{
-    match read {
-        reader::OneOf::First(held) => RequestPayload::AddAttribute(held),
-        reader::OneOf::Other(other) => request_payload_from_modify_attribute(other),
-    }
-}
-
-// The variants from `GetAttributeList` on.
-type RequestPayloadFromGetAttributeList<A> = (
-    reader::Variant<RequestPayloadGetAttributeListRule, reader::StructureElement<ObjectRequest<A>>>,
-    RequestPayloadFromAddAttribute<A>,
-);
-
-// The one that was read as one of these.
-#[tactic(auto, unfolding(kmip_ttlv_types::specs::Digits::six_digits, crate::specs::Requests::read_request_payload, crate::specs::Requests::read_create_request, crate::specs::Requests::read_create_key_pair_request, crate::specs::Requests::read_register_request, crate::specs::Requests::read_locate_request, crate::specs::Requests::read_get_request, crate::specs::Requests::read_get_attributes_request, crate::specs::Requests::read_object_request, crate::specs::Requests::read_attribute_request, crate::specs::Requests::read_delete_attribute_request, crate::specs::Requests::read_revoke_request, crate::specs::Requests::read_query_request, crate::specs::Requests::read_discover_versions_request))]
-#[inline(always)]
-fn request_payload_from_get_attribute_list<A: Allocator + Copy>(
-    read: <RequestPayloadFromGetAttributeList<A> as reader::VariantList<A>>::Read,
-) -> RequestPayload<A>
-    ensures { (own : List ℕ) → request_payload_as own result ≡ ⟦<RequestPayloadFromGetAttributeList<A> as reader::VariantList<A>>⟧.value own read }
-{
-    match read {
-        reader::OneOf::First(held) => RequestPayload::GetAttributeList(held),
-        reader::OneOf::Other(other) => request_payload_from_add_attribute(other),
-    }
-}
-
-// The variants from `GetAttributes` on.
-type RequestPayloadFromGetAttributes<A> = (
-    reader::Variant<
-        RequestPayloadGetAttributesRule,
-        reader::StructureElement<GetAttributesRequest<A>>,
-    >,
-    RequestPayloadFromGetAttributeList<A>,
-);
-
-// The one that was read as one of these.
-#[tactic(auto, unfolding(kmip_ttlv_types::specs::Digits::six_digits, crate::specs::Requests::read_request_payload, crate::specs::Requests::read_create_request, crate::specs::Requests::read_create_key_pair_request, crate::specs::Requests::read_register_request, crate::specs::Requests::read_locate_request, crate::specs::Requests::read_get_request, crate::specs::Requests::read_get_attributes_request, crate::specs::Requests::read_object_request, crate::specs::Requests::read_attribute_request, crate::specs::Requests::read_delete_attribute_request, crate::specs::Requests::read_revoke_request, crate::specs::Requests::read_query_request, crate::specs::Requests::read_discover_versions_request))]
-#[inline(always)]
-fn request_payload_from_get_attributes<A: Allocator + Copy>(
-    read: <RequestPayloadFromGetAttributes<A> as reader::VariantList<A>>::Read,
-) -> RequestPayload<A>
-    ensures { (own : List ℕ) → request_payload_as own result ≡ ⟦<RequestPayloadFromGetAttributes<A> as reader::VariantList<A>>⟧.value own read }
-{
-    match read {
-        reader::OneOf::First(held) => RequestPayload::GetAttributes(held),
-        reader::OneOf::Other(other) => request_payload_from_get_attribute_list(other),
-    }
-}
-
-/// The variants of `RequestPayload` from `GetAttributes` on, as one.
-#[derive(Drop)]
-pub struct RequestPayloadLater5<A> {
-    kind: PhantomData<A>,
-}
-
-impl<A: Allocator + Copy> reader::VariantList<A> for RequestPayloadLater5<A> {
-    type Read = RequestPayload<A>;
-
-    ghost variants = { request_payload_variants_5 };
-
-    ghost value = { request_payload_as };
-
-    #[tactic(auto, unfolding(kmip_ttlv_types::specs::Digits::six_digits, crate::specs::Requests::read_request_payload, crate::specs::Requests::read_create_request, crate::specs::Requests::read_create_key_pair_request, crate::specs::Requests::read_register_request, crate::specs::Requests::read_locate_request, crate::specs::Requests::read_get_request, crate::specs::Requests::read_get_attributes_request, crate::specs::Requests::read_object_request, crate::specs::Requests::read_attribute_request, crate::specs::Requests::read_delete_attribute_request, crate::specs::Requests::read_revoke_request, crate::specs::Requests::read_query_request, crate::specs::Requests::read_discover_versions_request))]
     fn read_chosen<'b>(
         scope: &reader::Scope<'b, A>,
         cursor: &mut reader::Cursor<'b, A>,
         typ: TtlvType,
     ) -> reader::Step<Option<RequestPayload<A>>, A> {
-        match <RequestPayloadFromGetAttributes<A> as reader::VariantList<A>>::read_chosen(
-            scope, cursor, typ,
-        ) {
-            Ok(Some(read)) => Ok(Some(request_payload_from_get_attributes(read))),
-            Ok(None) => Ok(None),
-            Err(failure) => Err(failure),
-        }
+        <(
+            reader::Variant<
+                RequestPayloadModifyAttributeRule,
+                reader::StructureElement<AttributeRequest<A>>,
+            >,
+            (
+                reader::Variant<
+                    RequestPayloadDeleteAttributeRule,
+                    reader::StructureElement<DeleteAttributeRequest<A>>,
+                >,
+                (
+                    reader::Variant<
+                        RequestPayloadActivateRule,
+                        reader::StructureElement<ObjectRequest<A>>,
+                    >,
+                    (
+                        reader::Variant<
+                            RequestPayloadRevokeRule,
+                            reader::StructureElement<RevokeRequest<A>>,
+                        >,
+                        RequestPayloadLater12,
+                    ),
+                ),
+            ),
+        ) as reader::VariantList<RequestPayload<A>, A>>::read_chosen(scope, cursor, typ)
     }
 
     ghost ruled = { λ content. refl };
 }
 
-// The variants from `Get` on.
-type RequestPayloadFromGet<A> = (
-    reader::Variant<RequestPayloadGetRule, reader::StructureElement<GetRequest<A>>>,
-    RequestPayloadLater5<A>,
-);
+/// The variants of `RequestPayload` from `Destroy` on.
+pub struct RequestPayloadLater12;
 
-// The one that was read as one of these.
-#[tactic(auto, unfolding(kmip_ttlv_types::specs::Digits::six_digits, crate::specs::Requests::read_request_payload, crate::specs::Requests::read_create_request, crate::specs::Requests::read_create_key_pair_request, crate::specs::Requests::read_register_request, crate::specs::Requests::read_locate_request, crate::specs::Requests::read_get_request, crate::specs::Requests::read_get_attributes_request, crate::specs::Requests::read_object_request, crate::specs::Requests::read_attribute_request, crate::specs::Requests::read_delete_attribute_request, crate::specs::Requests::read_revoke_request, crate::specs::Requests::read_query_request, crate::specs::Requests::read_discover_versions_request))]
-#[inline(always)]
-fn request_payload_from_get<A: Allocator + Copy>(
-    read: <RequestPayloadFromGet<A> as reader::VariantList<A>>::Read,
-) -> RequestPayload<A>
-    ensures { (own : List ℕ) → request_payload_as own result ≡ ⟦<RequestPayloadFromGet<A> as reader::VariantList<A>>⟧.value own read }
-{
-    match read {
-        reader::OneOf::First(held) => RequestPayload::Get(held),
-        reader::OneOf::Other(other) => other,
+impl<A: Allocator + Copy> reader::VariantList<RequestPayload<A>, A> for RequestPayloadLater12 {
+    ghost variants = { request_payload_variants_12 };
+
+    fn read_chosen<'b>(
+        scope: &reader::Scope<'b, A>,
+        cursor: &mut reader::Cursor<'b, A>,
+        typ: TtlvType,
+    ) -> reader::Step<Option<RequestPayload<A>>, A> {
+        <(
+            reader::Variant<RequestPayloadDestroyRule, reader::StructureElement<ObjectRequest<A>>>,
+            (
+                reader::Variant<RequestPayloadQueryRule, reader::StructureElement<QueryRequest<A>>>,
+                (
+                    reader::Variant<
+                        RequestPayloadDiscoverVersionsRule,
+                        reader::StructureElement<DiscoverVersionsRequest<A>>,
+                    >,
+                    (),
+                ),
+            ),
+        ) as reader::VariantList<RequestPayload<A>, A>>::read_chosen(scope, cursor, typ)
     }
+
+    ghost ruled = { λ content. refl };
 }
 
-// The variants from `Locate` on.
-type RequestPayloadFromLocate<A> = (
-    reader::Variant<RequestPayloadLocateRule, reader::StructureElement<LocateRequest<A>>>,
-    RequestPayloadFromGet<A>,
-);
+impl<A: Allocator> reader::ChoiceValue for RequestPayload<A> {
+    ghost own = { codes "payload" };
 
-// The one that was read as one of these.
-#[tactic(auto, unfolding(kmip_ttlv_types::specs::Digits::six_digits, crate::specs::Requests::read_request_payload, crate::specs::Requests::read_create_request, crate::specs::Requests::read_create_key_pair_request, crate::specs::Requests::read_register_request, crate::specs::Requests::read_locate_request, crate::specs::Requests::read_get_request, crate::specs::Requests::read_get_attributes_request, crate::specs::Requests::read_object_request, crate::specs::Requests::read_attribute_request, crate::specs::Requests::read_delete_attribute_request, crate::specs::Requests::read_revoke_request, crate::specs::Requests::read_query_request, crate::specs::Requests::read_discover_versions_request))]
-#[inline(always)]
-fn request_payload_from_locate<A: Allocator + Copy>(
-    read: <RequestPayloadFromLocate<A> as reader::VariantList<A>>::Read,
-) -> RequestPayload<A>
-    ensures { (own : List ℕ) → request_payload_as own result ≡ ⟦<RequestPayloadFromLocate<A> as reader::VariantList<A>>⟧.value own read }
-{
-    match read {
-        reader::OneOf::First(held) => RequestPayload::Locate(held),
-        reader::OneOf::Other(other) => request_payload_from_get(other),
-    }
-}
-
-// The variants from `Register` on.
-type RequestPayloadFromRegister<A> = (
-    reader::Variant<RequestPayloadRegisterRule, reader::StructureElement<RegisterRequest<A>>>,
-    RequestPayloadFromLocate<A>,
-);
-
-// The one that was read as one of these.
-#[tactic(auto, unfolding(kmip_ttlv_types::specs::Digits::six_digits, crate::specs::Requests::read_request_payload, crate::specs::Requests::read_create_request, crate::specs::Requests::read_create_key_pair_request, crate::specs::Requests::read_register_request, crate::specs::Requests::read_locate_request, crate::specs::Requests::read_get_request, crate::specs::Requests::read_get_attributes_request, crate::specs::Requests::read_object_request, crate::specs::Requests::read_attribute_request, crate::specs::Requests::read_delete_attribute_request, crate::specs::Requests::read_revoke_request, crate::specs::Requests::read_query_request, crate::specs::Requests::read_discover_versions_request))]
-#[inline(always)]
-fn request_payload_from_register<A: Allocator + Copy>(
-    read: <RequestPayloadFromRegister<A> as reader::VariantList<A>>::Read,
-) -> RequestPayload<A>
-    ensures { (own : List ℕ) → request_payload_as own result ≡ ⟦<RequestPayloadFromRegister<A> as reader::VariantList<A>>⟧.value own read }
-{
-    match read {
-        reader::OneOf::First(held) => RequestPayload::Register(held),
-        reader::OneOf::Other(other) => request_payload_from_locate(other),
-    }
-}
-
-// The variants from `CreateKeyPair` on.
-type RequestPayloadFromCreateKeyPair<A> = (
-    reader::Variant<
-        RequestPayloadCreateKeyPairRule,
-        reader::StructureElement<CreateKeyPairRequest<A>>,
-    >,
-    RequestPayloadFromRegister<A>,
-);
-
-// The one that was read as one of these.
-#[tactic(auto, unfolding(kmip_ttlv_types::specs::Digits::six_digits, crate::specs::Requests::read_request_payload, crate::specs::Requests::read_create_request, crate::specs::Requests::read_create_key_pair_request, crate::specs::Requests::read_register_request, crate::specs::Requests::read_locate_request, crate::specs::Requests::read_get_request, crate::specs::Requests::read_get_attributes_request, crate::specs::Requests::read_object_request, crate::specs::Requests::read_attribute_request, crate::specs::Requests::read_delete_attribute_request, crate::specs::Requests::read_revoke_request, crate::specs::Requests::read_query_request, crate::specs::Requests::read_discover_versions_request))]
-#[inline(always)]
-fn request_payload_from_create_key_pair<A: Allocator + Copy>(
-    read: <RequestPayloadFromCreateKeyPair<A> as reader::VariantList<A>>::Read,
-) -> RequestPayload<A>
-    ensures { (own : List ℕ) → request_payload_as own result ≡ ⟦<RequestPayloadFromCreateKeyPair<A> as reader::VariantList<A>>⟧.value own read }
-{
-    match read {
-        reader::OneOf::First(held) => RequestPayload::CreateKeyPair(held),
-        reader::OneOf::Other(other) => request_payload_from_register(other),
-    }
-}
-
-// The variants from `Create` on.
-type RequestPayloadFromCreate<A> = (
-    reader::Variant<RequestPayloadCreateRule, reader::StructureElement<CreateRequest<A>>>,
-    RequestPayloadFromCreateKeyPair<A>,
-);
-
-// The one that was read as one of these.
-#[tactic(auto, unfolding(kmip_ttlv_types::specs::Digits::six_digits, crate::specs::Requests::read_request_payload, crate::specs::Requests::read_create_request, crate::specs::Requests::read_create_key_pair_request, crate::specs::Requests::read_register_request, crate::specs::Requests::read_locate_request, crate::specs::Requests::read_get_request, crate::specs::Requests::read_get_attributes_request, crate::specs::Requests::read_object_request, crate::specs::Requests::read_attribute_request, crate::specs::Requests::read_delete_attribute_request, crate::specs::Requests::read_revoke_request, crate::specs::Requests::read_query_request, crate::specs::Requests::read_discover_versions_request))]
-#[inline(always)]
-fn request_payload_from_create<A: Allocator + Copy>(
-    read: <RequestPayloadFromCreate<A> as reader::VariantList<A>>::Read,
-) -> RequestPayload<A>
-    ensures { (own : List ℕ) → request_payload_as own result ≡ ⟦<RequestPayloadFromCreate<A> as reader::VariantList<A>>⟧.value own read }
-{
-    match read {
-        reader::OneOf::First(held) => RequestPayload::Create(held),
-        reader::OneOf::Other(other) => request_payload_from_create_key_pair(other),
-    }
+    ghost value = { read_request_payload };
 }
 
 impl<A: Allocator + Copy> reader::Choice<A> for RequestPayload<A> {
-    ghost own = { codes "payload" };
+    ghost form = { request_payload_form };
 
-    type Variants = RequestPayloadFromCreate<A>;
+    type Variants = (
+        reader::Variant<RequestPayloadCreateRule, reader::StructureElement<CreateRequest<A>>>,
+        (
+            reader::Variant<
+                RequestPayloadCreateKeyPairRule,
+                reader::StructureElement<CreateKeyPairRequest<A>>,
+            >,
+            (
+                reader::Variant<
+                    RequestPayloadRegisterRule,
+                    reader::StructureElement<RegisterRequest<A>>,
+                >,
+                (
+                    reader::Variant<
+                        RequestPayloadLocateRule,
+                        reader::StructureElement<LocateRequest<A>>,
+                    >,
+                    RequestPayloadLater4,
+                ),
+            ),
+        ),
+    );
+
+    #[tactic(auto, unfolding(kmip_ttlv_types::specs::Digits::six_digits))]
+    fn has_form() {}
 }
 
 impl<A: Allocator + Copy> reader::ReadItem<A> for RequestPayload<A> {
@@ -2155,13 +2096,11 @@ impl<A: Allocator + Copy> reader::ReadItem<A> for RequestPayload<A> {
 
     ghost plain = { (refl, refl) };
 
-    #[tactic(auto, unfolding(kmip_ttlv_types::specs::Digits::six_digits, crate::specs::Requests::read_request_payload, crate::specs::Requests::read_create_request, crate::specs::Requests::read_create_key_pair_request, crate::specs::Requests::read_register_request, crate::specs::Requests::read_locate_request, crate::specs::Requests::read_get_request, crate::specs::Requests::read_get_attributes_request, crate::specs::Requests::read_object_request, crate::specs::Requests::read_attribute_request, crate::specs::Requests::read_delete_attribute_request, crate::specs::Requests::read_revoke_request, crate::specs::Requests::read_query_request, crate::specs::Requests::read_discover_versions_request))]
     fn read_item<'b>(
         scope: &reader::Scope<'b, A>,
         cursor: &mut reader::Cursor<'b, A>,
     ) -> reader::Step<Self, A> {
-        let read = reader::read_choice::<Self, A>(scope, cursor)?;
-        Ok(request_payload_from_create(read))
+        reader::read_choice(scope, cursor)
     }
 }
 
@@ -2194,35 +2133,38 @@ impl<B: Allocator> Serialize for RequestItem<B> {
 }
 
 impl<A: Allocator + Copy> reader::ReadStructure<A> for RequestItem<A> {
+    ghost form = { request_item_form };
+
+    ghost value = { read_request_item };
+
     ghost TAG = { 0x42000F };
 
     ghost DENIES_UNKNOWN = { true };
 
-    ghost values = { λ x. fields_in (read_request_item x) };
-
-    type Fields = reader::Four<
+    type Fields = (
         reader::Item<Operation, 0x42005C>,
         reader::OptionalLeaf<Vec<u8, A>, 0x420093>,
         reader::Item<RequestPayload<A>, 0x420079>,
         reader::OptionalNested<MessageExtension<A>>,
-        (),
-    >;
+    );
 
     const TAG: u32 = 0x42000F;
 
     const DENIES_UNKNOWN: bool = true;
 
-    #[tactic(auto, unfolding(kmip_ttlv_types::specs::Digits::six_digits, crate::specs::Requests::read_request_item, crate::specs::Headers::message_extension_value))]
+    #[tactic(auto, unfolding(kmip_ttlv_types::specs::Digits::six_digits))]
+    fn has_form() {}
+
+    #[tactic(auto, unfolding(kmip_ttlv_types::specs::Digits::six_digits, crate::specs::Requests::read_request_item))]
     fn from_fields(
         fields: (
             Operation,
-            (
-                Option<Vec<u8, A>>,
-                (RequestPayload<A>, (Option<MessageExtension<A>>, ())),
-            ),
+            Option<Vec<u8, A>>,
+            RequestPayload<A>,
+            Option<MessageExtension<A>>,
         ),
     ) -> Self {
-        let (operation, (unique_batch_item_id, (payload, (message_extension, ())))) = fields;
+        let (operation, unique_batch_item_id, payload, message_extension) = fields;
         RequestItem {
             operation,
             unique_batch_item_id,
@@ -2233,22 +2175,21 @@ impl<A: Allocator + Copy> reader::ReadStructure<A> for RequestItem<A> {
 }
 
 impl<A: Allocator + Copy> reader::ReadNested<A> for RequestItem<A> {
+    ghost form = { request_item_form };
+
+    ghost value = { read_request_item };
+
     ghost TAG = { 0x42000F };
 
-    ghost fields = { struct_fields request_item_form };
-
-    ghost denies_unknown = { true };
-
-    ghost values = { λ x. fields_in (read_request_item x) };
+    ghost structured = { (refl, refl) };
 
     const TAG: u32 = 0x42000F;
 
-    #[tactic(auto, unfolding(kmip_ttlv_types::specs::Digits::six_digits, crate::specs::Requests::read_request_item))]
     fn read_nested<'b>(
         scope: &reader::Scope<'b, A>,
         cursor: &mut reader::Cursor<'b, A>,
     ) -> reader::Step<Self, A> {
-        reader::read_form(scope, cursor)
+        reader::read_structure(scope, cursor)
     }
 }
 
@@ -2276,24 +2217,29 @@ impl<B: Allocator> Serialize for Request<B> {
 }
 
 impl<A: Allocator + Copy> reader::ReadStructure<A> for Request<A> {
+    ghost form = { request_form };
+
+    ghost value = { read_request };
+
     ghost TAG = { 0x420078 };
 
     ghost DENIES_UNKNOWN = { true };
 
-    ghost values = { λ x. fields_in (read_request x) };
-
     type Fields = (
         reader::Nested<RequestHeader<A>>,
-        (reader::Several<RequestItem<A>>, ()),
+        reader::Several<RequestItem<A>>,
     );
 
     const TAG: u32 = 0x420078;
 
     const DENIES_UNKNOWN: bool = true;
 
-    #[tactic(auto, unfolding(kmip_ttlv_types::specs::Digits::six_digits, crate::specs::Requests::read_request, crate::specs::Headers::read_request_header, crate::specs::Requests::read_request_item))]
-    fn from_fields(fields: (RequestHeader<A>, (Vec<RequestItem<A>, A>, ()))) -> Self {
-        let (header, (items, ())) = fields;
+    #[tactic(auto, unfolding(kmip_ttlv_types::specs::Digits::six_digits))]
+    fn has_form() {}
+
+    #[tactic(auto, unfolding(kmip_ttlv_types::specs::Digits::six_digits, crate::specs::Requests::read_request))]
+    fn from_fields(fields: (RequestHeader<A>, Vec<RequestItem<A>, A>)) -> Self {
+        let (header, items) = fields;
         Request { header, items }
     }
 }
@@ -2303,7 +2249,6 @@ impl<A: Allocator + Copy> Decode<A> for Request<A> {
 
     ghost is_value = { λ v x. v ≡ read_request x };
 
-    #[tactic(auto, unfolding(kmip_ttlv_types::specs::Digits::six_digits, crate::specs::Requests::read_request))]
     fn decode(alloc: A, bytes: &[u8]) -> Result<Self, error::Error<A>> {
         reader::read_message(alloc, bytes)
     }

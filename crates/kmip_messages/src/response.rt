@@ -1,12 +1,11 @@
 // Written by codegen from types.table: change that, and run codegen/codegen.
 //! What was done (KMIP 1.0, section 4).
 
-ghost use Rattle.std.specs.Prelude.{◌≡◌, ◌↔◌, ◌==◌, refl, IsTrue, List, Some, codes, true, ℕ};
+ghost use Rattle.std.specs.Prelude.{◌≡◌, ◌↔◌, ◌==◌, refl, IsTrue, Some, codes, true};
 ghost use Rattle.std.proofs.Common.{rules};
 ghost use Rattle.std.specs.Cmp.Rules.{comparing};
 ghost use Rattle.std.specs.Ordering.{on};
-ghost use Rattle.kmip_ttlv.specs.Spots.{fields_in, struct_fields};
-ghost use Rattle.kmip_messages.specs.Responses.{create_response_form, written_create_response, read_create_response, create_key_pair_response_form, written_create_key_pair_response, read_create_key_pair_response, register_response_form, written_register_response, read_register_response, locate_response_form, written_locate_response, read_locate_response, get_response_form, written_get_response, read_get_response, IsGetResponseObject, get_attributes_response_form, written_get_attributes_response, read_get_attributes_response, get_attribute_list_response_form, written_get_attribute_list_response, read_get_attribute_list_response, attribute_response_form, written_attribute_response, read_attribute_response, object_response_form, object_response_value, application_namespace_form, application_namespace_value, query_response_form, written_query_response, read_query_response, discover_versions_response_form, written_discover_versions_response, read_discover_versions_response, response_payload_form, written_response_payload, read_response_payload, ChoosesResponsePayload, response_payload_as, response_payload_variants_5, response_payload_variants_10, ChoosesResponsePayloadNumber, result_status_form, written_result_status, read_result_status, result_status_number, result_status_read_number, result_reason_form, written_result_reason, read_result_reason, result_reason_number, result_reason_read_number, response_item_form, written_response_item, read_response_item, response_form, written_response, read_response};
+ghost use Rattle.kmip_messages.specs.Responses.{create_response_form, written_create_response, read_create_response, create_key_pair_response_form, written_create_key_pair_response, read_create_key_pair_response, register_response_form, written_register_response, read_register_response, locate_response_form, written_locate_response, read_locate_response, get_response_form, written_get_response, read_get_response, IsGetResponseObject, get_attributes_response_form, written_get_attributes_response, read_get_attributes_response, get_attribute_list_response_form, written_get_attribute_list_response, read_get_attribute_list_response, attribute_response_form, written_attribute_response, read_attribute_response, object_response_form, object_response_value, application_namespace_form, application_namespace_value, query_response_form, written_query_response, read_query_response, discover_versions_response_form, written_discover_versions_response, read_discover_versions_response, response_payload_form, written_response_payload, read_response_payload, ChoosesResponsePayload, response_payload_variants_4, response_payload_variants_8, response_payload_variants_12, ChoosesResponsePayloadNumber, result_status_form, written_result_status, read_result_status, result_status_number, result_status_read_number, result_reason_form, written_result_reason, read_result_reason, result_reason_number, result_reason_read_number, response_item_form, written_response_item, read_response_item, response_form, written_response, read_response};
 
 use crate::header::{MessageExtension, Operation, ProtocolVersion, ResponseHeader};
 use crate::template::{PrivateKeyTemplateAttribute, PublicKeyTemplateAttribute, TemplateAttribute};
@@ -23,7 +22,6 @@ use kmip_ttlv::types::TtlvType;
 use kmip_ttlv::visit::Visitor;
 use kmip_ttlv::{error, reader};
 use std::alloc::{AllocError, Allocator, Global};
-use std::marker::PhantomData;
 
 /// A symmetric key was made (section 4.1).
 #[derive(Drop)]
@@ -51,27 +49,30 @@ impl<B: Allocator> Serialize for CreateResponse<B> {
 }
 
 impl<A: Allocator + Copy> reader::ReadStructure<A> for CreateResponse<A> {
+    ghost form = { create_response_form };
+
+    ghost value = { read_create_response };
+
     ghost TAG = { 0x42007C };
 
     ghost DENIES_UNKNOWN = { true };
 
-    ghost values = { λ x. fields_in (read_create_response x) };
-
     type Fields = (
         reader::Item<ObjectType, 0x420057>,
-        (
-            reader::Leaf<String<A>, 0x420094>,
-            (reader::OptionalNested<TemplateAttribute<A>>, ()),
-        ),
+        reader::Leaf<String<A>, 0x420094>,
+        reader::OptionalNested<TemplateAttribute<A>>,
     );
 
     const TAG: u32 = 0x42007C;
 
     const DENIES_UNKNOWN: bool = true;
 
-    #[tactic(auto, unfolding(kmip_ttlv_types::specs::Digits::six_digits, crate::specs::Responses::read_create_response, crate::specs::Templates::read_template_attribute))]
-    fn from_fields(fields: (ObjectType, (String<A>, (Option<TemplateAttribute<A>>, ())))) -> Self {
-        let (object_type, (unique_identifier, (template_attribute, ()))) = fields;
+    #[tactic(auto, unfolding(kmip_ttlv_types::specs::Digits::six_digits))]
+    fn has_form() {}
+
+    #[tactic(auto, unfolding(kmip_ttlv_types::specs::Digits::six_digits, crate::specs::Responses::read_create_response))]
+    fn from_fields(fields: (ObjectType, String<A>, Option<TemplateAttribute<A>>)) -> Self {
+        let (object_type, unique_identifier, template_attribute) = fields;
         CreateResponse {
             object_type,
             unique_identifier,
@@ -81,22 +82,21 @@ impl<A: Allocator + Copy> reader::ReadStructure<A> for CreateResponse<A> {
 }
 
 impl<A: Allocator + Copy> reader::ReadNested<A> for CreateResponse<A> {
+    ghost form = { create_response_form };
+
+    ghost value = { read_create_response };
+
     ghost TAG = { 0x42007C };
 
-    ghost fields = { struct_fields create_response_form };
-
-    ghost denies_unknown = { true };
-
-    ghost values = { λ x. fields_in (read_create_response x) };
+    ghost structured = { (refl, refl) };
 
     const TAG: u32 = 0x42007C;
 
-    #[tactic(auto, unfolding(kmip_ttlv_types::specs::Digits::six_digits, crate::specs::Responses::read_create_response))]
     fn read_nested<'b>(
         scope: &reader::Scope<'b, A>,
         cursor: &mut reader::Cursor<'b, A>,
     ) -> reader::Step<Self, A> {
-        reader::read_form(scope, cursor)
+        reader::read_structure(scope, cursor)
     }
 }
 
@@ -137,41 +137,39 @@ impl<B: Allocator> Serialize for CreateKeyPairResponse<B> {
 }
 
 impl<A: Allocator + Copy> reader::ReadStructure<A> for CreateKeyPairResponse<A> {
+    ghost form = { create_key_pair_response_form };
+
+    ghost value = { read_create_key_pair_response };
+
     ghost TAG = { 0x42007C };
 
     ghost DENIES_UNKNOWN = { true };
 
-    ghost values = { λ x. fields_in (read_create_key_pair_response x) };
-
-    type Fields = reader::Four<
+    type Fields = (
         reader::Leaf<String<A>, 0x420066>,
         reader::Leaf<String<A>, 0x42006F>,
         reader::OptionalNested<PrivateKeyTemplateAttribute<A>>,
         reader::OptionalNested<PublicKeyTemplateAttribute<A>>,
-        (),
-    >;
+    );
 
     const TAG: u32 = 0x42007C;
 
     const DENIES_UNKNOWN: bool = true;
 
-    #[tactic(auto, unfolding(kmip_ttlv_types::specs::Digits::six_digits, crate::specs::Responses::read_create_key_pair_response, crate::specs::Templates::read_private_key_template_attribute, crate::specs::Templates::read_public_key_template_attribute))]
+    #[tactic(auto, unfolding(kmip_ttlv_types::specs::Digits::six_digits))]
+    fn has_form() {}
+
+    #[tactic(auto, unfolding(kmip_ttlv_types::specs::Digits::six_digits, crate::specs::Responses::read_create_key_pair_response))]
     fn from_fields(
         fields: (
             String<A>,
-            (
-                String<A>,
-                (
-                    Option<PrivateKeyTemplateAttribute<A>>,
-                    (Option<PublicKeyTemplateAttribute<A>>, ()),
-                ),
-            ),
+            String<A>,
+            Option<PrivateKeyTemplateAttribute<A>>,
+            Option<PublicKeyTemplateAttribute<A>>,
         ),
     ) -> Self {
-        let (
-            private_key_unique_identifier,
-            (public_key_unique_identifier, (private_key, (public_key, ()))),
-        ) = fields;
+        let (private_key_unique_identifier, public_key_unique_identifier, private_key, public_key) =
+            fields;
         CreateKeyPairResponse {
             private_key_unique_identifier,
             public_key_unique_identifier,
@@ -182,22 +180,21 @@ impl<A: Allocator + Copy> reader::ReadStructure<A> for CreateKeyPairResponse<A> 
 }
 
 impl<A: Allocator + Copy> reader::ReadNested<A> for CreateKeyPairResponse<A> {
+    ghost form = { create_key_pair_response_form };
+
+    ghost value = { read_create_key_pair_response };
+
     ghost TAG = { 0x42007C };
 
-    ghost fields = { struct_fields create_key_pair_response_form };
-
-    ghost denies_unknown = { true };
-
-    ghost values = { λ x. fields_in (read_create_key_pair_response x) };
+    ghost structured = { (refl, refl) };
 
     const TAG: u32 = 0x42007C;
 
-    #[tactic(auto, unfolding(kmip_ttlv_types::specs::Digits::six_digits, crate::specs::Responses::read_create_key_pair_response))]
     fn read_nested<'b>(
         scope: &reader::Scope<'b, A>,
         cursor: &mut reader::Cursor<'b, A>,
     ) -> reader::Step<Self, A> {
-        reader::read_form(scope, cursor)
+        reader::read_structure(scope, cursor)
     }
 }
 
@@ -224,24 +221,29 @@ impl<B: Allocator> Serialize for RegisterResponse<B> {
 }
 
 impl<A: Allocator + Copy> reader::ReadStructure<A> for RegisterResponse<A> {
+    ghost form = { register_response_form };
+
+    ghost value = { read_register_response };
+
     ghost TAG = { 0x42007C };
 
     ghost DENIES_UNKNOWN = { true };
 
-    ghost values = { λ x. fields_in (read_register_response x) };
-
     type Fields = (
         reader::Leaf<String<A>, 0x420094>,
-        (reader::OptionalNested<TemplateAttribute<A>>, ()),
+        reader::OptionalNested<TemplateAttribute<A>>,
     );
 
     const TAG: u32 = 0x42007C;
 
     const DENIES_UNKNOWN: bool = true;
 
-    #[tactic(auto, unfolding(kmip_ttlv_types::specs::Digits::six_digits, crate::specs::Responses::read_register_response, crate::specs::Templates::read_template_attribute))]
-    fn from_fields(fields: (String<A>, (Option<TemplateAttribute<A>>, ()))) -> Self {
-        let (unique_identifier, (template_attribute, ())) = fields;
+    #[tactic(auto, unfolding(kmip_ttlv_types::specs::Digits::six_digits))]
+    fn has_form() {}
+
+    #[tactic(auto, unfolding(kmip_ttlv_types::specs::Digits::six_digits, crate::specs::Responses::read_register_response))]
+    fn from_fields(fields: (String<A>, Option<TemplateAttribute<A>>)) -> Self {
+        let (unique_identifier, template_attribute) = fields;
         RegisterResponse {
             unique_identifier,
             template_attribute,
@@ -250,22 +252,21 @@ impl<A: Allocator + Copy> reader::ReadStructure<A> for RegisterResponse<A> {
 }
 
 impl<A: Allocator + Copy> reader::ReadNested<A> for RegisterResponse<A> {
+    ghost form = { register_response_form };
+
+    ghost value = { read_register_response };
+
     ghost TAG = { 0x42007C };
 
-    ghost fields = { struct_fields register_response_form };
-
-    ghost denies_unknown = { true };
-
-    ghost values = { λ x. fields_in (read_register_response x) };
+    ghost structured = { (refl, refl) };
 
     const TAG: u32 = 0x42007C;
 
-    #[tactic(auto, unfolding(kmip_ttlv_types::specs::Digits::six_digits, crate::specs::Responses::read_register_response))]
     fn read_nested<'b>(
         scope: &reader::Scope<'b, A>,
         cursor: &mut reader::Cursor<'b, A>,
     ) -> reader::Step<Self, A> {
-        reader::read_form(scope, cursor)
+        reader::read_structure(scope, cursor)
     }
 }
 
@@ -290,45 +291,46 @@ impl<B: Allocator> Serialize for LocateResponse<B> {
 }
 
 impl<A: Allocator + Copy> reader::ReadStructure<A> for LocateResponse<A> {
+    ghost form = { locate_response_form };
+
+    ghost value = { read_locate_response };
+
     ghost TAG = { 0x42007C };
 
     ghost DENIES_UNKNOWN = { true };
 
-    ghost values = { λ x. fields_in (read_locate_response x) };
-
-    type Fields = (
-        reader::OptionalSeveralItems<UniqueIdentifier<A>, 0x420094>,
-        (),
-    );
+    type Fields = (reader::OptionalSeveralItems<UniqueIdentifier<A>, 0x420094>,);
 
     const TAG: u32 = 0x42007C;
 
     const DENIES_UNKNOWN: bool = true;
 
+    #[tactic(auto, unfolding(kmip_ttlv_types::specs::Digits::six_digits))]
+    fn has_form() {}
+
     #[tactic(auto, unfolding(kmip_ttlv_types::specs::Digits::six_digits, crate::specs::Responses::read_locate_response))]
-    fn from_fields(fields: (Vec<UniqueIdentifier<A>, A>, ())) -> Self {
-        let (unique_identifiers, ()) = fields;
+    fn from_fields(fields: (Vec<UniqueIdentifier<A>, A>,)) -> Self {
+        let (unique_identifiers,) = fields;
         LocateResponse { unique_identifiers }
     }
 }
 
 impl<A: Allocator + Copy> reader::ReadNested<A> for LocateResponse<A> {
+    ghost form = { locate_response_form };
+
+    ghost value = { read_locate_response };
+
     ghost TAG = { 0x42007C };
 
-    ghost fields = { struct_fields locate_response_form };
-
-    ghost denies_unknown = { true };
-
-    ghost values = { λ x. fields_in (read_locate_response x) };
+    ghost structured = { (refl, refl) };
 
     const TAG: u32 = 0x42007C;
 
-    #[tactic(auto, unfolding(kmip_ttlv_types::specs::Digits::six_digits, crate::specs::Responses::read_locate_response))]
     fn read_nested<'b>(
         scope: &reader::Scope<'b, A>,
         cursor: &mut reader::Cursor<'b, A>,
     ) -> reader::Step<Self, A> {
-        reader::read_form(scope, cursor)
+        reader::read_structure(scope, cursor)
     }
 }
 
@@ -423,11 +425,13 @@ impl<B: Allocator> Serialize for GetResponse<B> {
 }
 
 impl<A: Allocator + Copy> reader::ReadStructure<A> for GetResponse<A> {
+    ghost form = { get_response_form };
+
+    ghost value = { read_get_response };
+
     ghost TAG = { 0x42007C };
 
     ghost DENIES_UNKNOWN = { true };
-
-    ghost values = { λ x. fields_in (read_get_response x) };
 
     type Fields = reader::Four<
         reader::Item<ObjectType, 0x420057>,
@@ -441,7 +445,7 @@ impl<A: Allocator + Copy> reader::ReadStructure<A> for GetResponse<A> {
             reader::OptionalNested<Template<A>>,
             (
                 reader::OptionalNested<SecretData<A>>,
-                (reader::OptionalNested<OpaqueObject<A>>, ()),
+                reader::OptionalNested<OpaqueObject<A>>,
             ),
         >,
     >;
@@ -450,52 +454,31 @@ impl<A: Allocator + Copy> reader::ReadStructure<A> for GetResponse<A> {
 
     const DENIES_UNKNOWN: bool = true;
 
-    #[tactic(auto, unfolding(kmip_ttlv_types::specs::Digits::six_digits, crate::specs::Responses::read_get_response, kmip_objects::specs::Objects::read_certificate, kmip_objects::specs::Objects::read_symmetric_key, kmip_objects::specs::Objects::read_public_key, kmip_objects::specs::Objects::read_private_key, kmip_objects::specs::Objects::read_split_key, kmip_objects::specs::Objects::read_template, kmip_objects::specs::Objects::read_secret_data, kmip_objects::specs::Objects::read_opaque_object))]
+    #[tactic(auto, unfolding(kmip_ttlv_types::specs::Digits::six_digits))]
+    fn has_form() {}
+
+    #[tactic(auto, unfolding(kmip_ttlv_types::specs::Digits::six_digits, crate::specs::Responses::read_get_response))]
     fn from_fields(
         fields: (
             ObjectType,
+            String<A>,
+            Option<Certificate<A>>,
+            Option<SymmetricKey<A>>,
             (
-                String<A>,
-                (
-                    Option<Certificate<A>>,
-                    (
-                        Option<SymmetricKey<A>>,
-                        (
-                            Option<PublicKey<A>>,
-                            (
-                                Option<PrivateKey<A>>,
-                                (
-                                    Option<SplitKey<A>>,
-                                    (
-                                        Option<Template<A>>,
-                                        (Option<SecretData<A>>, (Option<OpaqueObject<A>>, ())),
-                                    ),
-                                ),
-                            ),
-                        ),
-                    ),
-                ),
+                Option<PublicKey<A>>,
+                Option<PrivateKey<A>>,
+                Option<SplitKey<A>>,
+                Option<Template<A>>,
+                (Option<SecretData<A>>, Option<OpaqueObject<A>>),
             ),
         ),
     ) -> Self {
         let (
             object_type,
-            (
-                unique_identifier,
-                (
-                    certificate,
-                    (
-                        symmetric_key,
-                        (
-                            public_key,
-                            (
-                                private_key,
-                                (split_key, (template, (secret_data, (opaque_object, ())))),
-                            ),
-                        ),
-                    ),
-                ),
-            ),
+            unique_identifier,
+            certificate,
+            symmetric_key,
+            (public_key, private_key, split_key, template, (secret_data, opaque_object)),
         ) = fields;
         GetResponse {
             object_type,
@@ -513,22 +496,21 @@ impl<A: Allocator + Copy> reader::ReadStructure<A> for GetResponse<A> {
 }
 
 impl<A: Allocator + Copy> reader::ReadNested<A> for GetResponse<A> {
+    ghost form = { get_response_form };
+
+    ghost value = { read_get_response };
+
     ghost TAG = { 0x42007C };
 
-    ghost fields = { struct_fields get_response_form };
-
-    ghost denies_unknown = { true };
-
-    ghost values = { λ x. fields_in (read_get_response x) };
+    ghost structured = { (refl, refl) };
 
     const TAG: u32 = 0x42007C;
 
-    #[tactic(auto, unfolding(kmip_ttlv_types::specs::Digits::six_digits, crate::specs::Responses::read_get_response))]
     fn read_nested<'b>(
         scope: &reader::Scope<'b, A>,
         cursor: &mut reader::Cursor<'b, A>,
     ) -> reader::Step<Self, A> {
-        reader::read_form(scope, cursor)
+        reader::read_structure(scope, cursor)
     }
 }
 
@@ -556,24 +538,29 @@ impl<B: Allocator> Serialize for GetAttributesResponse<B> {
 }
 
 impl<A: Allocator + Copy> reader::ReadStructure<A> for GetAttributesResponse<A> {
+    ghost form = { get_attributes_response_form };
+
+    ghost value = { read_get_attributes_response };
+
     ghost TAG = { 0x42007C };
 
     ghost DENIES_UNKNOWN = { true };
 
-    ghost values = { λ x. fields_in (read_get_attributes_response x) };
-
     type Fields = (
         reader::Leaf<String<A>, 0x420094>,
-        (reader::OptionalSeveral<Attribute<A>>, ()),
+        reader::OptionalSeveral<Attribute<A>>,
     );
 
     const TAG: u32 = 0x42007C;
 
     const DENIES_UNKNOWN: bool = true;
 
-    #[tactic(auto, unfolding(kmip_ttlv_types::specs::Digits::six_digits, crate::specs::Responses::read_get_attributes_response, kmip_attributes::specs::Attributes::read_attribute))]
-    fn from_fields(fields: (String<A>, (Vec<Attribute<A>, A>, ()))) -> Self {
-        let (unique_identifier, (attributes, ())) = fields;
+    #[tactic(auto, unfolding(kmip_ttlv_types::specs::Digits::six_digits))]
+    fn has_form() {}
+
+    #[tactic(auto, unfolding(kmip_ttlv_types::specs::Digits::six_digits, crate::specs::Responses::read_get_attributes_response))]
+    fn from_fields(fields: (String<A>, Vec<Attribute<A>, A>)) -> Self {
+        let (unique_identifier, attributes) = fields;
         GetAttributesResponse {
             unique_identifier,
             attributes,
@@ -582,22 +569,21 @@ impl<A: Allocator + Copy> reader::ReadStructure<A> for GetAttributesResponse<A> 
 }
 
 impl<A: Allocator + Copy> reader::ReadNested<A> for GetAttributesResponse<A> {
+    ghost form = { get_attributes_response_form };
+
+    ghost value = { read_get_attributes_response };
+
     ghost TAG = { 0x42007C };
 
-    ghost fields = { struct_fields get_attributes_response_form };
-
-    ghost denies_unknown = { true };
-
-    ghost values = { λ x. fields_in (read_get_attributes_response x) };
+    ghost structured = { (refl, refl) };
 
     const TAG: u32 = 0x42007C;
 
-    #[tactic(auto, unfolding(kmip_ttlv_types::specs::Digits::six_digits, crate::specs::Responses::read_get_attributes_response))]
     fn read_nested<'b>(
         scope: &reader::Scope<'b, A>,
         cursor: &mut reader::Cursor<'b, A>,
     ) -> reader::Step<Self, A> {
-        reader::read_form(scope, cursor)
+        reader::read_structure(scope, cursor)
     }
 }
 
@@ -625,24 +611,29 @@ impl<B: Allocator> Serialize for GetAttributeListResponse<B> {
 }
 
 impl<A: Allocator + Copy> reader::ReadStructure<A> for GetAttributeListResponse<A> {
+    ghost form = { get_attribute_list_response_form };
+
+    ghost value = { read_get_attribute_list_response };
+
     ghost TAG = { 0x42007C };
 
     ghost DENIES_UNKNOWN = { true };
 
-    ghost values = { λ x. fields_in (read_get_attribute_list_response x) };
-
     type Fields = (
         reader::Leaf<String<A>, 0x420094>,
-        (reader::OptionalSeveralItems<AttributeName<A>, 0x42000A>, ()),
+        reader::OptionalSeveralItems<AttributeName<A>, 0x42000A>,
     );
 
     const TAG: u32 = 0x42007C;
 
     const DENIES_UNKNOWN: bool = true;
 
+    #[tactic(auto, unfolding(kmip_ttlv_types::specs::Digits::six_digits))]
+    fn has_form() {}
+
     #[tactic(auto, unfolding(kmip_ttlv_types::specs::Digits::six_digits, crate::specs::Responses::read_get_attribute_list_response))]
-    fn from_fields(fields: (String<A>, (Vec<AttributeName<A>, A>, ()))) -> Self {
-        let (unique_identifier, (attribute_names, ())) = fields;
+    fn from_fields(fields: (String<A>, Vec<AttributeName<A>, A>)) -> Self {
+        let (unique_identifier, attribute_names) = fields;
         GetAttributeListResponse {
             unique_identifier,
             attribute_names,
@@ -651,22 +642,21 @@ impl<A: Allocator + Copy> reader::ReadStructure<A> for GetAttributeListResponse<
 }
 
 impl<A: Allocator + Copy> reader::ReadNested<A> for GetAttributeListResponse<A> {
+    ghost form = { get_attribute_list_response_form };
+
+    ghost value = { read_get_attribute_list_response };
+
     ghost TAG = { 0x42007C };
 
-    ghost fields = { struct_fields get_attribute_list_response_form };
-
-    ghost denies_unknown = { true };
-
-    ghost values = { λ x. fields_in (read_get_attribute_list_response x) };
+    ghost structured = { (refl, refl) };
 
     const TAG: u32 = 0x42007C;
 
-    #[tactic(auto, unfolding(kmip_ttlv_types::specs::Digits::six_digits, crate::specs::Responses::read_get_attribute_list_response))]
     fn read_nested<'b>(
         scope: &reader::Scope<'b, A>,
         cursor: &mut reader::Cursor<'b, A>,
     ) -> reader::Step<Self, A> {
-        reader::read_form(scope, cursor)
+        reader::read_structure(scope, cursor)
     }
 }
 
@@ -694,24 +684,29 @@ impl<B: Allocator> Serialize for AttributeResponse<B> {
 }
 
 impl<A: Allocator + Copy> reader::ReadStructure<A> for AttributeResponse<A> {
+    ghost form = { attribute_response_form };
+
+    ghost value = { read_attribute_response };
+
     ghost TAG = { 0x42007C };
 
     ghost DENIES_UNKNOWN = { true };
 
-    ghost values = { λ x. fields_in (read_attribute_response x) };
-
     type Fields = (
         reader::Leaf<String<A>, 0x420094>,
-        (reader::Nested<Attribute<A>>, ()),
+        reader::Nested<Attribute<A>>,
     );
 
     const TAG: u32 = 0x42007C;
 
     const DENIES_UNKNOWN: bool = true;
 
-    #[tactic(auto, unfolding(kmip_ttlv_types::specs::Digits::six_digits, crate::specs::Responses::read_attribute_response, kmip_attributes::specs::Attributes::read_attribute))]
-    fn from_fields(fields: (String<A>, (Attribute<A>, ()))) -> Self {
-        let (unique_identifier, (attribute, ())) = fields;
+    #[tactic(auto, unfolding(kmip_ttlv_types::specs::Digits::six_digits))]
+    fn has_form() {}
+
+    #[tactic(auto, unfolding(kmip_ttlv_types::specs::Digits::six_digits, crate::specs::Responses::read_attribute_response))]
+    fn from_fields(fields: (String<A>, Attribute<A>)) -> Self {
+        let (unique_identifier, attribute) = fields;
         AttributeResponse {
             unique_identifier,
             attribute,
@@ -720,22 +715,21 @@ impl<A: Allocator + Copy> reader::ReadStructure<A> for AttributeResponse<A> {
 }
 
 impl<A: Allocator + Copy> reader::ReadNested<A> for AttributeResponse<A> {
+    ghost form = { attribute_response_form };
+
+    ghost value = { read_attribute_response };
+
     ghost TAG = { 0x42007C };
 
-    ghost fields = { struct_fields attribute_response_form };
-
-    ghost denies_unknown = { true };
-
-    ghost values = { λ x. fields_in (read_attribute_response x) };
+    ghost structured = { (refl, refl) };
 
     const TAG: u32 = 0x42007C;
 
-    #[tactic(auto, unfolding(kmip_ttlv_types::specs::Digits::six_digits, crate::specs::Responses::read_attribute_response))]
     fn read_nested<'b>(
         scope: &reader::Scope<'b, A>,
         cursor: &mut reader::Cursor<'b, A>,
     ) -> reader::Step<Self, A> {
-        reader::read_form(scope, cursor)
+        reader::read_structure(scope, cursor)
     }
 }
 
@@ -760,42 +754,46 @@ impl<B: Allocator> Serialize for ObjectResponse<B> {
 }
 
 impl<A: Allocator + Copy> reader::ReadStructure<A> for ObjectResponse<A> {
+    ghost form = { object_response_form };
+
+    ghost value = { object_response_value };
+
     ghost TAG = { 0x42007C };
 
     ghost DENIES_UNKNOWN = { true };
 
-    ghost values = { λ x. fields_in (object_response_value x) };
-
-    type Fields = (reader::Leaf<String<A>, 0x420094>, ());
+    type Fields = (reader::Leaf<String<A>, 0x420094>,);
 
     const TAG: u32 = 0x42007C;
 
     const DENIES_UNKNOWN: bool = true;
 
+    #[tactic(auto, unfolding(kmip_ttlv_types::specs::Digits::six_digits))]
+    fn has_form() {}
+
     #[tactic(auto, unfolding(kmip_ttlv_types::specs::Digits::six_digits, crate::specs::Responses::object_response_value))]
-    fn from_fields(fields: (String<A>, ())) -> Self {
-        let (unique_identifier, ()) = fields;
+    fn from_fields(fields: (String<A>,)) -> Self {
+        let (unique_identifier,) = fields;
         ObjectResponse { unique_identifier }
     }
 }
 
 impl<A: Allocator + Copy> reader::ReadNested<A> for ObjectResponse<A> {
+    ghost form = { object_response_form };
+
+    ghost value = { object_response_value };
+
     ghost TAG = { 0x42007C };
 
-    ghost fields = { struct_fields object_response_form };
-
-    ghost denies_unknown = { true };
-
-    ghost values = { λ x. fields_in (object_response_value x) };
+    ghost structured = { (refl, refl) };
 
     const TAG: u32 = 0x42007C;
 
-    #[tactic(auto, unfolding(kmip_ttlv_types::specs::Digits::six_digits, crate::specs::Responses::object_response_value))]
     fn read_nested<'b>(
         scope: &reader::Scope<'b, A>,
         cursor: &mut reader::Cursor<'b, A>,
     ) -> reader::Step<Self, A> {
-        reader::read_form(scope, cursor)
+        reader::read_structure(scope, cursor)
     }
 }
 
@@ -865,36 +863,38 @@ impl<B: Allocator> Serialize for QueryResponse<B> {
 }
 
 impl<A: Allocator + Copy> reader::ReadStructure<A> for QueryResponse<A> {
+    ghost form = { query_response_form };
+
+    ghost value = { read_query_response };
+
     ghost TAG = { 0x42007C };
 
     ghost DENIES_UNKNOWN = { true };
 
-    ghost values = { λ x. fields_in (read_query_response x) };
-
-    type Fields = reader::Four<
+    type Fields = (
         reader::OptionalSeveralItems<Operation, 0x42005C>,
         reader::OptionalSeveralItems<ObjectType, 0x420057>,
         reader::OptionalLeaf<String<A>, 0x42009D>,
         reader::OptionalSeveralItems<ApplicationNamespace<A>, 0x420003>,
-        (),
-    >;
+    );
 
     const TAG: u32 = 0x42007C;
 
     const DENIES_UNKNOWN: bool = true;
 
+    #[tactic(auto, unfolding(kmip_ttlv_types::specs::Digits::six_digits))]
+    fn has_form() {}
+
     #[tactic(auto, unfolding(kmip_ttlv_types::specs::Digits::six_digits, crate::specs::Responses::read_query_response))]
     fn from_fields(
         fields: (
             Vec<Operation, A>,
-            (
-                Vec<ObjectType, A>,
-                (Option<String<A>>, (Vec<ApplicationNamespace<A>, A>, ())),
-            ),
+            Vec<ObjectType, A>,
+            Option<String<A>>,
+            Vec<ApplicationNamespace<A>, A>,
         ),
     ) -> Self {
-        let (operations, (object_types, (vendor_identification, (application_namespaces, ())))) =
-            fields;
+        let (operations, object_types, vendor_identification, application_namespaces) = fields;
         QueryResponse {
             operations,
             object_types,
@@ -905,22 +905,21 @@ impl<A: Allocator + Copy> reader::ReadStructure<A> for QueryResponse<A> {
 }
 
 impl<A: Allocator + Copy> reader::ReadNested<A> for QueryResponse<A> {
+    ghost form = { query_response_form };
+
+    ghost value = { read_query_response };
+
     ghost TAG = { 0x42007C };
 
-    ghost fields = { struct_fields query_response_form };
-
-    ghost denies_unknown = { true };
-
-    ghost values = { λ x. fields_in (read_query_response x) };
+    ghost structured = { (refl, refl) };
 
     const TAG: u32 = 0x42007C;
 
-    #[tactic(auto, unfolding(kmip_ttlv_types::specs::Digits::six_digits, crate::specs::Responses::read_query_response))]
     fn read_nested<'b>(
         scope: &reader::Scope<'b, A>,
         cursor: &mut reader::Cursor<'b, A>,
     ) -> reader::Step<Self, A> {
-        reader::read_form(scope, cursor)
+        reader::read_structure(scope, cursor)
     }
 }
 
@@ -945,42 +944,46 @@ impl<B: Allocator> Serialize for DiscoverVersionsResponse<B> {
 }
 
 impl<A: Allocator + Copy> reader::ReadStructure<A> for DiscoverVersionsResponse<A> {
+    ghost form = { discover_versions_response_form };
+
+    ghost value = { read_discover_versions_response };
+
     ghost TAG = { 0x42007C };
 
     ghost DENIES_UNKNOWN = { true };
 
-    ghost values = { λ x. fields_in (read_discover_versions_response x) };
-
-    type Fields = (reader::OptionalSeveral<ProtocolVersion>, ());
+    type Fields = (reader::OptionalSeveral<ProtocolVersion>,);
 
     const TAG: u32 = 0x42007C;
 
     const DENIES_UNKNOWN: bool = true;
 
-    #[tactic(auto, unfolding(kmip_ttlv_types::specs::Digits::six_digits, crate::specs::Responses::read_discover_versions_response, crate::specs::Headers::protocol_version_value))]
-    fn from_fields(fields: (Vec<ProtocolVersion, A>, ())) -> Self {
-        let (versions, ()) = fields;
+    #[tactic(auto, unfolding(kmip_ttlv_types::specs::Digits::six_digits))]
+    fn has_form() {}
+
+    #[tactic(auto, unfolding(kmip_ttlv_types::specs::Digits::six_digits, crate::specs::Responses::read_discover_versions_response))]
+    fn from_fields(fields: (Vec<ProtocolVersion, A>,)) -> Self {
+        let (versions,) = fields;
         DiscoverVersionsResponse { versions }
     }
 }
 
 impl<A: Allocator + Copy> reader::ReadNested<A> for DiscoverVersionsResponse<A> {
+    ghost form = { discover_versions_response_form };
+
+    ghost value = { read_discover_versions_response };
+
     ghost TAG = { 0x42007C };
 
-    ghost fields = { struct_fields discover_versions_response_form };
-
-    ghost denies_unknown = { true };
-
-    ghost values = { λ x. fields_in (read_discover_versions_response x) };
+    ghost structured = { (refl, refl) };
 
     const TAG: u32 = 0x42007C;
 
-    #[tactic(auto, unfolding(kmip_ttlv_types::specs::Digits::six_digits, crate::specs::Responses::read_discover_versions_response))]
     fn read_nested<'b>(
         scope: &reader::Scope<'b, A>,
         cursor: &mut reader::Cursor<'b, A>,
     ) -> reader::Step<Self, A> {
-        reader::read_form(scope, cursor)
+        reader::read_structure(scope, cursor)
     }
 }
 
@@ -1105,10 +1108,21 @@ impl reader::Rule for ResponsePayloadCreateRule {
 
     #[tactic(auto, unfolding(kmip_ttlv_reader::specs::RuleParts::parts_of))]
     fn parts() -> Option<reader::RuleParts> {
-        Some(reader::RuleParts {
+        Some(reader::RuleParts::Texts {
             tag: 0x42005C,
             texts: &["0x00000001"],
         })
+    }
+}
+
+impl<A: Allocator + Copy> reader::VariantOf<
+    reader::StructureElement<CreateResponse<A>>,
+    ResponsePayload<A>,
+    A,
+> for ResponsePayloadCreateRule {
+    #[tactic(auto, unfolding(kmip_ttlv_types::specs::Digits::six_digits, crate::specs::Responses::read_response_payload))]
+    fn from_content(held: CreateResponse<A>) -> ResponsePayload<A> {
+        ResponsePayload::Create(held)
     }
 }
 
@@ -1124,10 +1138,21 @@ impl reader::Rule for ResponsePayloadCreateKeyPairRule {
 
     #[tactic(auto, unfolding(kmip_ttlv_reader::specs::RuleParts::parts_of))]
     fn parts() -> Option<reader::RuleParts> {
-        Some(reader::RuleParts {
+        Some(reader::RuleParts::Texts {
             tag: 0x42005C,
             texts: &["0x00000002"],
         })
+    }
+}
+
+impl<A: Allocator + Copy> reader::VariantOf<
+    reader::StructureElement<CreateKeyPairResponse<A>>,
+    ResponsePayload<A>,
+    A,
+> for ResponsePayloadCreateKeyPairRule {
+    #[tactic(auto, unfolding(kmip_ttlv_types::specs::Digits::six_digits, crate::specs::Responses::read_response_payload))]
+    fn from_content(held: CreateKeyPairResponse<A>) -> ResponsePayload<A> {
+        ResponsePayload::CreateKeyPair(held)
     }
 }
 
@@ -1143,10 +1168,21 @@ impl reader::Rule for ResponsePayloadRegisterRule {
 
     #[tactic(auto, unfolding(kmip_ttlv_reader::specs::RuleParts::parts_of))]
     fn parts() -> Option<reader::RuleParts> {
-        Some(reader::RuleParts {
+        Some(reader::RuleParts::Texts {
             tag: 0x42005C,
             texts: &["0x00000003"],
         })
+    }
+}
+
+impl<A: Allocator + Copy> reader::VariantOf<
+    reader::StructureElement<RegisterResponse<A>>,
+    ResponsePayload<A>,
+    A,
+> for ResponsePayloadRegisterRule {
+    #[tactic(auto, unfolding(kmip_ttlv_types::specs::Digits::six_digits, crate::specs::Responses::read_response_payload))]
+    fn from_content(held: RegisterResponse<A>) -> ResponsePayload<A> {
+        ResponsePayload::Register(held)
     }
 }
 
@@ -1162,10 +1198,21 @@ impl reader::Rule for ResponsePayloadLocateRule {
 
     #[tactic(auto, unfolding(kmip_ttlv_reader::specs::RuleParts::parts_of))]
     fn parts() -> Option<reader::RuleParts> {
-        Some(reader::RuleParts {
+        Some(reader::RuleParts::Texts {
             tag: 0x42005C,
             texts: &["0x00000008"],
         })
+    }
+}
+
+impl<A: Allocator + Copy> reader::VariantOf<
+    reader::StructureElement<LocateResponse<A>>,
+    ResponsePayload<A>,
+    A,
+> for ResponsePayloadLocateRule {
+    #[tactic(auto, unfolding(kmip_ttlv_types::specs::Digits::six_digits, crate::specs::Responses::read_response_payload))]
+    fn from_content(held: LocateResponse<A>) -> ResponsePayload<A> {
+        ResponsePayload::Locate(held)
     }
 }
 
@@ -1181,10 +1228,21 @@ impl reader::Rule for ResponsePayloadGetRule {
 
     #[tactic(auto, unfolding(kmip_ttlv_reader::specs::RuleParts::parts_of))]
     fn parts() -> Option<reader::RuleParts> {
-        Some(reader::RuleParts {
+        Some(reader::RuleParts::Texts {
             tag: 0x42005C,
             texts: &["0x0000000A"],
         })
+    }
+}
+
+impl<A: Allocator + Copy> reader::VariantOf<
+    reader::StructureElement<GetResponse<A>>,
+    ResponsePayload<A>,
+    A,
+> for ResponsePayloadGetRule {
+    #[tactic(auto, unfolding(kmip_ttlv_types::specs::Digits::six_digits, crate::specs::Responses::read_response_payload))]
+    fn from_content(held: GetResponse<A>) -> ResponsePayload<A> {
+        ResponsePayload::Get(held)
     }
 }
 
@@ -1200,10 +1258,21 @@ impl reader::Rule for ResponsePayloadGetAttributesRule {
 
     #[tactic(auto, unfolding(kmip_ttlv_reader::specs::RuleParts::parts_of))]
     fn parts() -> Option<reader::RuleParts> {
-        Some(reader::RuleParts {
+        Some(reader::RuleParts::Texts {
             tag: 0x42005C,
             texts: &["0x0000000B"],
         })
+    }
+}
+
+impl<A: Allocator + Copy> reader::VariantOf<
+    reader::StructureElement<GetAttributesResponse<A>>,
+    ResponsePayload<A>,
+    A,
+> for ResponsePayloadGetAttributesRule {
+    #[tactic(auto, unfolding(kmip_ttlv_types::specs::Digits::six_digits, crate::specs::Responses::read_response_payload))]
+    fn from_content(held: GetAttributesResponse<A>) -> ResponsePayload<A> {
+        ResponsePayload::GetAttributes(held)
     }
 }
 
@@ -1219,10 +1288,21 @@ impl reader::Rule for ResponsePayloadGetAttributeListRule {
 
     #[tactic(auto, unfolding(kmip_ttlv_reader::specs::RuleParts::parts_of))]
     fn parts() -> Option<reader::RuleParts> {
-        Some(reader::RuleParts {
+        Some(reader::RuleParts::Texts {
             tag: 0x42005C,
             texts: &["0x0000000C"],
         })
+    }
+}
+
+impl<A: Allocator + Copy> reader::VariantOf<
+    reader::StructureElement<GetAttributeListResponse<A>>,
+    ResponsePayload<A>,
+    A,
+> for ResponsePayloadGetAttributeListRule {
+    #[tactic(auto, unfolding(kmip_ttlv_types::specs::Digits::six_digits, crate::specs::Responses::read_response_payload))]
+    fn from_content(held: GetAttributeListResponse<A>) -> ResponsePayload<A> {
+        ResponsePayload::GetAttributeList(held)
     }
 }
 
@@ -1238,10 +1318,21 @@ impl reader::Rule for ResponsePayloadAddAttributeRule {
 
     #[tactic(auto, unfolding(kmip_ttlv_reader::specs::RuleParts::parts_of))]
     fn parts() -> Option<reader::RuleParts> {
-        Some(reader::RuleParts {
+        Some(reader::RuleParts::Texts {
             tag: 0x42005C,
             texts: &["0x0000000D"],
         })
+    }
+}
+
+impl<A: Allocator + Copy> reader::VariantOf<
+    reader::StructureElement<AttributeResponse<A>>,
+    ResponsePayload<A>,
+    A,
+> for ResponsePayloadAddAttributeRule {
+    #[tactic(auto, unfolding(kmip_ttlv_types::specs::Digits::six_digits, crate::specs::Responses::read_response_payload))]
+    fn from_content(held: AttributeResponse<A>) -> ResponsePayload<A> {
+        ResponsePayload::AddAttribute(held)
     }
 }
 
@@ -1257,10 +1348,21 @@ impl reader::Rule for ResponsePayloadModifyAttributeRule {
 
     #[tactic(auto, unfolding(kmip_ttlv_reader::specs::RuleParts::parts_of))]
     fn parts() -> Option<reader::RuleParts> {
-        Some(reader::RuleParts {
+        Some(reader::RuleParts::Texts {
             tag: 0x42005C,
             texts: &["0x0000000E"],
         })
+    }
+}
+
+impl<A: Allocator + Copy> reader::VariantOf<
+    reader::StructureElement<AttributeResponse<A>>,
+    ResponsePayload<A>,
+    A,
+> for ResponsePayloadModifyAttributeRule {
+    #[tactic(auto, unfolding(kmip_ttlv_types::specs::Digits::six_digits, crate::specs::Responses::read_response_payload))]
+    fn from_content(held: AttributeResponse<A>) -> ResponsePayload<A> {
+        ResponsePayload::ModifyAttribute(held)
     }
 }
 
@@ -1276,10 +1378,21 @@ impl reader::Rule for ResponsePayloadDeleteAttributeRule {
 
     #[tactic(auto, unfolding(kmip_ttlv_reader::specs::RuleParts::parts_of))]
     fn parts() -> Option<reader::RuleParts> {
-        Some(reader::RuleParts {
+        Some(reader::RuleParts::Texts {
             tag: 0x42005C,
             texts: &["0x0000000F"],
         })
+    }
+}
+
+impl<A: Allocator + Copy> reader::VariantOf<
+    reader::StructureElement<AttributeResponse<A>>,
+    ResponsePayload<A>,
+    A,
+> for ResponsePayloadDeleteAttributeRule {
+    #[tactic(auto, unfolding(kmip_ttlv_types::specs::Digits::six_digits, crate::specs::Responses::read_response_payload))]
+    fn from_content(held: AttributeResponse<A>) -> ResponsePayload<A> {
+        ResponsePayload::DeleteAttribute(held)
     }
 }
 
@@ -1295,10 +1408,21 @@ impl reader::Rule for ResponsePayloadActivateRule {
 
     #[tactic(auto, unfolding(kmip_ttlv_reader::specs::RuleParts::parts_of))]
     fn parts() -> Option<reader::RuleParts> {
-        Some(reader::RuleParts {
+        Some(reader::RuleParts::Texts {
             tag: 0x42005C,
             texts: &["0x00000012"],
         })
+    }
+}
+
+impl<A: Allocator + Copy> reader::VariantOf<
+    reader::StructureElement<ObjectResponse<A>>,
+    ResponsePayload<A>,
+    A,
+> for ResponsePayloadActivateRule {
+    #[tactic(auto, unfolding(kmip_ttlv_types::specs::Digits::six_digits, crate::specs::Responses::read_response_payload))]
+    fn from_content(held: ObjectResponse<A>) -> ResponsePayload<A> {
+        ResponsePayload::Activate(held)
     }
 }
 
@@ -1314,10 +1438,21 @@ impl reader::Rule for ResponsePayloadRevokeRule {
 
     #[tactic(auto, unfolding(kmip_ttlv_reader::specs::RuleParts::parts_of))]
     fn parts() -> Option<reader::RuleParts> {
-        Some(reader::RuleParts {
+        Some(reader::RuleParts::Texts {
             tag: 0x42005C,
             texts: &["0x00000013"],
         })
+    }
+}
+
+impl<A: Allocator + Copy> reader::VariantOf<
+    reader::StructureElement<ObjectResponse<A>>,
+    ResponsePayload<A>,
+    A,
+> for ResponsePayloadRevokeRule {
+    #[tactic(auto, unfolding(kmip_ttlv_types::specs::Digits::six_digits, crate::specs::Responses::read_response_payload))]
+    fn from_content(held: ObjectResponse<A>) -> ResponsePayload<A> {
+        ResponsePayload::Revoke(held)
     }
 }
 
@@ -1333,10 +1468,21 @@ impl reader::Rule for ResponsePayloadDestroyRule {
 
     #[tactic(auto, unfolding(kmip_ttlv_reader::specs::RuleParts::parts_of))]
     fn parts() -> Option<reader::RuleParts> {
-        Some(reader::RuleParts {
+        Some(reader::RuleParts::Texts {
             tag: 0x42005C,
             texts: &["0x00000014"],
         })
+    }
+}
+
+impl<A: Allocator + Copy> reader::VariantOf<
+    reader::StructureElement<ObjectResponse<A>>,
+    ResponsePayload<A>,
+    A,
+> for ResponsePayloadDestroyRule {
+    #[tactic(auto, unfolding(kmip_ttlv_types::specs::Digits::six_digits, crate::specs::Responses::read_response_payload))]
+    fn from_content(held: ObjectResponse<A>) -> ResponsePayload<A> {
+        ResponsePayload::Destroy(held)
     }
 }
 
@@ -1352,10 +1498,21 @@ impl reader::Rule for ResponsePayloadQueryRule {
 
     #[tactic(auto, unfolding(kmip_ttlv_reader::specs::RuleParts::parts_of))]
     fn parts() -> Option<reader::RuleParts> {
-        Some(reader::RuleParts {
+        Some(reader::RuleParts::Texts {
             tag: 0x42005C,
             texts: &["0x00000018"],
         })
+    }
+}
+
+impl<A: Allocator + Copy> reader::VariantOf<
+    reader::StructureElement<QueryResponse<A>>,
+    ResponsePayload<A>,
+    A,
+> for ResponsePayloadQueryRule {
+    #[tactic(auto, unfolding(kmip_ttlv_types::specs::Digits::six_digits, crate::specs::Responses::read_response_payload))]
+    fn from_content(held: QueryResponse<A>) -> ResponsePayload<A> {
+        ResponsePayload::Query(held)
     }
 }
 
@@ -1371,394 +1528,172 @@ impl reader::Rule for ResponsePayloadDiscoverVersionsRule {
 
     #[tactic(auto, unfolding(kmip_ttlv_reader::specs::RuleParts::parts_of))]
     fn parts() -> Option<reader::RuleParts> {
-        Some(reader::RuleParts {
+        Some(reader::RuleParts::Texts {
             tag: 0x42005C,
             texts: &["0x0000001E"],
         })
     }
 }
 
-// The variants from `DiscoverVersions` on.
-type ResponsePayloadFromDiscoverVersions<A> = reader::Variant<
-    ResponsePayloadDiscoverVersionsRule,
+impl<A: Allocator + Copy> reader::VariantOf<
     reader::StructureElement<DiscoverVersionsResponse<A>>,
->;
-
-// The one that was read as one of these.
-#[tactic(auto, unfolding(kmip_ttlv_types::specs::Digits::six_digits, crate::specs::Responses::read_response_payload, crate::specs::Responses::read_create_response, crate::specs::Responses::read_create_key_pair_response, crate::specs::Responses::read_register_response, crate::specs::Responses::read_locate_response, crate::specs::Responses::read_get_response, crate::specs::Responses::read_get_attributes_response, crate::specs::Responses::read_get_attribute_list_response, crate::specs::Responses::read_attribute_response, crate::specs::Responses::object_response_value, crate::specs::Responses::read_query_response, crate::specs::Responses::read_discover_versions_response))]
-#[inline(always)]
-fn response_payload_from_discover_versions<A: Allocator + Copy>(
-    read: <ResponsePayloadFromDiscoverVersions<A> as reader::VariantList<A>>::Read,
-) -> ResponsePayload<A>
-    ensures { (own : List ℕ) → response_payload_as own result ≡ ⟦<ResponsePayloadFromDiscoverVersions<A> as reader::VariantList<A>>⟧.value own read }
-{
-    ResponsePayload::DiscoverVersions(read)
-}
-
-// The variants from `Query` on.
-type ResponsePayloadFromQuery<A> = (
-    reader::Variant<ResponsePayloadQueryRule, reader::StructureElement<QueryResponse<A>>>,
-    ResponsePayloadFromDiscoverVersions<A>,
-);
-
-// The one that was read as one of these.
-#[tactic(auto, unfolding(kmip_ttlv_types::specs::Digits::six_digits, crate::specs::Responses::read_response_payload, crate::specs::Responses::read_create_response, crate::specs::Responses::read_create_key_pair_response, crate::specs::Responses::read_register_response, crate::specs::Responses::read_locate_response, crate::specs::Responses::read_get_response, crate::specs::Responses::read_get_attributes_response, crate::specs::Responses::read_get_attribute_list_response, crate::specs::Responses::read_attribute_response, crate::specs::Responses::object_response_value, crate::specs::Responses::read_query_response, crate::specs::Responses::read_discover_versions_response))]
-#[inline(always)]
-fn response_payload_from_query<A: Allocator + Copy>(
-    read: <ResponsePayloadFromQuery<A> as reader::VariantList<A>>::Read,
-) -> ResponsePayload<A>
-    ensures { (own : List ℕ) → response_payload_as own result ≡ ⟦<ResponsePayloadFromQuery<A> as reader::VariantList<A>>⟧.value own read }
-{
-    match read {
-        reader::OneOf::First(held) => ResponsePayload::Query(held),
-        reader::OneOf::Other(other) => response_payload_from_discover_versions(other),
+    ResponsePayload<A>,
+    A,
+> for ResponsePayloadDiscoverVersionsRule {
+    #[tactic(auto, unfolding(kmip_ttlv_types::specs::Digits::six_digits, crate::specs::Responses::read_response_payload))]
+    fn from_content(held: DiscoverVersionsResponse<A>) -> ResponsePayload<A> {
+        ResponsePayload::DiscoverVersions(held)
     }
 }
 
-// The variants from `Destroy` on.
-type ResponsePayloadFromDestroy<A> = (
-    reader::Variant<ResponsePayloadDestroyRule, reader::StructureElement<ObjectResponse<A>>>,
-    ResponsePayloadFromQuery<A>,
-);
+/// The variants of `ResponsePayload` from `Get` on.
+pub struct ResponsePayloadLater4;
 
-// The one that was read as one of these.
-#[tactic(auto, unfolding(kmip_ttlv_types::specs::Digits::six_digits, crate::specs::Responses::read_response_payload, crate::specs::Responses::read_create_response, crate::specs::Responses::read_create_key_pair_response, crate::specs::Responses::read_register_response, crate::specs::Responses::read_locate_response, crate::specs::Responses::read_get_response, crate::specs::Responses::read_get_attributes_response, crate::specs::Responses::read_get_attribute_list_response, crate::specs::Responses::read_attribute_response, crate::specs::Responses::object_response_value, crate::specs::Responses::read_query_response, crate::specs::Responses::read_discover_versions_response))]
-#[inline(always)]
-fn response_payload_from_destroy<A: Allocator + Copy>(
-    read: <ResponsePayloadFromDestroy<A> as reader::VariantList<A>>::Read,
-) -> ResponsePayload<A>
-    ensures { (own : List ℕ) → response_payload_as own result ≡ ⟦<ResponsePayloadFromDestroy<A> as reader::VariantList<A>>⟧.value own read }
-{
-    match read {
-        reader::OneOf::First(held) => ResponsePayload::Destroy(held),
-        reader::OneOf::Other(other) => response_payload_from_query(other),
-    }
-}
+impl<A: Allocator + Copy> reader::VariantList<ResponsePayload<A>, A> for ResponsePayloadLater4 {
+    ghost variants = { response_payload_variants_4 };
 
-// The variants from `Revoke` on.
-type ResponsePayloadFromRevoke<A> = (
-    reader::Variant<ResponsePayloadRevokeRule, reader::StructureElement<ObjectResponse<A>>>,
-    ResponsePayloadFromDestroy<A>,
-);
-
-// The one that was read as one of these.
-#[tactic(auto, unfolding(kmip_ttlv_types::specs::Digits::six_digits, crate::specs::Responses::read_response_payload, crate::specs::Responses::read_create_response, crate::specs::Responses::read_create_key_pair_response, crate::specs::Responses::read_register_response, crate::specs::Responses::read_locate_response, crate::specs::Responses::read_get_response, crate::specs::Responses::read_get_attributes_response, crate::specs::Responses::read_get_attribute_list_response, crate::specs::Responses::read_attribute_response, crate::specs::Responses::object_response_value, crate::specs::Responses::read_query_response, crate::specs::Responses::read_discover_versions_response))]
-#[inline(always)]
-fn response_payload_from_revoke<A: Allocator + Copy>(
-    read: <ResponsePayloadFromRevoke<A> as reader::VariantList<A>>::Read,
-) -> ResponsePayload<A>
-    ensures { (own : List ℕ) → response_payload_as own result ≡ ⟦<ResponsePayloadFromRevoke<A> as reader::VariantList<A>>⟧.value own read }
-{
-    match read {
-        reader::OneOf::First(held) => ResponsePayload::Revoke(held),
-        reader::OneOf::Other(other) => response_payload_from_destroy(other),
-    }
-}
-
-// The variants from `Activate` on.
-type ResponsePayloadFromActivate<A> = (
-    reader::Variant<ResponsePayloadActivateRule, reader::StructureElement<ObjectResponse<A>>>,
-    ResponsePayloadFromRevoke<A>,
-);
-
-// The one that was read as one of these.
-#[tactic(auto, unfolding(kmip_ttlv_types::specs::Digits::six_digits, crate::specs::Responses::read_response_payload, crate::specs::Responses::read_create_response, crate::specs::Responses::read_create_key_pair_response, crate::specs::Responses::read_register_response, crate::specs::Responses::read_locate_response, crate::specs::Responses::read_get_response, crate::specs::Responses::read_get_attributes_response, crate::specs::Responses::read_get_attribute_list_response, crate::specs::Responses::read_attribute_response, crate::specs::Responses::object_response_value, crate::specs::Responses::read_query_response, crate::specs::Responses::read_discover_versions_response))]
-#[inline(always)]
-fn response_payload_from_activate<A: Allocator + Copy>(
-    read: <ResponsePayloadFromActivate<A> as reader::VariantList<A>>::Read,
-) -> ResponsePayload<A>
-    ensures { (own : List ℕ) → response_payload_as own result ≡ ⟦<ResponsePayloadFromActivate<A> as reader::VariantList<A>>⟧.value own read }
-{
-    match read {
-        reader::OneOf::First(held) => ResponsePayload::Activate(held),
-        reader::OneOf::Other(other) => response_payload_from_revoke(other),
-    }
-}
-
-/// The variants of `ResponsePayload` from `Activate` on, as one.
-#[derive(Drop)]
-pub struct ResponsePayloadLater10<A> {
-    kind: PhantomData<A>,
-}
-
-impl<A: Allocator + Copy> reader::VariantList<A> for ResponsePayloadLater10<A> {
-    type Read = ResponsePayload<A>;
-
-    ghost variants = { response_payload_variants_10 };
-
-    ghost value = { response_payload_as };
-
-    #[tactic(auto, unfolding(kmip_ttlv_types::specs::Digits::six_digits, crate::specs::Responses::read_response_payload, crate::specs::Responses::read_create_response, crate::specs::Responses::read_create_key_pair_response, crate::specs::Responses::read_register_response, crate::specs::Responses::read_locate_response, crate::specs::Responses::read_get_response, crate::specs::Responses::read_get_attributes_response, crate::specs::Responses::read_get_attribute_list_response, crate::specs::Responses::read_attribute_response, crate::specs::Responses::object_response_value, crate::specs::Responses::read_query_response, crate::specs::Responses::read_discover_versions_response))]
     fn read_chosen<'b>(
         scope: &reader::Scope<'b, A>,
         cursor: &mut reader::Cursor<'b, A>,
         typ: TtlvType,
     ) -> reader::Step<Option<ResponsePayload<A>>, A> {
-        match <ResponsePayloadFromActivate<A> as reader::VariantList<A>>::read_chosen(
-            scope, cursor, typ,
-        ) {
-            Ok(Some(read)) => Ok(Some(response_payload_from_activate(read))),
-            Ok(None) => Ok(None),
-            Err(failure) => Err(failure),
-        }
+        <(
+            reader::Variant<ResponsePayloadGetRule, reader::StructureElement<GetResponse<A>>>,
+            (
+                reader::Variant<
+                    ResponsePayloadGetAttributesRule,
+                    reader::StructureElement<GetAttributesResponse<A>>,
+                >,
+                (
+                    reader::Variant<
+                        ResponsePayloadGetAttributeListRule,
+                        reader::StructureElement<GetAttributeListResponse<A>>,
+                    >,
+                    (
+                        reader::Variant<
+                            ResponsePayloadAddAttributeRule,
+                            reader::StructureElement<AttributeResponse<A>>,
+                        >,
+                        ResponsePayloadLater8,
+                    ),
+                ),
+            ),
+        ) as reader::VariantList<ResponsePayload<A>, A>>::read_chosen(scope, cursor, typ)
     }
 
     ghost ruled = { λ content. refl };
 }
 
-// The variants from `DeleteAttribute` on.
-type ResponsePayloadFromDeleteAttribute<A> = (
-    reader::Variant<
-        ResponsePayloadDeleteAttributeRule,
-        reader::StructureElement<AttributeResponse<A>>,
-    >,
-    ResponsePayloadLater10<A>,
-);
+/// The variants of `ResponsePayload` from `ModifyAttribute` on.
+pub struct ResponsePayloadLater8;
 
-// The one that was read as one of these.
-#[tactic(auto, unfolding(kmip_ttlv_types::specs::Digits::six_digits, crate::specs::Responses::read_response_payload, crate::specs::Responses::read_create_response, crate::specs::Responses::read_create_key_pair_response, crate::specs::Responses::read_register_response, crate::specs::Responses::read_locate_response, crate::specs::Responses::read_get_response, crate::specs::Responses::read_get_attributes_response, crate::specs::Responses::read_get_attribute_list_response, crate::specs::Responses::read_attribute_response, crate::specs::Responses::object_response_value, crate::specs::Responses::read_query_response, crate::specs::Responses::read_discover_versions_response))]
-#[inline(always)]
-fn response_payload_from_delete_attribute<A: Allocator + Copy>(
-    read: <ResponsePayloadFromDeleteAttribute<A> as reader::VariantList<A>>::Read,
-) -> ResponsePayload<A>
-    ensures { (own : List ℕ) → response_payload_as own result ≡ ⟦<ResponsePayloadFromDeleteAttribute<A> as reader::VariantList<A>>⟧.value own read }
-{
-    match read {
-        reader::OneOf::First(held) => ResponsePayload::DeleteAttribute(held),
-        reader::OneOf::Other(other) => other,
-    }
-}
+impl<A: Allocator + Copy> reader::VariantList<ResponsePayload<A>, A> for ResponsePayloadLater8 {
+    ghost variants = { response_payload_variants_8 };
 
-// The variants from `ModifyAttribute` on.
-type ResponsePayloadFromModifyAttribute<A> = (
-    reader::Variant<
-        ResponsePayloadModifyAttributeRule,
-        reader::StructureElement<AttributeResponse<A>>,
-    >,
-    ResponsePayloadFromDeleteAttribute<A>,
-);
-
-// The one that was read as one of these.
-#[tactic(auto, unfolding(kmip_ttlv_types::specs::Digits::six_digits, crate::specs::Responses::read_response_payload, crate::specs::Responses::read_create_response, crate::specs::Responses::read_create_key_pair_response, crate::specs::Responses::read_register_response, crate::specs::Responses::read_locate_response, crate::specs::Responses::read_get_response, crate::specs::Responses::read_get_attributes_response, crate::specs::Responses::read_get_attribute_list_response, crate::specs::Responses::read_attribute_response, crate::specs::Responses::object_response_value, crate::specs::Responses::read_query_response, crate::specs::Responses::read_discover_versions_response))]
-#[inline(always)]
-fn response_payload_from_modify_attribute<A: Allocator + Copy>(
-    read: <ResponsePayloadFromModifyAttribute<A> as reader::VariantList<A>>::Read,
-) -> ResponsePayload<A>
-    ensures { (own : List ℕ) → response_payload_as own result ≡ ⟦<ResponsePayloadFromModifyAttribute<A> as reader::VariantList<A>>⟧.value own read }
-{
-    match read {
-        reader::OneOf::First(held) => ResponsePayload::ModifyAttribute(held),
-        reader::OneOf::Other(other) => response_payload_from_delete_attribute(other),
-    }
-}
-
-// The variants from `AddAttribute` on.
-type ResponsePayloadFromAddAttribute<A> = (
-    reader::Variant<
-        ResponsePayloadAddAttributeRule,
-        reader::StructureElement<AttributeResponse<A>>,
-    >,
-    ResponsePayloadFromModifyAttribute<A>,
-);
-
-// The one that was read as one of these.
-#[tactic(auto, unfolding(kmip_ttlv_types::specs::Digits::six_digits, crate::specs::Responses::read_response_payload, crate::specs::Responses::read_create_response, crate::specs::Responses::read_create_key_pair_response, crate::specs::Responses::read_register_response, crate::specs::Responses::read_locate_response, crate::specs::Responses::read_get_response, crate::specs::Responses::read_get_attributes_response, crate::specs::Responses::read_get_attribute_list_response, crate::specs::Responses::read_attribute_response, crate::specs::Responses::object_response_value, crate::specs::Responses::read_query_response, crate::specs::Responses::read_discover_versions_response))]
-#[inline(always)]
-fn response_payload_from_add_attribute<A: Allocator + Copy>(
-    read: <ResponsePayloadFromAddAttribute<A> as reader::VariantList<A>>::Read,
-) -> ResponsePayload<A>
-    ensures { (own : List ℕ) → response_payload_as own result ≡ ⟦<ResponsePayloadFromAddAttribute<A> as reader::VariantList<A>>⟧.value own read }
-{
-    match read {
-        reader::OneOf::First(held) => ResponsePayload::AddAttribute(held),
-        reader::OneOf::Other(other) => response_payload_from_modify_attribute(other),
-    }
-}
-
-// The variants from `GetAttributeList` on.
-type ResponsePayloadFromGetAttributeList<A> = (
-    reader::Variant<
-        ResponsePayloadGetAttributeListRule,
-        reader::StructureElement<GetAttributeListResponse<A>>,
-    >,
-    ResponsePayloadFromAddAttribute<A>,
-);
-
-// The one that was read as one of these.
-#[tactic(auto, unfolding(kmip_ttlv_types::specs::Digits::six_digits, crate::specs::Responses::read_response_payload, crate::specs::Responses::read_create_response, crate::specs::Responses::read_create_key_pair_response, crate::specs::Responses::read_register_response, crate::specs::Responses::read_locate_response, crate::specs::Responses::read_get_response, crate::specs::Responses::read_get_attributes_response, crate::specs::Responses::read_get_attribute_list_response, crate::specs::Responses::read_attribute_response, crate::specs::Responses::object_response_value, crate::specs::Responses::read_query_response, crate::specs::Responses::read_discover_versions_response))]
-#[inline(always)]
-fn response_payload_from_get_attribute_list<A: Allocator + Copy>(
-    read: <ResponsePayloadFromGetAttributeList<A> as reader::VariantList<A>>::Read,
-) -> ResponsePayload<A>
-    ensures { (own : List ℕ) → response_payload_as own result ≡ ⟦<ResponsePayloadFromGetAttributeList<A> as reader::VariantList<A>>⟧.value own read }
-{
-    match read {
-        reader::OneOf::First(held) => ResponsePayload::GetAttributeList(held),
-        reader::OneOf::Other(other) => response_payload_from_add_attribute(other),
-    }
-}
-
-// The variants from `GetAttributes` on.
-type ResponsePayloadFromGetAttributes<A> = (
-    reader::Variant<
-        ResponsePayloadGetAttributesRule,
-        reader::StructureElement<GetAttributesResponse<A>>,
-    >,
-    ResponsePayloadFromGetAttributeList<A>,
-);
-
-// The one that was read as one of these.
-#[tactic(auto, unfolding(kmip_ttlv_types::specs::Digits::six_digits, crate::specs::Responses::read_response_payload, crate::specs::Responses::read_create_response, crate::specs::Responses::read_create_key_pair_response, crate::specs::Responses::read_register_response, crate::specs::Responses::read_locate_response, crate::specs::Responses::read_get_response, crate::specs::Responses::read_get_attributes_response, crate::specs::Responses::read_get_attribute_list_response, crate::specs::Responses::read_attribute_response, crate::specs::Responses::object_response_value, crate::specs::Responses::read_query_response, crate::specs::Responses::read_discover_versions_response))]
-#[inline(always)]
-fn response_payload_from_get_attributes<A: Allocator + Copy>(
-    read: <ResponsePayloadFromGetAttributes<A> as reader::VariantList<A>>::Read,
-) -> ResponsePayload<A>
-    ensures { (own : List ℕ) → response_payload_as own result ≡ ⟦<ResponsePayloadFromGetAttributes<A> as reader::VariantList<A>>⟧.value own read }
-{
-    match read {
-        reader::OneOf::First(held) => ResponsePayload::GetAttributes(held),
-        reader::OneOf::Other(other) => response_payload_from_get_attribute_list(other),
-    }
-}
-
-/// The variants of `ResponsePayload` from `GetAttributes` on, as one.
-#[derive(Drop)]
-pub struct ResponsePayloadLater5<A> {
-    kind: PhantomData<A>,
-}
-
-impl<A: Allocator + Copy> reader::VariantList<A> for ResponsePayloadLater5<A> {
-    type Read = ResponsePayload<A>;
-
-    ghost variants = { response_payload_variants_5 };
-
-    ghost value = { response_payload_as };
-
-    #[tactic(auto, unfolding(kmip_ttlv_types::specs::Digits::six_digits, crate::specs::Responses::read_response_payload, crate::specs::Responses::read_create_response, crate::specs::Responses::read_create_key_pair_response, crate::specs::Responses::read_register_response, crate::specs::Responses::read_locate_response, crate::specs::Responses::read_get_response, crate::specs::Responses::read_get_attributes_response, crate::specs::Responses::read_get_attribute_list_response, crate::specs::Responses::read_attribute_response, crate::specs::Responses::object_response_value, crate::specs::Responses::read_query_response, crate::specs::Responses::read_discover_versions_response))]
     fn read_chosen<'b>(
         scope: &reader::Scope<'b, A>,
         cursor: &mut reader::Cursor<'b, A>,
         typ: TtlvType,
     ) -> reader::Step<Option<ResponsePayload<A>>, A> {
-        match <ResponsePayloadFromGetAttributes<A> as reader::VariantList<A>>::read_chosen(
-            scope, cursor, typ,
-        ) {
-            Ok(Some(read)) => Ok(Some(response_payload_from_get_attributes(read))),
-            Ok(None) => Ok(None),
-            Err(failure) => Err(failure),
-        }
+        <(
+            reader::Variant<
+                ResponsePayloadModifyAttributeRule,
+                reader::StructureElement<AttributeResponse<A>>,
+            >,
+            (
+                reader::Variant<
+                    ResponsePayloadDeleteAttributeRule,
+                    reader::StructureElement<AttributeResponse<A>>,
+                >,
+                (
+                    reader::Variant<
+                        ResponsePayloadActivateRule,
+                        reader::StructureElement<ObjectResponse<A>>,
+                    >,
+                    (
+                        reader::Variant<
+                            ResponsePayloadRevokeRule,
+                            reader::StructureElement<ObjectResponse<A>>,
+                        >,
+                        ResponsePayloadLater12,
+                    ),
+                ),
+            ),
+        ) as reader::VariantList<ResponsePayload<A>, A>>::read_chosen(scope, cursor, typ)
     }
 
     ghost ruled = { λ content. refl };
 }
 
-// The variants from `Get` on.
-type ResponsePayloadFromGet<A> = (
-    reader::Variant<ResponsePayloadGetRule, reader::StructureElement<GetResponse<A>>>,
-    ResponsePayloadLater5<A>,
-);
+/// The variants of `ResponsePayload` from `Destroy` on.
+pub struct ResponsePayloadLater12;
 
-// The one that was read as one of these.
-#[tactic(auto, unfolding(kmip_ttlv_types::specs::Digits::six_digits, crate::specs::Responses::read_response_payload, crate::specs::Responses::read_create_response, crate::specs::Responses::read_create_key_pair_response, crate::specs::Responses::read_register_response, crate::specs::Responses::read_locate_response, crate::specs::Responses::read_get_response, crate::specs::Responses::read_get_attributes_response, crate::specs::Responses::read_get_attribute_list_response, crate::specs::Responses::read_attribute_response, crate::specs::Responses::object_response_value, crate::specs::Responses::read_query_response, crate::specs::Responses::read_discover_versions_response))]
-#[inline(always)]
-fn response_payload_from_get<A: Allocator + Copy>(
-    read: <ResponsePayloadFromGet<A> as reader::VariantList<A>>::Read,
-) -> ResponsePayload<A>
-    ensures { (own : List ℕ) → response_payload_as own result ≡ ⟦<ResponsePayloadFromGet<A> as reader::VariantList<A>>⟧.value own read }
-{
-    match read {
-        reader::OneOf::First(held) => ResponsePayload::Get(held),
-        reader::OneOf::Other(other) => other,
+impl<A: Allocator + Copy> reader::VariantList<ResponsePayload<A>, A> for ResponsePayloadLater12 {
+    ghost variants = { response_payload_variants_12 };
+
+    fn read_chosen<'b>(
+        scope: &reader::Scope<'b, A>,
+        cursor: &mut reader::Cursor<'b, A>,
+        typ: TtlvType,
+    ) -> reader::Step<Option<ResponsePayload<A>>, A> {
+        <(
+            reader::Variant<
+                ResponsePayloadDestroyRule,
+                reader::StructureElement<ObjectResponse<A>>,
+            >,
+            (
+                reader::Variant<
+                    ResponsePayloadQueryRule,
+                    reader::StructureElement<QueryResponse<A>>,
+                >,
+                (
+                    reader::Variant<
+                        ResponsePayloadDiscoverVersionsRule,
+                        reader::StructureElement<DiscoverVersionsResponse<A>>,
+                    >,
+                    (),
+                ),
+            ),
+        ) as reader::VariantList<ResponsePayload<A>, A>>::read_chosen(scope, cursor, typ)
     }
+
+    ghost ruled = { λ content. refl };
 }
 
-// The variants from `Locate` on.
-type ResponsePayloadFromLocate<A> = (
-    reader::Variant<ResponsePayloadLocateRule, reader::StructureElement<LocateResponse<A>>>,
-    ResponsePayloadFromGet<A>,
-);
+impl<A: Allocator> reader::ChoiceValue for ResponsePayload<A> {
+    ghost own = { codes "payload" };
 
-// The one that was read as one of these.
-#[tactic(auto, unfolding(kmip_ttlv_types::specs::Digits::six_digits, crate::specs::Responses::read_response_payload, crate::specs::Responses::read_create_response, crate::specs::Responses::read_create_key_pair_response, crate::specs::Responses::read_register_response, crate::specs::Responses::read_locate_response, crate::specs::Responses::read_get_response, crate::specs::Responses::read_get_attributes_response, crate::specs::Responses::read_get_attribute_list_response, crate::specs::Responses::read_attribute_response, crate::specs::Responses::object_response_value, crate::specs::Responses::read_query_response, crate::specs::Responses::read_discover_versions_response))]
-#[inline(always)]
-fn response_payload_from_locate<A: Allocator + Copy>(
-    read: <ResponsePayloadFromLocate<A> as reader::VariantList<A>>::Read,
-) -> ResponsePayload<A>
-    ensures { (own : List ℕ) → response_payload_as own result ≡ ⟦<ResponsePayloadFromLocate<A> as reader::VariantList<A>>⟧.value own read }
-{
-    match read {
-        reader::OneOf::First(held) => ResponsePayload::Locate(held),
-        reader::OneOf::Other(other) => response_payload_from_get(other),
-    }
-}
-
-// The variants from `Register` on.
-type ResponsePayloadFromRegister<A> = (
-    reader::Variant<ResponsePayloadRegisterRule, reader::StructureElement<RegisterResponse<A>>>,
-    ResponsePayloadFromLocate<A>,
-);
-
-// The one that was read as one of these.
-#[tactic(auto, unfolding(kmip_ttlv_types::specs::Digits::six_digits, crate::specs::Responses::read_response_payload, crate::specs::Responses::read_create_response, crate::specs::Responses::read_create_key_pair_response, crate::specs::Responses::read_register_response, crate::specs::Responses::read_locate_response, crate::specs::Responses::read_get_response, crate::specs::Responses::read_get_attributes_response, crate::specs::Responses::read_get_attribute_list_response, crate::specs::Responses::read_attribute_response, crate::specs::Responses::object_response_value, crate::specs::Responses::read_query_response, crate::specs::Responses::read_discover_versions_response))]
-#[inline(always)]
-fn response_payload_from_register<A: Allocator + Copy>(
-    read: <ResponsePayloadFromRegister<A> as reader::VariantList<A>>::Read,
-) -> ResponsePayload<A>
-    ensures { (own : List ℕ) → response_payload_as own result ≡ ⟦<ResponsePayloadFromRegister<A> as reader::VariantList<A>>⟧.value own read }
-{
-    match read {
-        reader::OneOf::First(held) => ResponsePayload::Register(held),
-        reader::OneOf::Other(other) => response_payload_from_locate(other),
-    }
-}
-
-// The variants from `CreateKeyPair` on.
-type ResponsePayloadFromCreateKeyPair<A> = (
-    reader::Variant<
-        ResponsePayloadCreateKeyPairRule,
-        reader::StructureElement<CreateKeyPairResponse<A>>,
-    >,
-    ResponsePayloadFromRegister<A>,
-);
-
-// The one that was read as one of these.
-#[tactic(auto, unfolding(kmip_ttlv_types::specs::Digits::six_digits, crate::specs::Responses::read_response_payload, crate::specs::Responses::read_create_response, crate::specs::Responses::read_create_key_pair_response, crate::specs::Responses::read_register_response, crate::specs::Responses::read_locate_response, crate::specs::Responses::read_get_response, crate::specs::Responses::read_get_attributes_response, crate::specs::Responses::read_get_attribute_list_response, crate::specs::Responses::read_attribute_response, crate::specs::Responses::object_response_value, crate::specs::Responses::read_query_response, crate::specs::Responses::read_discover_versions_response))]
-#[inline(always)]
-fn response_payload_from_create_key_pair<A: Allocator + Copy>(
-    read: <ResponsePayloadFromCreateKeyPair<A> as reader::VariantList<A>>::Read,
-) -> ResponsePayload<A>
-    ensures { (own : List ℕ) → response_payload_as own result ≡ ⟦<ResponsePayloadFromCreateKeyPair<A> as reader::VariantList<A>>⟧.value own read }
-{
-    match read {
-        reader::OneOf::First(held) => ResponsePayload::CreateKeyPair(held),
-        reader::OneOf::Other(other) => response_payload_from_register(other),
-    }
-}
-
-// The variants from `Create` on.
-type ResponsePayloadFromCreate<A> = (
-    reader::Variant<ResponsePayloadCreateRule, reader::StructureElement<CreateResponse<A>>>,
-    ResponsePayloadFromCreateKeyPair<A>,
-);
-
-// The one that was read as one of these.
-#[tactic(auto, unfolding(kmip_ttlv_types::specs::Digits::six_digits, crate::specs::Responses::read_response_payload, crate::specs::Responses::read_create_response, crate::specs::Responses::read_create_key_pair_response, crate::specs::Responses::read_register_response, crate::specs::Responses::read_locate_response, crate::specs::Responses::read_get_response, crate::specs::Responses::read_get_attributes_response, crate::specs::Responses::read_get_attribute_list_response, crate::specs::Responses::read_attribute_response, crate::specs::Responses::object_response_value, crate::specs::Responses::read_query_response, crate::specs::Responses::read_discover_versions_response))]
-#[inline(always)]
-fn response_payload_from_create<A: Allocator + Copy>(
-    read: <ResponsePayloadFromCreate<A> as reader::VariantList<A>>::Read,
-) -> ResponsePayload<A>
-    ensures { (own : List ℕ) → response_payload_as own result ≡ ⟦<ResponsePayloadFromCreate<A> as reader::VariantList<A>>⟧.value own read }
-{
-    match read {
-        reader::OneOf::First(held) => ResponsePayload::Create(held),
-        reader::OneOf::Other(other) => response_payload_from_create_key_pair(other),
-    }
+    ghost value = { read_response_payload };
 }
 
 impl<A: Allocator + Copy> reader::Choice<A> for ResponsePayload<A> {
-    ghost own = { codes "payload" };
+    ghost form = { response_payload_form };
 
-    type Variants = ResponsePayloadFromCreate<A>;
+    type Variants = (
+        reader::Variant<ResponsePayloadCreateRule, reader::StructureElement<CreateResponse<A>>>,
+        (
+            reader::Variant<
+                ResponsePayloadCreateKeyPairRule,
+                reader::StructureElement<CreateKeyPairResponse<A>>,
+            >,
+            (
+                reader::Variant<
+                    ResponsePayloadRegisterRule,
+                    reader::StructureElement<RegisterResponse<A>>,
+                >,
+                (
+                    reader::Variant<
+                        ResponsePayloadLocateRule,
+                        reader::StructureElement<LocateResponse<A>>,
+                    >,
+                    ResponsePayloadLater4,
+                ),
+            ),
+        ),
+    );
+
+    #[tactic(auto, unfolding(kmip_ttlv_types::specs::Digits::six_digits))]
+    fn has_form() {}
 }
 
 impl<A: Allocator + Copy> reader::ReadItem<A> for ResponsePayload<A> {
@@ -1768,13 +1703,11 @@ impl<A: Allocator + Copy> reader::ReadItem<A> for ResponsePayload<A> {
 
     ghost plain = { (refl, refl) };
 
-    #[tactic(auto, unfolding(kmip_ttlv_types::specs::Digits::six_digits, crate::specs::Responses::read_response_payload, crate::specs::Responses::read_create_response, crate::specs::Responses::read_create_key_pair_response, crate::specs::Responses::read_register_response, crate::specs::Responses::read_locate_response, crate::specs::Responses::read_get_response, crate::specs::Responses::read_get_attributes_response, crate::specs::Responses::read_get_attribute_list_response, crate::specs::Responses::read_attribute_response, crate::specs::Responses::object_response_value, crate::specs::Responses::read_query_response, crate::specs::Responses::read_discover_versions_response))]
     fn read_item<'b>(
         scope: &reader::Scope<'b, A>,
         cursor: &mut reader::Cursor<'b, A>,
     ) -> reader::Step<Self, A> {
-        let read = reader::read_choice::<Self, A>(scope, cursor)?;
-        Ok(response_payload_from_create(read))
+        reader::read_choice(scope, cursor)
     }
 }
 
@@ -2047,70 +1980,55 @@ impl<B: Allocator> Serialize for ResponseItem<B> {
 }
 
 impl<A: Allocator + Copy> reader::ReadStructure<A> for ResponseItem<A> {
+    ghost form = { response_item_form };
+
+    ghost value = { read_response_item };
+
     ghost TAG = { 0x42000F };
 
     ghost DENIES_UNKNOWN = { true };
-
-    ghost values = { λ x. fields_in (read_response_item x) };
 
     type Fields = reader::Four<
         reader::OptionalItem<Operation, 0x42005C>,
         reader::OptionalLeaf<Vec<u8, A>, 0x420093>,
         reader::Item<ResultStatus, 0x42007F>,
         reader::OptionalItem<ResultReason, 0x42007E>,
-        reader::Four<
+        (
             reader::OptionalLeaf<String<A>, 0x42007D>,
             reader::OptionalLeaf<Vec<u8, A>, 0x420006>,
             reader::OptionalItem<ResponsePayload<A>, 0x42007C>,
             reader::OptionalNested<MessageExtension<A>>,
-            (),
-        >,
+        ),
     >;
 
     const TAG: u32 = 0x42000F;
 
     const DENIES_UNKNOWN: bool = true;
 
-    #[tactic(auto, unfolding(kmip_ttlv_types::specs::Digits::six_digits, crate::specs::Responses::read_response_item, crate::specs::Headers::message_extension_value))]
+    #[tactic(auto, unfolding(kmip_ttlv_types::specs::Digits::six_digits))]
+    fn has_form() {}
+
+    #[tactic(auto, unfolding(kmip_ttlv_types::specs::Digits::six_digits, crate::specs::Responses::read_response_item))]
     fn from_fields(
         fields: (
             Option<Operation>,
+            Option<Vec<u8, A>>,
+            ResultStatus,
+            Option<ResultReason>,
             (
+                Option<String<A>>,
                 Option<Vec<u8, A>>,
-                (
-                    ResultStatus,
-                    (
-                        Option<ResultReason>,
-                        (
-                            Option<String<A>>,
-                            (
-                                Option<Vec<u8, A>>,
-                                (
-                                    Option<ResponsePayload<A>>,
-                                    (Option<MessageExtension<A>>, ()),
-                                ),
-                            ),
-                        ),
-                    ),
-                ),
+                Option<ResponsePayload<A>>,
+                Option<MessageExtension<A>>,
             ),
         ),
     ) -> Self {
         let (
             operation,
-            (
-                unique_batch_item_id,
-                (
-                    result_status,
-                    (
-                        result_reason,
-                        (
-                            result_message,
-                            (asynchronous_correlation_value, (payload, (message_extension, ()))),
-                        ),
-                    ),
-                ),
-            ),
+            unique_batch_item_id,
+            result_status,
+            result_reason,
+            (result_message, asynchronous_correlation_value, payload, message_extension),
         ) = fields;
         ResponseItem {
             operation,
@@ -2126,22 +2044,21 @@ impl<A: Allocator + Copy> reader::ReadStructure<A> for ResponseItem<A> {
 }
 
 impl<A: Allocator + Copy> reader::ReadNested<A> for ResponseItem<A> {
+    ghost form = { response_item_form };
+
+    ghost value = { read_response_item };
+
     ghost TAG = { 0x42000F };
 
-    ghost fields = { struct_fields response_item_form };
-
-    ghost denies_unknown = { true };
-
-    ghost values = { λ x. fields_in (read_response_item x) };
+    ghost structured = { (refl, refl) };
 
     const TAG: u32 = 0x42000F;
 
-    #[tactic(auto, unfolding(kmip_ttlv_types::specs::Digits::six_digits, crate::specs::Responses::read_response_item))]
     fn read_nested<'b>(
         scope: &reader::Scope<'b, A>,
         cursor: &mut reader::Cursor<'b, A>,
     ) -> reader::Step<Self, A> {
-        reader::read_form(scope, cursor)
+        reader::read_structure(scope, cursor)
     }
 }
 
@@ -2169,24 +2086,29 @@ impl<B: Allocator> Serialize for Response<B> {
 }
 
 impl<A: Allocator + Copy> reader::ReadStructure<A> for Response<A> {
+    ghost form = { response_form };
+
+    ghost value = { read_response };
+
     ghost TAG = { 0x42007B };
 
     ghost DENIES_UNKNOWN = { true };
 
-    ghost values = { λ x. fields_in (read_response x) };
-
     type Fields = (
         reader::Nested<ResponseHeader>,
-        (reader::Several<ResponseItem<A>>, ()),
+        reader::Several<ResponseItem<A>>,
     );
 
     const TAG: u32 = 0x42007B;
 
     const DENIES_UNKNOWN: bool = true;
 
-    #[tactic(auto, unfolding(kmip_ttlv_types::specs::Digits::six_digits, crate::specs::Responses::read_response, crate::specs::Headers::response_header_value, crate::specs::Responses::read_response_item))]
-    fn from_fields(fields: (ResponseHeader, (Vec<ResponseItem<A>, A>, ()))) -> Self {
-        let (header, (items, ())) = fields;
+    #[tactic(auto, unfolding(kmip_ttlv_types::specs::Digits::six_digits))]
+    fn has_form() {}
+
+    #[tactic(auto, unfolding(kmip_ttlv_types::specs::Digits::six_digits, crate::specs::Responses::read_response))]
+    fn from_fields(fields: (ResponseHeader, Vec<ResponseItem<A>, A>)) -> Self {
+        let (header, items) = fields;
         Response { header, items }
     }
 }
@@ -2196,7 +2118,6 @@ impl<A: Allocator + Copy> Decode<A> for Response<A> {
 
     ghost is_value = { λ v x. v ≡ read_response x };
 
-    #[tactic(auto, unfolding(kmip_ttlv_types::specs::Digits::six_digits, crate::specs::Responses::read_response))]
     fn decode(alloc: A, bytes: &[u8]) -> Result<Self, error::Error<A>> {
         reader::read_message(alloc, bytes)
     }

@@ -1,8 +1,7 @@
 // Written by codegen from types.table: change that, and run codegen/codegen.
 //! What objects are made with (KMIP 1.0, section 2.1.8).
 
-ghost use Rattle.std.specs.Prelude.{true};
-ghost use Rattle.kmip_ttlv.specs.Spots.{fields_in, struct_fields};
+ghost use Rattle.std.specs.Prelude.{refl, true};
 ghost use Rattle.kmip_messages.specs.Templates.{template_name_form, written_template_name, read_template_name, template_attribute_form, written_template_attribute, read_template_attribute, common_template_attribute_form, written_common_template_attribute, read_common_template_attribute, private_key_template_attribute_form, written_private_key_template_attribute, read_private_key_template_attribute, public_key_template_attribute_form, written_public_key_template_attribute, read_public_key_template_attribute};
 
 use kmip_attributes::attribute::Attribute;
@@ -37,45 +36,49 @@ impl<B: Allocator> Serialize for TemplateName<B> {
 }
 
 impl<A: Allocator + Copy> reader::ReadStructure<A> for TemplateName<A> {
+    ghost form = { template_name_form };
+
+    ghost value = { read_template_name };
+
     ghost TAG = { 0x420053 };
 
     ghost DENIES_UNKNOWN = { true };
 
-    ghost values = { λ x. fields_in (read_template_name x) };
-
     type Fields = (
         reader::Leaf<String<A>, 0x420055>,
-        (reader::Item<NameType, 0x420054>, ()),
+        reader::Item<NameType, 0x420054>,
     );
 
     const TAG: u32 = 0x420053;
 
     const DENIES_UNKNOWN: bool = true;
 
+    #[tactic(auto, unfolding(kmip_ttlv_types::specs::Digits::six_digits))]
+    fn has_form() {}
+
     #[tactic(auto, unfolding(kmip_ttlv_types::specs::Digits::six_digits, crate::specs::Templates::read_template_name))]
-    fn from_fields(fields: (String<A>, (NameType, ()))) -> Self {
-        let (value, (name_type, ())) = fields;
+    fn from_fields(fields: (String<A>, NameType)) -> Self {
+        let (value, name_type) = fields;
         TemplateName { value, name_type }
     }
 }
 
 impl<A: Allocator + Copy> reader::ReadNested<A> for TemplateName<A> {
+    ghost form = { template_name_form };
+
+    ghost value = { read_template_name };
+
     ghost TAG = { 0x420053 };
 
-    ghost fields = { struct_fields template_name_form };
-
-    ghost denies_unknown = { true };
-
-    ghost values = { λ x. fields_in (read_template_name x) };
+    ghost structured = { (refl, refl) };
 
     const TAG: u32 = 0x420053;
 
-    #[tactic(auto, unfolding(kmip_ttlv_types::specs::Digits::six_digits, crate::specs::Templates::read_template_name))]
     fn read_nested<'b>(
         scope: &reader::Scope<'b, A>,
         cursor: &mut reader::Cursor<'b, A>,
     ) -> reader::Step<Self, A> {
-        reader::read_form(scope, cursor)
+        reader::read_structure(scope, cursor)
     }
 }
 
@@ -103,45 +106,49 @@ impl<B: Allocator> Serialize for TemplateAttribute<B> {
 }
 
 impl<A: Allocator + Copy> reader::ReadStructure<A> for TemplateAttribute<A> {
+    ghost form = { template_attribute_form };
+
+    ghost value = { read_template_attribute };
+
     ghost TAG = { 0x420091 };
 
     ghost DENIES_UNKNOWN = { true };
 
-    ghost values = { λ x. fields_in (read_template_attribute x) };
-
     type Fields = (
         reader::OptionalSeveral<TemplateName<A>>,
-        (reader::OptionalSeveral<Attribute<A>>, ()),
+        reader::OptionalSeveral<Attribute<A>>,
     );
 
     const TAG: u32 = 0x420091;
 
     const DENIES_UNKNOWN: bool = true;
 
-    #[tactic(auto, unfolding(kmip_ttlv_types::specs::Digits::six_digits, crate::specs::Templates::read_template_attribute, crate::specs::Templates::read_template_name, kmip_attributes::specs::Attributes::read_attribute))]
-    fn from_fields(fields: (Vec<TemplateName<A>, A>, (Vec<Attribute<A>, A>, ()))) -> Self {
-        let (names, (attributes, ())) = fields;
+    #[tactic(auto, unfolding(kmip_ttlv_types::specs::Digits::six_digits))]
+    fn has_form() {}
+
+    #[tactic(auto, unfolding(kmip_ttlv_types::specs::Digits::six_digits, crate::specs::Templates::read_template_attribute))]
+    fn from_fields(fields: (Vec<TemplateName<A>, A>, Vec<Attribute<A>, A>)) -> Self {
+        let (names, attributes) = fields;
         TemplateAttribute { names, attributes }
     }
 }
 
 impl<A: Allocator + Copy> reader::ReadNested<A> for TemplateAttribute<A> {
+    ghost form = { template_attribute_form };
+
+    ghost value = { read_template_attribute };
+
     ghost TAG = { 0x420091 };
 
-    ghost fields = { struct_fields template_attribute_form };
-
-    ghost denies_unknown = { true };
-
-    ghost values = { λ x. fields_in (read_template_attribute x) };
+    ghost structured = { (refl, refl) };
 
     const TAG: u32 = 0x420091;
 
-    #[tactic(auto, unfolding(kmip_ttlv_types::specs::Digits::six_digits, crate::specs::Templates::read_template_attribute))]
     fn read_nested<'b>(
         scope: &reader::Scope<'b, A>,
         cursor: &mut reader::Cursor<'b, A>,
     ) -> reader::Step<Self, A> {
-        reader::read_form(scope, cursor)
+        reader::read_structure(scope, cursor)
     }
 }
 
@@ -169,45 +176,49 @@ impl<B: Allocator> Serialize for CommonTemplateAttribute<B> {
 }
 
 impl<A: Allocator + Copy> reader::ReadStructure<A> for CommonTemplateAttribute<A> {
+    ghost form = { common_template_attribute_form };
+
+    ghost value = { read_common_template_attribute };
+
     ghost TAG = { 0x42001F };
 
     ghost DENIES_UNKNOWN = { true };
 
-    ghost values = { λ x. fields_in (read_common_template_attribute x) };
-
     type Fields = (
         reader::OptionalSeveral<TemplateName<A>>,
-        (reader::OptionalSeveral<Attribute<A>>, ()),
+        reader::OptionalSeveral<Attribute<A>>,
     );
 
     const TAG: u32 = 0x42001F;
 
     const DENIES_UNKNOWN: bool = true;
 
-    #[tactic(auto, unfolding(kmip_ttlv_types::specs::Digits::six_digits, crate::specs::Templates::read_common_template_attribute, crate::specs::Templates::read_template_name, kmip_attributes::specs::Attributes::read_attribute))]
-    fn from_fields(fields: (Vec<TemplateName<A>, A>, (Vec<Attribute<A>, A>, ()))) -> Self {
-        let (names, (attributes, ())) = fields;
+    #[tactic(auto, unfolding(kmip_ttlv_types::specs::Digits::six_digits))]
+    fn has_form() {}
+
+    #[tactic(auto, unfolding(kmip_ttlv_types::specs::Digits::six_digits, crate::specs::Templates::read_common_template_attribute))]
+    fn from_fields(fields: (Vec<TemplateName<A>, A>, Vec<Attribute<A>, A>)) -> Self {
+        let (names, attributes) = fields;
         CommonTemplateAttribute { names, attributes }
     }
 }
 
 impl<A: Allocator + Copy> reader::ReadNested<A> for CommonTemplateAttribute<A> {
+    ghost form = { common_template_attribute_form };
+
+    ghost value = { read_common_template_attribute };
+
     ghost TAG = { 0x42001F };
 
-    ghost fields = { struct_fields common_template_attribute_form };
-
-    ghost denies_unknown = { true };
-
-    ghost values = { λ x. fields_in (read_common_template_attribute x) };
+    ghost structured = { (refl, refl) };
 
     const TAG: u32 = 0x42001F;
 
-    #[tactic(auto, unfolding(kmip_ttlv_types::specs::Digits::six_digits, crate::specs::Templates::read_common_template_attribute))]
     fn read_nested<'b>(
         scope: &reader::Scope<'b, A>,
         cursor: &mut reader::Cursor<'b, A>,
     ) -> reader::Step<Self, A> {
-        reader::read_form(scope, cursor)
+        reader::read_structure(scope, cursor)
     }
 }
 
@@ -235,45 +246,49 @@ impl<B: Allocator> Serialize for PrivateKeyTemplateAttribute<B> {
 }
 
 impl<A: Allocator + Copy> reader::ReadStructure<A> for PrivateKeyTemplateAttribute<A> {
+    ghost form = { private_key_template_attribute_form };
+
+    ghost value = { read_private_key_template_attribute };
+
     ghost TAG = { 0x420065 };
 
     ghost DENIES_UNKNOWN = { true };
 
-    ghost values = { λ x. fields_in (read_private_key_template_attribute x) };
-
     type Fields = (
         reader::OptionalSeveral<TemplateName<A>>,
-        (reader::OptionalSeveral<Attribute<A>>, ()),
+        reader::OptionalSeveral<Attribute<A>>,
     );
 
     const TAG: u32 = 0x420065;
 
     const DENIES_UNKNOWN: bool = true;
 
-    #[tactic(auto, unfolding(kmip_ttlv_types::specs::Digits::six_digits, crate::specs::Templates::read_private_key_template_attribute, crate::specs::Templates::read_template_name, kmip_attributes::specs::Attributes::read_attribute))]
-    fn from_fields(fields: (Vec<TemplateName<A>, A>, (Vec<Attribute<A>, A>, ()))) -> Self {
-        let (names, (attributes, ())) = fields;
+    #[tactic(auto, unfolding(kmip_ttlv_types::specs::Digits::six_digits))]
+    fn has_form() {}
+
+    #[tactic(auto, unfolding(kmip_ttlv_types::specs::Digits::six_digits, crate::specs::Templates::read_private_key_template_attribute))]
+    fn from_fields(fields: (Vec<TemplateName<A>, A>, Vec<Attribute<A>, A>)) -> Self {
+        let (names, attributes) = fields;
         PrivateKeyTemplateAttribute { names, attributes }
     }
 }
 
 impl<A: Allocator + Copy> reader::ReadNested<A> for PrivateKeyTemplateAttribute<A> {
+    ghost form = { private_key_template_attribute_form };
+
+    ghost value = { read_private_key_template_attribute };
+
     ghost TAG = { 0x420065 };
 
-    ghost fields = { struct_fields private_key_template_attribute_form };
-
-    ghost denies_unknown = { true };
-
-    ghost values = { λ x. fields_in (read_private_key_template_attribute x) };
+    ghost structured = { (refl, refl) };
 
     const TAG: u32 = 0x420065;
 
-    #[tactic(auto, unfolding(kmip_ttlv_types::specs::Digits::six_digits, crate::specs::Templates::read_private_key_template_attribute))]
     fn read_nested<'b>(
         scope: &reader::Scope<'b, A>,
         cursor: &mut reader::Cursor<'b, A>,
     ) -> reader::Step<Self, A> {
-        reader::read_form(scope, cursor)
+        reader::read_structure(scope, cursor)
     }
 }
 
@@ -301,44 +316,48 @@ impl<B: Allocator> Serialize for PublicKeyTemplateAttribute<B> {
 }
 
 impl<A: Allocator + Copy> reader::ReadStructure<A> for PublicKeyTemplateAttribute<A> {
+    ghost form = { public_key_template_attribute_form };
+
+    ghost value = { read_public_key_template_attribute };
+
     ghost TAG = { 0x42006E };
 
     ghost DENIES_UNKNOWN = { true };
 
-    ghost values = { λ x. fields_in (read_public_key_template_attribute x) };
-
     type Fields = (
         reader::OptionalSeveral<TemplateName<A>>,
-        (reader::OptionalSeveral<Attribute<A>>, ()),
+        reader::OptionalSeveral<Attribute<A>>,
     );
 
     const TAG: u32 = 0x42006E;
 
     const DENIES_UNKNOWN: bool = true;
 
-    #[tactic(auto, unfolding(kmip_ttlv_types::specs::Digits::six_digits, crate::specs::Templates::read_public_key_template_attribute, crate::specs::Templates::read_template_name, kmip_attributes::specs::Attributes::read_attribute))]
-    fn from_fields(fields: (Vec<TemplateName<A>, A>, (Vec<Attribute<A>, A>, ()))) -> Self {
-        let (names, (attributes, ())) = fields;
+    #[tactic(auto, unfolding(kmip_ttlv_types::specs::Digits::six_digits))]
+    fn has_form() {}
+
+    #[tactic(auto, unfolding(kmip_ttlv_types::specs::Digits::six_digits, crate::specs::Templates::read_public_key_template_attribute))]
+    fn from_fields(fields: (Vec<TemplateName<A>, A>, Vec<Attribute<A>, A>)) -> Self {
+        let (names, attributes) = fields;
         PublicKeyTemplateAttribute { names, attributes }
     }
 }
 
 impl<A: Allocator + Copy> reader::ReadNested<A> for PublicKeyTemplateAttribute<A> {
+    ghost form = { public_key_template_attribute_form };
+
+    ghost value = { read_public_key_template_attribute };
+
     ghost TAG = { 0x42006E };
 
-    ghost fields = { struct_fields public_key_template_attribute_form };
-
-    ghost denies_unknown = { true };
-
-    ghost values = { λ x. fields_in (read_public_key_template_attribute x) };
+    ghost structured = { (refl, refl) };
 
     const TAG: u32 = 0x42006E;
 
-    #[tactic(auto, unfolding(kmip_ttlv_types::specs::Digits::six_digits, crate::specs::Templates::read_public_key_template_attribute))]
     fn read_nested<'b>(
         scope: &reader::Scope<'b, A>,
         cursor: &mut reader::Cursor<'b, A>,
     ) -> reader::Step<Self, A> {
-        reader::read_form(scope, cursor)
+        reader::read_structure(scope, cursor)
     }
 }

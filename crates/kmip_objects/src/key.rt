@@ -5,7 +5,6 @@ ghost use Rattle.std.specs.Prelude.{◌≡◌, ◌==◌, refl, OnErr, OnOk, Some
 ghost use Rattle.std.proofs.Common.{rules};
 ghost use Rattle.std.specs.Cmp.Rules.{comparing};
 ghost use Rattle.std.specs.Ordering.{on};
-ghost use Rattle.kmip_ttlv.specs.Spots.{fields_in, struct_fields};
 ghost use Rattle.kmip_ttlv.specs.Visits.{Tells};
 ghost use Rattle.kmip_objects.specs.Keys.{unique_identifier_form, unique_identifier_value, key_compression_type_form, written_key_compression_type, read_key_compression_type, key_compression_type_number, key_compression_type_read_number, wrapping_method_form, written_wrapping_method, read_wrapping_method, wrapping_method_number, wrapping_method_read_number, encoding_option_form, written_encoding_option, read_encoding_option, encoding_option_number, encoding_option_read_number, wrapping_parameters_form, written_wrapping_parameters, read_wrapping_parameters, encryption_key_information_form, written_encryption_key_information, read_encryption_key_information, mac_signature_key_information_form, written_mac_signature_key_information, read_mac_signature_key_information, key_wrapping_data_form, written_key_wrapping_data, read_key_wrapping_data, key_bytes_form, key_bytes_value, transparent_symmetric_key_form, transparent_symmetric_key_value, key_material_form, written_key_material, read_key_material, key_material_content, plain_key_value_form, written_plain_key_value, read_plain_key_value, wrapped_key_value_form, wrapped_key_value_value, key_value_form, written_key_value, read_key_value, key_value_content, cryptographic_length_form, cryptographic_length_value, key_block_form, written_key_block, read_key_block};
 
@@ -17,6 +16,7 @@ use kmip_attributes::values::{
 use kmip_ttlv::messages::writing;
 use kmip_ttlv::reader;
 use kmip_ttlv::shape::Serialize;
+use kmip_ttlv::types::TtlvType;
 use kmip_ttlv::visit::Visitor;
 use std::alloc::{AllocError, Allocator, Global};
 
@@ -329,36 +329,38 @@ impl Serialize for WrappingParameters {
 }
 
 impl<A: Allocator + Copy> reader::ReadStructure<A> for WrappingParameters {
+    ghost form = { wrapping_parameters_form };
+
+    ghost value = { read_wrapping_parameters };
+
     ghost TAG = { 0x42002B };
 
     ghost DENIES_UNKNOWN = { true };
 
-    ghost values = { λ x. fields_in (read_wrapping_parameters x) };
-
-    type Fields = reader::Four<
+    type Fields = (
         reader::OptionalItem<BlockCipherMode, 0x420011>,
         reader::OptionalItem<PaddingMethod, 0x42005F>,
         reader::OptionalItem<HashingAlgorithm, 0x420038>,
         reader::OptionalItem<KeyRoleType, 0x420083>,
-        (),
-    >;
+    );
 
     const TAG: u32 = 0x42002B;
 
     const DENIES_UNKNOWN: bool = true;
 
+    #[tactic(auto, unfolding(kmip_ttlv_types::specs::Digits::six_digits))]
+    fn has_form() {}
+
     #[tactic(auto, unfolding(kmip_ttlv_types::specs::Digits::six_digits, crate::specs::Keys::read_wrapping_parameters))]
     fn from_fields(
         fields: (
             Option<BlockCipherMode>,
-            (
-                Option<PaddingMethod>,
-                (Option<HashingAlgorithm>, (Option<KeyRoleType>, ())),
-            ),
+            Option<PaddingMethod>,
+            Option<HashingAlgorithm>,
+            Option<KeyRoleType>,
         ),
     ) -> Self {
-        let (block_cipher_mode, (padding_method, (hashing_algorithm, (key_role_type, ())))) =
-            fields;
+        let (block_cipher_mode, padding_method, hashing_algorithm, key_role_type) = fields;
         WrappingParameters {
             block_cipher_mode,
             padding_method,
@@ -369,22 +371,21 @@ impl<A: Allocator + Copy> reader::ReadStructure<A> for WrappingParameters {
 }
 
 impl<A: Allocator + Copy> reader::ReadNested<A> for WrappingParameters {
+    ghost form = { wrapping_parameters_form };
+
+    ghost value = { read_wrapping_parameters };
+
     ghost TAG = { 0x42002B };
 
-    ghost fields = { struct_fields wrapping_parameters_form };
-
-    ghost denies_unknown = { true };
-
-    ghost values = { λ x. fields_in (read_wrapping_parameters x) };
+    ghost structured = { (refl, refl) };
 
     const TAG: u32 = 0x42002B;
 
-    #[tactic(auto, unfolding(kmip_ttlv_types::specs::Digits::six_digits, crate::specs::Keys::read_wrapping_parameters))]
     fn read_nested<'b>(
         scope: &reader::Scope<'b, A>,
         cursor: &mut reader::Cursor<'b, A>,
     ) -> reader::Step<Self, A> {
-        reader::read_form(scope, cursor)
+        reader::read_structure(scope, cursor)
     }
 }
 
@@ -411,24 +412,29 @@ impl<B: Allocator> Serialize for EncryptionKeyInformation<B> {
 }
 
 impl<A: Allocator + Copy> reader::ReadStructure<A> for EncryptionKeyInformation<A> {
+    ghost form = { encryption_key_information_form };
+
+    ghost value = { read_encryption_key_information };
+
     ghost TAG = { 0x420036 };
 
     ghost DENIES_UNKNOWN = { true };
 
-    ghost values = { λ x. fields_in (read_encryption_key_information x) };
-
     type Fields = (
         reader::Leaf<String<A>, 0x420094>,
-        (reader::OptionalNested<WrappingParameters>, ()),
+        reader::OptionalNested<WrappingParameters>,
     );
 
     const TAG: u32 = 0x420036;
 
     const DENIES_UNKNOWN: bool = true;
 
-    #[tactic(auto, unfolding(kmip_ttlv_types::specs::Digits::six_digits, crate::specs::Keys::read_encryption_key_information, crate::specs::Keys::read_wrapping_parameters))]
-    fn from_fields(fields: (String<A>, (Option<WrappingParameters>, ()))) -> Self {
-        let (unique_identifier, (cryptographic_parameters, ())) = fields;
+    #[tactic(auto, unfolding(kmip_ttlv_types::specs::Digits::six_digits))]
+    fn has_form() {}
+
+    #[tactic(auto, unfolding(kmip_ttlv_types::specs::Digits::six_digits, crate::specs::Keys::read_encryption_key_information))]
+    fn from_fields(fields: (String<A>, Option<WrappingParameters>)) -> Self {
+        let (unique_identifier, cryptographic_parameters) = fields;
         EncryptionKeyInformation {
             unique_identifier,
             cryptographic_parameters,
@@ -437,22 +443,21 @@ impl<A: Allocator + Copy> reader::ReadStructure<A> for EncryptionKeyInformation<
 }
 
 impl<A: Allocator + Copy> reader::ReadNested<A> for EncryptionKeyInformation<A> {
+    ghost form = { encryption_key_information_form };
+
+    ghost value = { read_encryption_key_information };
+
     ghost TAG = { 0x420036 };
 
-    ghost fields = { struct_fields encryption_key_information_form };
-
-    ghost denies_unknown = { true };
-
-    ghost values = { λ x. fields_in (read_encryption_key_information x) };
+    ghost structured = { (refl, refl) };
 
     const TAG: u32 = 0x420036;
 
-    #[tactic(auto, unfolding(kmip_ttlv_types::specs::Digits::six_digits, crate::specs::Keys::read_encryption_key_information))]
     fn read_nested<'b>(
         scope: &reader::Scope<'b, A>,
         cursor: &mut reader::Cursor<'b, A>,
     ) -> reader::Step<Self, A> {
-        reader::read_form(scope, cursor)
+        reader::read_structure(scope, cursor)
     }
 }
 
@@ -479,24 +484,29 @@ impl<B: Allocator> Serialize for MacSignatureKeyInformation<B> {
 }
 
 impl<A: Allocator + Copy> reader::ReadStructure<A> for MacSignatureKeyInformation<A> {
+    ghost form = { mac_signature_key_information_form };
+
+    ghost value = { read_mac_signature_key_information };
+
     ghost TAG = { 0x42004E };
 
     ghost DENIES_UNKNOWN = { true };
 
-    ghost values = { λ x. fields_in (read_mac_signature_key_information x) };
-
     type Fields = (
         reader::Leaf<String<A>, 0x420094>,
-        (reader::OptionalNested<WrappingParameters>, ()),
+        reader::OptionalNested<WrappingParameters>,
     );
 
     const TAG: u32 = 0x42004E;
 
     const DENIES_UNKNOWN: bool = true;
 
-    #[tactic(auto, unfolding(kmip_ttlv_types::specs::Digits::six_digits, crate::specs::Keys::read_mac_signature_key_information, crate::specs::Keys::read_wrapping_parameters))]
-    fn from_fields(fields: (String<A>, (Option<WrappingParameters>, ()))) -> Self {
-        let (unique_identifier, (cryptographic_parameters, ())) = fields;
+    #[tactic(auto, unfolding(kmip_ttlv_types::specs::Digits::six_digits))]
+    fn has_form() {}
+
+    #[tactic(auto, unfolding(kmip_ttlv_types::specs::Digits::six_digits, crate::specs::Keys::read_mac_signature_key_information))]
+    fn from_fields(fields: (String<A>, Option<WrappingParameters>)) -> Self {
+        let (unique_identifier, cryptographic_parameters) = fields;
         MacSignatureKeyInformation {
             unique_identifier,
             cryptographic_parameters,
@@ -505,22 +515,21 @@ impl<A: Allocator + Copy> reader::ReadStructure<A> for MacSignatureKeyInformatio
 }
 
 impl<A: Allocator + Copy> reader::ReadNested<A> for MacSignatureKeyInformation<A> {
+    ghost form = { mac_signature_key_information_form };
+
+    ghost value = { read_mac_signature_key_information };
+
     ghost TAG = { 0x42004E };
 
-    ghost fields = { struct_fields mac_signature_key_information_form };
-
-    ghost denies_unknown = { true };
-
-    ghost values = { λ x. fields_in (read_mac_signature_key_information x) };
+    ghost structured = { (refl, refl) };
 
     const TAG: u32 = 0x42004E;
 
-    #[tactic(auto, unfolding(kmip_ttlv_types::specs::Digits::six_digits, crate::specs::Keys::read_mac_signature_key_information))]
     fn read_nested<'b>(
         scope: &reader::Scope<'b, A>,
         cursor: &mut reader::Cursor<'b, A>,
     ) -> reader::Step<Self, A> {
-        reader::read_form(scope, cursor)
+        reader::read_structure(scope, cursor)
     }
 }
 
@@ -559,11 +568,13 @@ impl<B: Allocator> Serialize for KeyWrappingData<B> {
 }
 
 impl<A: Allocator + Copy> reader::ReadStructure<A> for KeyWrappingData<A> {
+    ghost form = { key_wrapping_data_form };
+
+    ghost value = { read_key_wrapping_data };
+
     ghost TAG = { 0x420046 };
 
     ghost DENIES_UNKNOWN = { true };
-
-    ghost values = { λ x. fields_in (read_key_wrapping_data x) };
 
     type Fields = reader::Four<
         reader::Item<WrappingMethod, 0x42009E>,
@@ -572,7 +583,7 @@ impl<A: Allocator + Copy> reader::ReadStructure<A> for KeyWrappingData<A> {
         reader::OptionalLeaf<Vec<u8, A>, 0x42004D>,
         (
             reader::OptionalLeaf<Vec<u8, A>, 0x42003D>,
-            (reader::OptionalItem<EncodingOption, 0x4200A3>, ()),
+            reader::OptionalItem<EncodingOption, 0x4200A3>,
         ),
     >;
 
@@ -580,31 +591,25 @@ impl<A: Allocator + Copy> reader::ReadStructure<A> for KeyWrappingData<A> {
 
     const DENIES_UNKNOWN: bool = true;
 
-    #[tactic(auto, unfolding(kmip_ttlv_types::specs::Digits::six_digits, crate::specs::Keys::read_key_wrapping_data, crate::specs::Keys::read_encryption_key_information, crate::specs::Keys::read_mac_signature_key_information))]
+    #[tactic(auto, unfolding(kmip_ttlv_types::specs::Digits::six_digits))]
+    fn has_form() {}
+
+    #[tactic(auto, unfolding(kmip_ttlv_types::specs::Digits::six_digits, crate::specs::Keys::read_key_wrapping_data))]
     fn from_fields(
         fields: (
             WrappingMethod,
-            (
-                Option<EncryptionKeyInformation<A>>,
-                (
-                    Option<MacSignatureKeyInformation<A>>,
-                    (
-                        Option<Vec<u8, A>>,
-                        (Option<Vec<u8, A>>, (Option<EncodingOption>, ())),
-                    ),
-                ),
-            ),
+            Option<EncryptionKeyInformation<A>>,
+            Option<MacSignatureKeyInformation<A>>,
+            Option<Vec<u8, A>>,
+            (Option<Vec<u8, A>>, Option<EncodingOption>),
         ),
     ) -> Self {
         let (
             wrapping_method,
-            (
-                encryption_key_information,
-                (
-                    mac_signature_key_information,
-                    (mac_signature, (iv_counter_nonce, (encoding_option, ()))),
-                ),
-            ),
+            encryption_key_information,
+            mac_signature_key_information,
+            mac_signature,
+            (iv_counter_nonce, encoding_option),
         ) = fields;
         KeyWrappingData {
             wrapping_method,
@@ -618,22 +623,21 @@ impl<A: Allocator + Copy> reader::ReadStructure<A> for KeyWrappingData<A> {
 }
 
 impl<A: Allocator + Copy> reader::ReadNested<A> for KeyWrappingData<A> {
+    ghost form = { key_wrapping_data_form };
+
+    ghost value = { read_key_wrapping_data };
+
     ghost TAG = { 0x420046 };
 
-    ghost fields = { struct_fields key_wrapping_data_form };
-
-    ghost denies_unknown = { true };
-
-    ghost values = { λ x. fields_in (read_key_wrapping_data x) };
+    ghost structured = { (refl, refl) };
 
     const TAG: u32 = 0x420046;
 
-    #[tactic(auto, unfolding(kmip_ttlv_types::specs::Digits::six_digits, crate::specs::Keys::read_key_wrapping_data))]
     fn read_nested<'b>(
         scope: &reader::Scope<'b, A>,
         cursor: &mut reader::Cursor<'b, A>,
     ) -> reader::Step<Self, A> {
-        reader::read_form(scope, cursor)
+        reader::read_structure(scope, cursor)
     }
 }
 
@@ -691,42 +695,46 @@ impl<B: Allocator> Serialize for TransparentSymmetricKey<B> {
 }
 
 impl<A: Allocator + Copy> reader::ReadStructure<A> for TransparentSymmetricKey<A> {
+    ghost form = { transparent_symmetric_key_form };
+
+    ghost value = { transparent_symmetric_key_value };
+
     ghost TAG = { 0x420043 };
 
     ghost DENIES_UNKNOWN = { true };
 
-    ghost values = { λ x. fields_in (transparent_symmetric_key_value x) };
-
-    type Fields = (reader::Leaf<Vec<u8, A>, 0x42003F>, ());
+    type Fields = (reader::Leaf<Vec<u8, A>, 0x42003F>,);
 
     const TAG: u32 = 0x420043;
 
     const DENIES_UNKNOWN: bool = true;
 
+    #[tactic(auto, unfolding(kmip_ttlv_types::specs::Digits::six_digits))]
+    fn has_form() {}
+
     #[tactic(auto, unfolding(kmip_ttlv_types::specs::Digits::six_digits, crate::specs::Keys::transparent_symmetric_key_value))]
-    fn from_fields(fields: (Vec<u8, A>, ())) -> Self {
-        let (key, ()) = fields;
+    fn from_fields(fields: (Vec<u8, A>,)) -> Self {
+        let (key,) = fields;
         TransparentSymmetricKey { key }
     }
 }
 
 impl<A: Allocator + Copy> reader::ReadNested<A> for TransparentSymmetricKey<A> {
+    ghost form = { transparent_symmetric_key_form };
+
+    ghost value = { transparent_symmetric_key_value };
+
     ghost TAG = { 0x420043 };
 
-    ghost fields = { struct_fields transparent_symmetric_key_form };
-
-    ghost denies_unknown = { true };
-
-    ghost values = { λ x. fields_in (transparent_symmetric_key_value x) };
+    ghost structured = { (refl, refl) };
 
     const TAG: u32 = 0x420043;
 
-    #[tactic(auto, unfolding(kmip_ttlv_types::specs::Digits::six_digits, crate::specs::Keys::transparent_symmetric_key_value))]
     fn read_nested<'b>(
         scope: &reader::Scope<'b, A>,
         cursor: &mut reader::Cursor<'b, A>,
     ) -> reader::Step<Self, A> {
-        reader::read_form(scope, cursor)
+        reader::read_structure(scope, cursor)
     }
 }
 
@@ -774,6 +782,19 @@ impl reader::Rule for KeyMaterialBytesRule {
     fn name() -> &'static str {
         "if type==ByteString"
     }
+
+    #[tactic(auto, unfolding(kmip_ttlv_reader::specs::RuleParts::equal_sides))]
+    fn parts() -> Option<reader::RuleParts> {
+        Some(reader::RuleParts::Type(TtlvType::ByteString))
+    }
+}
+
+impl<A: Allocator + Copy> reader::VariantOf<reader::ItemElement<KeyBytes<A>>, KeyMaterial<A>, A>
+    for KeyMaterialBytesRule {
+    #[tactic(auto, unfolding(kmip_ttlv_types::specs::Digits::six_digits, crate::specs::Keys::read_key_material))]
+    fn from_content(held: KeyBytes<A>) -> KeyMaterial<A> {
+        KeyMaterial::Bytes(held)
+    }
 }
 
 /// The rule that chooses `KeyMaterial::TransparentSymmetricKey`.
@@ -785,49 +806,46 @@ impl reader::Rule for KeyMaterialTransparentSymmetricKeyRule {
     fn name() -> &'static str {
         "if type==Structure"
     }
-}
 
-// The variants from `TransparentSymmetricKey` on.
-type KeyMaterialFromTransparentSymmetricKey<A> = reader::Variant<
-    KeyMaterialTransparentSymmetricKeyRule,
-    reader::StructureElement<TransparentSymmetricKey<A>>,
->;
-
-// The one that was read as one of these.
-#[tactic(auto, unfolding(kmip_ttlv_types::specs::Digits::six_digits, crate::specs::Keys::read_key_material, crate::specs::Keys::transparent_symmetric_key_value))]
-#[inline(always)]
-fn key_material_from_transparent_symmetric_key<A: Allocator + Copy>(
-    read: <KeyMaterialFromTransparentSymmetricKey<A> as reader::VariantList<A>>::Read,
-) -> KeyMaterial<A>
-    ensures { read_key_material result ≡ ⟦<KeyMaterialFromTransparentSymmetricKey<A> as reader::VariantList<A>>⟧.value (codes "material") read }
-{
-    KeyMaterial::TransparentSymmetricKey(read)
-}
-
-// The variants from `Bytes` on.
-type KeyMaterialFromBytes<A> = (
-    reader::Variant<KeyMaterialBytesRule, reader::ItemElement<KeyBytes<A>>>,
-    KeyMaterialFromTransparentSymmetricKey<A>,
-);
-
-// The one that was read as one of these.
-#[tactic(auto, unfolding(kmip_ttlv_types::specs::Digits::six_digits, crate::specs::Keys::read_key_material, crate::specs::Keys::transparent_symmetric_key_value))]
-#[inline(always)]
-fn key_material_from_bytes<A: Allocator + Copy>(
-    read: <KeyMaterialFromBytes<A> as reader::VariantList<A>>::Read,
-) -> KeyMaterial<A>
-    ensures { read_key_material result ≡ ⟦<KeyMaterialFromBytes<A> as reader::VariantList<A>>⟧.value (codes "material") read }
-{
-    match read {
-        reader::OneOf::First(held) => KeyMaterial::Bytes(held),
-        reader::OneOf::Other(other) => key_material_from_transparent_symmetric_key(other),
+    #[tactic(auto, unfolding(kmip_ttlv_reader::specs::RuleParts::equal_sides))]
+    fn parts() -> Option<reader::RuleParts> {
+        Some(reader::RuleParts::Type(TtlvType::Structure))
     }
 }
 
-impl<A: Allocator + Copy> reader::Choice<A> for KeyMaterial<A> {
+impl<A: Allocator + Copy> reader::VariantOf<
+    reader::StructureElement<TransparentSymmetricKey<A>>,
+    KeyMaterial<A>,
+    A,
+> for KeyMaterialTransparentSymmetricKeyRule {
+    #[tactic(auto, unfolding(kmip_ttlv_types::specs::Digits::six_digits, crate::specs::Keys::read_key_material))]
+    fn from_content(held: TransparentSymmetricKey<A>) -> KeyMaterial<A> {
+        KeyMaterial::TransparentSymmetricKey(held)
+    }
+}
+
+impl<A: Allocator> reader::ChoiceValue for KeyMaterial<A> {
     ghost own = { codes "material" };
 
-    type Variants = KeyMaterialFromBytes<A>;
+    ghost value = { read_key_material };
+}
+
+impl<A: Allocator + Copy> reader::Choice<A> for KeyMaterial<A> {
+    ghost form = { key_material_form };
+
+    type Variants = (
+        reader::Variant<KeyMaterialBytesRule, reader::ItemElement<KeyBytes<A>>>,
+        (
+            reader::Variant<
+                KeyMaterialTransparentSymmetricKeyRule,
+                reader::StructureElement<TransparentSymmetricKey<A>>,
+            >,
+            (),
+        ),
+    );
+
+    #[tactic(auto, unfolding(kmip_ttlv_types::specs::Digits::six_digits))]
+    fn has_form() {}
 }
 
 impl<A: Allocator + Copy> reader::ReadItem<A> for KeyMaterial<A> {
@@ -837,13 +855,11 @@ impl<A: Allocator + Copy> reader::ReadItem<A> for KeyMaterial<A> {
 
     ghost plain = { (refl, refl) };
 
-    #[tactic(auto, unfolding(kmip_ttlv_types::specs::Digits::six_digits, crate::specs::Keys::read_key_material, crate::specs::Keys::transparent_symmetric_key_value))]
     fn read_item<'b>(
         scope: &reader::Scope<'b, A>,
         cursor: &mut reader::Cursor<'b, A>,
     ) -> reader::Step<Self, A> {
-        let read = reader::read_choice::<Self, A>(scope, cursor)?;
-        Ok(key_material_from_bytes(read))
+        reader::read_choice(scope, cursor)
     }
 }
 
@@ -871,24 +887,29 @@ impl<B: Allocator> Serialize for PlainKeyValue<B> {
 }
 
 impl<A: Allocator + Copy> reader::ReadStructure<A> for PlainKeyValue<A> {
+    ghost form = { plain_key_value_form };
+
+    ghost value = { read_plain_key_value };
+
     ghost TAG = { 0x420045 };
 
     ghost DENIES_UNKNOWN = { true };
 
-    ghost values = { λ x. fields_in (read_plain_key_value x) };
-
     type Fields = (
         reader::Item<KeyMaterial<A>, 0x420043>,
-        (reader::OptionalSeveral<Attribute<A>>, ()),
+        reader::OptionalSeveral<Attribute<A>>,
     );
 
     const TAG: u32 = 0x420045;
 
     const DENIES_UNKNOWN: bool = true;
 
-    #[tactic(auto, unfolding(kmip_ttlv_types::specs::Digits::six_digits, crate::specs::Keys::read_plain_key_value, kmip_attributes::specs::Attributes::read_attribute))]
-    fn from_fields(fields: (KeyMaterial<A>, (Vec<Attribute<A>, A>, ()))) -> Self {
-        let (key_material, (attributes, ())) = fields;
+    #[tactic(auto, unfolding(kmip_ttlv_types::specs::Digits::six_digits))]
+    fn has_form() {}
+
+    #[tactic(auto, unfolding(kmip_ttlv_types::specs::Digits::six_digits, crate::specs::Keys::read_plain_key_value))]
+    fn from_fields(fields: (KeyMaterial<A>, Vec<Attribute<A>, A>)) -> Self {
+        let (key_material, attributes) = fields;
         PlainKeyValue {
             key_material,
             attributes,
@@ -897,22 +918,21 @@ impl<A: Allocator + Copy> reader::ReadStructure<A> for PlainKeyValue<A> {
 }
 
 impl<A: Allocator + Copy> reader::ReadNested<A> for PlainKeyValue<A> {
+    ghost form = { plain_key_value_form };
+
+    ghost value = { read_plain_key_value };
+
     ghost TAG = { 0x420045 };
 
-    ghost fields = { struct_fields plain_key_value_form };
-
-    ghost denies_unknown = { true };
-
-    ghost values = { λ x. fields_in (read_plain_key_value x) };
+    ghost structured = { (refl, refl) };
 
     const TAG: u32 = 0x420045;
 
-    #[tactic(auto, unfolding(kmip_ttlv_types::specs::Digits::six_digits, crate::specs::Keys::read_plain_key_value))]
     fn read_nested<'b>(
         scope: &reader::Scope<'b, A>,
         cursor: &mut reader::Cursor<'b, A>,
     ) -> reader::Step<Self, A> {
-        reader::read_form(scope, cursor)
+        reader::read_structure(scope, cursor)
     }
 }
 
@@ -993,6 +1013,22 @@ impl reader::Rule for KeyValuePlainRule {
     fn name() -> &'static str {
         "if type==Structure"
     }
+
+    #[tactic(auto, unfolding(kmip_ttlv_reader::specs::RuleParts::equal_sides))]
+    fn parts() -> Option<reader::RuleParts> {
+        Some(reader::RuleParts::Type(TtlvType::Structure))
+    }
+}
+
+impl<A: Allocator + Copy> reader::VariantOf<
+    reader::StructureElement<PlainKeyValue<A>>,
+    KeyValue<A>,
+    A,
+> for KeyValuePlainRule {
+    #[tactic(auto, unfolding(kmip_ttlv_types::specs::Digits::six_digits, crate::specs::Keys::read_key_value))]
+    fn from_content(held: PlainKeyValue<A>) -> KeyValue<A> {
+        KeyValue::Plain(held)
+    }
 }
 
 /// The rule that chooses `KeyValue::Wrapped`.
@@ -1004,49 +1040,40 @@ impl reader::Rule for KeyValueWrappedRule {
     fn name() -> &'static str {
         "if type==ByteString"
     }
-}
 
-// The variants from `Wrapped` on.
-type KeyValueFromWrapped<A> = reader::Variant<
-    KeyValueWrappedRule,
-    reader::ItemElement<WrappedKeyValue<A>>,
->;
-
-// The one that was read as one of these.
-#[tactic(auto, unfolding(kmip_ttlv_types::specs::Digits::six_digits, crate::specs::Keys::read_key_value, crate::specs::Keys::read_plain_key_value))]
-#[inline(always)]
-fn key_value_from_wrapped<A: Allocator + Copy>(
-    read: <KeyValueFromWrapped<A> as reader::VariantList<A>>::Read,
-) -> KeyValue<A>
-    ensures { read_key_value result ≡ ⟦<KeyValueFromWrapped<A> as reader::VariantList<A>>⟧.value (codes "value") read }
-{
-    KeyValue::Wrapped(read)
-}
-
-// The variants from `Plain` on.
-type KeyValueFromPlain<A> = (
-    reader::Variant<KeyValuePlainRule, reader::StructureElement<PlainKeyValue<A>>>,
-    KeyValueFromWrapped<A>,
-);
-
-// The one that was read as one of these.
-#[tactic(auto, unfolding(kmip_ttlv_types::specs::Digits::six_digits, crate::specs::Keys::read_key_value, crate::specs::Keys::read_plain_key_value))]
-#[inline(always)]
-fn key_value_from_plain<A: Allocator + Copy>(
-    read: <KeyValueFromPlain<A> as reader::VariantList<A>>::Read,
-) -> KeyValue<A>
-    ensures { read_key_value result ≡ ⟦<KeyValueFromPlain<A> as reader::VariantList<A>>⟧.value (codes "value") read }
-{
-    match read {
-        reader::OneOf::First(held) => KeyValue::Plain(held),
-        reader::OneOf::Other(other) => key_value_from_wrapped(other),
+    #[tactic(auto, unfolding(kmip_ttlv_reader::specs::RuleParts::equal_sides))]
+    fn parts() -> Option<reader::RuleParts> {
+        Some(reader::RuleParts::Type(TtlvType::ByteString))
     }
 }
 
-impl<A: Allocator + Copy> reader::Choice<A> for KeyValue<A> {
+impl<A: Allocator + Copy> reader::VariantOf<reader::ItemElement<WrappedKeyValue<A>>, KeyValue<A>, A>
+    for KeyValueWrappedRule {
+    #[tactic(auto, unfolding(kmip_ttlv_types::specs::Digits::six_digits, crate::specs::Keys::read_key_value))]
+    fn from_content(held: WrappedKeyValue<A>) -> KeyValue<A> {
+        KeyValue::Wrapped(held)
+    }
+}
+
+impl<A: Allocator> reader::ChoiceValue for KeyValue<A> {
     ghost own = { codes "value" };
 
-    type Variants = KeyValueFromPlain<A>;
+    ghost value = { read_key_value };
+}
+
+impl<A: Allocator + Copy> reader::Choice<A> for KeyValue<A> {
+    ghost form = { key_value_form };
+
+    type Variants = (
+        reader::Variant<KeyValuePlainRule, reader::StructureElement<PlainKeyValue<A>>>,
+        (
+            reader::Variant<KeyValueWrappedRule, reader::ItemElement<WrappedKeyValue<A>>>,
+            (),
+        ),
+    );
+
+    #[tactic(auto, unfolding(kmip_ttlv_types::specs::Digits::six_digits))]
+    fn has_form() {}
 }
 
 impl<A: Allocator + Copy> reader::ReadItem<A> for KeyValue<A> {
@@ -1056,13 +1083,11 @@ impl<A: Allocator + Copy> reader::ReadItem<A> for KeyValue<A> {
 
     ghost plain = { (refl, refl) };
 
-    #[tactic(auto, unfolding(kmip_ttlv_types::specs::Digits::six_digits, crate::specs::Keys::read_key_value, crate::specs::Keys::read_plain_key_value))]
     fn read_item<'b>(
         scope: &reader::Scope<'b, A>,
         cursor: &mut reader::Cursor<'b, A>,
     ) -> reader::Step<Self, A> {
-        let read = reader::read_choice::<Self, A>(scope, cursor)?;
-        Ok(key_value_from_plain(read))
+        reader::read_choice(scope, cursor)
     }
 }
 
@@ -1134,11 +1159,13 @@ impl<B: Allocator> Serialize for KeyBlock<B> {
 }
 
 impl<A: Allocator + Copy> reader::ReadStructure<A> for KeyBlock<A> {
+    ghost form = { key_block_form };
+
+    ghost value = { read_key_block };
+
     ghost TAG = { 0x420040 };
 
     ghost DENIES_UNKNOWN = { true };
-
-    ghost values = { λ x. fields_in (read_key_block x) };
 
     type Fields = reader::Four<
         reader::Item<KeyFormatType, 0x420042>,
@@ -1147,7 +1174,7 @@ impl<A: Allocator + Copy> reader::ReadStructure<A> for KeyBlock<A> {
         reader::OptionalItem<CryptographicAlgorithm, 0x420028>,
         (
             reader::OptionalItem<CryptographicLength, 0x42002A>,
-            (reader::OptionalNested<KeyWrappingData<A>>, ()),
+            reader::OptionalNested<KeyWrappingData<A>>,
         ),
     >;
 
@@ -1155,34 +1182,25 @@ impl<A: Allocator + Copy> reader::ReadStructure<A> for KeyBlock<A> {
 
     const DENIES_UNKNOWN: bool = true;
 
-    #[tactic(auto, unfolding(kmip_ttlv_types::specs::Digits::six_digits, crate::specs::Keys::read_key_block, crate::specs::Keys::read_key_wrapping_data))]
+    #[tactic(auto, unfolding(kmip_ttlv_types::specs::Digits::six_digits))]
+    fn has_form() {}
+
+    #[tactic(auto, unfolding(kmip_ttlv_types::specs::Digits::six_digits, crate::specs::Keys::read_key_block))]
     fn from_fields(
         fields: (
             KeyFormatType,
-            (
-                Option<KeyCompressionType>,
-                (
-                    KeyValue<A>,
-                    (
-                        Option<CryptographicAlgorithm>,
-                        (
-                            Option<CryptographicLength>,
-                            (Option<KeyWrappingData<A>>, ()),
-                        ),
-                    ),
-                ),
-            ),
+            Option<KeyCompressionType>,
+            KeyValue<A>,
+            Option<CryptographicAlgorithm>,
+            (Option<CryptographicLength>, Option<KeyWrappingData<A>>),
         ),
     ) -> Self {
         let (
             key_format_type,
-            (
-                key_compression_type,
-                (
-                    key_value,
-                    (cryptographic_algorithm, (cryptographic_length, (key_wrapping_data, ()))),
-                ),
-            ),
+            key_compression_type,
+            key_value,
+            cryptographic_algorithm,
+            (cryptographic_length, key_wrapping_data),
         ) = fields;
         KeyBlock {
             key_format_type,
@@ -1196,21 +1214,20 @@ impl<A: Allocator + Copy> reader::ReadStructure<A> for KeyBlock<A> {
 }
 
 impl<A: Allocator + Copy> reader::ReadNested<A> for KeyBlock<A> {
+    ghost form = { key_block_form };
+
+    ghost value = { read_key_block };
+
     ghost TAG = { 0x420040 };
 
-    ghost fields = { struct_fields key_block_form };
-
-    ghost denies_unknown = { true };
-
-    ghost values = { λ x. fields_in (read_key_block x) };
+    ghost structured = { (refl, refl) };
 
     const TAG: u32 = 0x420040;
 
-    #[tactic(auto, unfolding(kmip_ttlv_types::specs::Digits::six_digits, crate::specs::Keys::read_key_block))]
     fn read_nested<'b>(
         scope: &reader::Scope<'b, A>,
         cursor: &mut reader::Cursor<'b, A>,
     ) -> reader::Step<Self, A> {
-        reader::read_form(scope, cursor)
+        reader::read_structure(scope, cursor)
     }
 }

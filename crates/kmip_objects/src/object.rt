@@ -5,7 +5,6 @@ ghost use Rattle.std.specs.Prelude.{◌≡◌, ◌==◌, refl, Some, true};
 ghost use Rattle.std.proofs.Common.{rules};
 ghost use Rattle.std.specs.Cmp.Rules.{comparing};
 ghost use Rattle.std.specs.Ordering.{on};
-ghost use Rattle.kmip_ttlv.specs.Spots.{fields_in, struct_fields};
 ghost use Rattle.kmip_objects.specs.Objects.{certificate_form, written_certificate, read_certificate, symmetric_key_form, written_symmetric_key, read_symmetric_key, public_key_form, written_public_key, read_public_key, private_key_form, written_private_key, read_private_key, split_key_method_form, written_split_key_method, read_split_key_method, split_key_method_number, split_key_method_read_number, split_key_parts_form, split_key_parts_value, key_part_identifier_form, key_part_identifier_value, split_key_threshold_form, split_key_threshold_value, split_key_form, written_split_key, read_split_key, template_form, written_template, read_template, secret_data_type_form, written_secret_data_type, read_secret_data_type, secret_data_type_number, secret_data_type_read_number, secret_data_form, written_secret_data, read_secret_data, opaque_data_type_form, written_opaque_data_type, read_opaque_data_type, opaque_data_type_number, opaque_data_type_read_number, opaque_object_form, written_opaque_object, read_opaque_object};
 
 use crate::key::KeyBlock;
@@ -41,24 +40,29 @@ impl<B: Allocator> Serialize for Certificate<B> {
 }
 
 impl<A: Allocator + Copy> reader::ReadStructure<A> for Certificate<A> {
+    ghost form = { certificate_form };
+
+    ghost value = { read_certificate };
+
     ghost TAG = { 0x420013 };
 
     ghost DENIES_UNKNOWN = { true };
 
-    ghost values = { λ x. fields_in (read_certificate x) };
-
     type Fields = (
         reader::Item<CertificateType, 0x42001D>,
-        (reader::Leaf<Vec<u8, A>, 0x42001E>, ()),
+        reader::Leaf<Vec<u8, A>, 0x42001E>,
     );
 
     const TAG: u32 = 0x420013;
 
     const DENIES_UNKNOWN: bool = true;
 
+    #[tactic(auto, unfolding(kmip_ttlv_types::specs::Digits::six_digits))]
+    fn has_form() {}
+
     #[tactic(auto, unfolding(kmip_ttlv_types::specs::Digits::six_digits, crate::specs::Objects::read_certificate))]
-    fn from_fields(fields: (CertificateType, (Vec<u8, A>, ()))) -> Self {
-        let (certificate_type, (certificate_value, ())) = fields;
+    fn from_fields(fields: (CertificateType, Vec<u8, A>)) -> Self {
+        let (certificate_type, certificate_value) = fields;
         Certificate {
             certificate_type,
             certificate_value,
@@ -67,22 +71,21 @@ impl<A: Allocator + Copy> reader::ReadStructure<A> for Certificate<A> {
 }
 
 impl<A: Allocator + Copy> reader::ReadNested<A> for Certificate<A> {
+    ghost form = { certificate_form };
+
+    ghost value = { read_certificate };
+
     ghost TAG = { 0x420013 };
 
-    ghost fields = { struct_fields certificate_form };
-
-    ghost denies_unknown = { true };
-
-    ghost values = { λ x. fields_in (read_certificate x) };
+    ghost structured = { (refl, refl) };
 
     const TAG: u32 = 0x420013;
 
-    #[tactic(auto, unfolding(kmip_ttlv_types::specs::Digits::six_digits, crate::specs::Objects::read_certificate))]
     fn read_nested<'b>(
         scope: &reader::Scope<'b, A>,
         cursor: &mut reader::Cursor<'b, A>,
     ) -> reader::Step<Self, A> {
-        reader::read_form(scope, cursor)
+        reader::read_structure(scope, cursor)
     }
 }
 
@@ -107,42 +110,46 @@ impl<B: Allocator> Serialize for SymmetricKey<B> {
 }
 
 impl<A: Allocator + Copy> reader::ReadStructure<A> for SymmetricKey<A> {
+    ghost form = { symmetric_key_form };
+
+    ghost value = { read_symmetric_key };
+
     ghost TAG = { 0x42008F };
 
     ghost DENIES_UNKNOWN = { true };
 
-    ghost values = { λ x. fields_in (read_symmetric_key x) };
-
-    type Fields = (reader::Nested<KeyBlock<A>>, ());
+    type Fields = (reader::Nested<KeyBlock<A>>,);
 
     const TAG: u32 = 0x42008F;
 
     const DENIES_UNKNOWN: bool = true;
 
-    #[tactic(auto, unfolding(kmip_ttlv_types::specs::Digits::six_digits, crate::specs::Objects::read_symmetric_key, crate::specs::Keys::read_key_block))]
-    fn from_fields(fields: (KeyBlock<A>, ())) -> Self {
-        let (key_block, ()) = fields;
+    #[tactic(auto, unfolding(kmip_ttlv_types::specs::Digits::six_digits))]
+    fn has_form() {}
+
+    #[tactic(auto, unfolding(kmip_ttlv_types::specs::Digits::six_digits, crate::specs::Objects::read_symmetric_key))]
+    fn from_fields(fields: (KeyBlock<A>,)) -> Self {
+        let (key_block,) = fields;
         SymmetricKey { key_block }
     }
 }
 
 impl<A: Allocator + Copy> reader::ReadNested<A> for SymmetricKey<A> {
+    ghost form = { symmetric_key_form };
+
+    ghost value = { read_symmetric_key };
+
     ghost TAG = { 0x42008F };
 
-    ghost fields = { struct_fields symmetric_key_form };
-
-    ghost denies_unknown = { true };
-
-    ghost values = { λ x. fields_in (read_symmetric_key x) };
+    ghost structured = { (refl, refl) };
 
     const TAG: u32 = 0x42008F;
 
-    #[tactic(auto, unfolding(kmip_ttlv_types::specs::Digits::six_digits, crate::specs::Objects::read_symmetric_key))]
     fn read_nested<'b>(
         scope: &reader::Scope<'b, A>,
         cursor: &mut reader::Cursor<'b, A>,
     ) -> reader::Step<Self, A> {
-        reader::read_form(scope, cursor)
+        reader::read_structure(scope, cursor)
     }
 }
 
@@ -167,42 +174,46 @@ impl<B: Allocator> Serialize for PublicKey<B> {
 }
 
 impl<A: Allocator + Copy> reader::ReadStructure<A> for PublicKey<A> {
+    ghost form = { public_key_form };
+
+    ghost value = { read_public_key };
+
     ghost TAG = { 0x42006D };
 
     ghost DENIES_UNKNOWN = { true };
 
-    ghost values = { λ x. fields_in (read_public_key x) };
-
-    type Fields = (reader::Nested<KeyBlock<A>>, ());
+    type Fields = (reader::Nested<KeyBlock<A>>,);
 
     const TAG: u32 = 0x42006D;
 
     const DENIES_UNKNOWN: bool = true;
 
-    #[tactic(auto, unfolding(kmip_ttlv_types::specs::Digits::six_digits, crate::specs::Objects::read_public_key, crate::specs::Keys::read_key_block))]
-    fn from_fields(fields: (KeyBlock<A>, ())) -> Self {
-        let (key_block, ()) = fields;
+    #[tactic(auto, unfolding(kmip_ttlv_types::specs::Digits::six_digits))]
+    fn has_form() {}
+
+    #[tactic(auto, unfolding(kmip_ttlv_types::specs::Digits::six_digits, crate::specs::Objects::read_public_key))]
+    fn from_fields(fields: (KeyBlock<A>,)) -> Self {
+        let (key_block,) = fields;
         PublicKey { key_block }
     }
 }
 
 impl<A: Allocator + Copy> reader::ReadNested<A> for PublicKey<A> {
+    ghost form = { public_key_form };
+
+    ghost value = { read_public_key };
+
     ghost TAG = { 0x42006D };
 
-    ghost fields = { struct_fields public_key_form };
-
-    ghost denies_unknown = { true };
-
-    ghost values = { λ x. fields_in (read_public_key x) };
+    ghost structured = { (refl, refl) };
 
     const TAG: u32 = 0x42006D;
 
-    #[tactic(auto, unfolding(kmip_ttlv_types::specs::Digits::six_digits, crate::specs::Objects::read_public_key))]
     fn read_nested<'b>(
         scope: &reader::Scope<'b, A>,
         cursor: &mut reader::Cursor<'b, A>,
     ) -> reader::Step<Self, A> {
-        reader::read_form(scope, cursor)
+        reader::read_structure(scope, cursor)
     }
 }
 
@@ -227,42 +238,46 @@ impl<B: Allocator> Serialize for PrivateKey<B> {
 }
 
 impl<A: Allocator + Copy> reader::ReadStructure<A> for PrivateKey<A> {
+    ghost form = { private_key_form };
+
+    ghost value = { read_private_key };
+
     ghost TAG = { 0x420064 };
 
     ghost DENIES_UNKNOWN = { true };
 
-    ghost values = { λ x. fields_in (read_private_key x) };
-
-    type Fields = (reader::Nested<KeyBlock<A>>, ());
+    type Fields = (reader::Nested<KeyBlock<A>>,);
 
     const TAG: u32 = 0x420064;
 
     const DENIES_UNKNOWN: bool = true;
 
-    #[tactic(auto, unfolding(kmip_ttlv_types::specs::Digits::six_digits, crate::specs::Objects::read_private_key, crate::specs::Keys::read_key_block))]
-    fn from_fields(fields: (KeyBlock<A>, ())) -> Self {
-        let (key_block, ()) = fields;
+    #[tactic(auto, unfolding(kmip_ttlv_types::specs::Digits::six_digits))]
+    fn has_form() {}
+
+    #[tactic(auto, unfolding(kmip_ttlv_types::specs::Digits::six_digits, crate::specs::Objects::read_private_key))]
+    fn from_fields(fields: (KeyBlock<A>,)) -> Self {
+        let (key_block,) = fields;
         PrivateKey { key_block }
     }
 }
 
 impl<A: Allocator + Copy> reader::ReadNested<A> for PrivateKey<A> {
+    ghost form = { private_key_form };
+
+    ghost value = { read_private_key };
+
     ghost TAG = { 0x420064 };
 
-    ghost fields = { struct_fields private_key_form };
-
-    ghost denies_unknown = { true };
-
-    ghost values = { λ x. fields_in (read_private_key x) };
+    ghost structured = { (refl, refl) };
 
     const TAG: u32 = 0x420064;
 
-    #[tactic(auto, unfolding(kmip_ttlv_types::specs::Digits::six_digits, crate::specs::Objects::read_private_key))]
     fn read_nested<'b>(
         scope: &reader::Scope<'b, A>,
         cursor: &mut reader::Cursor<'b, A>,
     ) -> reader::Step<Self, A> {
-        reader::read_form(scope, cursor)
+        reader::read_structure(scope, cursor)
     }
 }
 
@@ -480,11 +495,13 @@ impl<B: Allocator> Serialize for SplitKey<B> {
 }
 
 impl<A: Allocator + Copy> reader::ReadStructure<A> for SplitKey<A> {
+    ghost form = { split_key_form };
+
+    ghost value = { read_split_key };
+
     ghost TAG = { 0x420089 };
 
     ghost DENIES_UNKNOWN = { true };
-
-    ghost values = { λ x. fields_in (read_split_key x) };
 
     type Fields = reader::Four<
         reader::Item<SplitKeyParts, 0x42008B>,
@@ -493,7 +510,7 @@ impl<A: Allocator + Copy> reader::ReadStructure<A> for SplitKey<A> {
         reader::Item<SplitKeyMethod, 0x42008A>,
         (
             reader::OptionalLeaf<reader::BigInteger<A>, 0x420062>,
-            (reader::Nested<KeyBlock<A>>, ()),
+            reader::Nested<KeyBlock<A>>,
         ),
     >;
 
@@ -501,28 +518,25 @@ impl<A: Allocator + Copy> reader::ReadStructure<A> for SplitKey<A> {
 
     const DENIES_UNKNOWN: bool = true;
 
-    #[tactic(auto, unfolding(kmip_ttlv_types::specs::Digits::six_digits, crate::specs::Objects::read_split_key, crate::specs::Keys::read_key_block))]
+    #[tactic(auto, unfolding(kmip_ttlv_types::specs::Digits::six_digits))]
+    fn has_form() {}
+
+    #[tactic(auto, unfolding(kmip_ttlv_types::specs::Digits::six_digits, crate::specs::Objects::read_split_key))]
     fn from_fields(
         fields: (
             SplitKeyParts,
-            (
-                KeyPartIdentifier,
-                (
-                    SplitKeyThreshold,
-                    (
-                        SplitKeyMethod,
-                        (Option<reader::BigInteger<A>>, (KeyBlock<A>, ())),
-                    ),
-                ),
-            ),
+            KeyPartIdentifier,
+            SplitKeyThreshold,
+            SplitKeyMethod,
+            (Option<reader::BigInteger<A>>, KeyBlock<A>),
         ),
     ) -> Self {
         let (
             split_key_parts,
-            (
-                key_part_identifier,
-                (split_key_threshold, (split_key_method, (prime_field_size, (key_block, ())))),
-            ),
+            key_part_identifier,
+            split_key_threshold,
+            split_key_method,
+            (prime_field_size, key_block),
         ) = fields;
         SplitKey {
             split_key_parts,
@@ -539,22 +553,21 @@ impl<A: Allocator + Copy> reader::ReadStructure<A> for SplitKey<A> {
 }
 
 impl<A: Allocator + Copy> reader::ReadNested<A> for SplitKey<A> {
+    ghost form = { split_key_form };
+
+    ghost value = { read_split_key };
+
     ghost TAG = { 0x420089 };
 
-    ghost fields = { struct_fields split_key_form };
-
-    ghost denies_unknown = { true };
-
-    ghost values = { λ x. fields_in (read_split_key x) };
+    ghost structured = { (refl, refl) };
 
     const TAG: u32 = 0x420089;
 
-    #[tactic(auto, unfolding(kmip_ttlv_types::specs::Digits::six_digits, crate::specs::Objects::read_split_key))]
     fn read_nested<'b>(
         scope: &reader::Scope<'b, A>,
         cursor: &mut reader::Cursor<'b, A>,
     ) -> reader::Step<Self, A> {
-        reader::read_form(scope, cursor)
+        reader::read_structure(scope, cursor)
     }
 }
 
@@ -579,42 +592,46 @@ impl<B: Allocator> Serialize for Template<B> {
 }
 
 impl<A: Allocator + Copy> reader::ReadStructure<A> for Template<A> {
+    ghost form = { template_form };
+
+    ghost value = { read_template };
+
     ghost TAG = { 0x420090 };
 
     ghost DENIES_UNKNOWN = { true };
 
-    ghost values = { λ x. fields_in (read_template x) };
-
-    type Fields = (reader::Several<Attribute<A>>, ());
+    type Fields = (reader::Several<Attribute<A>>,);
 
     const TAG: u32 = 0x420090;
 
     const DENIES_UNKNOWN: bool = true;
 
-    #[tactic(auto, unfolding(kmip_ttlv_types::specs::Digits::six_digits, crate::specs::Objects::read_template, kmip_attributes::specs::Attributes::read_attribute))]
-    fn from_fields(fields: (Vec<Attribute<A>, A>, ())) -> Self {
-        let (attributes, ()) = fields;
+    #[tactic(auto, unfolding(kmip_ttlv_types::specs::Digits::six_digits))]
+    fn has_form() {}
+
+    #[tactic(auto, unfolding(kmip_ttlv_types::specs::Digits::six_digits, crate::specs::Objects::read_template))]
+    fn from_fields(fields: (Vec<Attribute<A>, A>,)) -> Self {
+        let (attributes,) = fields;
         Template { attributes }
     }
 }
 
 impl<A: Allocator + Copy> reader::ReadNested<A> for Template<A> {
+    ghost form = { template_form };
+
+    ghost value = { read_template };
+
     ghost TAG = { 0x420090 };
 
-    ghost fields = { struct_fields template_form };
-
-    ghost denies_unknown = { true };
-
-    ghost values = { λ x. fields_in (read_template x) };
+    ghost structured = { (refl, refl) };
 
     const TAG: u32 = 0x420090;
 
-    #[tactic(auto, unfolding(kmip_ttlv_types::specs::Digits::six_digits, crate::specs::Objects::read_template))]
     fn read_nested<'b>(
         scope: &reader::Scope<'b, A>,
         cursor: &mut reader::Cursor<'b, A>,
     ) -> reader::Step<Self, A> {
-        reader::read_form(scope, cursor)
+        reader::read_structure(scope, cursor)
     }
 }
 
@@ -718,24 +735,29 @@ impl<B: Allocator> Serialize for SecretData<B> {
 }
 
 impl<A: Allocator + Copy> reader::ReadStructure<A> for SecretData<A> {
+    ghost form = { secret_data_form };
+
+    ghost value = { read_secret_data };
+
     ghost TAG = { 0x420085 };
 
     ghost DENIES_UNKNOWN = { true };
 
-    ghost values = { λ x. fields_in (read_secret_data x) };
-
     type Fields = (
         reader::Item<SecretDataType, 0x420086>,
-        (reader::Nested<KeyBlock<A>>, ()),
+        reader::Nested<KeyBlock<A>>,
     );
 
     const TAG: u32 = 0x420085;
 
     const DENIES_UNKNOWN: bool = true;
 
-    #[tactic(auto, unfolding(kmip_ttlv_types::specs::Digits::six_digits, crate::specs::Objects::read_secret_data, crate::specs::Keys::read_key_block))]
-    fn from_fields(fields: (SecretDataType, (KeyBlock<A>, ()))) -> Self {
-        let (secret_data_type, (key_block, ())) = fields;
+    #[tactic(auto, unfolding(kmip_ttlv_types::specs::Digits::six_digits))]
+    fn has_form() {}
+
+    #[tactic(auto, unfolding(kmip_ttlv_types::specs::Digits::six_digits, crate::specs::Objects::read_secret_data))]
+    fn from_fields(fields: (SecretDataType, KeyBlock<A>)) -> Self {
+        let (secret_data_type, key_block) = fields;
         SecretData {
             secret_data_type,
             key_block,
@@ -744,22 +766,21 @@ impl<A: Allocator + Copy> reader::ReadStructure<A> for SecretData<A> {
 }
 
 impl<A: Allocator + Copy> reader::ReadNested<A> for SecretData<A> {
+    ghost form = { secret_data_form };
+
+    ghost value = { read_secret_data };
+
     ghost TAG = { 0x420085 };
 
-    ghost fields = { struct_fields secret_data_form };
-
-    ghost denies_unknown = { true };
-
-    ghost values = { λ x. fields_in (read_secret_data x) };
+    ghost structured = { (refl, refl) };
 
     const TAG: u32 = 0x420085;
 
-    #[tactic(auto, unfolding(kmip_ttlv_types::specs::Digits::six_digits, crate::specs::Objects::read_secret_data))]
     fn read_nested<'b>(
         scope: &reader::Scope<'b, A>,
         cursor: &mut reader::Cursor<'b, A>,
     ) -> reader::Step<Self, A> {
-        reader::read_form(scope, cursor)
+        reader::read_structure(scope, cursor)
     }
 }
 
@@ -859,24 +880,29 @@ impl<B: Allocator> Serialize for OpaqueObject<B> {
 }
 
 impl<A: Allocator + Copy> reader::ReadStructure<A> for OpaqueObject<A> {
+    ghost form = { opaque_object_form };
+
+    ghost value = { read_opaque_object };
+
     ghost TAG = { 0x42005B };
 
     ghost DENIES_UNKNOWN = { true };
 
-    ghost values = { λ x. fields_in (read_opaque_object x) };
-
     type Fields = (
         reader::Item<OpaqueDataType, 0x420059>,
-        (reader::Leaf<Vec<u8, A>, 0x42005A>, ()),
+        reader::Leaf<Vec<u8, A>, 0x42005A>,
     );
 
     const TAG: u32 = 0x42005B;
 
     const DENIES_UNKNOWN: bool = true;
 
+    #[tactic(auto, unfolding(kmip_ttlv_types::specs::Digits::six_digits))]
+    fn has_form() {}
+
     #[tactic(auto, unfolding(kmip_ttlv_types::specs::Digits::six_digits, crate::specs::Objects::read_opaque_object))]
-    fn from_fields(fields: (OpaqueDataType, (Vec<u8, A>, ()))) -> Self {
-        let (opaque_data_type, (opaque_data_value, ())) = fields;
+    fn from_fields(fields: (OpaqueDataType, Vec<u8, A>)) -> Self {
+        let (opaque_data_type, opaque_data_value) = fields;
         OpaqueObject {
             opaque_data_type,
             opaque_data_value,
@@ -885,27 +911,26 @@ impl<A: Allocator + Copy> reader::ReadStructure<A> for OpaqueObject<A> {
 }
 
 impl<A: Allocator + Copy> reader::ReadNested<A> for OpaqueObject<A> {
+    ghost form = { opaque_object_form };
+
+    ghost value = { read_opaque_object };
+
     ghost TAG = { 0x42005B };
 
-    ghost fields = { struct_fields opaque_object_form };
-
-    ghost denies_unknown = { true };
-
-    ghost values = { λ x. fields_in (read_opaque_object x) };
+    ghost structured = { (refl, refl) };
 
     const TAG: u32 = 0x42005B;
 
-    #[tactic(auto, unfolding(kmip_ttlv_types::specs::Digits::six_digits, crate::specs::Objects::read_opaque_object))]
     fn read_nested<'b>(
         scope: &reader::Scope<'b, A>,
         cursor: &mut reader::Cursor<'b, A>,
     ) -> reader::Step<Self, A> {
-        reader::read_form(scope, cursor)
+        reader::read_structure(scope, cursor)
     }
 }
 
 /// What a server keeps.
-#[derive_where(Clone, Copy)]
+#[derive(Drop)]
 pub enum ManagedObject<'a, A: Allocator = Global> {
     /// A certificate.
     Certificate(&'a Certificate<A>),
