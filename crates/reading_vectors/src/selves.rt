@@ -4,17 +4,17 @@
 ghost use Rattle.std.specs.Prelude.{◌≡◌, true, false, refl, codes};
 ghost use Rattle.kmip_ttlv.specs.Outcomes.{root_outcome};
 ghost use Rattle.kmip_ttlv.specs.ReadResults.{IsReadAs};
-ghost use Rattle.reading_vectors.specs.Selves.{number_fields, point_values, moment_fields, moment_values, whole_form, whole_values, whole_value, sorts_form, sorts_values, sorts_value, closed_form, closed_values, closed_value};
-ghost use Rattle.reading_vectors.specs.SelvesItems.{mark_form, mark_value, lists_form, lists_values, lists_value, maybes_form, maybes_values, maybes_value};
-ghost use Rattle.reading_vectors.specs.SelvesChoices.{order_form, order_variants, order_value, detail_form, detail_value, task_form, task_values, task_value};
+ghost use Rattle.reading_vectors.specs.Selves.{point_form, point_value, moment_form, moment_value, whole_form, whole_value, sorts_form, sorts_value, closed_form, closed_value};
+ghost use Rattle.reading_vectors.specs.SelvesItems.{mark_form, mark_value, lists_form, lists_value, maybes_form, maybes_value};
+ghost use Rattle.reading_vectors.specs.SelvesChoices.{order_form, order_variants, order_value, detail_form, detail_value, task_form, task_value};
 
 use kmip_ttlv::error::Error;
 use kmip_ttlv::reader::{
-    BareLeaf, BigInteger, Choice, Cursor, Four, Interval, Item, ItemElement, Leaf, LeafElement,
-    Listed, Nested, OneOf, OptionalItem, OptionalLeaf, OptionalNested, OptionalSeveral,
+    BareLeaf, BigInteger, Choice, ChoiceValue, Cursor, Four, Interval, Item, ItemElement, Leaf,
+    LeafElement, Listed, Nested, OptionalItem, OptionalLeaf, OptionalNested, OptionalSeveral,
     OptionalSeveralItems, OptionalSeveralLeaves, ReadItem, ReadNested, ReadStructure, Rule, Scope,
-    Several, SeveralItems, SeveralLeaves, Step, StructureElement, Variant, read_choice, read_form,
-    read_message,
+    Several, SeveralItems, SeveralLeaves, Step, StructureElement, Variant, VariantOf, read_choice,
+    read_message, read_structure,
 };
 use kmip_ttlv::shape::Decode;
 use std::alloc::{Allocator, Global};
@@ -26,39 +26,43 @@ pub struct Point {
 }
 
 impl<A: Allocator + Copy> ReadStructure<A> for Point {
+    ghost form = { point_form };
+
+    ghost value = { point_value };
+
     ghost TAG = { 14540253 };
 
     ghost DENIES_UNKNOWN = { false };
 
-    ghost values = { point_values };
-
-    type Fields = (Leaf<i32, 0xBBBBBB>, ());
+    type Fields = (Leaf<i32, 0xBBBBBB>,);
 
     const TAG: u32 = 0xDDDDDD;
 
     const DENIES_UNKNOWN: bool = false;
 
     #[tactic(auto, unfolding(kmip_ttlv_types::specs::Digits::six_digits))]
-    fn from_fields(fields: (i32, ())) -> Point {
-        let (number, ()) = fields;
+    fn has_form() {}
+
+    #[tactic(auto, unfolding(kmip_ttlv_types::specs::Digits::six_digits))]
+    fn from_fields(fields: (i32,)) -> Point {
+        let (number,) = fields;
         Point { number }
     }
 }
 
 impl<A: Allocator + Copy> ReadNested<A> for Point {
+    ghost form = { point_form };
+
+    ghost value = { point_value };
+
     ghost TAG = { 14540253 };
 
-    ghost fields = { number_fields };
-
-    ghost denies_unknown = { false };
-
-    ghost values = { point_values };
+    ghost structured = { (refl, refl) };
 
     const TAG: u32 = 0xDDDDDD;
 
-    #[tactic(auto, unfolding(kmip_ttlv_types::specs::Digits::six_digits))]
     fn read_nested<'b>(scope: &Scope<'b, A>, cursor: &mut Cursor<'b, A>) -> Step<Point, A> {
-        read_form(scope, cursor)
+        read_structure(scope, cursor)
     }
 }
 
@@ -69,39 +73,43 @@ pub struct Moment {
 }
 
 impl<A: Allocator + Copy> ReadStructure<A> for Moment {
+    ghost form = { moment_form };
+
+    ghost value = { moment_value };
+
     ghost TAG = { 15658734 };
 
     ghost DENIES_UNKNOWN = { false };
 
-    ghost values = { moment_values };
-
-    type Fields = (Leaf<i64, 0xBBBBBB>, ());
+    type Fields = (Leaf<i64, 0xBBBBBB>,);
 
     const TAG: u32 = 0xEEEEEE;
 
     const DENIES_UNKNOWN: bool = false;
 
     #[tactic(auto, unfolding(kmip_ttlv_types::specs::Digits::six_digits))]
-    fn from_fields(fields: (i64, ())) -> Moment {
-        let (seconds, ()) = fields;
+    fn has_form() {}
+
+    #[tactic(auto, unfolding(kmip_ttlv_types::specs::Digits::six_digits))]
+    fn from_fields(fields: (i64,)) -> Moment {
+        let (seconds,) = fields;
         Moment { seconds }
     }
 }
 
 impl<A: Allocator + Copy> ReadNested<A> for Moment {
+    ghost form = { moment_form };
+
+    ghost value = { moment_value };
+
     ghost TAG = { 15658734 };
 
-    ghost fields = { moment_fields };
-
-    ghost denies_unknown = { false };
-
-    ghost values = { moment_values };
+    ghost structured = { (refl, refl) };
 
     const TAG: u32 = 0xEEEEEE;
 
-    #[tactic(auto, unfolding(kmip_ttlv_types::specs::Digits::six_digits))]
     fn read_nested<'b>(scope: &Scope<'b, A>, cursor: &mut Cursor<'b, A>) -> Step<Moment, A> {
-        read_form(scope, cursor)
+        read_structure(scope, cursor)
     }
 }
 
@@ -112,21 +120,26 @@ pub struct Closed {
 }
 
 impl<A: Allocator + Copy> ReadStructure<A> for Closed {
+    ghost form = { closed_form };
+
+    ghost value = { closed_value };
+
     ghost TAG = { 11184810 };
 
     ghost DENIES_UNKNOWN = { true };
 
-    ghost values = { closed_values };
-
-    type Fields = (Leaf<i32, 0xBBBBBB>, ());
+    type Fields = (Leaf<i32, 0xBBBBBB>,);
 
     const TAG: u32 = 0xAAAAAA;
 
     const DENIES_UNKNOWN: bool = true;
 
     #[tactic(auto, unfolding(kmip_ttlv_types::specs::Digits::six_digits))]
-    fn from_fields(fields: (i32, ())) -> Closed {
-        let (number, ()) = fields;
+    fn has_form() {}
+
+    #[tactic(auto, unfolding(kmip_ttlv_types::specs::Digits::six_digits))]
+    fn from_fields(fields: (i32,)) -> Closed {
+        let (number,) = fields;
         Closed { number }
     }
 }
@@ -136,7 +149,6 @@ impl<A: Allocator + Copy> Decode<A> for Closed {
 
     ghost is_value = { λ v x. v ≡ closed_value x };
 
-    #[tactic(auto, unfolding(kmip_ttlv_types::specs::Digits::six_digits))]
     fn decode(alloc: A, bytes: &[u8]) -> Result<Closed, Error<A>> {
         read_message(alloc, bytes)
     }
@@ -154,38 +166,34 @@ pub struct Whole<A: Allocator = Global> {
 }
 
 impl<A: Allocator + Copy> ReadStructure<A> for Whole<A> {
+    ghost form = { whole_form };
+
+    ghost value = { whole_value };
+
     ghost TAG = { 11184810 };
 
     ghost DENIES_UNKNOWN = { false };
 
-    ghost values = { whole_values };
-
-    type Fields = (
+    type Fields = Four<
         Leaf<i32, 0xBBBBBB>,
-        (
-            OptionalLeaf<String<A>, 0xCCCCCC>,
-            (
-                OptionalNested<Point>,
-                (Several<Moment>, (Nested<Point>, ())),
-            ),
-        ),
-    );
+        OptionalLeaf<String<A>, 0xCCCCCC>,
+        OptionalNested<Point>,
+        Several<Moment>,
+        (Nested<Point>,),
+    >;
 
     const TAG: u32 = 0xAAAAAA;
 
     const DENIES_UNKNOWN: bool = false;
 
     #[tactic(auto, unfolding(kmip_ttlv_types::specs::Digits::six_digits))]
+    fn has_form() {}
+
+    #[tactic(auto, unfolding(kmip_ttlv_types::specs::Digits::six_digits))]
     fn from_fields(
-        fields: (
-            i32,
-            (
-                Option<String<A>>,
-                (Option<Point>, (Vec<Moment, A>, (Point, ()))),
-            ),
-        ),
+        fields: (i32, Option<String<A>>, Option<Point>, Vec<Moment, A>, (Point,)),
     ) -> Whole<A> {
-        let (number, (text, (first, (moments, (last, ()))))) = fields;
+        let (number, text, first, moments, (last,)) = fields;
         Whole {
             number,
             text,
@@ -197,7 +205,6 @@ impl<A: Allocator + Copy> ReadStructure<A> for Whole<A> {
 }
 
 /// A message that is such a structure: what its form reads.
-#[tactic(auto, unfolding(kmip_ttlv_types::specs::Digits::six_digits))]
 pub fn read_whole<A: Allocator + Copy>(alloc: A, bytes: &[u8]) -> Result<Whole<A>, Error<A>>
     ensures { IsReadAs (λ v x. v ≡ whole_value x) (root_outcome whole_form bytes.now) result }
 {
@@ -216,18 +223,20 @@ pub struct Sorts<A: Allocator = Global> {
 }
 
 impl<A: Allocator + Copy> ReadStructure<A> for Sorts<A> {
+    ghost form = { sorts_form };
+
+    ghost value = { sorts_value };
+
     ghost TAG = { 11184810 };
 
     ghost DENIES_UNKNOWN = { false };
-
-    ghost values = { sorts_values };
 
     type Fields = Four<
         Leaf<bool, 0xBBBBBB>,
         Leaf<Interval, 0xCCCCCC>,
         OptionalLeaf<u32, 0xDDDDDD>,
         Leaf<Vec<u8, A>, 0xEEEEEE>,
-        (OptionalLeaf<BigInteger<A>, 0xBBBBBB>, ()),
+        (OptionalLeaf<BigInteger<A>, 0xBBBBBB>,),
     >;
 
     const TAG: u32 = 0xAAAAAA;
@@ -235,16 +244,13 @@ impl<A: Allocator + Copy> ReadStructure<A> for Sorts<A> {
     const DENIES_UNKNOWN: bool = false;
 
     #[tactic(auto, unfolding(kmip_ttlv_types::specs::Digits::six_digits))]
+    fn has_form() {}
+
+    #[tactic(auto, unfolding(kmip_ttlv_types::specs::Digits::six_digits))]
     fn from_fields(
-        fields: (
-            bool,
-            (
-                Interval,
-                (Option<u32>, (Vec<u8, A>, (Option<BigInteger<A>>, ()))),
-            ),
-        ),
+        fields: (bool, Interval, Option<u32>, Vec<u8, A>, (Option<BigInteger<A>>,)),
     ) -> Sorts<A> {
-        let (truth, (seconds, (reason, (bytes, (big, ()))))) = fields;
+        let (truth, seconds, reason, bytes, (big,)) = fields;
         Sorts {
             truth,
             seconds: seconds.0,
@@ -259,7 +265,6 @@ impl<A: Allocator + Copy> ReadStructure<A> for Sorts<A> {
 }
 
 /// A message that is such a structure: what its form reads.
-#[tactic(auto, unfolding(kmip_ttlv_types::specs::Digits::six_digits))]
 pub fn read_sorts<A: Allocator + Copy>(alloc: A, bytes: &[u8]) -> Result<Sorts<A>, Error<A>>
     ensures { IsReadAs (λ v x. v ≡ sorts_value x) (root_outcome sorts_form bytes.now) result }
 {
@@ -297,21 +302,19 @@ pub struct Lists<A: Allocator = Global> {
 }
 
 impl<A: Allocator + Copy> ReadStructure<A> for Lists<A> {
+    ghost form = { lists_form };
+
+    ghost value = { lists_value };
+
     ghost TAG = { 11184810 };
 
     ghost DENIES_UNKNOWN = { false };
 
-    ghost values = { lists_values };
-
     type Fields = (
         Item<Mark, 0xBBBBBB>,
-        (
-            OptionalItem<Mark, 0xCCCCCC>,
-            (
-                SeveralItems<Mark, 0xBBBBBB>,
-                (SeveralLeaves<String<A>, 0xCCCCCC>, ()),
-            ),
-        ),
+        OptionalItem<Mark, 0xCCCCCC>,
+        SeveralItems<Mark, 0xBBBBBB>,
+        SeveralLeaves<String<A>, 0xCCCCCC>,
     );
 
     const TAG: u32 = 0xAAAAAA;
@@ -319,13 +322,13 @@ impl<A: Allocator + Copy> ReadStructure<A> for Lists<A> {
     const DENIES_UNKNOWN: bool = false;
 
     #[tactic(auto, unfolding(kmip_ttlv_types::specs::Digits::six_digits))]
+    fn has_form() {}
+
+    #[tactic(auto, unfolding(kmip_ttlv_types::specs::Digits::six_digits))]
     fn from_fields(
-        fields: (
-            Mark,
-            (Option<Mark>, (Vec<Mark, A>, (Vec<String<A>, A>, ()))),
-        ),
+        fields: (Mark, Option<Mark>, Vec<Mark, A>, Vec<String<A>, A>),
     ) -> Lists<A> {
-        let (mark, (other, (marks, (texts, ())))) = fields;
+        let (mark, other, marks, texts) = fields;
         Lists {
             mark,
             other,
@@ -336,7 +339,6 @@ impl<A: Allocator + Copy> ReadStructure<A> for Lists<A> {
 }
 
 /// A message that is such a structure: what its form reads.
-#[tactic(auto, unfolding(kmip_ttlv_types::specs::Digits::six_digits))]
 pub fn read_lists<A: Allocator + Copy>(alloc: A, bytes: &[u8]) -> Result<Lists<A>, Error<A>>
     ensures { IsReadAs (λ v x. v ≡ lists_value x) (root_outcome lists_form bytes.now) result }
 {
@@ -353,18 +355,18 @@ pub struct Maybes<A: Allocator = Global> {
 }
 
 impl<A: Allocator + Copy> ReadStructure<A> for Maybes<A> {
+    ghost form = { maybes_form };
+
+    ghost value = { maybes_value };
+
     ghost TAG = { 11184810 };
 
     ghost DENIES_UNKNOWN = { false };
 
-    ghost values = { maybes_values };
-
     type Fields = (
         OptionalSeveralItems<Mark, 0xBBBBBB>,
-        (
-            OptionalSeveralLeaves<String<A>, 0xCCCCCC>,
-            (OptionalSeveral<Point>, ()),
-        ),
+        OptionalSeveralLeaves<String<A>, 0xCCCCCC>,
+        OptionalSeveral<Point>,
     );
 
     const TAG: u32 = 0xAAAAAA;
@@ -372,8 +374,11 @@ impl<A: Allocator + Copy> ReadStructure<A> for Maybes<A> {
     const DENIES_UNKNOWN: bool = false;
 
     #[tactic(auto, unfolding(kmip_ttlv_types::specs::Digits::six_digits))]
-    fn from_fields(fields: (Vec<Mark, A>, (Vec<String<A>, A>, (Vec<Point, A>, ())))) -> Maybes<A> {
-        let (marks, (texts, (points, ()))) = fields;
+    fn has_form() {}
+
+    #[tactic(auto, unfolding(kmip_ttlv_types::specs::Digits::six_digits))]
+    fn from_fields(fields: (Vec<Mark, A>, Vec<String<A>, A>, Vec<Point, A>)) -> Maybes<A> {
+        let (marks, texts, points) = fields;
         Maybes {
             marks,
             texts,
@@ -383,7 +388,6 @@ impl<A: Allocator + Copy> ReadStructure<A> for Maybes<A> {
 }
 
 /// A message that is such a structure: what its form reads.
-#[tactic(auto, unfolding(kmip_ttlv_types::specs::Digits::six_digits))]
 pub fn read_maybes<A: Allocator + Copy>(alloc: A, bytes: &[u8]) -> Result<Maybes<A>, Error<A>>
     ensures { IsReadAs (λ v x. v ≡ maybes_value x) (root_outcome maybes_form bytes.now) result }
 {
@@ -474,19 +478,53 @@ pub enum Detail<A: Allocator = Global> {
     Number(u32),
 }
 
+impl<A: Allocator + Copy> VariantOf<StructureElement<Point>, Detail<A>, A> for IfOne {
+    fn from_content(content: Point) -> Detail<A> {
+        Detail::Point(content)
+    }
+}
+
+impl<A: Allocator + Copy> VariantOf<LeafElement<String<A>, 0xCCCCCC>, Detail<A>, A> for IfText {
+    #[tactic(auto, unfolding(kmip_ttlv_types::specs::Digits::six_digits))]
+    fn from_content(content: String<A>) -> Detail<A> {
+        Detail::Text(content)
+    }
+}
+
+impl<A: Allocator + Copy> VariantOf<ItemElement<Mark>, Detail<A>, A> for IfInteger {
+    fn from_content(content: Mark) -> Detail<A> {
+        Detail::Mark(content)
+    }
+}
+
+impl<A: Allocator + Copy> VariantOf<BareLeaf<u32>, Detail<A>, A> for IfAtLeastTwo {
+    fn from_content(content: u32) -> Detail<A> {
+        Detail::Number(content)
+    }
+}
+
+impl<A: Allocator> ChoiceValue for Detail<A> {
+    ghost own = { codes "detail" };
+
+    ghost value = { detail_value };
+}
+
 impl<A: Allocator + Copy> Choice<A> for Detail<A> {
+    ghost form = { detail_form };
+
     type Variants = (
         Variant<IfOne, StructureElement<Point>>,
         (
             Variant<IfText, LeafElement<String<A>, 0xCCCCCC>>,
             (
                 Variant<IfInteger, ItemElement<Mark>>,
-                Variant<IfAtLeastTwo, BareLeaf<u32>>,
+                (Variant<IfAtLeastTwo, BareLeaf<u32>>, ()),
             ),
         ),
     );
 
-    ghost own = { codes "detail" };
+    #[tactic(auto, unfolding(kmip_ttlv_types::specs::Digits::six_digits))]
+    fn has_form() {}
 }
 
 impl<A: Allocator + Copy> ReadItem<A> for Detail<A> {
@@ -496,14 +534,8 @@ impl<A: Allocator + Copy> ReadItem<A> for Detail<A> {
 
     ghost plain = { (refl, refl) };
 
-    #[tactic(auto, unfolding(kmip_ttlv_types::specs::Digits::six_digits))]
     fn read_item<'b>(scope: &Scope<'b, A>, cursor: &mut Cursor<'b, A>) -> Step<Detail<A>, A> {
-        match read_choice::<Self, A>(scope, cursor)? {
-            OneOf::First(point) => Ok(Detail::Point(point)),
-            OneOf::Other(OneOf::First(text)) => Ok(Detail::Text(text)),
-            OneOf::Other(OneOf::Other(OneOf::First(mark))) => Ok(Detail::Mark(mark)),
-            OneOf::Other(OneOf::Other(OneOf::Other(number))) => Ok(Detail::Number(number)),
-        }
+        read_choice(scope, cursor)
     }
 }
 
@@ -517,18 +549,18 @@ pub struct Task<A: Allocator = Global> {
 }
 
 impl<A: Allocator + Copy> ReadStructure<A> for Task<A> {
+    ghost form = { task_form };
+
+    ghost value = { task_value };
+
     ghost TAG = { 11184810 };
 
     ghost DENIES_UNKNOWN = { false };
 
-    ghost values = { task_values };
-
     type Fields = (
         Item<Order, 0xBBBBBB>,
-        (
-            OptionalLeaf<String<A>, 0xCCCCCC>,
-            (Item<Detail<A>, 0xDDDDDD>, ()),
-        ),
+        OptionalLeaf<String<A>, 0xCCCCCC>,
+        Item<Detail<A>, 0xDDDDDD>,
     );
 
     const TAG: u32 = 0xAAAAAA;
@@ -536,8 +568,11 @@ impl<A: Allocator + Copy> ReadStructure<A> for Task<A> {
     const DENIES_UNKNOWN: bool = false;
 
     #[tactic(auto, unfolding(kmip_ttlv_types::specs::Digits::six_digits))]
-    fn from_fields(fields: (Order, (Option<String<A>>, (Detail<A>, ())))) -> Task<A> {
-        let (order, (text, (detail, ()))) = fields;
+    fn has_form() {}
+
+    #[tactic(auto, unfolding(kmip_ttlv_types::specs::Digits::six_digits))]
+    fn from_fields(fields: (Order, Option<String<A>>, Detail<A>)) -> Task<A> {
+        let (order, text, detail) = fields;
         Task {
             order,
             text,
@@ -547,7 +582,6 @@ impl<A: Allocator + Copy> ReadStructure<A> for Task<A> {
 }
 
 /// A message that is such a structure: what its form reads.
-#[tactic(auto, unfolding(kmip_ttlv_types::specs::Digits::six_digits))]
 pub fn read_task<A: Allocator + Copy>(alloc: A, bytes: &[u8]) -> Result<Task<A>, Error<A>>
     ensures { IsReadAs (λ v x. v ≡ task_value x) (root_outcome task_form bytes.now) result }
 {

@@ -2,12 +2,12 @@
 //! Choices, by the type of an item or by a word before them.
 
 ghost use Rattle.std.specs.Prelude.{◌≡◌, ◌↔◌, refl, IsTrue, OnErr, OnOk, codes, false};
-ghost use Rattle.kmip_ttlv.specs.Spots.{fields_in};
 ghost use Rattle.kmip_ttlv.specs.Visits.{Tells};
 ghost use Rattle.ttlv_vectors.specs.Chosens.{word_form, word_value, line_form, line_value, count_form, count_value, said_form, written_said, read_said, said_content, named_form, written_named, read_named, named_content, ChoosesNamed, label_form, label_value, address_form, address_value, place_form, written_place, read_place, ChoosesPlace, chosen_form, written_chosen, read_chosen};
 
 use kmip_ttlv::messages::writing;
 use kmip_ttlv::shape::{Decode, Serialize};
+use kmip_ttlv::types::TtlvType;
 use kmip_ttlv::visit::Visitor;
 use kmip_ttlv::{error, reader};
 use std::alloc::{AllocError, Allocator, Global};
@@ -155,6 +155,19 @@ impl reader::Rule for SaidLineRule {
     fn name() -> &'static str {
         "if type==TextString"
     }
+
+    #[tactic(auto, unfolding(kmip_ttlv_reader::specs::RuleParts::equal_sides))]
+    fn parts() -> Option<reader::RuleParts> {
+        Some(reader::RuleParts::Type(TtlvType::TextString))
+    }
+}
+
+impl<A: Allocator + Copy> reader::VariantOf<reader::ItemElement<Line<A>>, Said<A>, A>
+    for SaidLineRule {
+    #[tactic(auto, unfolding(kmip_ttlv_types::specs::Digits::six_digits, crate::specs::Chosens::read_said))]
+    fn from_content(held: Line<A>) -> Said<A> {
+        Said::Line(held)
+    }
 }
 
 /// The rule that chooses `Said::Count`.
@@ -166,46 +179,40 @@ impl reader::Rule for SaidCountRule {
     fn name() -> &'static str {
         "if type==Integer"
     }
-}
 
-// The variants from `Count` on.
-type SaidFromCount = reader::Variant<SaidCountRule, reader::ItemElement<Count>>;
-
-// The one that was read as one of these.
-#[tactic(auto, unfolding(kmip_ttlv_types::specs::Digits::six_digits, crate::specs::Chosens::read_said))]
-#[inline(always)]
-fn said_from_count<A: Allocator + Copy>(
-    read: <SaidFromCount as reader::VariantList<A>>::Read,
-) -> Said<A>
-    ensures { read_said result ≡ ⟦<SaidFromCount as reader::VariantList<A>>⟧.value (codes "said") read }
-{
-    Said::Count(read)
-}
-
-// The variants from `Line` on.
-type SaidFromLine<A> = (
-    reader::Variant<SaidLineRule, reader::ItemElement<Line<A>>>,
-    SaidFromCount,
-);
-
-// The one that was read as one of these.
-#[tactic(auto, unfolding(kmip_ttlv_types::specs::Digits::six_digits, crate::specs::Chosens::read_said))]
-#[inline(always)]
-fn said_from_line<A: Allocator + Copy>(
-    read: <SaidFromLine<A> as reader::VariantList<A>>::Read,
-) -> Said<A>
-    ensures { read_said result ≡ ⟦<SaidFromLine<A> as reader::VariantList<A>>⟧.value (codes "said") read }
-{
-    match read {
-        reader::OneOf::First(held) => Said::Line(held),
-        reader::OneOf::Other(other) => said_from_count(other),
+    #[tactic(auto, unfolding(kmip_ttlv_reader::specs::RuleParts::equal_sides))]
+    fn parts() -> Option<reader::RuleParts> {
+        Some(reader::RuleParts::Type(TtlvType::Integer))
     }
 }
 
-impl<A: Allocator + Copy> reader::Choice<A> for Said<A> {
+impl<A: Allocator + Copy> reader::VariantOf<reader::ItemElement<Count>, Said<A>, A>
+    for SaidCountRule {
+    #[tactic(auto, unfolding(kmip_ttlv_types::specs::Digits::six_digits, crate::specs::Chosens::read_said))]
+    fn from_content(held: Count) -> Said<A> {
+        Said::Count(held)
+    }
+}
+
+impl<A: Allocator> reader::ChoiceValue for Said<A> {
     ghost own = { codes "said" };
 
-    type Variants = SaidFromLine<A>;
+    ghost value = { read_said };
+}
+
+impl<A: Allocator + Copy> reader::Choice<A> for Said<A> {
+    ghost form = { said_form };
+
+    type Variants = (
+        reader::Variant<SaidLineRule, reader::ItemElement<Line<A>>>,
+        (
+            reader::Variant<SaidCountRule, reader::ItemElement<Count>>,
+            (),
+        ),
+    );
+
+    #[tactic(auto, unfolding(kmip_ttlv_types::specs::Digits::six_digits))]
+    fn has_form() {}
 }
 
 impl<A: Allocator + Copy> reader::ReadItem<A> for Said<A> {
@@ -215,13 +222,11 @@ impl<A: Allocator + Copy> reader::ReadItem<A> for Said<A> {
 
     ghost plain = { (refl, refl) };
 
-    #[tactic(auto, unfolding(kmip_ttlv_types::specs::Digits::six_digits, crate::specs::Chosens::read_said))]
     fn read_item<'b>(
         scope: &reader::Scope<'b, A>,
         cursor: &mut reader::Cursor<'b, A>,
     ) -> reader::Step<Self, A> {
-        let read = reader::read_choice::<Self, A>(scope, cursor)?;
-        Ok(said_from_line(read))
+        reader::read_choice(scope, cursor)
     }
 }
 
@@ -284,10 +289,18 @@ impl reader::Rule for NamedLineRule {
 
     #[tactic(auto, unfolding(kmip_ttlv_reader::specs::RuleParts::parts_of))]
     fn parts() -> Option<reader::RuleParts> {
-        Some(reader::RuleParts {
+        Some(reader::RuleParts::Texts {
             tag: 0x540070,
             texts: &["Label", "Address"],
         })
+    }
+}
+
+impl<A: Allocator + Copy> reader::VariantOf<reader::ItemElement<Line<A>>, Named<A>, A>
+    for NamedLineRule {
+    #[tactic(auto, unfolding(kmip_ttlv_types::specs::Digits::six_digits, crate::specs::Chosens::read_named))]
+    fn from_content(held: Line<A>) -> Named<A> {
+        Named::Line(held)
     }
 }
 
@@ -303,51 +316,40 @@ impl reader::Rule for NamedCountRule {
 
     #[tactic(auto, unfolding(kmip_ttlv_reader::specs::RuleParts::parts_of))]
     fn parts() -> Option<reader::RuleParts> {
-        Some(reader::RuleParts {
+        Some(reader::RuleParts::Texts {
             tag: 0x540070,
             texts: &["Number"],
         })
     }
 }
 
-// The variants from `Count` on.
-type NamedFromCount = reader::Variant<NamedCountRule, reader::ItemElement<Count>>;
-
-// The one that was read as one of these.
-#[tactic(auto, unfolding(kmip_ttlv_types::specs::Digits::six_digits, crate::specs::Chosens::read_named))]
-#[inline(always)]
-fn named_from_count<A: Allocator + Copy>(
-    read: <NamedFromCount as reader::VariantList<A>>::Read,
-) -> Named<A>
-    ensures { read_named result ≡ ⟦<NamedFromCount as reader::VariantList<A>>⟧.value (codes "named") read }
-{
-    Named::Count(read)
-}
-
-// The variants from `Line` on.
-type NamedFromLine<A> = (
-    reader::Variant<NamedLineRule, reader::ItemElement<Line<A>>>,
-    NamedFromCount,
-);
-
-// The one that was read as one of these.
-#[tactic(auto, unfolding(kmip_ttlv_types::specs::Digits::six_digits, crate::specs::Chosens::read_named))]
-#[inline(always)]
-fn named_from_line<A: Allocator + Copy>(
-    read: <NamedFromLine<A> as reader::VariantList<A>>::Read,
-) -> Named<A>
-    ensures { read_named result ≡ ⟦<NamedFromLine<A> as reader::VariantList<A>>⟧.value (codes "named") read }
-{
-    match read {
-        reader::OneOf::First(held) => Named::Line(held),
-        reader::OneOf::Other(other) => named_from_count(other),
+impl<A: Allocator + Copy> reader::VariantOf<reader::ItemElement<Count>, Named<A>, A>
+    for NamedCountRule {
+    #[tactic(auto, unfolding(kmip_ttlv_types::specs::Digits::six_digits, crate::specs::Chosens::read_named))]
+    fn from_content(held: Count) -> Named<A> {
+        Named::Count(held)
     }
 }
 
-impl<A: Allocator + Copy> reader::Choice<A> for Named<A> {
+impl<A: Allocator> reader::ChoiceValue for Named<A> {
     ghost own = { codes "named" };
 
-    type Variants = NamedFromLine<A>;
+    ghost value = { read_named };
+}
+
+impl<A: Allocator + Copy> reader::Choice<A> for Named<A> {
+    ghost form = { named_form };
+
+    type Variants = (
+        reader::Variant<NamedLineRule, reader::ItemElement<Line<A>>>,
+        (
+            reader::Variant<NamedCountRule, reader::ItemElement<Count>>,
+            (),
+        ),
+    );
+
+    #[tactic(auto, unfolding(kmip_ttlv_types::specs::Digits::six_digits))]
+    fn has_form() {}
 }
 
 impl<A: Allocator + Copy> reader::ReadItem<A> for Named<A> {
@@ -357,13 +359,11 @@ impl<A: Allocator + Copy> reader::ReadItem<A> for Named<A> {
 
     ghost plain = { (refl, refl) };
 
-    #[tactic(auto, unfolding(kmip_ttlv_types::specs::Digits::six_digits, crate::specs::Chosens::read_named))]
     fn read_item<'b>(
         scope: &reader::Scope<'b, A>,
         cursor: &mut reader::Cursor<'b, A>,
     ) -> reader::Step<Self, A> {
-        let read = reader::read_choice::<Self, A>(scope, cursor)?;
-        Ok(named_from_line(read))
+        reader::read_choice(scope, cursor)
     }
 }
 
@@ -479,10 +479,18 @@ impl reader::Rule for PlaceLabelRule {
 
     #[tactic(auto, unfolding(kmip_ttlv_reader::specs::RuleParts::parts_of))]
     fn parts() -> Option<reader::RuleParts> {
-        Some(reader::RuleParts {
+        Some(reader::RuleParts::Texts {
             tag: 0x540070,
             texts: &["Label"],
         })
+    }
+}
+
+impl<A: Allocator + Copy> reader::VariantOf<reader::ItemElement<Label<A>>, Place<A>, A>
+    for PlaceLabelRule {
+    #[tactic(auto, unfolding(kmip_ttlv_types::specs::Digits::six_digits, crate::specs::Chosens::read_place))]
+    fn from_content(held: Label<A>) -> Place<A> {
+        Place::Label(held)
     }
 }
 
@@ -498,51 +506,40 @@ impl reader::Rule for PlaceAddressRule {
 
     #[tactic(auto, unfolding(kmip_ttlv_reader::specs::RuleParts::parts_of))]
     fn parts() -> Option<reader::RuleParts> {
-        Some(reader::RuleParts {
+        Some(reader::RuleParts::Texts {
             tag: 0x540070,
             texts: &["Address"],
         })
     }
 }
 
-// The variants from `Address` on.
-type PlaceFromAddress<A> = reader::Variant<PlaceAddressRule, reader::ItemElement<Address<A>>>;
-
-// The one that was read as one of these.
-#[tactic(auto, unfolding(kmip_ttlv_types::specs::Digits::six_digits, crate::specs::Chosens::read_place))]
-#[inline(always)]
-fn place_from_address<A: Allocator + Copy>(
-    read: <PlaceFromAddress<A> as reader::VariantList<A>>::Read,
-) -> Place<A>
-    ensures { read_place result ≡ ⟦<PlaceFromAddress<A> as reader::VariantList<A>>⟧.value (codes "place") read }
-{
-    Place::Address(read)
-}
-
-// The variants from `Label` on.
-type PlaceFromLabel<A> = (
-    reader::Variant<PlaceLabelRule, reader::ItemElement<Label<A>>>,
-    PlaceFromAddress<A>,
-);
-
-// The one that was read as one of these.
-#[tactic(auto, unfolding(kmip_ttlv_types::specs::Digits::six_digits, crate::specs::Chosens::read_place))]
-#[inline(always)]
-fn place_from_label<A: Allocator + Copy>(
-    read: <PlaceFromLabel<A> as reader::VariantList<A>>::Read,
-) -> Place<A>
-    ensures { read_place result ≡ ⟦<PlaceFromLabel<A> as reader::VariantList<A>>⟧.value (codes "place") read }
-{
-    match read {
-        reader::OneOf::First(held) => Place::Label(held),
-        reader::OneOf::Other(other) => place_from_address(other),
+impl<A: Allocator + Copy> reader::VariantOf<reader::ItemElement<Address<A>>, Place<A>, A>
+    for PlaceAddressRule {
+    #[tactic(auto, unfolding(kmip_ttlv_types::specs::Digits::six_digits, crate::specs::Chosens::read_place))]
+    fn from_content(held: Address<A>) -> Place<A> {
+        Place::Address(held)
     }
 }
 
-impl<A: Allocator + Copy> reader::Choice<A> for Place<A> {
+impl<A: Allocator> reader::ChoiceValue for Place<A> {
     ghost own = { codes "place" };
 
-    type Variants = PlaceFromLabel<A>;
+    ghost value = { read_place };
+}
+
+impl<A: Allocator + Copy> reader::Choice<A> for Place<A> {
+    ghost form = { place_form };
+
+    type Variants = (
+        reader::Variant<PlaceLabelRule, reader::ItemElement<Label<A>>>,
+        (
+            reader::Variant<PlaceAddressRule, reader::ItemElement<Address<A>>>,
+            (),
+        ),
+    );
+
+    #[tactic(auto, unfolding(kmip_ttlv_types::specs::Digits::six_digits))]
+    fn has_form() {}
 }
 
 impl<A: Allocator + Copy> reader::ReadItem<A> for Place<A> {
@@ -552,13 +549,11 @@ impl<A: Allocator + Copy> reader::ReadItem<A> for Place<A> {
 
     ghost plain = { (refl, refl) };
 
-    #[tactic(auto, unfolding(kmip_ttlv_types::specs::Digits::six_digits, crate::specs::Chosens::read_place))]
     fn read_item<'b>(
         scope: &reader::Scope<'b, A>,
         cursor: &mut reader::Cursor<'b, A>,
     ) -> reader::Step<Self, A> {
-        let read = reader::read_choice::<Self, A>(scope, cursor)?;
-        Ok(place_from_label(read))
+        reader::read_choice(scope, cursor)
     }
 }
 
@@ -594,35 +589,40 @@ impl<B: Allocator> Serialize for Chosen<B> {
 }
 
 impl<A: Allocator + Copy> reader::ReadStructure<A> for Chosen<A> {
+    ghost form = { chosen_form };
+
+    ghost value = { read_chosen };
+
     ghost TAG = { 0x540074 };
 
     ghost DENIES_UNKNOWN = { false };
-
-    ghost values = { λ x. fields_in (read_chosen x) };
 
     type Fields = reader::Four<
         reader::Item<Word<A>, 0x540070>,
         reader::Item<Said<A>, 0x540071>,
         reader::OptionalItem<Named<A>, 0x540072>,
         reader::OptionalItem<Said<A>, 0x540071>,
-        (reader::OptionalSeveralItems<Place<A>, 0x540073>, ()),
+        (reader::OptionalSeveralItems<Place<A>, 0x540073>,),
     >;
 
     const TAG: u32 = 0x540074;
 
     const DENIES_UNKNOWN: bool = false;
 
+    #[tactic(auto, unfolding(kmip_ttlv_types::specs::Digits::six_digits))]
+    fn has_form() {}
+
     #[tactic(auto, unfolding(kmip_ttlv_types::specs::Digits::six_digits, crate::specs::Chosens::read_chosen))]
     fn from_fields(
         fields: (
             Word<A>,
-            (
-                Said<A>,
-                (Option<Named<A>>, (Option<Said<A>>, (Vec<Place<A>, A>, ()))),
-            ),
+            Said<A>,
+            Option<Named<A>>,
+            Option<Said<A>>,
+            (Vec<Place<A>, A>,),
         ),
     ) -> Self {
-        let (word, (said, (named, (more, (places, ()))))) = fields;
+        let (word, said, named, more, (places,)) = fields;
         Chosen {
             word,
             said,
@@ -638,7 +638,6 @@ impl<A: Allocator + Copy> Decode<A> for Chosen<A> {
 
     ghost is_value = { λ v x. v ≡ read_chosen x };
 
-    #[tactic(auto, unfolding(kmip_ttlv_types::specs::Digits::six_digits, crate::specs::Chosens::read_chosen))]
     fn decode(alloc: A, bytes: &[u8]) -> Result<Self, error::Error<A>> {
         reader::read_message(alloc, bytes)
     }

@@ -2,7 +2,6 @@
 //! Leaves of every kind.
 
 ghost use Rattle.std.specs.Prelude.{◌≡◌, refl, codes, false};
-ghost use Rattle.kmip_ttlv.specs.Spots.{fields_in, struct_fields};
 ghost use Rattle.ttlv_vectors.specs.Leaves.{numbers_form, numbers_value, moments_form, moments_value, contents_form, contents_value, optional_contents_form, written_optional_contents, read_optional_contents, kind_form, kind_value, kind_number, kind_variants};
 
 use kmip_ttlv::messages::writing;
@@ -33,45 +32,46 @@ impl Serialize for Numbers {
 }
 
 impl<A: Allocator + Copy> reader::ReadStructure<A> for Numbers {
+    ghost form = { numbers_form };
+
+    ghost value = { numbers_value };
+
     ghost TAG = { 0x540001 };
 
     ghost DENIES_UNKNOWN = { false };
 
-    ghost values = { λ x. fields_in (numbers_value x) };
-
-    type Fields = (
-        reader::Leaf<i32, 0x540002>,
-        (reader::Leaf<i64, 0x540003>, ()),
-    );
+    type Fields = (reader::Leaf<i32, 0x540002>, reader::Leaf<i64, 0x540003>);
 
     const TAG: u32 = 0x540001;
 
     const DENIES_UNKNOWN: bool = false;
 
+    #[tactic(auto, unfolding(kmip_ttlv_types::specs::Digits::six_digits))]
+    fn has_form() {}
+
     #[tactic(auto, unfolding(kmip_ttlv_types::specs::Digits::six_digits, crate::specs::Leaves::numbers_value))]
-    fn from_fields(fields: (i32, (i64, ()))) -> Self {
-        let (count, (long, ())) = fields;
+    fn from_fields(fields: (i32, i64)) -> Self {
+        let (count, long) = fields;
         Numbers { count, long }
     }
 }
 
 impl<A: Allocator + Copy> reader::ReadNested<A> for Numbers {
+    ghost form = { numbers_form };
+
+    ghost value = { numbers_value };
+
     ghost TAG = { 0x540001 };
 
-    ghost fields = { struct_fields numbers_form };
-
-    ghost denies_unknown = { false };
-
-    ghost values = { λ x. fields_in (numbers_value x) };
+    ghost structured = { (refl, refl) };
 
     const TAG: u32 = 0x540001;
 
-    #[tactic(auto, unfolding(kmip_ttlv_types::specs::Digits::six_digits, crate::specs::Leaves::numbers_value))]
     fn read_nested<'b>(
         scope: &reader::Scope<'b, A>,
         cursor: &mut reader::Cursor<'b, A>,
     ) -> reader::Step<Self, A> {
-        reader::read_form(scope, cursor)
+        reader::read_structure(scope, cursor)
     }
 }
 
@@ -100,27 +100,30 @@ impl Serialize for Moments {
 }
 
 impl<A: Allocator + Copy> reader::ReadStructure<A> for Moments {
+    ghost form = { moments_form };
+
+    ghost value = { moments_value };
+
     ghost TAG = { 0x540009 };
 
     ghost DENIES_UNKNOWN = { false };
 
-    ghost values = { λ x. fields_in (moments_value x) };
-
     type Fields = (
         reader::Leaf<reader::DateTime, 0x540004>,
-        (
-            reader::Leaf<bool, 0x540005>,
-            (reader::Leaf<reader::Interval, 0x540006>, ()),
-        ),
+        reader::Leaf<bool, 0x540005>,
+        reader::Leaf<reader::Interval, 0x540006>,
     );
 
     const TAG: u32 = 0x540009;
 
     const DENIES_UNKNOWN: bool = false;
 
+    #[tactic(auto, unfolding(kmip_ttlv_types::specs::Digits::six_digits))]
+    fn has_form() {}
+
     #[tactic(auto, unfolding(kmip_ttlv_types::specs::Digits::six_digits, crate::specs::Leaves::moments_value))]
-    fn from_fields(fields: (reader::DateTime, (bool, (reader::Interval, ())))) -> Self {
-        let (date, (truth, (seconds, ()))) = fields;
+    fn from_fields(fields: (reader::DateTime, bool, reader::Interval)) -> Self {
+        let (date, truth, seconds) = fields;
         Moments {
             date: date.0,
             truth,
@@ -130,22 +133,21 @@ impl<A: Allocator + Copy> reader::ReadStructure<A> for Moments {
 }
 
 impl<A: Allocator + Copy> reader::ReadNested<A> for Moments {
+    ghost form = { moments_form };
+
+    ghost value = { moments_value };
+
     ghost TAG = { 0x540009 };
 
-    ghost fields = { struct_fields moments_form };
-
-    ghost denies_unknown = { false };
-
-    ghost values = { λ x. fields_in (moments_value x) };
+    ghost structured = { (refl, refl) };
 
     const TAG: u32 = 0x540009;
 
-    #[tactic(auto, unfolding(kmip_ttlv_types::specs::Digits::six_digits, crate::specs::Leaves::moments_value))]
     fn read_nested<'b>(
         scope: &reader::Scope<'b, A>,
         cursor: &mut reader::Cursor<'b, A>,
     ) -> reader::Step<Self, A> {
-        reader::read_form(scope, cursor)
+        reader::read_structure(scope, cursor)
     }
 }
 
@@ -175,27 +177,30 @@ impl<B: Allocator> Serialize for Contents<B> {
 }
 
 impl<A: Allocator + Copy> reader::ReadStructure<A> for Contents<A> {
+    ghost form = { contents_form };
+
+    ghost value = { contents_value };
+
     ghost TAG = { 0x540020 };
 
     ghost DENIES_UNKNOWN = { false };
 
-    ghost values = { λ x. fields_in (contents_value x) };
-
     type Fields = (
         reader::Leaf<String<A>, 0x540021>,
-        (
-            reader::Leaf<Vec<u8, A>, 0x540022>,
-            (reader::Leaf<reader::BigInteger<A>, 0x540023>, ()),
-        ),
+        reader::Leaf<Vec<u8, A>, 0x540022>,
+        reader::Leaf<reader::BigInteger<A>, 0x540023>,
     );
 
     const TAG: u32 = 0x540020;
 
     const DENIES_UNKNOWN: bool = false;
 
+    #[tactic(auto, unfolding(kmip_ttlv_types::specs::Digits::six_digits))]
+    fn has_form() {}
+
     #[tactic(auto, unfolding(kmip_ttlv_types::specs::Digits::six_digits, crate::specs::Leaves::contents_value))]
-    fn from_fields(fields: (String<A>, (Vec<u8, A>, (reader::BigInteger<A>, ())))) -> Self {
-        let (text, (bytes, (big, ()))) = fields;
+    fn from_fields(fields: (String<A>, Vec<u8, A>, reader::BigInteger<A>)) -> Self {
+        let (text, bytes, big) = fields;
         Contents {
             text,
             bytes,
@@ -205,22 +210,21 @@ impl<A: Allocator + Copy> reader::ReadStructure<A> for Contents<A> {
 }
 
 impl<A: Allocator + Copy> reader::ReadNested<A> for Contents<A> {
+    ghost form = { contents_form };
+
+    ghost value = { contents_value };
+
     ghost TAG = { 0x540020 };
 
-    ghost fields = { struct_fields contents_form };
-
-    ghost denies_unknown = { false };
-
-    ghost values = { λ x. fields_in (contents_value x) };
+    ghost structured = { (refl, refl) };
 
     const TAG: u32 = 0x540020;
 
-    #[tactic(auto, unfolding(kmip_ttlv_types::specs::Digits::six_digits, crate::specs::Leaves::contents_value))]
     fn read_nested<'b>(
         scope: &reader::Scope<'b, A>,
         cursor: &mut reader::Cursor<'b, A>,
     ) -> reader::Step<Self, A> {
-        reader::read_form(scope, cursor)
+        reader::read_structure(scope, cursor)
     }
 }
 
@@ -256,38 +260,40 @@ impl<B: Allocator> Serialize for OptionalContents<B> {
 }
 
 impl<A: Allocator + Copy> reader::ReadStructure<A> for OptionalContents<A> {
+    ghost form = { optional_contents_form };
+
+    ghost value = { read_optional_contents };
+
     ghost TAG = { 0x540030 };
 
     ghost DENIES_UNKNOWN = { false };
-
-    ghost values = { λ x. fields_in (read_optional_contents x) };
 
     type Fields = reader::Four<
         reader::OptionalLeaf<bool, 0x540005>,
         reader::OptionalLeaf<reader::Interval, 0x540006>,
         reader::OptionalLeaf<String<A>, 0x540021>,
         reader::OptionalLeaf<Vec<u8, A>, 0x540022>,
-        (reader::OptionalLeaf<reader::BigInteger<A>, 0x540023>, ()),
+        (reader::OptionalLeaf<reader::BigInteger<A>, 0x540023>,),
     >;
 
     const TAG: u32 = 0x540030;
 
     const DENIES_UNKNOWN: bool = false;
 
+    #[tactic(auto, unfolding(kmip_ttlv_types::specs::Digits::six_digits))]
+    fn has_form() {}
+
     #[tactic(auto, unfolding(kmip_ttlv_types::specs::Digits::six_digits, crate::specs::Leaves::read_optional_contents))]
     fn from_fields(
         fields: (
             Option<bool>,
-            (
-                Option<reader::Interval>,
-                (
-                    Option<String<A>>,
-                    (Option<Vec<u8, A>>, (Option<reader::BigInteger<A>>, ())),
-                ),
-            ),
+            Option<reader::Interval>,
+            Option<String<A>>,
+            Option<Vec<u8, A>>,
+            (Option<reader::BigInteger<A>>,),
         ),
     ) -> Self {
-        let (truth, (seconds, (text, (bytes, (big, ()))))) = fields;
+        let (truth, seconds, text, bytes, (big,)) = fields;
         OptionalContents {
             truth,
             seconds: match seconds {
@@ -305,22 +311,21 @@ impl<A: Allocator + Copy> reader::ReadStructure<A> for OptionalContents<A> {
 }
 
 impl<A: Allocator + Copy> reader::ReadNested<A> for OptionalContents<A> {
+    ghost form = { optional_contents_form };
+
+    ghost value = { read_optional_contents };
+
     ghost TAG = { 0x540030 };
 
-    ghost fields = { struct_fields optional_contents_form };
-
-    ghost denies_unknown = { false };
-
-    ghost values = { λ x. fields_in (read_optional_contents x) };
+    ghost structured = { (refl, refl) };
 
     const TAG: u32 = 0x540030;
 
-    #[tactic(auto, unfolding(kmip_ttlv_types::specs::Digits::six_digits, crate::specs::Leaves::read_optional_contents))]
     fn read_nested<'b>(
         scope: &reader::Scope<'b, A>,
         cursor: &mut reader::Cursor<'b, A>,
     ) -> reader::Step<Self, A> {
-        reader::read_form(scope, cursor)
+        reader::read_structure(scope, cursor)
     }
 }
 

@@ -3,7 +3,6 @@
 
 ghost use Rattle.std.specs.Prelude.{◌≡◌, refl, codes, false};
 ghost use Rattle.kmip_ttlv.specs.Forms.{enum, no_variants, unit, variant};
-ghost use Rattle.kmip_ttlv.specs.Spots.{fields_in};
 ghost use Rattle.kmip_ttlv.specs.Values.{unit_variant_value};
 ghost use Rattle.ttlv_vectors.specs.Messages.{every_form, written_every, read_every};
 
@@ -54,62 +53,51 @@ impl<B: Allocator> Serialize for Every<B> {
 }
 
 impl<A: Allocator + Copy> reader::ReadStructure<A> for Every<A> {
+    ghost form = { every_form };
+
+    ghost value = { read_every };
+
     ghost TAG = { 0x540060 };
 
     ghost DENIES_UNKNOWN = { false };
-
-    ghost values = { λ x. fields_in (read_every x) };
 
     type Fields = reader::Four<
         reader::Item<EveryConstant, 0x540061>,
         reader::Item<Kind, 0x540040>,
         reader::Nested<Numbers>,
         reader::Nested<Moments>,
-        reader::Four<
+        (
             reader::OptionalNested<OptionalNumbers>,
             reader::OptionalNested<OptionalContents<A>>,
             reader::Nested<Reasons>,
             reader::Several<Contents<A>>,
-            (),
-        >,
+        ),
     >;
 
     const TAG: u32 = 0x540060;
 
     const DENIES_UNKNOWN: bool = false;
 
-    #[tactic(auto, unfolding(kmip_ttlv_types::specs::Digits::six_digits, crate::specs::Messages::read_every, crate::specs::Leaves::numbers_value, crate::specs::Leaves::moments_value, crate::specs::Numbers::read_optional_numbers, crate::specs::Leaves::read_optional_contents, crate::specs::Numbers::read_reasons, crate::specs::Leaves::contents_value))]
+    #[tactic(auto, unfolding(kmip_ttlv_types::specs::Digits::six_digits))]
+    fn has_form() {}
+
+    #[tactic(auto, unfolding(kmip_ttlv_types::specs::Digits::six_digits, crate::specs::Messages::read_every))]
     fn from_fields(
         fields: (
             EveryConstant,
+            Kind,
+            Numbers,
+            Moments,
             (
-                Kind,
-                (
-                    Numbers,
-                    (
-                        Moments,
-                        (
-                            Option<OptionalNumbers>,
-                            (
-                                Option<OptionalContents<A>>,
-                                (Reasons, (Vec<Contents<A>, A>, ())),
-                            ),
-                        ),
-                    ),
-                ),
+                Option<OptionalNumbers>,
+                Option<OptionalContents<A>>,
+                Reasons,
+                Vec<Contents<A>, A>,
             ),
         ),
     ) -> Self {
-        let (
-            _,
-            (
-                kind,
-                (
-                    numbers,
-                    (moments, (optional_numbers, (optional_contents, (reasons, (contents, ()))))),
-                ),
-            ),
-        ) = fields;
+        let (_, kind, numbers, moments, (optional_numbers, optional_contents, reasons, contents)) =
+            fields;
         Every {
             kind,
             numbers,
@@ -127,7 +115,6 @@ impl<A: Allocator + Copy> Decode<A> for Every<A> {
 
     ghost is_value = { λ v x. v ≡ read_every x };
 
-    #[tactic(auto, unfolding(kmip_ttlv_types::specs::Digits::six_digits, crate::specs::Messages::read_every))]
     fn decode(alloc: A, bytes: &[u8]) -> Result<Self, error::Error<A>> {
         reader::read_message(alloc, bytes)
     }

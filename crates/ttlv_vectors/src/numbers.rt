@@ -1,8 +1,7 @@
 //! Numbers with a sign that may be absent, or are in a type that owns memory, and Enumerations of any number: types by hand, which
 //! no table can have. The first two are parts of the message in `message`.
 
-ghost use Rattle.std.specs.Prelude.{◌≡◌, false};
-ghost use Rattle.kmip_ttlv.specs.Spots.{fields_in, struct_fields};
+ghost use Rattle.std.specs.Prelude.{◌≡◌, false, refl};
 ghost use Rattle.ttlv_vectors.specs.Numbers.{optional_numbers_form, read_optional_numbers, written_optional_numbers};
 ghost use Rattle.ttlv_vectors.specs.Numbers.{read_reasons, reasons_form, written_reasons};
 ghost use Rattle.ttlv_vectors.specs.Numbers.{named_form, named_value, many_form, many_value};
@@ -11,7 +10,7 @@ use kmip_ttlv::error::Error;
 use kmip_ttlv::messages::writing;
 use kmip_ttlv::reader::{
     Cursor, DateTime, Four, Interval, Leaf, OptionalLeaf, ReadNested, ReadStructure, Scope, Step,
-    read_form, read_message,
+    read_message, read_structure,
 };
 use kmip_ttlv::shape::{Decode, Serialize};
 use kmip_ttlv::visit::Visitor;
@@ -43,27 +42,30 @@ impl Serialize for OptionalNumbers {
 }
 
 impl<A: Allocator + Copy> ReadStructure<A> for OptionalNumbers {
+    ghost form = { optional_numbers_form };
+
+    ghost value = { read_optional_numbers };
+
     ghost TAG = { 0x540010 };
 
     ghost DENIES_UNKNOWN = { false };
 
-    ghost values = { λ x. fields_in (read_optional_numbers x) };
-
     type Fields = (
         OptionalLeaf<i32, 0x540002>,
-        (
-            OptionalLeaf<i64, 0x540003>,
-            (OptionalLeaf<DateTime, 0x540004>, ()),
-        ),
+        OptionalLeaf<i64, 0x540003>,
+        OptionalLeaf<DateTime, 0x540004>,
     );
 
     const TAG: u32 = 0x540010;
 
     const DENIES_UNKNOWN: bool = false;
 
+    #[tactic(auto, unfolding(kmip_ttlv_types::specs::Digits::six_digits))]
+    fn has_form() {}
+
     #[tactic(auto, unfolding(kmip_ttlv_types::specs::Digits::six_digits, crate::specs::Numbers::read_optional_numbers))]
-    fn from_fields(fields: (Option<i32>, (Option<i64>, (Option<DateTime>, ())))) -> Self {
-        let (count, (long, (date, ()))) = fields;
+    fn from_fields(fields: (Option<i32>, Option<i64>, Option<DateTime>)) -> Self {
+        let (count, long, date) = fields;
         OptionalNumbers {
             count,
             long,
@@ -80,26 +82,24 @@ impl<A: Allocator + Copy> Decode<A> for OptionalNumbers {
 
     ghost is_value = { λ v x. v ≡ read_optional_numbers x };
 
-    #[tactic(auto, unfolding(kmip_ttlv_types::specs::Digits::six_digits, crate::specs::Numbers::read_optional_numbers))]
     fn decode(alloc: A, bytes: &[u8]) -> Result<Self, Error<A>> {
         read_message(alloc, bytes)
     }
 }
 
 impl<A: Allocator + Copy> ReadNested<A> for OptionalNumbers {
+    ghost form = { optional_numbers_form };
+
+    ghost value = { read_optional_numbers };
+
     ghost TAG = { 0x540010 };
 
-    ghost fields = { struct_fields optional_numbers_form };
-
-    ghost denies_unknown = { false };
-
-    ghost values = { λ x. fields_in (read_optional_numbers x) };
+    ghost structured = { (refl, refl) };
 
     const TAG: u32 = 0x540010;
 
-    #[tactic(auto, unfolding(kmip_ttlv_types::specs::Digits::six_digits, crate::specs::Numbers::read_optional_numbers))]
     fn read_nested<'b>(scope: &Scope<'b, A>, cursor: &mut Cursor<'b, A>) -> Step<Self, A> {
-        read_form(scope, cursor)
+        read_structure(scope, cursor)
     }
 }
 
@@ -126,21 +126,26 @@ impl Serialize for Reasons {
 }
 
 impl<A: Allocator + Copy> ReadStructure<A> for Reasons {
+    ghost form = { reasons_form };
+
+    ghost value = { read_reasons };
+
     ghost TAG = { 0x540015 };
 
     ghost DENIES_UNKNOWN = { false };
 
-    ghost values = { λ x. fields_in (read_reasons x) };
-
-    type Fields = (Leaf<u32, 0x540007>, (OptionalLeaf<u32, 0x540008>, ()));
+    type Fields = (Leaf<u32, 0x540007>, OptionalLeaf<u32, 0x540008>);
 
     const TAG: u32 = 0x540015;
 
     const DENIES_UNKNOWN: bool = false;
 
+    #[tactic(auto, unfolding(kmip_ttlv_types::specs::Digits::six_digits))]
+    fn has_form() {}
+
     #[tactic(auto, unfolding(kmip_ttlv_types::specs::Digits::six_digits, crate::specs::Numbers::read_reasons))]
-    fn from_fields(fields: (u32, (Option<u32>, ()))) -> Self {
-        let (first, (second, ())) = fields;
+    fn from_fields(fields: (u32, Option<u32>)) -> Self {
+        let (first, second) = fields;
         Reasons { first, second }
     }
 }
@@ -150,26 +155,24 @@ impl<A: Allocator + Copy> Decode<A> for Reasons {
 
     ghost is_value = { λ v x. v ≡ read_reasons x };
 
-    #[tactic(auto, unfolding(kmip_ttlv_types::specs::Digits::six_digits, crate::specs::Numbers::read_reasons))]
     fn decode(alloc: A, bytes: &[u8]) -> Result<Self, Error<A>> {
         read_message(alloc, bytes)
     }
 }
 
 impl<A: Allocator + Copy> ReadNested<A> for Reasons {
+    ghost form = { reasons_form };
+
+    ghost value = { read_reasons };
+
     ghost TAG = { 0x540015 };
 
-    ghost fields = { struct_fields reasons_form };
-
-    ghost denies_unknown = { false };
-
-    ghost values = { λ x. fields_in (read_reasons x) };
+    ghost structured = { (refl, refl) };
 
     const TAG: u32 = 0x540015;
 
-    #[tactic(auto, unfolding(kmip_ttlv_types::specs::Digits::six_digits, crate::specs::Numbers::read_reasons))]
     fn read_nested<'b>(scope: &Scope<'b, A>, cursor: &mut Cursor<'b, A>) -> Step<Self, A> {
-        read_form(scope, cursor)
+        read_structure(scope, cursor)
     }
 }
 
@@ -200,24 +203,30 @@ impl<B: Allocator> Serialize for Named<B> {
 }
 
 impl<A: Allocator + Copy> ReadStructure<A> for Named<A> {
+    ghost form = { named_form };
+
+    ghost value = { named_value };
+
     ghost TAG = { 0x540070 };
 
     ghost DENIES_UNKNOWN = { false };
 
-    ghost values = { λ x. fields_in (named_value x) };
-
     type Fields = (
         Leaf<String<A>, 0x540042>,
-        (Leaf<i32, 0x540002>, (Leaf<DateTime, 0x540004>, ())),
+        Leaf<i32, 0x540002>,
+        Leaf<DateTime, 0x540004>,
     );
 
     const TAG: u32 = 0x540070;
 
     const DENIES_UNKNOWN: bool = false;
 
+    #[tactic(auto, unfolding(kmip_ttlv_types::specs::Digits::six_digits))]
+    fn has_form() {}
+
     #[tactic(auto, unfolding(kmip_ttlv_types::specs::Digits::six_digits, crate::specs::Numbers::named_value))]
-    fn from_fields(fields: (String<A>, (i32, (DateTime, ())))) -> Self {
-        let (name, (count, (date, ()))) = fields;
+    fn from_fields(fields: (String<A>, i32, DateTime)) -> Self {
+        let (name, count, date) = fields;
         Named {
             name,
             count,
@@ -231,7 +240,6 @@ impl<A: Allocator + Copy> Decode<A> for Named<A> {
 
     ghost is_value = { λ v x. v ≡ named_value x };
 
-    #[tactic(auto, unfolding(kmip_ttlv_types::specs::Digits::six_digits, crate::specs::Numbers::named_value))]
     fn decode(alloc: A, bytes: &[u8]) -> Result<Self, Error<A>> {
         read_message(alloc, bytes)
     }
@@ -272,27 +280,32 @@ impl Serialize for Many {
 }
 
 impl<A: Allocator + Copy> ReadStructure<A> for Many {
+    ghost form = { many_form };
+
+    ghost value = { many_value };
+
     ghost TAG = { 0x540080 };
 
     ghost DENIES_UNKNOWN = { false };
-
-    ghost values = { λ x. fields_in (many_value x) };
 
     type Fields = Four<
         Leaf<i32, 0x540002>,
         Leaf<i32, 0x540081>,
         Leaf<i64, 0x540003>,
         Leaf<DateTime, 0x540004>,
-        (Leaf<bool, 0x540005>, (Leaf<Interval, 0x540006>, ())),
+        (Leaf<bool, 0x540005>, Leaf<Interval, 0x540006>),
     >;
 
     const TAG: u32 = 0x540080;
 
     const DENIES_UNKNOWN: bool = false;
 
+    #[tactic(auto, unfolding(kmip_ttlv_types::specs::Digits::six_digits))]
+    fn has_form() {}
+
     #[tactic(auto, unfolding(kmip_ttlv_types::specs::Digits::six_digits, crate::specs::Numbers::many_value))]
-    fn from_fields(fields: (i32, (i32, (i64, (DateTime, (bool, (Interval, ()))))))) -> Self {
-        let (count, (other, (long, (date, (truth, (seconds, ())))))) = fields;
+    fn from_fields(fields: (i32, i32, i64, DateTime, (bool, Interval))) -> Self {
+        let (count, other, long, date, (truth, seconds)) = fields;
         Many {
             count,
             other,
@@ -309,7 +322,6 @@ impl<A: Allocator + Copy> Decode<A> for Many {
 
     ghost is_value = { λ v x. v ≡ many_value x };
 
-    #[tactic(auto, unfolding(kmip_ttlv_types::specs::Digits::six_digits, crate::specs::Numbers::many_value))]
     fn decode(alloc: A, bytes: &[u8]) -> Result<Self, Error<A>> {
         read_message(alloc, bytes)
     }

@@ -5,7 +5,6 @@ ghost use Rattle.std.specs.Prelude.{◌≡◌, ◌==◌, refl, Some, codes, fals
 ghost use Rattle.std.proofs.Common.{rules};
 ghost use Rattle.std.specs.Cmp.Rules.{comparing};
 ghost use Rattle.std.specs.Ordering.{on};
-ghost use Rattle.kmip_ttlv.specs.Spots.{fields_in, struct_fields};
 ghost use Rattle.ttlv_vectors.specs.Queries.{maximum_items_form, maximum_items_value, text_attribute_form, text_attribute_value, locate_request_payload_form, written_locate_request_payload, read_locate_request_payload, operation_form, written_operation, read_operation, operation_number, operation_read_number, object_type_form, object_type_value, object_type_number, object_type_variants, application_namespace_form, application_namespace_value, query_response_payload_form, written_query_response_payload, read_query_response_payload, result_reason_form, written_result_reason, read_result_reason, result_reason_number, result_reason_read_number, result_status_form, result_status_value, result_status_number, result_status_variants, failed_item_form, written_failed_item, read_failed_item};
 
 use kmip_ttlv::messages::writing;
@@ -71,45 +70,49 @@ impl<B: Allocator> Serialize for TextAttribute<B> {
 }
 
 impl<A: Allocator + Copy> reader::ReadStructure<A> for TextAttribute<A> {
+    ghost form = { text_attribute_form };
+
+    ghost value = { text_attribute_value };
+
     ghost TAG = { 0x420008 };
 
     ghost DENIES_UNKNOWN = { false };
 
-    ghost values = { λ x. fields_in (text_attribute_value x) };
-
     type Fields = (
         reader::Leaf<String<A>, 0x42000A>,
-        (reader::Leaf<String<A>, 0x42000B>, ()),
+        reader::Leaf<String<A>, 0x42000B>,
     );
 
     const TAG: u32 = 0x420008;
 
     const DENIES_UNKNOWN: bool = false;
 
+    #[tactic(auto, unfolding(kmip_ttlv_types::specs::Digits::six_digits))]
+    fn has_form() {}
+
     #[tactic(auto, unfolding(kmip_ttlv_types::specs::Digits::six_digits, crate::specs::Queries::text_attribute_value))]
-    fn from_fields(fields: (String<A>, (String<A>, ()))) -> Self {
-        let (name, (value, ())) = fields;
+    fn from_fields(fields: (String<A>, String<A>)) -> Self {
+        let (name, value) = fields;
         TextAttribute { name, value }
     }
 }
 
 impl<A: Allocator + Copy> reader::ReadNested<A> for TextAttribute<A> {
+    ghost form = { text_attribute_form };
+
+    ghost value = { text_attribute_value };
+
     ghost TAG = { 0x420008 };
 
-    ghost fields = { struct_fields text_attribute_form };
-
-    ghost denies_unknown = { false };
-
-    ghost values = { λ x. fields_in (text_attribute_value x) };
+    ghost structured = { (refl, refl) };
 
     const TAG: u32 = 0x420008;
 
-    #[tactic(auto, unfolding(kmip_ttlv_types::specs::Digits::six_digits, crate::specs::Queries::text_attribute_value))]
     fn read_nested<'b>(
         scope: &reader::Scope<'b, A>,
         cursor: &mut reader::Cursor<'b, A>,
     ) -> reader::Step<Self, A> {
-        reader::read_form(scope, cursor)
+        reader::read_structure(scope, cursor)
     }
 }
 
@@ -136,24 +139,29 @@ impl<B: Allocator> Serialize for LocateRequestPayload<B> {
 }
 
 impl<A: Allocator + Copy> reader::ReadStructure<A> for LocateRequestPayload<A> {
+    ghost form = { locate_request_payload_form };
+
+    ghost value = { read_locate_request_payload };
+
     ghost TAG = { 0x420079 };
 
     ghost DENIES_UNKNOWN = { false };
 
-    ghost values = { λ x. fields_in (read_locate_request_payload x) };
-
     type Fields = (
         reader::OptionalItem<MaximumItems, 0x42004F>,
-        (reader::OptionalSeveral<TextAttribute<A>>, ()),
+        reader::OptionalSeveral<TextAttribute<A>>,
     );
 
     const TAG: u32 = 0x420079;
 
     const DENIES_UNKNOWN: bool = false;
 
-    #[tactic(auto, unfolding(kmip_ttlv_types::specs::Digits::six_digits, crate::specs::Queries::read_locate_request_payload, crate::specs::Queries::text_attribute_value))]
-    fn from_fields(fields: (Option<MaximumItems>, (Vec<TextAttribute<A>, A>, ()))) -> Self {
-        let (maximum_items, (attributes, ())) = fields;
+    #[tactic(auto, unfolding(kmip_ttlv_types::specs::Digits::six_digits))]
+    fn has_form() {}
+
+    #[tactic(auto, unfolding(kmip_ttlv_types::specs::Digits::six_digits, crate::specs::Queries::read_locate_request_payload))]
+    fn from_fields(fields: (Option<MaximumItems>, Vec<TextAttribute<A>, A>)) -> Self {
+        let (maximum_items, attributes) = fields;
         LocateRequestPayload {
             maximum_items,
             attributes,
@@ -162,22 +170,21 @@ impl<A: Allocator + Copy> reader::ReadStructure<A> for LocateRequestPayload<A> {
 }
 
 impl<A: Allocator + Copy> reader::ReadNested<A> for LocateRequestPayload<A> {
+    ghost form = { locate_request_payload_form };
+
+    ghost value = { read_locate_request_payload };
+
     ghost TAG = { 0x420079 };
 
-    ghost fields = { struct_fields locate_request_payload_form };
-
-    ghost denies_unknown = { false };
-
-    ghost values = { λ x. fields_in (read_locate_request_payload x) };
+    ghost structured = { (refl, refl) };
 
     const TAG: u32 = 0x420079;
 
-    #[tactic(auto, unfolding(kmip_ttlv_types::specs::Digits::six_digits, crate::specs::Queries::read_locate_request_payload))]
     fn read_nested<'b>(
         scope: &reader::Scope<'b, A>,
         cursor: &mut reader::Cursor<'b, A>,
     ) -> reader::Step<Self, A> {
-        reader::read_form(scope, cursor)
+        reader::read_structure(scope, cursor)
     }
 }
 
@@ -383,35 +390,38 @@ impl<B: Allocator> Serialize for QueryResponsePayload<B> {
 }
 
 impl<A: Allocator + Copy> reader::ReadStructure<A> for QueryResponsePayload<A> {
+    ghost form = { query_response_payload_form };
+
+    ghost value = { read_query_response_payload };
+
     ghost TAG = { 0x42007C };
 
     ghost DENIES_UNKNOWN = { false };
 
-    ghost values = { λ x. fields_in (read_query_response_payload x) };
-
-    type Fields = reader::Four<
+    type Fields = (
         reader::OptionalSeveralItems<Operation, 0x42005C>,
         reader::OptionalSeveralItems<ObjectType, 0x420057>,
         reader::OptionalLeaf<String<A>, 0x42009D>,
         reader::OptionalSeveralItems<ApplicationNamespace<A>, 0x420003>,
-        (),
-    >;
+    );
 
     const TAG: u32 = 0x42007C;
 
     const DENIES_UNKNOWN: bool = false;
 
+    #[tactic(auto, unfolding(kmip_ttlv_types::specs::Digits::six_digits))]
+    fn has_form() {}
+
     #[tactic(auto, unfolding(kmip_ttlv_types::specs::Digits::six_digits, crate::specs::Queries::read_query_response_payload))]
     fn from_fields(
         fields: (
             Vec<Operation, A>,
-            (
-                Vec<ObjectType, A>,
-                (Option<String<A>>, (Vec<ApplicationNamespace<A>, A>, ())),
-            ),
+            Vec<ObjectType, A>,
+            Option<String<A>>,
+            Vec<ApplicationNamespace<A>, A>,
         ),
     ) -> Self {
-        let (operations, (object_types, (vendor, (namespaces, ())))) = fields;
+        let (operations, object_types, vendor, namespaces) = fields;
         QueryResponsePayload {
             operations,
             object_types,
@@ -422,22 +432,21 @@ impl<A: Allocator + Copy> reader::ReadStructure<A> for QueryResponsePayload<A> {
 }
 
 impl<A: Allocator + Copy> reader::ReadNested<A> for QueryResponsePayload<A> {
+    ghost form = { query_response_payload_form };
+
+    ghost value = { read_query_response_payload };
+
     ghost TAG = { 0x42007C };
 
-    ghost fields = { struct_fields query_response_payload_form };
-
-    ghost denies_unknown = { false };
-
-    ghost values = { λ x. fields_in (read_query_response_payload x) };
+    ghost structured = { (refl, refl) };
 
     const TAG: u32 = 0x42007C;
 
-    #[tactic(auto, unfolding(kmip_ttlv_types::specs::Digits::six_digits, crate::specs::Queries::read_query_response_payload))]
     fn read_nested<'b>(
         scope: &reader::Scope<'b, A>,
         cursor: &mut reader::Cursor<'b, A>,
     ) -> reader::Step<Self, A> {
-        reader::read_form(scope, cursor)
+        reader::read_structure(scope, cursor)
     }
 }
 
@@ -614,35 +623,38 @@ impl<B: Allocator> Serialize for FailedItem<B> {
 }
 
 impl<A: Allocator + Copy> reader::ReadStructure<A> for FailedItem<A> {
+    ghost form = { failed_item_form };
+
+    ghost value = { read_failed_item };
+
     ghost TAG = { 0x42000F };
 
     ghost DENIES_UNKNOWN = { false };
 
-    ghost values = { λ x. fields_in (read_failed_item x) };
-
-    type Fields = reader::Four<
+    type Fields = (
         reader::Item<Operation, 0x42005C>,
         reader::Item<ResultStatus, 0x42007F>,
         reader::OptionalItem<ResultReason, 0x42007E>,
         reader::OptionalLeaf<String<A>, 0x42007D>,
-        (),
-    >;
+    );
 
     const TAG: u32 = 0x42000F;
 
     const DENIES_UNKNOWN: bool = false;
 
+    #[tactic(auto, unfolding(kmip_ttlv_types::specs::Digits::six_digits))]
+    fn has_form() {}
+
     #[tactic(auto, unfolding(kmip_ttlv_types::specs::Digits::six_digits, crate::specs::Queries::read_failed_item))]
     fn from_fields(
         fields: (
             Operation,
-            (
-                ResultStatus,
-                (Option<ResultReason>, (Option<String<A>>, ())),
-            ),
+            ResultStatus,
+            Option<ResultReason>,
+            Option<String<A>>,
         ),
     ) -> Self {
-        let (operation, (status, (reason, (message, ())))) = fields;
+        let (operation, status, reason, message) = fields;
         FailedItem {
             operation,
             status,
@@ -657,7 +669,6 @@ impl<A: Allocator + Copy> Decode<A> for FailedItem<A> {
 
     ghost is_value = { λ v x. v ≡ read_failed_item x };
 
-    #[tactic(auto, unfolding(kmip_ttlv_types::specs::Digits::six_digits, crate::specs::Queries::read_failed_item))]
     fn decode(alloc: A, bytes: &[u8]) -> Result<Self, error::Error<A>> {
         reader::read_message(alloc, bytes)
     }

@@ -1,12 +1,13 @@
 //! A request to register each of the eight types of objects of KMIP 1.0 (section 2.2): it is decoded, comes back equal, and is
 //! encoded as the same bytes. These are made of items by hand, as section 9.1 has them.
 
-use crate::rereads::{comes_back, decoded};
+use crate::rereads::{comes_back, comes_back_in, decoded};
 use kmip_messages::request::{Request, RequestPayload};
 use kmip_objects::object::ManagedObject;
 use kmip_ttlv::error::{Error, ErrorKind};
+use kmip_ttlv::memory::BoundedAllocator;
 use kmip_ttlv::{from_slice, to_vec};
-use std::alloc::Global;
+use std::alloc::{Allocator, Global};
 use std::io;
 use std::test::Fail;
 
@@ -130,6 +131,35 @@ fn a_request_that_is_cut_ends_early(rt: HostRuntime) -> Result<(), Fail> {
             ends_early(rt.alloc(), &bytes.as_slice()[..count]),
             "{count}"
         );
+    }
+    Ok(())
+}
+
+// Whether a request is decoded and comes back equal, with memory of this allocator.
+fn request_comes_back<A: Allocator + Copy>(alloc: A, bytes: &[u8]) -> bool {
+    comes_back_in::<Request<A>, A>(alloc, bytes)
+}
+
+// How many growths that takes; none if one failed and the request came back all the same, or failed without that.
+fn growths(alloc: Global, bytes: &[u8]) -> Option<u64> {
+    for before in 0..200u64 {
+        let memory = BoundedAllocator::failing_after(alloc, before);
+        let is_back = request_comes_back(&memory, bytes);
+        if memory.has_failed() == is_back {
+            return None;
+        }
+        if is_back {
+            return Some(before);
+        }
+    }
+    None
+}
+
+#[test]
+fn a_request_fails_at_each_growth(rt: HostRuntime) -> Result<(), Fail> {
+    for (what, _, digits) in OBJECTS {
+        let bytes = hex::decode(rt.alloc(), digits)?;
+        assert!(rt; growths(rt.alloc(), bytes.as_slice()) > Some(3), "{what}");
     }
     Ok(())
 }

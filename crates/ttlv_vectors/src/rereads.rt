@@ -62,9 +62,9 @@ fn a_message_without_items_is_not_sound(rt: HostRuntime) {
     assert!(rt; !is_sound);
 }
 
-// Whether a response is decoded and comes back equal, with memory of this allocator.
-fn comes_back_in<A: Allocator + Copy>(alloc: A, bytes: &[u8]) -> bool {
-    let read: Result<GetResponse<A>, Error<A>> = from_slice(alloc, bytes);
+// Whether a message is decoded and comes back equal, with memory of this allocator.
+pub(crate) fn comes_back_in<T: Message<A>, A: Allocator + Copy>(alloc: A, bytes: &[u8]) -> bool {
+    let read: Result<T, Error<A>> = from_slice(alloc, bytes);
     let Ok(message) = read else {
         return false;
     };
@@ -74,11 +74,16 @@ fn comes_back_in<A: Allocator + Copy>(alloc: A, bytes: &[u8]) -> bool {
     }
 }
 
+// The same of a response.
+fn response_comes_back<A: Allocator + Copy>(alloc: A, bytes: &[u8]) -> bool {
+    comes_back_in::<GetResponse<A>, A>(alloc, bytes)
+}
+
 // How many growths decoding and rereading take; none if one failed and the message came back all the same.
 fn growths(alloc: Global, bytes: &[u8]) -> Option<u64> {
     for before in 0..100u64 {
         let memory = BoundedAllocator::failing_after(alloc, before);
-        let is_back = comes_back_in(&memory, bytes);
+        let is_back = response_comes_back(&memory, bytes);
         if memory.has_failed() == is_back {
             return None;
         }

@@ -1,9 +1,0 @@
--- Written by codegen from types.table: change that, and run codegen/codegen.
--- What is read is made of what the rules chose.
-use Rattle.kmip_ttlv_types.specs.Digits as digits
-use Rattle.ttlv_vectors.specs.Chosens.{read_named}
-use Rattle.ttlv_vectors.proofs.chosen.NamedReadItem.read_item.Goals as goal
-
-pub returns-clause-read : goal.returns-clause-read
-unfolding digits.six_digits
-returns-clause-read g c = rw c.named_from_line.ensures c.in_ok-read.ensures.read

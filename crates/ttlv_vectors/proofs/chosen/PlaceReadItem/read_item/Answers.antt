@@ -1,9 +1,0 @@
--- Written by codegen from types.table: change that, and run codegen/codegen.
--- What is read is made of what the rules chose.
-use Rattle.kmip_ttlv_types.specs.Digits as digits
-use Rattle.ttlv_vectors.specs.Chosens.{read_place}
-use Rattle.ttlv_vectors.proofs.chosen.PlaceReadItem.read_item.Goals as goal
-
-pub returns-clause-read : goal.returns-clause-read
-unfolding digits.six_digits
-returns-clause-read g c = rw c.place_from_label.ensures c.in_ok-read.ensures.read
