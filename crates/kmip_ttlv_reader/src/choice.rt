@@ -190,11 +190,7 @@ fn read_either<
     O: VariantList<T, A>,
     T: ChoiceValue + Drop,
     A: Allocator + Copy,
->(
-    scope: &Scope<'b, A>,
-    cursor: &mut Cursor<'b, A>,
-    typ: TtlvType,
-) -> Step<Option<T>, A>
+>(scope: &Scope<'b, A>, cursor: &mut Cursor<'b, A>, typ: TtlvType) -> Step<Option<T>, A>
     requires within { IsWithin scope.now cursor.old }
     requires there { cursor.old.pos + 4 ≤ length scope.now.bytes.now }
     ensures read { IsChosen T.own (variant (codes "if " ++ R.Rule.condition) (wrapped E.form) O.variants) T.value

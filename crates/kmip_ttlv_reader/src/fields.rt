@@ -202,7 +202,10 @@ impl<F1: Field<A>, F2: Field<A>, F3: Field<A>, A: Allocator + Copy> FieldList<A>
     }
 
     #[inline(always)]
-    fn read<'b>(scope: &Scope<'b, A>, cursor: &mut Cursor<'b, A>) -> Step<(F1::Read, F2::Read, F3::Read), A> {
+    fn read<'b>(
+        scope: &Scope<'b, A>,
+        cursor: &mut Cursor<'b, A>,
+    ) -> Step<(F1::Read, F2::Read, F3::Read), A> {
         match <Then<F1, Then<F2, Then<F3, ()>>> as FieldList<A>>::read(scope, cursor) {
             Ok(fields) => {
                 let (first, (second, (third, ()))) = fields;
@@ -214,7 +217,8 @@ impl<F1: Field<A>, F2: Field<A>, F3: Field<A>, A: Allocator + Copy> FieldList<A>
 }
 
 /// Four fields.
-impl<F1: Field<A>, F2: Field<A>, F3: Field<A>, F4: Field<A>, A: Allocator + Copy> FieldList<A> for (F1, F2, F3, F4) {
+impl<F1: Field<A>, F2: Field<A>, F3: Field<A>, F4: Field<A>, A: Allocator + Copy> FieldList<A>
+    for (F1, F2, F3, F4) {
     type Read = (F1::Read, F2::Read, F3::Read, F4::Read);
 
     ghost fields = { field F1.name F1.form (field F2.name F2.form (field F3.name F3.form (field F4.name F4.form no_fields))) };
@@ -230,7 +234,10 @@ impl<F1: Field<A>, F2: Field<A>, F3: Field<A>, F4: Field<A>, A: Allocator + Copy
     }
 
     #[inline(always)]
-    fn read<'b>(scope: &Scope<'b, A>, cursor: &mut Cursor<'b, A>) -> Step<(F1::Read, F2::Read, F3::Read, F4::Read), A> {
+    fn read<'b>(
+        scope: &Scope<'b, A>,
+        cursor: &mut Cursor<'b, A>,
+    ) -> Step<(F1::Read, F2::Read, F3::Read, F4::Read), A> {
         match <Then<F1, Then<F2, Then<F3, Then<F4, ()>>>> as FieldList<A>>::read(scope, cursor) {
             Ok(fields) => {
                 let (first, (second, (third, (fourth, ())))) = fields;
@@ -247,7 +254,14 @@ pub struct Four<F1, F2, F3, F4, R> {
     kind: PhantomData<(F1, F2, F3, F4, R)>,
 }
 
-impl<F1: Field<A>, F2: Field<A>, F3: Field<A>, F4: Field<A>, R: FieldList<A>, A: Allocator + Copy> FieldList<A> for Four<F1, F2, F3, F4, R> {
+impl<
+    F1: Field<A>,
+    F2: Field<A>,
+    F3: Field<A>,
+    F4: Field<A>,
+    R: FieldList<A>,
+    A: Allocator + Copy,
+> FieldList<A> for Four<F1, F2, F3, F4, R> {
     type Read = (F1::Read, F2::Read, F3::Read, F4::Read, R::Read);
 
     ghost fields = { field F1.name F1.form (field F2.name F2.form (field F3.name F3.form (field F4.name F4.form R.fields))) };
@@ -263,7 +277,10 @@ impl<F1: Field<A>, F2: Field<A>, F3: Field<A>, F4: Field<A>, R: FieldList<A>, A:
     }
 
     #[inline(always)]
-    fn read<'b>(scope: &Scope<'b, A>, cursor: &mut Cursor<'b, A>) -> Step<(F1::Read, F2::Read, F3::Read, F4::Read, R::Read), A> {
+    fn read<'b>(
+        scope: &Scope<'b, A>,
+        cursor: &mut Cursor<'b, A>,
+    ) -> Step<(F1::Read, F2::Read, F3::Read, F4::Read, R::Read), A> {
         match <Then<F1, Then<F2, Then<F3, Then<F4, R>>>> as FieldList<A>>::read(scope, cursor) {
             Ok(fields) => {
                 let (first, (second, (third, (fourth, others)))) = fields;

@@ -6,9 +6,7 @@
 //! another `read_structure`. A type that stands for any other item implements `ReadItem`, by a call of `Cursor` or, as a
 //! `Choice`, by `read_choice`.
 
-pub use crate::choice::{
-    Choice, ChoiceValue, Rule, Variant, VariantList, VariantOf, read_choice,
-};
+pub use crate::choice::{Choice, ChoiceValue, Rule, Variant, VariantList, VariantOf, read_choice};
 pub use crate::cursor::Cursor;
 pub use crate::element::{BareLeaf, Element, ItemElement, LeafElement, StructureElement};
 pub use crate::failure::{Cause, Failure, FaultAt, Step};

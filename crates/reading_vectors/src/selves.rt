@@ -191,7 +191,13 @@ impl<A: Allocator + Copy> ReadStructure<A> for Whole<A> {
 
     #[tactic(auto, unfolding(kmip_ttlv_types::specs::Digits::six_digits))]
     fn from_fields(
-        fields: (i32, Option<String<A>>, Option<Point>, Vec<Moment, A>, (Point,)),
+        fields: (
+            i32,
+            Option<String<A>>,
+            Option<Point>,
+            Vec<Moment, A>,
+            (Point,),
+        ),
     ) -> Whole<A> {
         let (number, text, first, moments, (last,)) = fields;
         Whole {
@@ -248,7 +254,13 @@ impl<A: Allocator + Copy> ReadStructure<A> for Sorts<A> {
 
     #[tactic(auto, unfolding(kmip_ttlv_types::specs::Digits::six_digits))]
     fn from_fields(
-        fields: (bool, Interval, Option<u32>, Vec<u8, A>, (Option<BigInteger<A>>,)),
+        fields: (
+            bool,
+            Interval,
+            Option<u32>,
+            Vec<u8, A>,
+            (Option<BigInteger<A>>,),
+        ),
     ) -> Sorts<A> {
         let (truth, seconds, reason, bytes, (big,)) = fields;
         Sorts {
@@ -325,9 +337,7 @@ impl<A: Allocator + Copy> ReadStructure<A> for Lists<A> {
     fn has_form() {}
 
     #[tactic(auto, unfolding(kmip_ttlv_types::specs::Digits::six_digits))]
-    fn from_fields(
-        fields: (Mark, Option<Mark>, Vec<Mark, A>, Vec<String<A>, A>),
-    ) -> Lists<A> {
+    fn from_fields(fields: (Mark, Option<Mark>, Vec<Mark, A>, Vec<String<A>, A>)) -> Lists<A> {
         let (mark, other, marks, texts) = fields;
         Lists {
             mark,
