@@ -5,7 +5,7 @@ use Rattle.kmip_ttlv.specs.Agreements.{variant_wraps}
 use Rattle.kmip_ttlv.specs.Names.{number, override_name, tag_of, transparent_name}
 use Rattle.kmip_ttlv.specs.Returns.{as_int32, as_text}
 use Rattle.kmip_ttlv.specs.Rules.{at_least, equal, in_brackets, member, rule, sides}
-use Rattle.kmip_ttlv.specs.WrittenItems.{held_over, is_wrapper, take_tag}
+use Rattle.kmip_ttlv.specs.WrittenItems.{is_wrapper, pending_after, take_tag}
 use Rattle.kmip_ttlv_laws.proofs.MessageParts.{IsUnit, PartAgrees, a_structure, constant_then, enumeration_part}
 use Rattle.kmip_ttlv_laws.proofs.MessageParts.{every_agrees, leaf_then, message, newtype_structure, nothing_left}
 use Rattle.kmip_ttlv_laws.proofs.MessageParts.{part_then, several_then, structure, text_is_utf8, wrapped_leaf}
@@ -90,7 +90,7 @@ pub attribute_value_agrees : (said : List ℕ) (x : AttributeValue) → ChoosesA
     → PartAfter 0x42000A said attribute_value_form
     (written_attribute_value x) record { tag = 0x42000B; typ = attribute_value_typ x }
     (read_attribute_value x)
-unfolding take_tag tag_of number transparent_name override_name held_over is_wrapper rule sides equal at_least member in_brackets trim_end chars trim_start encode attribute_value_content written_attribute_value read_attribute_value
+unfolding take_tag tag_of number transparent_name override_name pending_after is_wrapper rule sides equal at_least member in_brackets trim_end chars trim_start encode attribute_value_content written_attribute_value read_attribute_value
 attribute_value_agrees said attribute_value.Aes chosen is =
     chosen_after first_variant (λ k found. rw (found ∙ ap Some chosen) refl) (wrapped_unit {n = 0x00000003} (variant_wraps refl refl) (unit_is_numbered refl refl) refl (λ k. record { no_rule = refl; named = refl }))
 attribute_value_agrees said (attribute_value.Integer x) (inl chosen) is =
@@ -145,7 +145,7 @@ pub request_payload_agrees : {A : Type 0} (said : List ℕ) (x : RequestPayload 
     → PartAfter 0x42005C said request_payload_form
     (written_request_payload x) (a_structure 0x420079)
     (read_request_payload x)
-unfolding take_tag tag_of number transparent_name override_name held_over is_wrapper rule sides equal at_least member in_brackets trim_end chars trim_start encode written_request_payload read_request_payload written_create_payload read_create_payload written_destroy_payload read_destroy_payload written_template read_template written_attribute read_attribute
+unfolding take_tag tag_of number transparent_name override_name pending_after is_wrapper rule sides equal at_least member in_brackets trim_end chars trim_start encode written_request_payload read_request_payload written_create_payload read_create_payload written_destroy_payload read_destroy_payload written_template read_template written_attribute read_attribute
 request_payload_agrees said (request_payload.Create x) chosen is =
     chosen_after first_variant (λ k found. rw (found ∙ ap Some chosen) refl) (create_payload_agrees record { template = record { attributes = x } } is)
 request_payload_agrees said (request_payload.Destroy x) chosen is =
@@ -199,7 +199,7 @@ pub response_payload_agrees : {A : Type 0} (said : List ℕ) (x : ResponsePayloa
     → PartAfter 0x42005C said response_payload_form
     (written_response_payload x) (a_structure 0x42007C)
     (read_response_payload x)
-unfolding take_tag tag_of number transparent_name override_name held_over is_wrapper rule sides equal at_least member in_brackets trim_end chars trim_start encode written_response_payload read_response_payload created_value destroyed_value
+unfolding take_tag tag_of number transparent_name override_name pending_after is_wrapper rule sides equal at_least member in_brackets trim_end chars trim_start encode written_response_payload read_response_payload created_value destroyed_value
 response_payload_agrees said (response_payload.Create x) chosen =
     chosen_after first_variant (λ k found. rw (found ∙ ap Some chosen) refl) (created_agrees record { unique_identifier = x })
 response_payload_agrees said (response_payload.Destroy x) chosen =

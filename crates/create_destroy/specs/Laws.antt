@@ -2,7 +2,7 @@
 -- What the bytes of messages are read back as.
 use Rattle.std.specs.Prelude.{◌≡◌, ◌↔◌, List, ℕ}
 use Rattle.kmip_ttlv.specs.Values.{Value}
-use Rattle.kmip_ttlv.specs.WriteAnswers.{IsWrittenAs}
+use Rattle.kmip_ttlv.specs.EncodeResults.{IsWrittenAs}
 use Rattle.kmip_ttlv.specs.Reads.{Begins}
 use Rattle.create_destroy.specs.Requests.{request_form, written_request, read_request, request_header}
 use Rattle.create_destroy.specs.Soundness.{IsRequest}

@@ -4,7 +4,7 @@
 ghost use Rattle.std.specs.Prelude.{◌≡◌, ◌↔◌, refl, IsTrue, OnErr, OnOk, codes, false};
 ghost use Rattle.kmip_ttlv.specs.Forms.{enum, no_variants, unit, variant};
 ghost use Rattle.kmip_ttlv.specs.Values.{unit_variant_value};
-ghost use Rattle.kmip_ttlv.specs.Visits.{Tells, leaf_value};
+ghost use Rattle.kmip_ttlv.specs.Visits.{Receives, leaf_value};
 ghost use Rattle.create_destroy.specs.Attributes.{attribute_value_form, written_attribute_value, read_attribute_value, attribute_value_content, ChoosesAttributeValue, attribute_form, written_attribute, read_attribute, template_form, written_template, read_template};
 
 use kmip_ttlv::messages::writing;
@@ -37,9 +37,9 @@ impl AttributeValue {
         }
     }
 
-    // Tells what it holds.
-    pub(crate) fn tell<V: Visitor>(&self, visitor: &mut V) -> Result<(), AllocError>
-        ensures told { OnOk result (Tells V.knows V.step (attribute_value_content self.now) visitor.old visitor.new) }
+    // Sends what it holds.
+    pub(crate) fn send<V: Visitor>(&self, visitor: &mut V) -> Result<(), AllocError>
+        ensures received { OnOk result (Receives V.knows V.step (attribute_value_content self.now) visitor.old visitor.new) }
         ensures stopped { OnErr result (V.stopped visitor.new) }
     {
         visitor.leaf(self.leaf())
@@ -65,7 +65,7 @@ impl Serialize for AttributeValue {
     #[tactic(auto, unfolding(crate::specs::Attributes::written_attribute_value))]
     fn visit<V: Visitor>(&self, visitor: &mut V) -> Result<(), AllocError> {
         writing::begin_newtype_variant(visitor, "Override:0x42000B", "Transparent")?;
-        self.tell(visitor)?;
+        self.send(visitor)?;
         writing::end_newtype_variant(visitor, "Override:0x42000B", "Transparent")
     }
 }
@@ -95,7 +95,7 @@ impl<A: Allocator + Copy> reader::VariantOf<
     A,
 > for AttributeValueAesRule {
     #[tactic(auto, unfolding(kmip_ttlv_types::specs::Digits::six_digits, crate::specs::Attributes::read_attribute_value))]
-    fn from_content(_held: AttributeValueAes) -> AttributeValue {
+    fn from_content(_inner: AttributeValueAes) -> AttributeValue {
         AttributeValue::Aes
     }
 }
@@ -149,8 +149,8 @@ impl reader::Rule for AttributeValueIntegerRule {
 impl<A: Allocator + Copy> reader::VariantOf<reader::BareLeaf<i32>, AttributeValue, A>
     for AttributeValueIntegerRule {
     #[tactic(auto, unfolding(kmip_ttlv_types::specs::Digits::six_digits, crate::specs::Attributes::read_attribute_value))]
-    fn from_content(held: i32) -> AttributeValue {
-        AttributeValue::Integer(held)
+    fn from_content(inner: i32) -> AttributeValue {
+        AttributeValue::Integer(inner)
     }
 }
 
@@ -269,13 +269,13 @@ pub struct Template<A: Allocator = Global> {
 }
 
 impl<A: Allocator> Template<A> {
-    // Tells one that holds this.
+    // Sends one that holds this.
     #[tactic(auto, unfolding(crate::specs::Attributes::written_template))]
-    pub(crate) fn tell<V: Visitor>(
+    pub(crate) fn send<V: Visitor>(
         visitor: &mut V,
         attributes: &Vec<Attribute<A>, A>,
     ) -> Result<(), AllocError>
-        ensures told { OnOk result (Tells V.knows V.step (written_template record { attributes = attributes.now }) visitor.old visitor.new) }
+        ensures received { OnOk result (Receives V.knows V.step (written_template record { attributes = attributes.now }) visitor.old visitor.new) }
         ensures stopped { OnErr result (V.stopped visitor.new) }
     {
         writing::begin_newtype(visitor, "0x420091")?;

@@ -1,7 +1,7 @@
 //! Whether a message is consistent, and the four calls.
 
 ghost use Rattle.std.specs.Prelude.{◌≡◌, ◌↔◌, IfOk, IfErr, IsTrue};
-ghost use Rattle.kmip_ttlv.specs.WriteAnswers.{Writes};
+ghost use Rattle.kmip_ttlv.specs.EncodeResults.{Encodes};
 ghost use Rattle.kmip_ttlv.specs.Reads.{Begins};
 ghost use Rattle.kmip_ttlv.specs.Outcomes.{root_outcome};
 ghost use Rattle.kmip_ttlv.specs.ReadResults.{IsReadAs, ErrorStands, early_end, sort_of};
@@ -25,7 +25,7 @@ pub fn write_request<A: Allocator + Copy, B: Allocator>(
     alloc: A,
     request: &Request<B>,
 ) -> Result<Vec<u8, A>, A>
-    ensures { Writes (written_request request.now) result }
+    ensures { Encodes (written_request request.now) result }
 {
     to_vec(alloc, request)
 }
@@ -55,7 +55,7 @@ pub fn write_response<A: Allocator + Copy, B: Allocator>(
     alloc: A,
     response: &Response<B>,
 ) -> Result<Vec<u8, A>, A>
-    ensures { Writes (written_response response.now) result }
+    ensures { Encodes (written_response response.now) result }
 {
     to_vec(alloc, response)
 }

@@ -4,7 +4,7 @@
 ghost use Rattle.std.specs.Prelude.{◌≡◌, ◌↔◌, refl, IsTrue, OnErr, OnOk, codes, false, string_bytes};
 ghost use Rattle.kmip_ttlv.specs.Forms.{enum, no_variants, unit, variant};
 ghost use Rattle.kmip_ttlv.specs.Values.{newtype_value, text_value, unit_variant_value};
-ghost use Rattle.kmip_ttlv.specs.Visits.{Tells};
+ghost use Rattle.kmip_ttlv.specs.Visits.{Receives};
 ghost use Rattle.get_messages.specs.Headers.{request_header_value};
 ghost use Rattle.create_destroy.specs.Requests.{create_payload_form, written_create_payload, read_create_payload, destroy_payload_form, written_destroy_payload, read_destroy_payload, request_payload_form, written_request_payload, read_request_payload, ChoosesRequestPayload, request_item_form, written_request_item, read_request_item, request_form, written_request, read_request, request_header};
 
@@ -26,18 +26,18 @@ pub struct CreatePayload<A: Allocator = Global> {
 }
 
 impl<A: Allocator> CreatePayload<A> {
-    // Tells one that holds this.
+    // Sends one that holds this.
     #[tactic(auto, unfolding(crate::specs::Requests::written_create_payload))]
-    pub(crate) fn tell<V: Visitor>(
+    pub(crate) fn send<V: Visitor>(
         visitor: &mut V,
         attributes: &Vec<Attribute<A>, A>,
     ) -> Result<(), AllocError>
-        ensures told { OnOk result (Tells V.knows V.step (written_create_payload record { template = record { attributes = attributes.now } }) visitor.old visitor.new) }
+        ensures received { OnOk result (Receives V.knows V.step (written_create_payload record { template = record { attributes = attributes.now } }) visitor.old visitor.new) }
         ensures stopped { OnErr result (V.stopped visitor.new) }
     {
         writing::begin_struct(visitor, "0x420079")?;
         writing::unit_variant(visitor, "0x420057", "0x00000002")?;
-        Template::tell(visitor, attributes)?;
+        Template::send(visitor, attributes)?;
         writing::end_struct(visitor, "0x420079")?;
         Ok(())
     }
@@ -126,29 +126,29 @@ pub struct DestroyPayload<A: Allocator = Global> {
 }
 
 impl<A: Allocator> DestroyPayload<A> {
-    // Tells what one holds.
-    fn tell_held<V: Visitor>(
+    // Sends what one holds.
+    fn send_inner<V: Visitor>(
         visitor: &mut V,
         unique_identifier: &String<A>,
     ) -> Result<(), AllocError>
-        ensures told { OnOk result (Tells V.knows V.step (newtype_value (codes "Transparent:0x420094") (text_value (string_bytes unique_identifier.now))) visitor.old visitor.new) }
+        ensures received { OnOk result (Receives V.knows V.step (newtype_value (codes "Transparent:0x420094") (text_value (string_bytes unique_identifier.now))) visitor.old visitor.new) }
         ensures stopped { OnErr result (V.stopped visitor.new) }
     {
         writing::string(visitor, "Transparent:0x420094", unique_identifier)?;
         Ok(())
     }
 
-    // Tells one that holds this.
+    // Sends one that holds this.
     #[tactic(auto, unfolding(crate::specs::Requests::written_destroy_payload))]
-    pub(crate) fn tell<V: Visitor>(
+    pub(crate) fn send<V: Visitor>(
         visitor: &mut V,
         unique_identifier: &String<A>,
     ) -> Result<(), AllocError>
-        ensures told { OnOk result (Tells V.knows V.step (written_destroy_payload record { unique_identifier = unique_identifier.now }) visitor.old visitor.new) }
+        ensures received { OnOk result (Receives V.knows V.step (written_destroy_payload record { unique_identifier = unique_identifier.now }) visitor.old visitor.new) }
         ensures stopped { OnErr result (V.stopped visitor.new) }
     {
         writing::begin_newtype(visitor, "0x420079")?;
-        Self::tell_held(visitor, unique_identifier)?;
+        Self::send_inner(visitor, unique_identifier)?;
         writing::end_newtype(visitor, "0x420079")?;
         Ok(())
     }
@@ -226,8 +226,8 @@ impl<B: Allocator> Serialize for RequestPayload<B> {
     #[tactic(auto, unfolding(crate::specs::Requests::written_request_payload))]
     fn visit<V: Visitor>(&self, visitor: &mut V) -> Result<(), AllocError> {
         match self {
-            RequestPayload::Create(attributes) => CreatePayload::tell(visitor, attributes),
-            RequestPayload::Destroy(unique_identifier) => DestroyPayload::tell(
+            RequestPayload::Create(attributes) => CreatePayload::send(visitor, attributes),
+            RequestPayload::Destroy(unique_identifier) => DestroyPayload::send(
                 visitor,
                 unique_identifier,
             ),
@@ -260,8 +260,8 @@ impl<A: Allocator + Copy> reader::VariantOf<
     A,
 > for RequestPayloadCreateRule {
     #[tactic(auto, unfolding(kmip_ttlv_types::specs::Digits::six_digits, crate::specs::Requests::read_request_payload, crate::specs::Requests::read_create_payload))]
-    fn from_content(held: CreatePayload<A>) -> RequestPayload<A> {
-        RequestPayload::Create(held.template.attributes)
+    fn from_content(inner: CreatePayload<A>) -> RequestPayload<A> {
+        RequestPayload::Create(inner.template.attributes)
     }
 }
 
@@ -290,8 +290,8 @@ impl<A: Allocator + Copy> reader::VariantOf<
     A,
 > for RequestPayloadDestroyRule {
     #[tactic(auto, unfolding(kmip_ttlv_types::specs::Digits::six_digits, crate::specs::Requests::read_request_payload, crate::specs::Requests::read_destroy_payload))]
-    fn from_content(held: DestroyPayload<A>) -> RequestPayload<A> {
-        RequestPayload::Destroy(held.unique_identifier)
+    fn from_content(inner: DestroyPayload<A>) -> RequestPayload<A> {
+        RequestPayload::Destroy(inner.unique_identifier)
     }
 }
 
@@ -429,9 +429,9 @@ impl<A: Allocator> Request<A> {
         }
     }
 
-    // Tells these.
-    fn tell_header<V: Visitor>(&self, visitor: &mut V) -> Result<(), AllocError>
-        ensures told { OnOk result (Tells V.knows V.step (request_header_value (request_header self.now)) visitor.old visitor.new) }
+    // Sends these.
+    fn send_header<V: Visitor>(&self, visitor: &mut V) -> Result<(), AllocError>
+        ensures received { OnOk result (Receives V.knows V.step (request_header_value (request_header self.now)) visitor.old visitor.new) }
         ensures stopped { OnErr result (V.stopped visitor.new) }
     {
         self.header().visit(visitor)?;
@@ -458,7 +458,7 @@ impl<B: Allocator> Serialize for Request<B> {
     #[tactic(auto, unfolding(crate::specs::Requests::written_request))]
     fn visit<V: Visitor>(&self, visitor: &mut V) -> Result<(), AllocError> {
         writing::begin_struct(visitor, "0x420078")?;
-        self.tell_header(visitor)?;
+        self.send_header(visitor)?;
         writing::several(visitor, &self.items)?;
         writing::end_struct(visitor, "0x420078")?;
         Ok(())

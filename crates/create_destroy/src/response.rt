@@ -4,7 +4,7 @@
 ghost use Rattle.std.specs.Prelude.{◌≡◌, ◌↔◌, refl, IsTrue, OnErr, OnOk, codes, false, string_bytes};
 ghost use Rattle.kmip_ttlv.specs.Forms.{enum, no_variants, unit, variant};
 ghost use Rattle.kmip_ttlv.specs.Values.{newtype_value, text_value, unit_variant_value};
-ghost use Rattle.kmip_ttlv.specs.Visits.{Tells};
+ghost use Rattle.kmip_ttlv.specs.Visits.{Receives};
 ghost use Rattle.get_messages.specs.Headers.{response_header_value};
 ghost use Rattle.create_destroy.specs.Responses.{created_form, created_value, destroyed_form, destroyed_value, response_payload_form, written_response_payload, read_response_payload, ChoosesResponsePayload, response_item_form, written_response_item, read_response_item, response_form, written_response, read_response, response_header};
 
@@ -25,30 +25,30 @@ pub struct Created<A: Allocator = Global> {
 }
 
 impl<A: Allocator> Created<A> {
-    // Tells what one holds.
-    fn tell_held<V: Visitor>(
+    // Sends what one holds.
+    fn send_inner<V: Visitor>(
         visitor: &mut V,
         unique_identifier: &String<A>,
     ) -> Result<(), AllocError>
-        ensures told { OnOk result (Tells V.knows V.step (newtype_value (codes "Transparent:0x420094") (text_value (string_bytes unique_identifier.now))) visitor.old visitor.new) }
+        ensures received { OnOk result (Receives V.knows V.step (newtype_value (codes "Transparent:0x420094") (text_value (string_bytes unique_identifier.now))) visitor.old visitor.new) }
         ensures stopped { OnErr result (V.stopped visitor.new) }
     {
         writing::string(visitor, "Transparent:0x420094", unique_identifier)?;
         Ok(())
     }
 
-    // Tells one that holds this.
+    // Sends one that holds this.
     #[tactic(auto, unfolding(crate::specs::Responses::created_value))]
-    pub(crate) fn tell<V: Visitor>(
+    pub(crate) fn send<V: Visitor>(
         visitor: &mut V,
         unique_identifier: &String<A>,
     ) -> Result<(), AllocError>
-        ensures told { OnOk result (Tells V.knows V.step (created_value record { unique_identifier = unique_identifier.now }) visitor.old visitor.new) }
+        ensures received { OnOk result (Receives V.knows V.step (created_value record { unique_identifier = unique_identifier.now }) visitor.old visitor.new) }
         ensures stopped { OnErr result (V.stopped visitor.new) }
     {
         writing::begin_struct(visitor, "0x42007C")?;
         writing::unit_variant(visitor, "0x420057", "0x00000002")?;
-        Self::tell_held(visitor, unique_identifier)?;
+        Self::send_inner(visitor, unique_identifier)?;
         writing::end_struct(visitor, "0x42007C")?;
         Ok(())
     }
@@ -137,29 +137,29 @@ pub struct Destroyed<A: Allocator = Global> {
 }
 
 impl<A: Allocator> Destroyed<A> {
-    // Tells what one holds.
-    fn tell_held<V: Visitor>(
+    // Sends what one holds.
+    fn send_inner<V: Visitor>(
         visitor: &mut V,
         unique_identifier: &String<A>,
     ) -> Result<(), AllocError>
-        ensures told { OnOk result (Tells V.knows V.step (newtype_value (codes "Transparent:0x420094") (text_value (string_bytes unique_identifier.now))) visitor.old visitor.new) }
+        ensures received { OnOk result (Receives V.knows V.step (newtype_value (codes "Transparent:0x420094") (text_value (string_bytes unique_identifier.now))) visitor.old visitor.new) }
         ensures stopped { OnErr result (V.stopped visitor.new) }
     {
         writing::string(visitor, "Transparent:0x420094", unique_identifier)?;
         Ok(())
     }
 
-    // Tells one that holds this.
+    // Sends one that holds this.
     #[tactic(auto, unfolding(crate::specs::Responses::destroyed_value))]
-    pub(crate) fn tell<V: Visitor>(
+    pub(crate) fn send<V: Visitor>(
         visitor: &mut V,
         unique_identifier: &String<A>,
     ) -> Result<(), AllocError>
-        ensures told { OnOk result (Tells V.knows V.step (destroyed_value record { unique_identifier = unique_identifier.now }) visitor.old visitor.new) }
+        ensures received { OnOk result (Receives V.knows V.step (destroyed_value record { unique_identifier = unique_identifier.now }) visitor.old visitor.new) }
         ensures stopped { OnErr result (V.stopped visitor.new) }
     {
         writing::begin_struct(visitor, "0x42007C")?;
-        Self::tell_held(visitor, unique_identifier)?;
+        Self::send_inner(visitor, unique_identifier)?;
         writing::end_struct(visitor, "0x42007C")?;
         Ok(())
     }
@@ -237,8 +237,8 @@ impl<B: Allocator> Serialize for ResponsePayload<B> {
     #[tactic(auto, unfolding(crate::specs::Responses::written_response_payload))]
     fn visit<V: Visitor>(&self, visitor: &mut V) -> Result<(), AllocError> {
         match self {
-            ResponsePayload::Create(unique_identifier) => Created::tell(visitor, unique_identifier),
-            ResponsePayload::Destroy(unique_identifier) => Destroyed::tell(
+            ResponsePayload::Create(unique_identifier) => Created::send(visitor, unique_identifier),
+            ResponsePayload::Destroy(unique_identifier) => Destroyed::send(
                 visitor,
                 unique_identifier,
             ),
@@ -271,8 +271,8 @@ impl<A: Allocator + Copy> reader::VariantOf<
     A,
 > for ResponsePayloadCreateRule {
     #[tactic(auto, unfolding(kmip_ttlv_types::specs::Digits::six_digits, crate::specs::Responses::read_response_payload, crate::specs::Responses::created_value))]
-    fn from_content(held: Created<A>) -> ResponsePayload<A> {
-        ResponsePayload::Create(held.unique_identifier)
+    fn from_content(inner: Created<A>) -> ResponsePayload<A> {
+        ResponsePayload::Create(inner.unique_identifier)
     }
 }
 
@@ -301,8 +301,8 @@ impl<A: Allocator + Copy> reader::VariantOf<
     A,
 > for ResponsePayloadDestroyRule {
     #[tactic(auto, unfolding(kmip_ttlv_types::specs::Digits::six_digits, crate::specs::Responses::read_response_payload, crate::specs::Responses::destroyed_value))]
-    fn from_content(held: Destroyed<A>) -> ResponsePayload<A> {
-        ResponsePayload::Destroy(held.unique_identifier)
+    fn from_content(inner: Destroyed<A>) -> ResponsePayload<A> {
+        ResponsePayload::Destroy(inner.unique_identifier)
     }
 }
 
@@ -471,9 +471,9 @@ impl<A: Allocator> Response<A> {
         }
     }
 
-    // Tells these.
-    fn tell_header<V: Visitor>(&self, visitor: &mut V) -> Result<(), AllocError>
-        ensures told { OnOk result (Tells V.knows V.step (response_header_value (response_header self.now)) visitor.old visitor.new) }
+    // Sends these.
+    fn send_header<V: Visitor>(&self, visitor: &mut V) -> Result<(), AllocError>
+        ensures received { OnOk result (Receives V.knows V.step (response_header_value (response_header self.now)) visitor.old visitor.new) }
         ensures stopped { OnErr result (V.stopped visitor.new) }
     {
         self.header().visit(visitor)?;
@@ -501,7 +501,7 @@ impl<B: Allocator> Serialize for Response<B> {
     #[tactic(auto, unfolding(crate::specs::Responses::written_response))]
     fn visit<V: Visitor>(&self, visitor: &mut V) -> Result<(), AllocError> {
         writing::begin_struct(visitor, "0x42007B")?;
-        self.tell_header(visitor)?;
+        self.send_header(visitor)?;
         writing::several(visitor, &self.items)?;
         writing::end_struct(visitor, "0x42007B")?;
         Ok(())

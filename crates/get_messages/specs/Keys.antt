@@ -7,7 +7,7 @@ use Rattle.kmip_ttlv.specs.Values.{Value, bytes_value, i32_value, newtype_value,
 use Rattle.kmip_ttlv.specs.Values.{unit_variant_value, value}
 use Rattle.kmip_ttlv.specs.Visits.{joined}
 use Rattle.std.specs.Prelude.{codes, false, option_map, true}
-use Rattle.kmip_ttlv.specs.Visits as told
+use Rattle.kmip_ttlv.specs.Visits as visits
 use Rattle.get_messages.specs.declared.key.KeyValue.{KeyValue}
 use Rattle.get_messages.specs.declared.key.KeyLength.{KeyLength}
 use Rattle.get_messages.specs.declared.key.KeyBlock.{KeyBlock}
@@ -52,7 +52,7 @@ written_key_block x =
     value (key_value_value x.key_value) (
     value (unit_variant_value (codes "0x420028") (codes "0x00000003")) (
     value (key_length_value x.cryptographic_length) (
-    joined (told.optional (option_map written_key_wrapping_data x.key_wrapping_data)) no_values)))))
+    joined (visits.optional_field (option_map written_key_wrapping_data x.key_wrapping_data)) no_values)))))
 
 -- what is read of a `KeyBlock`
 unfoldable pub read_key_block : {A : Type 0} → KeyBlock A → Value

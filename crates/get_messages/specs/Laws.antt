@@ -2,7 +2,7 @@
 -- What the bytes of messages are read back as.
 use Rattle.std.specs.Prelude.{◌≡◌, ◌↔◌, List, ℕ}
 use Rattle.kmip_ttlv.specs.Values.{Value}
-use Rattle.kmip_ttlv.specs.WriteAnswers.{IsWrittenAs}
+use Rattle.kmip_ttlv.specs.EncodeResults.{IsWrittenAs}
 use Rattle.kmip_ttlv.specs.Reads.{Begins}
 use Rattle.get_messages.specs.Requests.{get_request_form, get_request_value}
 use Rattle.get_messages.specs.Soundness.{IsGetRequest}

@@ -7,7 +7,7 @@ use Rattle.kmip_ttlv.specs.Values.{Value, bytes_value, newtype_value, no_values,
 use Rattle.kmip_ttlv.specs.Values.{unit_variant_value, value}
 use Rattle.kmip_ttlv.specs.Visits.{joined}
 use Rattle.std.specs.Prelude.{List, codes, option_map, string_bytes, true, ℕ}
-use Rattle.kmip_ttlv.specs.Visits as told
+use Rattle.kmip_ttlv.specs.Visits as visits
 use Rattle.get_messages.specs.declared.wrapping.WrappingMethod.{WrappingMethod}
 use Rattle.get_messages.specs.declared.wrapping.WrappingMethod.TheVariants as wrapping_method
 use Rattle.get_messages.specs.declared.wrapping.BlockCipherMode.{BlockCipherMode}
@@ -233,10 +233,10 @@ cryptographic_parameters_form =
 unfoldable pub written_cryptographic_parameters : CryptographicParameters → Value
 written_cryptographic_parameters x =
     struct_value (codes "0x42002B") (
-    joined (told.optional (option_map block_cipher_mode_value x.block_cipher_mode)) (
-    joined (told.optional (option_map padding_method_value x.padding_method)) (
-    joined (told.optional (option_map hashing_algorithm_value x.hashing_algorithm)) (
-    joined (told.optional (option_map role_type_value x.role_type)) no_values))))
+    joined (visits.optional_field (option_map block_cipher_mode_value x.block_cipher_mode)) (
+    joined (visits.optional_field (option_map padding_method_value x.padding_method)) (
+    joined (visits.optional_field (option_map hashing_algorithm_value x.hashing_algorithm)) (
+    joined (visits.optional_field (option_map role_type_value x.role_type)) no_values))))
 
 -- what is read of a `CryptographicParameters`
 unfoldable pub read_cryptographic_parameters : CryptographicParameters → Value
@@ -259,7 +259,7 @@ unfoldable pub written_encryption_key_information : {A : Type 0} → EncryptionK
 written_encryption_key_information x =
     struct_value (codes "0x420036") (
     value (newtype_value (codes "Transparent:0x420094") (text_value (string_bytes x.unique_identifier))) (
-    joined (told.optional (option_map written_cryptographic_parameters x.cryptographic_parameters)) no_values))
+    joined (visits.optional_field (option_map written_cryptographic_parameters x.cryptographic_parameters)) no_values))
 
 -- what is read of a `EncryptionKeyInformation`
 unfoldable pub read_encryption_key_information : {A : Type 0} → EncryptionKeyInformation A → Value
@@ -280,7 +280,7 @@ unfoldable pub written_mac_signature_key_information : {A : Type 0} → MacSigna
 written_mac_signature_key_information x =
     struct_value (codes "0x42004E") (
     value (newtype_value (codes "Transparent:0x420094") (text_value (string_bytes x.unique_identifier))) (
-    joined (told.optional (option_map written_cryptographic_parameters x.cryptographic_parameters)) no_values))
+    joined (visits.optional_field (option_map written_cryptographic_parameters x.cryptographic_parameters)) no_values))
 
 -- what is read of a `MacSignatureKeyInformation`
 unfoldable pub read_mac_signature_key_information : {A : Type 0} → MacSignatureKeyInformation A → Value
@@ -304,11 +304,11 @@ unfoldable pub written_key_wrapping_data : {A : Type 0} → KeyWrappingData A �
 written_key_wrapping_data x =
     struct_value (codes "0x420046") (
     value (wrapping_method_value x.wrapping_method) (
-    joined (told.optional (option_map written_encryption_key_information x.encryption_key_information)) (
-    joined (told.optional (option_map written_mac_signature_key_information x.mac_signature_key_information)) (
-    joined (told.optional (option_map
+    joined (visits.optional_field (option_map written_encryption_key_information x.encryption_key_information)) (
+    joined (visits.optional_field (option_map written_mac_signature_key_information x.mac_signature_key_information)) (
+    joined (visits.optional_field (option_map
     (λ y. newtype_value (codes "Transparent:0x42004D") (bytes_value y.items)) x.mac_signature)) (
-    joined (told.optional (option_map
+    joined (visits.optional_field (option_map
     (λ y. newtype_value (codes "Transparent:0x42003D") (bytes_value y.items)) x.iv_counter_nonce)) no_values)))))
 
 -- what is read of a `KeyWrappingData`

@@ -7,7 +7,7 @@ use Rattle.kmip_ttlv.specs.Names.{tag_of, number, transparent_name}
 use Rattle.kmip_ttlv.specs.Trees.{Tree, leaf_bytes, node_bytes, bytes, bytes_all}
 use Rattle.kmip_ttlv.specs.WrittenItems.{take_tag, some_item}
 use Rattle.kmip_ttlv.specs.Sizes.{FitsAfter}
-use Rattle.kmip_ttlv.specs.WriteAnswers.{IsWrittenAs, IsRefusedAs, origin}
+use Rattle.kmip_ttlv.specs.EncodeResults.{IsWrittenAs, FailsAs, origin}
 use Rattle.hex_to_txt_run.specs.Pair.{written_pair, pair_tree}
 
 pub leaf_long : (tag n : ℕ) → length (leaf_bytes tag Integer (to_be_bytes w32 n)) ≡ 16
@@ -32,7 +32,7 @@ none_is_missing : (a b : ℤ) → Some (pair_tree a b ∷ []) ≡ None → ⊥
 none_is_missing a b same = cc
 
 -- and fails only when out of memory
-pub pair_fails : (a b : ℤ) (kind : Kind) (location : Location) → IsRefusedAs (written_pair a b) origin kind location → kind ≡ out_of_memory
+pub pair_fails : (a b : ℤ) (kind : Kind) (location : Location) → FailsAs (written_pair a b) origin kind location → kind ≡ out_of_memory
 unfolding take_tag tag_of number transparent_name some_item
 pair_fails a b out_of_memory l h = refl
 pair_fails a b length_overflow l h = absurd (h.1 (pair_fits a b))

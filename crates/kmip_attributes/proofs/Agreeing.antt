@@ -7,7 +7,7 @@ use Rattle.kmip_ttlv.specs.Returns.{IsNoneOf, as_boolean, as_date_time, as_int32
 use Rattle.kmip_ttlv.specs.Returns.{as_octets, as_text}
 use Rattle.kmip_ttlv.specs.Rules.{at_least, equal, in_brackets, member, rule, sides}
 use Rattle.kmip_ttlv.specs.Values.{bytes_value, newtype_value, text_value}
-use Rattle.kmip_ttlv.specs.WrittenItems.{held_over, is_wrapper, take_tag}
+use Rattle.kmip_ttlv.specs.WrittenItems.{is_wrapper, pending_after, take_tag}
 use Rattle.kmip_ttlv_laws.proofs.MessageParts.{PartAgrees, a_structure, all_agree, any_then, as_whole, head_or}
 use Rattle.kmip_ttlv_laws.proofs.MessageParts.{if_present, leaf_part, leaf_then, neither_named, nothing_left}
 use Rattle.kmip_ttlv_laws.proofs.MessageParts.{optional_then, part_then, present, structure, text_is_utf8}
@@ -17,7 +17,7 @@ use Rattle.std.proofs.Common.{ap, refl, ◌∙◌}
 use Rattle.std.specs.Prelude.{List, None, Some, [], codes, false, string_bytes, ℕ, ◌∷◌, ◌≡◌}
 use Rattle.std.specs.Str.{chars, trim_end, trim_start}
 use lib.Utf8.{encode}
-use Rattle.kmip_ttlv.specs.Keeps as keeps
+use Rattle.kmip_ttlv.specs.TagValues as tag_values
 use Rattle.kmip_ttlv.specs.Rules as rules
 use Rattle.kmip_ttlv.specs.declared.types.TtlvType.{TtlvType}
 use Rattle.kmip_ttlv.specs.declared.types.TtlvType.TheVariants as types
@@ -493,7 +493,7 @@ pub attribute_structure_agrees : {A : Type 0} (said : List ℕ) (x : AttributeSt
     → PartAfter 0x42000A said attribute_structure_form
     (written_attribute_structure x) (a_structure 0x42000B)
     (returned_attribute_structure x)
-unfolding take_tag tag_of number transparent_name override_name held_over is_wrapper rule sides equal at_least member in_brackets trim_end chars trim_start encode attribute_structure_content written_attribute_structure returned_attribute_structure written_name returned_name written_cryptographic_parameters returned_cryptographic_parameters written_cryptographic_domain_parameters returned_cryptographic_domain_parameters written_certificate_identifier read_certificate_identifier written_certificate_subject read_certificate_subject written_certificate_issuer read_certificate_issuer written_digest returned_digest written_usage_limits returned_usage_limits written_revocation_reason returned_revocation_reason written_link returned_link application_specific_information_value
+unfolding take_tag tag_of number transparent_name override_name pending_after is_wrapper rule sides equal at_least member in_brackets trim_end chars trim_start encode attribute_structure_content written_attribute_structure returned_attribute_structure written_name returned_name written_cryptographic_parameters returned_cryptographic_parameters written_cryptographic_domain_parameters returned_cryptographic_domain_parameters written_certificate_identifier read_certificate_identifier written_certificate_subject read_certificate_subject written_certificate_issuer read_certificate_issuer written_digest returned_digest written_usage_limits returned_usage_limits written_revocation_reason returned_revocation_reason written_link returned_link application_specific_information_value
 attribute_structure_agrees said (attribute_structure.Name x) chosen is =
     chosen_after first_variant (λ k found. rw (found ∙ ap Some chosen) refl) (overridden_structure (variant_wraps refl refl) refl (name_agrees x is))
 attribute_structure_agrees said (attribute_structure.CryptographicParameters x) chosen is =
@@ -552,7 +552,7 @@ attribute_value_single (attribute_value.Interval x) = refl
 attribute_value_single (attribute_value.Structure x) = attribute_structure_single x
 
 -- where what is said is none of the names, the type of the item chooses
-attribute_value_unnamed : (said : List ℕ) (k : List keeps.Keep) (typ : TtlvType) (i : ℕ) → IsNoneOf said attribute_value_names → keeps.last k 0x42000A ≡ Some said
+attribute_value_unnamed : (said : List ℕ) (k : List tag_values.TagValue) (typ : TtlvType) (i : ℕ) → IsNoneOf said attribute_value_names → tag_values.last k 0x42000A ≡ Some said
     → rules.choice (
     variant (codes "if type==Integer") (wrapped integer_value_form) (
     variant (codes "if type==LongInteger") (wrapped long_integer_value_form) (
@@ -594,7 +594,7 @@ pub attribute_value_agrees : {A : Type 0} (said : List ℕ) (x : AttributeValue 
     → PartAfter 0x42000A said attribute_value_form
     (written_attribute_value x) record { tag = 0x42000B; typ = attribute_value_typ x }
     (returned_attribute_value x)
-unfolding take_tag tag_of number transparent_name override_name held_over is_wrapper rule sides equal at_least member in_brackets trim_end chars trim_start encode attribute_value_content written_attribute_value returned_attribute_value written_object_type written_cryptographic_algorithm written_certificate_type written_state written_attribute_structure returned_attribute_structure attribute_structure_content
+unfolding take_tag tag_of number transparent_name override_name pending_after is_wrapper rule sides equal at_least member in_brackets trim_end chars trim_start encode attribute_value_content written_attribute_value returned_attribute_value written_object_type written_cryptographic_algorithm written_certificate_type written_state written_attribute_structure returned_attribute_structure attribute_structure_content
 attribute_value_agrees said (attribute_value.ObjectType x) chosen is =
     chosen_after first_variant (λ k found. rw (found ∙ ap Some chosen) refl) (overridden_leaf (variant_wraps refl refl) refl refl (as_number is))
 attribute_value_agrees said (attribute_value.CryptographicAlgorithm x) chosen is =

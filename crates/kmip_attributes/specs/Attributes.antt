@@ -10,7 +10,7 @@ use Rattle.kmip_ttlv.specs.Values.{i64_value, interval_value, newtype_value, new
 use Rattle.kmip_ttlv.specs.Values.{struct_value, text_value, u32_value, value}
 use Rattle.kmip_ttlv.specs.Visits.{joined}
 use Rattle.std.specs.Prelude.{List, [], codes, option_map, string_bytes, true, ℕ, ◌∷◌, ◌≡◌}
-use Rattle.kmip_ttlv.specs.Visits as told
+use Rattle.kmip_ttlv.specs.Visits as visits
 use Rattle.kmip_attributes.specs.declared.attribute.AttributeName.{AttributeName}
 use Rattle.kmip_attributes.specs.declared.attribute.AttributeIndex.{AttributeIndex}
 use Rattle.kmip_attributes.specs.declared.attribute.IntegerValue.{IntegerValue}
@@ -542,7 +542,7 @@ unfoldable pub written_attribute : {A : Type 0} → Attribute A → Value
 written_attribute x =
     struct_value (codes "0x420008") (
     value (newtype_value (codes "Transparent:0x42000A") (text_value (string_bytes x.name))) (
-    joined (told.optional (option_map attribute_index_value x.index)) (
+    joined (visits.optional_field (option_map attribute_index_value x.index)) (
     value (written_attribute_value x.value) no_values)))
 
 -- what is read of a `Attribute`

@@ -6,7 +6,7 @@ use Rattle.kmip_ttlv.specs.Values.{Value, bytes_value, i32_value, i64_value, new
 use Rattle.kmip_ttlv.specs.Values.{text_value, value}
 use Rattle.kmip_ttlv.specs.Visits.{joined}
 use Rattle.std.specs.Prelude.{codes, option_map, string_bytes, true}
-use Rattle.kmip_ttlv.specs.Visits as told
+use Rattle.kmip_ttlv.specs.Visits as visits
 use Rattle.kmip_attributes.specs.declared.structures.Name.{Name}
 use Rattle.kmip_attributes.specs.declared.structures.CryptographicParameters.{CryptographicParameters}
 use Rattle.kmip_attributes.specs.declared.structures.Qlength.{Qlength}
@@ -74,10 +74,10 @@ cryptographic_parameters_form =
 unfoldable pub written_cryptographic_parameters : CryptographicParameters → Value
 written_cryptographic_parameters x =
     struct_value (codes "0x42000B") (
-    joined (told.optional (option_map written_block_cipher_mode x.block_cipher_mode)) (
-    joined (told.optional (option_map written_padding_method x.padding_method)) (
-    joined (told.optional (option_map written_hashing_algorithm x.hashing_algorithm)) (
-    joined (told.optional (option_map written_key_role_type x.key_role_type)) no_values))))
+    joined (visits.optional_field (option_map written_block_cipher_mode x.block_cipher_mode)) (
+    joined (visits.optional_field (option_map written_padding_method x.padding_method)) (
+    joined (visits.optional_field (option_map written_hashing_algorithm x.hashing_algorithm)) (
+    joined (visits.optional_field (option_map written_key_role_type x.key_role_type)) no_values))))
 
 -- what is read of a `CryptographicParameters`
 unfoldable pub read_cryptographic_parameters : CryptographicParameters → Value
@@ -116,8 +116,8 @@ cryptographic_domain_parameters_form =
 unfoldable pub written_cryptographic_domain_parameters : CryptographicDomainParameters → Value
 written_cryptographic_domain_parameters x =
     struct_value (codes "0x42000B") (
-    joined (told.optional (option_map qlength_value x.qlength)) (
-    joined (told.optional (option_map written_recommended_curve x.recommended_curve)) no_values))
+    joined (visits.optional_field (option_map qlength_value x.qlength)) (
+    joined (visits.optional_field (option_map written_recommended_curve x.recommended_curve)) no_values))
 
 -- what is read of a `CryptographicDomainParameters`
 unfoldable pub read_cryptographic_domain_parameters : CryptographicDomainParameters → Value
@@ -145,7 +145,7 @@ unfoldable pub written_certificate_identifier : {A : Type 0} → CertificateIden
 written_certificate_identifier x =
     struct_value (codes "0x42000B") (
     value (newtype_value (codes "Transparent:0x42003B") (text_value (string_bytes x.issuer))) (
-    joined (told.optional (option_map
+    joined (visits.optional_field (option_map
     (λ y. newtype_value (codes "Transparent:0x420087") (text_value (string_bytes y))) x.serial_number)) no_values))
 
 -- what is read of a `CertificateIdentifier`
@@ -227,9 +227,9 @@ unfoldable pub written_digest : {A : Type 0} → Digest A → Value
 written_digest x =
     struct_value (codes "0x42000B") (
     value (written_hashing_algorithm x.hashing_algorithm) (
-    joined (told.optional (option_map
+    joined (visits.optional_field (option_map
     (λ y. newtype_value (codes "Transparent:0x420035") (bytes_value y.items)) x.digest_value)) (
-    joined (told.optional (option_map written_key_format_type x.key_format_type)) no_values)))
+    joined (visits.optional_field (option_map written_key_format_type x.key_format_type)) no_values)))
 
 -- what is read of a `Digest`
 unfoldable pub read_digest : {A : Type 0} → Digest A → Value
@@ -270,7 +270,7 @@ unfoldable pub written_usage_limits : UsageLimits → Value
 written_usage_limits x =
     struct_value (codes "0x42000B") (
     value (newtype_value (codes "Transparent:0x420097") (i64_value x.total)) (
-    joined (told.optional (option_map usage_limits_count_value x.count)) (
+    joined (visits.optional_field (option_map usage_limits_count_value x.count)) (
     value (written_usage_limits_unit x.unit) no_values)))
 
 -- what is read of a `UsageLimits`
@@ -301,7 +301,7 @@ unfoldable pub written_revocation_reason : {A : Type 0} → RevocationReason A �
 written_revocation_reason x =
     struct_value (codes "0x42000B") (
     value (written_revocation_reason_code x.code) (
-    joined (told.optional (option_map
+    joined (visits.optional_field (option_map
     (λ y. newtype_value (codes "Transparent:0x420080") (text_value (string_bytes y))) x.message)) no_values))
 
 -- what is read of a `RevocationReason`

@@ -3,7 +3,7 @@
 
 ghost use Rattle.std.specs.Prelude.{◌↔◌, refl, IsTrue, OnErr, OnOk, codes, true};
 ghost use Rattle.kmip_ttlv.specs.Returns.{IsNoneOf};
-ghost use Rattle.kmip_ttlv.specs.Visits.{Tells};
+ghost use Rattle.kmip_ttlv.specs.Visits.{Receives};
 ghost use Rattle.kmip_attributes.specs.Attributes.{attribute_name_form, attribute_name_value, attribute_index_form, attribute_index_value, integer_value_form, integer_value_value, long_integer_value_form, long_integer_value_value, big_integer_value_form, big_integer_value_value, enumeration_value_form, enumeration_value_value, boolean_value_form, boolean_value_value, text_string_value_form, text_string_value_value, byte_string_value_form, byte_string_value_value, date_time_value_form, date_time_value_value, interval_value_form, interval_value_value, attribute_structure_form, written_attribute_structure, read_attribute_structure, attribute_structure_content, ChoosesAttributeStructure, attribute_structure_variants_4, attribute_structure_variants_8, attribute_value_form, written_attribute_value, read_attribute_value, attribute_value_content, ChoosesAttributeValue, attribute_value_names, attribute_value_variants_4, attribute_value_variants_8, attribute_value_variants_12, attribute_form, written_attribute, read_attribute};
 
 use crate::structures::{
@@ -409,24 +409,24 @@ pub enum AttributeStructure<A: Allocator = Global> {
 }
 
 impl<A: Allocator> AttributeStructure<A> {
-    // Tells what it holds.
+    // Sends what it holds.
     #[tactic(auto, unfolding(crate::specs::Attributes::attribute_structure_content))]
-    pub(crate) fn tell<V: Visitor>(&self, visitor: &mut V) -> Result<(), AllocError>
-        ensures told { OnOk result (Tells V.knows V.step (attribute_structure_content self.now) visitor.old visitor.new) }
+    pub(crate) fn send<V: Visitor>(&self, visitor: &mut V) -> Result<(), AllocError>
+        ensures received { OnOk result (Receives V.knows V.step (attribute_structure_content self.now) visitor.old visitor.new) }
         ensures stopped { OnErr result (V.stopped visitor.new) }
     {
         match self {
-            AttributeStructure::Name(held) => held.visit(visitor),
-            AttributeStructure::CryptographicParameters(held) => held.visit(visitor),
-            AttributeStructure::CryptographicDomainParameters(held) => held.visit(visitor),
-            AttributeStructure::CertificateIdentifier(held) => held.visit(visitor),
-            AttributeStructure::CertificateSubject(held) => held.visit(visitor),
-            AttributeStructure::CertificateIssuer(held) => held.visit(visitor),
-            AttributeStructure::Digest(held) => held.visit(visitor),
-            AttributeStructure::UsageLimits(held) => held.visit(visitor),
-            AttributeStructure::RevocationReason(held) => held.visit(visitor),
-            AttributeStructure::Link(held) => held.visit(visitor),
-            AttributeStructure::ApplicationSpecificInformation(held) => held.visit(visitor),
+            AttributeStructure::Name(inner) => inner.visit(visitor),
+            AttributeStructure::CryptographicParameters(inner) => inner.visit(visitor),
+            AttributeStructure::CryptographicDomainParameters(inner) => inner.visit(visitor),
+            AttributeStructure::CertificateIdentifier(inner) => inner.visit(visitor),
+            AttributeStructure::CertificateSubject(inner) => inner.visit(visitor),
+            AttributeStructure::CertificateIssuer(inner) => inner.visit(visitor),
+            AttributeStructure::Digest(inner) => inner.visit(visitor),
+            AttributeStructure::UsageLimits(inner) => inner.visit(visitor),
+            AttributeStructure::RevocationReason(inner) => inner.visit(visitor),
+            AttributeStructure::Link(inner) => inner.visit(visitor),
+            AttributeStructure::ApplicationSpecificInformation(inner) => inner.visit(visitor),
         }
     }
 }
@@ -460,7 +460,7 @@ impl<B: Allocator> Serialize for AttributeStructure<B> {
     #[tactic(auto, unfolding(crate::specs::Attributes::written_attribute_structure))]
     fn visit<V: Visitor>(&self, visitor: &mut V) -> Result<(), AllocError> {
         writing::begin_newtype_variant(visitor, "Override:0x42000B", "Transparent")?;
-        self.tell(visitor)?;
+        self.send(visitor)?;
         writing::end_newtype_variant(visitor, "Override:0x42000B", "Transparent")
     }
 }
@@ -490,8 +490,8 @@ impl<A: Allocator + Copy> reader::VariantOf<
     A,
 > for AttributeStructureNameRule {
     #[tactic(auto, unfolding(kmip_ttlv_types::specs::Digits::six_digits, crate::specs::Attributes::read_attribute_structure))]
-    fn from_content(held: Name<A>) -> AttributeStructure<A> {
-        AttributeStructure::Name(held)
+    fn from_content(inner: Name<A>) -> AttributeStructure<A> {
+        AttributeStructure::Name(inner)
     }
 }
 
@@ -520,8 +520,8 @@ impl<A: Allocator + Copy> reader::VariantOf<
     A,
 > for AttributeStructureCryptographicParametersRule {
     #[tactic(auto, unfolding(kmip_ttlv_types::specs::Digits::six_digits, crate::specs::Attributes::read_attribute_structure))]
-    fn from_content(held: CryptographicParameters) -> AttributeStructure<A> {
-        AttributeStructure::CryptographicParameters(held)
+    fn from_content(inner: CryptographicParameters) -> AttributeStructure<A> {
+        AttributeStructure::CryptographicParameters(inner)
     }
 }
 
@@ -550,8 +550,8 @@ impl<A: Allocator + Copy> reader::VariantOf<
     A,
 > for AttributeStructureCryptographicDomainParametersRule {
     #[tactic(auto, unfolding(kmip_ttlv_types::specs::Digits::six_digits, crate::specs::Attributes::read_attribute_structure))]
-    fn from_content(held: CryptographicDomainParameters) -> AttributeStructure<A> {
-        AttributeStructure::CryptographicDomainParameters(held)
+    fn from_content(inner: CryptographicDomainParameters) -> AttributeStructure<A> {
+        AttributeStructure::CryptographicDomainParameters(inner)
     }
 }
 
@@ -580,8 +580,8 @@ impl<A: Allocator + Copy> reader::VariantOf<
     A,
 > for AttributeStructureCertificateIdentifierRule {
     #[tactic(auto, unfolding(kmip_ttlv_types::specs::Digits::six_digits, crate::specs::Attributes::read_attribute_structure))]
-    fn from_content(held: CertificateIdentifier<A>) -> AttributeStructure<A> {
-        AttributeStructure::CertificateIdentifier(held)
+    fn from_content(inner: CertificateIdentifier<A>) -> AttributeStructure<A> {
+        AttributeStructure::CertificateIdentifier(inner)
     }
 }
 
@@ -610,8 +610,8 @@ impl<A: Allocator + Copy> reader::VariantOf<
     A,
 > for AttributeStructureCertificateSubjectRule {
     #[tactic(auto, unfolding(kmip_ttlv_types::specs::Digits::six_digits, crate::specs::Attributes::read_attribute_structure))]
-    fn from_content(held: CertificateSubject<A>) -> AttributeStructure<A> {
-        AttributeStructure::CertificateSubject(held)
+    fn from_content(inner: CertificateSubject<A>) -> AttributeStructure<A> {
+        AttributeStructure::CertificateSubject(inner)
     }
 }
 
@@ -640,8 +640,8 @@ impl<A: Allocator + Copy> reader::VariantOf<
     A,
 > for AttributeStructureCertificateIssuerRule {
     #[tactic(auto, unfolding(kmip_ttlv_types::specs::Digits::six_digits, crate::specs::Attributes::read_attribute_structure))]
-    fn from_content(held: CertificateIssuer<A>) -> AttributeStructure<A> {
-        AttributeStructure::CertificateIssuer(held)
+    fn from_content(inner: CertificateIssuer<A>) -> AttributeStructure<A> {
+        AttributeStructure::CertificateIssuer(inner)
     }
 }
 
@@ -670,8 +670,8 @@ impl<A: Allocator + Copy> reader::VariantOf<
     A,
 > for AttributeStructureDigestRule {
     #[tactic(auto, unfolding(kmip_ttlv_types::specs::Digits::six_digits, crate::specs::Attributes::read_attribute_structure))]
-    fn from_content(held: Digest<A>) -> AttributeStructure<A> {
-        AttributeStructure::Digest(held)
+    fn from_content(inner: Digest<A>) -> AttributeStructure<A> {
+        AttributeStructure::Digest(inner)
     }
 }
 
@@ -700,8 +700,8 @@ impl<A: Allocator + Copy> reader::VariantOf<
     A,
 > for AttributeStructureUsageLimitsRule {
     #[tactic(auto, unfolding(kmip_ttlv_types::specs::Digits::six_digits, crate::specs::Attributes::read_attribute_structure))]
-    fn from_content(held: UsageLimits) -> AttributeStructure<A> {
-        AttributeStructure::UsageLimits(held)
+    fn from_content(inner: UsageLimits) -> AttributeStructure<A> {
+        AttributeStructure::UsageLimits(inner)
     }
 }
 
@@ -730,8 +730,8 @@ impl<A: Allocator + Copy> reader::VariantOf<
     A,
 > for AttributeStructureRevocationReasonRule {
     #[tactic(auto, unfolding(kmip_ttlv_types::specs::Digits::six_digits, crate::specs::Attributes::read_attribute_structure))]
-    fn from_content(held: RevocationReason<A>) -> AttributeStructure<A> {
-        AttributeStructure::RevocationReason(held)
+    fn from_content(inner: RevocationReason<A>) -> AttributeStructure<A> {
+        AttributeStructure::RevocationReason(inner)
     }
 }
 
@@ -760,8 +760,8 @@ impl<A: Allocator + Copy> reader::VariantOf<
     A,
 > for AttributeStructureLinkRule {
     #[tactic(auto, unfolding(kmip_ttlv_types::specs::Digits::six_digits, crate::specs::Attributes::read_attribute_structure))]
-    fn from_content(held: Link<A>) -> AttributeStructure<A> {
-        AttributeStructure::Link(held)
+    fn from_content(inner: Link<A>) -> AttributeStructure<A> {
+        AttributeStructure::Link(inner)
     }
 }
 
@@ -790,8 +790,8 @@ impl<A: Allocator + Copy> reader::VariantOf<
     A,
 > for AttributeStructureApplicationSpecificInformationRule {
     #[tactic(auto, unfolding(kmip_ttlv_types::specs::Digits::six_digits, crate::specs::Attributes::read_attribute_structure))]
-    fn from_content(held: ApplicationSpecificInformation<A>) -> AttributeStructure<A> {
-        AttributeStructure::ApplicationSpecificInformation(held)
+    fn from_content(inner: ApplicationSpecificInformation<A>) -> AttributeStructure<A> {
+        AttributeStructure::ApplicationSpecificInformation(inner)
     }
 }
 
@@ -956,27 +956,27 @@ pub enum AttributeValue<A: Allocator = Global> {
 }
 
 impl<A: Allocator> AttributeValue<A> {
-    // Tells what it holds.
+    // Sends what it holds.
     #[tactic(auto, unfolding(crate::specs::Attributes::attribute_value_content))]
-    pub(crate) fn tell<V: Visitor>(&self, visitor: &mut V) -> Result<(), AllocError>
-        ensures told { OnOk result (Tells V.knows V.step (attribute_value_content self.now) visitor.old visitor.new) }
+    pub(crate) fn send<V: Visitor>(&self, visitor: &mut V) -> Result<(), AllocError>
+        ensures received { OnOk result (Receives V.knows V.step (attribute_value_content self.now) visitor.old visitor.new) }
         ensures stopped { OnErr result (V.stopped visitor.new) }
     {
         match self {
-            AttributeValue::ObjectType(held) => held.visit(visitor),
-            AttributeValue::CryptographicAlgorithm(held) => held.visit(visitor),
-            AttributeValue::CertificateType(held) => held.visit(visitor),
-            AttributeValue::State(held) => held.visit(visitor),
-            AttributeValue::Integer(held) => held.visit(visitor),
-            AttributeValue::LongInteger(held) => held.visit(visitor),
-            AttributeValue::BigInteger(held) => held.visit(visitor),
-            AttributeValue::Enumeration(held) => held.visit(visitor),
-            AttributeValue::Boolean(held) => held.visit(visitor),
-            AttributeValue::TextString(held) => held.visit(visitor),
-            AttributeValue::ByteString(held) => held.visit(visitor),
-            AttributeValue::DateTime(held) => held.visit(visitor),
-            AttributeValue::Interval(held) => held.visit(visitor),
-            AttributeValue::Structure(held) => held.tell(visitor),
+            AttributeValue::ObjectType(inner) => inner.visit(visitor),
+            AttributeValue::CryptographicAlgorithm(inner) => inner.visit(visitor),
+            AttributeValue::CertificateType(inner) => inner.visit(visitor),
+            AttributeValue::State(inner) => inner.visit(visitor),
+            AttributeValue::Integer(inner) => inner.visit(visitor),
+            AttributeValue::LongInteger(inner) => inner.visit(visitor),
+            AttributeValue::BigInteger(inner) => inner.visit(visitor),
+            AttributeValue::Enumeration(inner) => inner.visit(visitor),
+            AttributeValue::Boolean(inner) => inner.visit(visitor),
+            AttributeValue::TextString(inner) => inner.visit(visitor),
+            AttributeValue::ByteString(inner) => inner.visit(visitor),
+            AttributeValue::DateTime(inner) => inner.visit(visitor),
+            AttributeValue::Interval(inner) => inner.visit(visitor),
+            AttributeValue::Structure(inner) => inner.send(visitor),
         }
     }
 }
@@ -1015,8 +1015,8 @@ impl<A: Allocator> AttributeValue<A> {
             AttributeValue::ByteString(_) => is_no_attribute_value(text),
             AttributeValue::DateTime(_) => is_no_attribute_value(text),
             AttributeValue::Interval(_) => is_no_attribute_value(text),
-            AttributeValue::Structure(held) => (is_no_attribute_value(text))
-                && held.is_chosen_by(text),
+            AttributeValue::Structure(inner) => (is_no_attribute_value(text))
+                && inner.is_chosen_by(text),
         }
     }
 }
@@ -1027,7 +1027,7 @@ impl<B: Allocator> Serialize for AttributeValue<B> {
     #[tactic(auto, unfolding(crate::specs::Attributes::written_attribute_value))]
     fn visit<V: Visitor>(&self, visitor: &mut V) -> Result<(), AllocError> {
         writing::begin_newtype_variant(visitor, "Override:0x42000B", "Transparent")?;
-        self.tell(visitor)?;
+        self.send(visitor)?;
         writing::end_newtype_variant(visitor, "Override:0x42000B", "Transparent")
     }
 }
@@ -1054,8 +1054,8 @@ impl reader::Rule for AttributeValueObjectTypeRule {
 impl<A: Allocator + Copy> reader::VariantOf<reader::ItemElement<ObjectType>, AttributeValue<A>, A>
     for AttributeValueObjectTypeRule {
     #[tactic(auto, unfolding(kmip_ttlv_types::specs::Digits::six_digits, crate::specs::Attributes::read_attribute_value))]
-    fn from_content(held: ObjectType) -> AttributeValue<A> {
-        AttributeValue::ObjectType(held)
+    fn from_content(inner: ObjectType) -> AttributeValue<A> {
+        AttributeValue::ObjectType(inner)
     }
 }
 
@@ -1084,8 +1084,8 @@ impl<A: Allocator + Copy> reader::VariantOf<
     A,
 > for AttributeValueCryptographicAlgorithmRule {
     #[tactic(auto, unfolding(kmip_ttlv_types::specs::Digits::six_digits, crate::specs::Attributes::read_attribute_value))]
-    fn from_content(held: CryptographicAlgorithm) -> AttributeValue<A> {
-        AttributeValue::CryptographicAlgorithm(held)
+    fn from_content(inner: CryptographicAlgorithm) -> AttributeValue<A> {
+        AttributeValue::CryptographicAlgorithm(inner)
     }
 }
 
@@ -1114,8 +1114,8 @@ impl<A: Allocator + Copy> reader::VariantOf<
     A,
 > for AttributeValueCertificateTypeRule {
     #[tactic(auto, unfolding(kmip_ttlv_types::specs::Digits::six_digits, crate::specs::Attributes::read_attribute_value))]
-    fn from_content(held: CertificateType) -> AttributeValue<A> {
-        AttributeValue::CertificateType(held)
+    fn from_content(inner: CertificateType) -> AttributeValue<A> {
+        AttributeValue::CertificateType(inner)
     }
 }
 
@@ -1141,8 +1141,8 @@ impl reader::Rule for AttributeValueStateRule {
 impl<A: Allocator + Copy> reader::VariantOf<reader::ItemElement<State>, AttributeValue<A>, A>
     for AttributeValueStateRule {
     #[tactic(auto, unfolding(kmip_ttlv_types::specs::Digits::six_digits, crate::specs::Attributes::read_attribute_value))]
-    fn from_content(held: State) -> AttributeValue<A> {
-        AttributeValue::State(held)
+    fn from_content(inner: State) -> AttributeValue<A> {
+        AttributeValue::State(inner)
     }
 }
 
@@ -1165,8 +1165,8 @@ impl reader::Rule for AttributeValueIntegerRule {
 impl<A: Allocator + Copy> reader::VariantOf<reader::ItemElement<IntegerValue>, AttributeValue<A>, A>
     for AttributeValueIntegerRule {
     #[tactic(auto, unfolding(kmip_ttlv_types::specs::Digits::six_digits, crate::specs::Attributes::read_attribute_value))]
-    fn from_content(held: IntegerValue) -> AttributeValue<A> {
-        AttributeValue::Integer(held)
+    fn from_content(inner: IntegerValue) -> AttributeValue<A> {
+        AttributeValue::Integer(inner)
     }
 }
 
@@ -1192,8 +1192,8 @@ impl<A: Allocator + Copy> reader::VariantOf<
     A,
 > for AttributeValueLongIntegerRule {
     #[tactic(auto, unfolding(kmip_ttlv_types::specs::Digits::six_digits, crate::specs::Attributes::read_attribute_value))]
-    fn from_content(held: LongIntegerValue) -> AttributeValue<A> {
-        AttributeValue::LongInteger(held)
+    fn from_content(inner: LongIntegerValue) -> AttributeValue<A> {
+        AttributeValue::LongInteger(inner)
     }
 }
 
@@ -1219,8 +1219,8 @@ impl<A: Allocator + Copy> reader::VariantOf<
     A,
 > for AttributeValueBigIntegerRule {
     #[tactic(auto, unfolding(kmip_ttlv_types::specs::Digits::six_digits, crate::specs::Attributes::read_attribute_value))]
-    fn from_content(held: BigIntegerValue<A>) -> AttributeValue<A> {
-        AttributeValue::BigInteger(held)
+    fn from_content(inner: BigIntegerValue<A>) -> AttributeValue<A> {
+        AttributeValue::BigInteger(inner)
     }
 }
 
@@ -1246,8 +1246,8 @@ impl<A: Allocator + Copy> reader::VariantOf<
     A,
 > for AttributeValueEnumerationRule {
     #[tactic(auto, unfolding(kmip_ttlv_types::specs::Digits::six_digits, crate::specs::Attributes::read_attribute_value))]
-    fn from_content(held: EnumerationValue) -> AttributeValue<A> {
-        AttributeValue::Enumeration(held)
+    fn from_content(inner: EnumerationValue) -> AttributeValue<A> {
+        AttributeValue::Enumeration(inner)
     }
 }
 
@@ -1270,8 +1270,8 @@ impl reader::Rule for AttributeValueBooleanRule {
 impl<A: Allocator + Copy> reader::VariantOf<reader::ItemElement<BooleanValue>, AttributeValue<A>, A>
     for AttributeValueBooleanRule {
     #[tactic(auto, unfolding(kmip_ttlv_types::specs::Digits::six_digits, crate::specs::Attributes::read_attribute_value))]
-    fn from_content(held: BooleanValue) -> AttributeValue<A> {
-        AttributeValue::Boolean(held)
+    fn from_content(inner: BooleanValue) -> AttributeValue<A> {
+        AttributeValue::Boolean(inner)
     }
 }
 
@@ -1297,8 +1297,8 @@ impl<A: Allocator + Copy> reader::VariantOf<
     A,
 > for AttributeValueTextStringRule {
     #[tactic(auto, unfolding(kmip_ttlv_types::specs::Digits::six_digits, crate::specs::Attributes::read_attribute_value))]
-    fn from_content(held: TextStringValue<A>) -> AttributeValue<A> {
-        AttributeValue::TextString(held)
+    fn from_content(inner: TextStringValue<A>) -> AttributeValue<A> {
+        AttributeValue::TextString(inner)
     }
 }
 
@@ -1324,8 +1324,8 @@ impl<A: Allocator + Copy> reader::VariantOf<
     A,
 > for AttributeValueByteStringRule {
     #[tactic(auto, unfolding(kmip_ttlv_types::specs::Digits::six_digits, crate::specs::Attributes::read_attribute_value))]
-    fn from_content(held: ByteStringValue<A>) -> AttributeValue<A> {
-        AttributeValue::ByteString(held)
+    fn from_content(inner: ByteStringValue<A>) -> AttributeValue<A> {
+        AttributeValue::ByteString(inner)
     }
 }
 
@@ -1351,8 +1351,8 @@ impl<A: Allocator + Copy> reader::VariantOf<
     A,
 > for AttributeValueDateTimeRule {
     #[tactic(auto, unfolding(kmip_ttlv_types::specs::Digits::six_digits, crate::specs::Attributes::read_attribute_value))]
-    fn from_content(held: DateTimeValue) -> AttributeValue<A> {
-        AttributeValue::DateTime(held)
+    fn from_content(inner: DateTimeValue) -> AttributeValue<A> {
+        AttributeValue::DateTime(inner)
     }
 }
 
@@ -1378,8 +1378,8 @@ impl<A: Allocator + Copy> reader::VariantOf<
     A,
 > for AttributeValueIntervalRule {
     #[tactic(auto, unfolding(kmip_ttlv_types::specs::Digits::six_digits, crate::specs::Attributes::read_attribute_value))]
-    fn from_content(held: IntervalValue) -> AttributeValue<A> {
-        AttributeValue::Interval(held)
+    fn from_content(inner: IntervalValue) -> AttributeValue<A> {
+        AttributeValue::Interval(inner)
     }
 }
 
@@ -1405,8 +1405,8 @@ impl<A: Allocator + Copy> reader::VariantOf<
     A,
 > for AttributeValueStructureRule {
     #[tactic(auto, unfolding(kmip_ttlv_types::specs::Digits::six_digits, crate::specs::Attributes::read_attribute_value))]
-    fn from_content(held: AttributeStructure<A>) -> AttributeValue<A> {
-        AttributeValue::Structure(held)
+    fn from_content(inner: AttributeStructure<A>) -> AttributeValue<A> {
+        AttributeValue::Structure(inner)
     }
 }
 

@@ -322,16 +322,16 @@ impl<A: Allocator> Sound for AttributeStructure<A> {
 
     fn is_sound(&self) -> bool {
         match self {
-            AttributeStructure::Name(held) => held.is_sound(),
-            AttributeStructure::CryptographicParameters(held) => held.is_sound(),
-            AttributeStructure::CryptographicDomainParameters(held) => held.is_sound(),
+            AttributeStructure::Name(inner) => inner.is_sound(),
+            AttributeStructure::CryptographicParameters(inner) => inner.is_sound(),
+            AttributeStructure::CryptographicDomainParameters(inner) => inner.is_sound(),
             AttributeStructure::CertificateIdentifier(_) => true,
             AttributeStructure::CertificateSubject(_) => true,
             AttributeStructure::CertificateIssuer(_) => true,
-            AttributeStructure::Digest(held) => held.is_sound(),
-            AttributeStructure::UsageLimits(held) => held.is_sound(),
-            AttributeStructure::RevocationReason(held) => held.is_sound(),
-            AttributeStructure::Link(held) => held.is_sound(),
+            AttributeStructure::Digest(inner) => inner.is_sound(),
+            AttributeStructure::UsageLimits(inner) => inner.is_sound(),
+            AttributeStructure::RevocationReason(inner) => inner.is_sound(),
+            AttributeStructure::Link(inner) => inner.is_sound(),
             AttributeStructure::ApplicationSpecificInformation(_) => true,
         }
     }
@@ -342,20 +342,20 @@ impl<A: Allocator> Sound for AttributeValue<A> {
 
     fn is_sound(&self) -> bool {
         match self {
-            AttributeValue::ObjectType(held) => held.is_sound(),
-            AttributeValue::CryptographicAlgorithm(held) => held.is_sound(),
-            AttributeValue::CertificateType(held) => held.is_sound(),
-            AttributeValue::State(held) => held.is_sound(),
-            AttributeValue::Integer(held) => held.is_sound(),
-            AttributeValue::LongInteger(held) => held.is_sound(),
-            AttributeValue::BigInteger(held) => held.is_sound(),
-            AttributeValue::Enumeration(held) => held.is_sound(),
+            AttributeValue::ObjectType(inner) => inner.is_sound(),
+            AttributeValue::CryptographicAlgorithm(inner) => inner.is_sound(),
+            AttributeValue::CertificateType(inner) => inner.is_sound(),
+            AttributeValue::State(inner) => inner.is_sound(),
+            AttributeValue::Integer(inner) => inner.is_sound(),
+            AttributeValue::LongInteger(inner) => inner.is_sound(),
+            AttributeValue::BigInteger(inner) => inner.is_sound(),
+            AttributeValue::Enumeration(inner) => inner.is_sound(),
             AttributeValue::Boolean(_) => true,
             AttributeValue::TextString(_) => true,
             AttributeValue::ByteString(_) => true,
-            AttributeValue::DateTime(held) => held.is_sound(),
-            AttributeValue::Interval(held) => held.is_sound(),
-            AttributeValue::Structure(held) => held.is_sound(),
+            AttributeValue::DateTime(inner) => inner.is_sound(),
+            AttributeValue::Interval(inner) => inner.is_sound(),
+            AttributeValue::Structure(inner) => inner.is_sound(),
         }
     }
 }

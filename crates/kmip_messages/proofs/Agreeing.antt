@@ -5,7 +5,7 @@ use Rattle.kmip_ttlv.specs.Names.{number, override_name, tag_of, transparent_nam
 use Rattle.kmip_ttlv.specs.Returns.{as_boolean, as_date_time, as_int32, as_number, as_octets, as_text, text_of_number}
 use Rattle.kmip_ttlv.specs.Rules.{at_least, equal, in_brackets, member, rule, sides}
 use Rattle.kmip_ttlv.specs.Values.{boolean_value, bytes_value, newtype_value, text_value}
-use Rattle.kmip_ttlv.specs.WrittenItems.{held_over, is_wrapper, take_tag}
+use Rattle.kmip_ttlv.specs.WrittenItems.{is_wrapper, pending_after, take_tag}
 use Rattle.kmip_ttlv_laws.proofs.MessageParts.{PartAgrees, a_structure, all_agree, any_then, every_agrees, first_of}
 use Rattle.kmip_ttlv_laws.proofs.MessageParts.{head_or, if_present, leaf_part, leaf_then, message, neither_named}
 use Rattle.kmip_ttlv_laws.proofs.MessageParts.{nothing_left, optional_then, part_then, present, several_then, structure}
@@ -281,7 +281,7 @@ pub credential_value_agrees : {A : Type 0} (said : List ℕ) (x : CredentialValu
     → PartAfter 0x420024 said credential_value_form
     (written_credential_value x) (a_structure 0x420025)
     (read_credential_value x)
-unfolding take_tag tag_of number transparent_name override_name held_over is_wrapper rule sides equal at_least member in_brackets trim_end chars trim_start encode written_credential_value read_credential_value written_username_and_password read_username_and_password written_device read_device
+unfolding take_tag tag_of number transparent_name override_name pending_after is_wrapper rule sides equal at_least member in_brackets trim_end chars trim_start encode written_credential_value read_credential_value written_username_and_password read_username_and_password written_device read_device
 credential_value_agrees said (credential_value.UsernameAndPassword x) chosen =
     chosen_after first_variant (λ k found. rw (found ∙ ap Some chosen) refl) (username_and_password_agrees x)
 credential_value_agrees said (credential_value.Device x) chosen =
@@ -642,7 +642,7 @@ pub request_payload_agrees : {A : Type 0} (said : List ℕ) (x : RequestPayload 
     → PartAfter 0x42005C said request_payload_form
     (written_request_payload x) (a_structure 0x420079)
     (returned_request_payload x)
-unfolding take_tag tag_of number transparent_name override_name held_over is_wrapper rule sides equal at_least member in_brackets trim_end chars trim_start encode written_request_payload returned_request_payload written_create_request returned_create_request written_create_key_pair_request returned_create_key_pair_request written_register_request returned_register_request written_locate_request returned_locate_request written_get_request returned_get_request written_get_attributes_request read_get_attributes_request written_object_request read_object_request written_attribute_request returned_attribute_request written_delete_attribute_request read_delete_attribute_request written_revoke_request returned_revoke_request written_query_request returned_query_request written_discover_versions_request read_discover_versions_request
+unfolding take_tag tag_of number transparent_name override_name pending_after is_wrapper rule sides equal at_least member in_brackets trim_end chars trim_start encode written_request_payload returned_request_payload written_create_request returned_create_request written_create_key_pair_request returned_create_key_pair_request written_register_request returned_register_request written_locate_request returned_locate_request written_get_request returned_get_request written_get_attributes_request read_get_attributes_request written_object_request read_object_request written_attribute_request returned_attribute_request written_delete_attribute_request read_delete_attribute_request written_revoke_request returned_revoke_request written_query_request returned_query_request written_discover_versions_request read_discover_versions_request
 request_payload_agrees said (request_payload.Create x) chosen is =
     chosen_after first_variant (λ k found. rw (found ∙ ap Some chosen) refl) (create_request_agrees x is)
 request_payload_agrees said (request_payload.CreateKeyPair x) chosen is =
@@ -863,7 +863,7 @@ pub response_payload_agrees : {A : Type 0} (said : List ℕ) (x : ResponsePayloa
     → PartAfter 0x42005C said response_payload_form
     (written_response_payload x) (a_structure 0x42007C)
     (returned_response_payload x)
-unfolding take_tag tag_of number transparent_name override_name held_over is_wrapper rule sides equal at_least member in_brackets trim_end chars trim_start encode written_response_payload returned_response_payload written_create_response returned_create_response written_create_key_pair_response returned_create_key_pair_response written_register_response returned_register_response written_locate_response read_locate_response written_get_response returned_get_response written_get_attributes_response returned_get_attributes_response written_get_attribute_list_response read_get_attribute_list_response written_attribute_response returned_attribute_response object_response_value written_query_response returned_query_response written_discover_versions_response read_discover_versions_response
+unfolding take_tag tag_of number transparent_name override_name pending_after is_wrapper rule sides equal at_least member in_brackets trim_end chars trim_start encode written_response_payload returned_response_payload written_create_response returned_create_response written_create_key_pair_response returned_create_key_pair_response written_register_response returned_register_response written_locate_response read_locate_response written_get_response returned_get_response written_get_attributes_response returned_get_attributes_response written_get_attribute_list_response read_get_attribute_list_response written_attribute_response returned_attribute_response object_response_value written_query_response returned_query_response written_discover_versions_response read_discover_versions_response
 response_payload_agrees said (response_payload.Create x) chosen is =
     chosen_after first_variant (λ k found. rw (found ∙ ap Some chosen) refl) (create_response_agrees x is)
 response_payload_agrees said (response_payload.CreateKeyPair x) chosen is =

@@ -7,7 +7,7 @@ use Rattle.kmip_ttlv.specs.Values.{Value, boolean_value, date_time_value, i32_va
 use Rattle.kmip_ttlv.specs.Values.{newtype_variant_value, no_values, struct_value, text_value, u32_value, value}
 use Rattle.kmip_ttlv.specs.Visits.{joined}
 use Rattle.std.specs.Prelude.{List, Option, Some, [], codes, false, option_map, string_bytes, true, ℕ, ◌∷◌, ◌≡◌}
-use Rattle.kmip_ttlv.specs.Visits as told
+use Rattle.kmip_ttlv.specs.Visits as visits
 use Rattle.kmip_messages.specs.declared.header.ProtocolVersion.{ProtocolVersion}
 use Rattle.kmip_messages.specs.declared.header.CredentialType.{CredentialType}
 use Rattle.kmip_messages.specs.declared.header.CredentialType.TheVariants as credential_type
@@ -84,7 +84,7 @@ unfoldable pub written_username_and_password : {A : Type 0} → UsernameAndPassw
 written_username_and_password x =
     struct_value (codes "0x420025") (
     value (newtype_value (codes "Transparent:0x420099") (text_value (string_bytes x.username))) (
-    joined (told.optional (option_map
+    joined (visits.optional_field (option_map
     (λ y. newtype_value (codes "Transparent:0x4200A1") (text_value (string_bytes y))) x.password)) no_values))
 
 -- what is read of a `UsernameAndPassword`
@@ -110,17 +110,17 @@ device_form =
 unfoldable pub written_device : {A : Type 0} → Device A → Value
 written_device x =
     struct_value (codes "0x420025") (
-    joined (told.optional (option_map
+    joined (visits.optional_field (option_map
     (λ y. newtype_value (codes "Transparent:0x4200B0") (text_value (string_bytes y))) x.device_serial_number)) (
-    joined (told.optional (option_map
+    joined (visits.optional_field (option_map
     (λ y. newtype_value (codes "Transparent:0x4200A1") (text_value (string_bytes y))) x.password)) (
-    joined (told.optional (option_map
+    joined (visits.optional_field (option_map
     (λ y. newtype_value (codes "Transparent:0x4200A2") (text_value (string_bytes y))) x.device_identifier)) (
-    joined (told.optional (option_map
+    joined (visits.optional_field (option_map
     (λ y. newtype_value (codes "Transparent:0x4200AB") (text_value (string_bytes y))) x.network_identifier)) (
-    joined (told.optional (option_map
+    joined (visits.optional_field (option_map
     (λ y. newtype_value (codes "Transparent:0x4200A9") (text_value (string_bytes y))) x.machine_identifier)) (
-    joined (told.optional (option_map
+    joined (visits.optional_field (option_map
     (λ y. newtype_value (codes "Transparent:0x4200AA") (text_value (string_bytes y))) x.media_identifier)) no_values))))))
 
 -- what is read of a `Device`
@@ -303,14 +303,14 @@ unfoldable pub written_request_header : {A : Type 0} → RequestHeader A → Val
 written_request_header x =
     struct_value (codes "0x420077") (
     value (protocol_version_value x.version) (
-    joined (told.optional (option_map maximum_response_size_value x.maximum_response_size)) (
-    joined (told.optional (option_map
+    joined (visits.optional_field (option_map maximum_response_size_value x.maximum_response_size)) (
+    joined (visits.optional_field (option_map
     (λ y. newtype_value (codes "Transparent:0x420007") (boolean_value y)) x.asynchronous_indicator)) (
-    joined (told.optional (option_map written_authentication x.authentication)) (
-    joined (told.optional (option_map written_batch_error_continuation_option x.batch_error_continuation_option)) (
-    joined (told.optional (option_map
+    joined (visits.optional_field (option_map written_authentication x.authentication)) (
+    joined (visits.optional_field (option_map written_batch_error_continuation_option x.batch_error_continuation_option)) (
+    joined (visits.optional_field (option_map
     (λ y. newtype_value (codes "Transparent:0x420010") (boolean_value y)) x.batch_order_option)) (
-    joined (told.optional (option_map time_stamp_value x.time_stamp)) (
+    joined (visits.optional_field (option_map time_stamp_value x.time_stamp)) (
     value (batch_count_value x.batch_count) no_values))))))))
 
 -- what is read of a `RequestHeader`

@@ -7,7 +7,7 @@ use Rattle.kmip_ttlv.specs.Values.{Value, bytes_value, date_time_value, i32_valu
 use Rattle.kmip_ttlv.specs.Values.{no_values, struct_value, text_value, u32_value, value}
 use Rattle.kmip_ttlv.specs.Visits.{joined}
 use Rattle.std.specs.Prelude.{List, None, Option, Some, [], codes, option_map, string_bytes, true, ℕ, ◌+◌, ◌∷◌, ◌≡◌}
-use Rattle.kmip_ttlv.specs.Visits as told
+use Rattle.kmip_ttlv.specs.Visits as visits
 use Rattle.kmip_messages.specs.declared.request.CreateRequest.{CreateRequest}
 use Rattle.kmip_messages.specs.declared.request.CreateKeyPairRequest.{CreateKeyPairRequest}
 use Rattle.kmip_messages.specs.declared.request.RegisterRequest.{RegisterRequest}
@@ -101,9 +101,9 @@ create_key_pair_request_form =
 unfoldable pub written_create_key_pair_request : {A : Type 0} → CreateKeyPairRequest A → Value
 written_create_key_pair_request x =
     struct_value (codes "0x420079") (
-    joined (told.optional (option_map written_common_template_attribute x.common)) (
-    joined (told.optional (option_map written_private_key_template_attribute x.private_key)) (
-    joined (told.optional (option_map written_public_key_template_attribute x.public_key)) no_values)))
+    joined (visits.optional_field (option_map written_common_template_attribute x.common)) (
+    joined (visits.optional_field (option_map written_private_key_template_attribute x.private_key)) (
+    joined (visits.optional_field (option_map written_public_key_template_attribute x.public_key)) no_values)))
 
 -- what is read of a `CreateKeyPairRequest`
 unfoldable pub read_create_key_pair_request : {A : Type 0} → CreateKeyPairRequest A → Value
@@ -139,14 +139,14 @@ register_request_form =
 -- which `object` of a `RegisterRequest` is there, if it is exactly one
 abbrev pub IsRegisterRequestObject : {A : Type 0} → RegisterRequest A → Option (ManagedObject A) → Type 0
 IsRegisterRequestObject x None = (there x.certificate + (there x.symmetric_key + (there x.public_key + (there x.private_key + (there x.split_key + (there x.template + (there x.secret_data + there x.opaque_object)))))) ≡ 1) → ⊥
-IsRegisterRequestObject x (Some (managed_object.Certificate held)) = (x.certificate ≡ Some held.now) × (x.symmetric_key ≡ None) × (x.public_key ≡ None) × (x.private_key ≡ None) × (x.split_key ≡ None) × (x.template ≡ None) × (x.secret_data ≡ None) × (x.opaque_object ≡ None)
-IsRegisterRequestObject x (Some (managed_object.SymmetricKey held)) = (x.certificate ≡ None) × (x.symmetric_key ≡ Some held.now) × (x.public_key ≡ None) × (x.private_key ≡ None) × (x.split_key ≡ None) × (x.template ≡ None) × (x.secret_data ≡ None) × (x.opaque_object ≡ None)
-IsRegisterRequestObject x (Some (managed_object.PublicKey held)) = (x.certificate ≡ None) × (x.symmetric_key ≡ None) × (x.public_key ≡ Some held.now) × (x.private_key ≡ None) × (x.split_key ≡ None) × (x.template ≡ None) × (x.secret_data ≡ None) × (x.opaque_object ≡ None)
-IsRegisterRequestObject x (Some (managed_object.PrivateKey held)) = (x.certificate ≡ None) × (x.symmetric_key ≡ None) × (x.public_key ≡ None) × (x.private_key ≡ Some held.now) × (x.split_key ≡ None) × (x.template ≡ None) × (x.secret_data ≡ None) × (x.opaque_object ≡ None)
-IsRegisterRequestObject x (Some (managed_object.SplitKey held)) = (x.certificate ≡ None) × (x.symmetric_key ≡ None) × (x.public_key ≡ None) × (x.private_key ≡ None) × (x.split_key ≡ Some held.now) × (x.template ≡ None) × (x.secret_data ≡ None) × (x.opaque_object ≡ None)
-IsRegisterRequestObject x (Some (managed_object.Template held)) = (x.certificate ≡ None) × (x.symmetric_key ≡ None) × (x.public_key ≡ None) × (x.private_key ≡ None) × (x.split_key ≡ None) × (x.template ≡ Some held.now) × (x.secret_data ≡ None) × (x.opaque_object ≡ None)
-IsRegisterRequestObject x (Some (managed_object.SecretData held)) = (x.certificate ≡ None) × (x.symmetric_key ≡ None) × (x.public_key ≡ None) × (x.private_key ≡ None) × (x.split_key ≡ None) × (x.template ≡ None) × (x.secret_data ≡ Some held.now) × (x.opaque_object ≡ None)
-IsRegisterRequestObject x (Some (managed_object.OpaqueObject held)) = (x.certificate ≡ None) × (x.symmetric_key ≡ None) × (x.public_key ≡ None) × (x.private_key ≡ None) × (x.split_key ≡ None) × (x.template ≡ None) × (x.secret_data ≡ None) × (x.opaque_object ≡ Some held.now)
+IsRegisterRequestObject x (Some (managed_object.Certificate inner)) = (x.certificate ≡ Some inner.now) × (x.symmetric_key ≡ None) × (x.public_key ≡ None) × (x.private_key ≡ None) × (x.split_key ≡ None) × (x.template ≡ None) × (x.secret_data ≡ None) × (x.opaque_object ≡ None)
+IsRegisterRequestObject x (Some (managed_object.SymmetricKey inner)) = (x.certificate ≡ None) × (x.symmetric_key ≡ Some inner.now) × (x.public_key ≡ None) × (x.private_key ≡ None) × (x.split_key ≡ None) × (x.template ≡ None) × (x.secret_data ≡ None) × (x.opaque_object ≡ None)
+IsRegisterRequestObject x (Some (managed_object.PublicKey inner)) = (x.certificate ≡ None) × (x.symmetric_key ≡ None) × (x.public_key ≡ Some inner.now) × (x.private_key ≡ None) × (x.split_key ≡ None) × (x.template ≡ None) × (x.secret_data ≡ None) × (x.opaque_object ≡ None)
+IsRegisterRequestObject x (Some (managed_object.PrivateKey inner)) = (x.certificate ≡ None) × (x.symmetric_key ≡ None) × (x.public_key ≡ None) × (x.private_key ≡ Some inner.now) × (x.split_key ≡ None) × (x.template ≡ None) × (x.secret_data ≡ None) × (x.opaque_object ≡ None)
+IsRegisterRequestObject x (Some (managed_object.SplitKey inner)) = (x.certificate ≡ None) × (x.symmetric_key ≡ None) × (x.public_key ≡ None) × (x.private_key ≡ None) × (x.split_key ≡ Some inner.now) × (x.template ≡ None) × (x.secret_data ≡ None) × (x.opaque_object ≡ None)
+IsRegisterRequestObject x (Some (managed_object.Template inner)) = (x.certificate ≡ None) × (x.symmetric_key ≡ None) × (x.public_key ≡ None) × (x.private_key ≡ None) × (x.split_key ≡ None) × (x.template ≡ Some inner.now) × (x.secret_data ≡ None) × (x.opaque_object ≡ None)
+IsRegisterRequestObject x (Some (managed_object.SecretData inner)) = (x.certificate ≡ None) × (x.symmetric_key ≡ None) × (x.public_key ≡ None) × (x.private_key ≡ None) × (x.split_key ≡ None) × (x.template ≡ None) × (x.secret_data ≡ Some inner.now) × (x.opaque_object ≡ None)
+IsRegisterRequestObject x (Some (managed_object.OpaqueObject inner)) = (x.certificate ≡ None) × (x.symmetric_key ≡ None) × (x.public_key ≡ None) × (x.private_key ≡ None) × (x.split_key ≡ None) × (x.template ≡ None) × (x.secret_data ≡ None) × (x.opaque_object ≡ Some inner.now)
 
 -- what is written of a `RegisterRequest`
 unfoldable pub written_register_request : {A : Type 0} → RegisterRequest A → Value
@@ -154,14 +154,14 @@ written_register_request x =
     struct_value (codes "0x420079") (
     value (written_object_type x.object_type) (
     value (written_template_attribute x.template_attribute) (
-    joined (told.optional (option_map written_certificate x.certificate)) (
-    joined (told.optional (option_map written_symmetric_key x.symmetric_key)) (
-    joined (told.optional (option_map written_public_key x.public_key)) (
-    joined (told.optional (option_map written_private_key x.private_key)) (
-    joined (told.optional (option_map written_split_key x.split_key)) (
-    joined (told.optional (option_map written_template x.template)) (
-    joined (told.optional (option_map written_secret_data x.secret_data)) (
-    joined (told.optional (option_map written_opaque_object x.opaque_object)) no_values))))))))))
+    joined (visits.optional_field (option_map written_certificate x.certificate)) (
+    joined (visits.optional_field (option_map written_symmetric_key x.symmetric_key)) (
+    joined (visits.optional_field (option_map written_public_key x.public_key)) (
+    joined (visits.optional_field (option_map written_private_key x.private_key)) (
+    joined (visits.optional_field (option_map written_split_key x.split_key)) (
+    joined (visits.optional_field (option_map written_template x.template)) (
+    joined (visits.optional_field (option_map written_secret_data x.secret_data)) (
+    joined (visits.optional_field (option_map written_opaque_object x.opaque_object)) no_values))))))))))
 
 -- what is read of a `RegisterRequest`
 unfoldable pub read_register_request : {A : Type 0} → RegisterRequest A → Value
@@ -221,8 +221,8 @@ locate_request_form =
 unfoldable pub written_locate_request : {A : Type 0} → LocateRequest A → Value
 written_locate_request x =
     struct_value (codes "0x420079") (
-    joined (told.optional (option_map maximum_items_value x.maximum_items)) (
-    joined (told.optional (option_map storage_status_mask_value x.storage_status_mask)) (
+    joined (visits.optional_field (option_map maximum_items_value x.maximum_items)) (
+    joined (visits.optional_field (option_map storage_status_mask_value x.storage_status_mask)) (
     value (sequence written_attribute x.attributes.items) no_values)))
 
 -- what is read of a `LocateRequest`
@@ -256,10 +256,10 @@ unfoldable pub written_key_wrapping_specification : {A : Type 0} → KeyWrapping
 written_key_wrapping_specification x =
     struct_value (codes "0x420047") (
     value (written_wrapping_method x.wrapping_method) (
-    joined (told.optional (option_map written_encryption_key_information x.encryption_key_information)) (
-    joined (told.optional (option_map written_mac_signature_key_information x.mac_signature_key_information)) (
+    joined (visits.optional_field (option_map written_encryption_key_information x.encryption_key_information)) (
+    joined (visits.optional_field (option_map written_mac_signature_key_information x.mac_signature_key_information)) (
     value (sequence attribute_name_value x.attribute_names.items) (
-    joined (told.optional (option_map written_encoding_option x.encoding_option)) no_values)))))
+    joined (visits.optional_field (option_map written_encoding_option x.encoding_option)) no_values)))))
 
 -- what is read of a `KeyWrappingSpecification`
 unfoldable pub read_key_wrapping_specification : {A : Type 0} → KeyWrappingSpecification A → Value
@@ -294,11 +294,11 @@ get_request_form =
 unfoldable pub written_get_request : {A : Type 0} → GetRequest A → Value
 written_get_request x =
     struct_value (codes "0x420079") (
-    joined (told.optional (option_map
+    joined (visits.optional_field (option_map
     (λ y. newtype_value (codes "Transparent:0x420094") (text_value (string_bytes y))) x.unique_identifier)) (
-    joined (told.optional (option_map written_key_format_type x.key_format_type)) (
-    joined (told.optional (option_map written_key_compression_type x.key_compression_type)) (
-    joined (told.optional (option_map written_key_wrapping_specification x.key_wrapping_specification)) no_values))))
+    joined (visits.optional_field (option_map written_key_format_type x.key_format_type)) (
+    joined (visits.optional_field (option_map written_key_compression_type x.key_compression_type)) (
+    joined (visits.optional_field (option_map written_key_wrapping_specification x.key_wrapping_specification)) no_values))))
 
 -- what is read of a `GetRequest`
 unfoldable pub read_get_request : {A : Type 0} → GetRequest A → Value
@@ -331,7 +331,7 @@ get_attributes_request_form =
 unfoldable pub written_get_attributes_request : {A : Type 0} → GetAttributesRequest A → Value
 written_get_attributes_request x =
     struct_value (codes "0x420079") (
-    joined (told.optional (option_map
+    joined (visits.optional_field (option_map
     (λ y. newtype_value (codes "Transparent:0x420094") (text_value (string_bytes y))) x.unique_identifier)) (
     value (sequence attribute_name_value x.attribute_names.items) no_values))
 
@@ -354,7 +354,7 @@ attribute_request_form =
 unfoldable pub written_attribute_request : {A : Type 0} → AttributeRequest A → Value
 written_attribute_request x =
     struct_value (codes "0x420079") (
-    joined (told.optional (option_map
+    joined (visits.optional_field (option_map
     (λ y. newtype_value (codes "Transparent:0x420094") (text_value (string_bytes y))) x.unique_identifier)) (
     value (written_attribute x.attribute) no_values))
 
@@ -386,10 +386,10 @@ delete_attribute_request_form =
 unfoldable pub written_delete_attribute_request : {A : Type 0} → DeleteAttributeRequest A → Value
 written_delete_attribute_request x =
     struct_value (codes "0x420079") (
-    joined (told.optional (option_map
+    joined (visits.optional_field (option_map
     (λ y. newtype_value (codes "Transparent:0x420094") (text_value (string_bytes y))) x.unique_identifier)) (
     value (newtype_value (codes "Transparent:0x42000A") (text_value (string_bytes x.attribute_name))) (
-    joined (told.optional (option_map attribute_index_value x.attribute_index)) no_values)))
+    joined (visits.optional_field (option_map attribute_index_value x.attribute_index)) no_values)))
 
 -- what is read of a `DeleteAttributeRequest`
 unfoldable pub read_delete_attribute_request : {A : Type 0} → DeleteAttributeRequest A → Value
@@ -410,7 +410,7 @@ object_request_form =
 unfoldable pub written_object_request : {A : Type 0} → ObjectRequest A → Value
 written_object_request x =
     struct_value (codes "0x420079") (
-    joined (told.optional (option_map
+    joined (visits.optional_field (option_map
     (λ y. newtype_value (codes "Transparent:0x420094") (text_value (string_bytes y))) x.unique_identifier)) no_values)
 
 -- what is read of a `ObjectRequest`
@@ -432,7 +432,7 @@ unfoldable pub written_revocation_reason_given : {A : Type 0} → RevocationReas
 written_revocation_reason_given x =
     struct_value (codes "0x420081") (
     value (written_revocation_reason_code x.code) (
-    joined (told.optional (option_map
+    joined (visits.optional_field (option_map
     (λ y. newtype_value (codes "Transparent:0x420080") (text_value (string_bytes y))) x.message)) no_values))
 
 -- what is read of a `RevocationReasonGiven`
@@ -471,10 +471,10 @@ revoke_request_form =
 unfoldable pub written_revoke_request : {A : Type 0} → RevokeRequest A → Value
 written_revoke_request x =
     struct_value (codes "0x420079") (
-    joined (told.optional (option_map
+    joined (visits.optional_field (option_map
     (λ y. newtype_value (codes "Transparent:0x420094") (text_value (string_bytes y))) x.unique_identifier)) (
     value (written_revocation_reason_given x.revocation_reason) (
-    joined (told.optional (option_map compromise_occurrence_date_value x.compromise_occurrence_date)) no_values)))
+    joined (visits.optional_field (option_map compromise_occurrence_date_value x.compromise_occurrence_date)) no_values)))
 
 -- what is read of a `RevokeRequest`
 unfoldable pub read_revoke_request : {A : Type 0} → RevokeRequest A → Value
@@ -826,10 +826,10 @@ unfoldable pub written_request_item : {A : Type 0} → RequestItem A → Value
 written_request_item x =
     struct_value (codes "0x42000F") (
     value (written_operation x.operation) (
-    joined (told.optional (option_map
+    joined (visits.optional_field (option_map
     (λ y. newtype_value (codes "Transparent:0x420093") (bytes_value y.items)) x.unique_batch_item_id)) (
     value (written_request_payload x.payload) (
-    joined (told.optional (option_map message_extension_value x.message_extension)) no_values))))
+    joined (visits.optional_field (option_map message_extension_value x.message_extension)) no_values))))
 
 -- what is read of a `RequestItem`
 unfoldable pub read_request_item : {A : Type 0} → RequestItem A → Value

@@ -7,7 +7,7 @@ use Rattle.kmip_ttlv.specs.Values.{Value, bytes_value, newtype_value, newtype_va
 use Rattle.kmip_ttlv.specs.Values.{text_value, u32_value, value}
 use Rattle.kmip_ttlv.specs.Visits.{joined}
 use Rattle.std.specs.Prelude.{List, None, Option, Some, [], codes, option_map, string_bytes, true, ℕ, ◌+◌, ◌∷◌, ◌≡◌}
-use Rattle.kmip_ttlv.specs.Visits as told
+use Rattle.kmip_ttlv.specs.Visits as visits
 use Rattle.kmip_messages.specs.declared.response.CreateResponse.{CreateResponse}
 use Rattle.kmip_messages.specs.declared.response.CreateKeyPairResponse.{CreateKeyPairResponse}
 use Rattle.kmip_messages.specs.declared.response.RegisterResponse.{RegisterResponse}
@@ -64,7 +64,7 @@ written_create_response x =
     struct_value (codes "0x42007C") (
     value (written_object_type x.object_type) (
     value (newtype_value (codes "Transparent:0x420094") (text_value (string_bytes x.unique_identifier))) (
-    joined (told.optional (option_map written_template_attribute x.template_attribute)) no_values)))
+    joined (visits.optional_field (option_map written_template_attribute x.template_attribute)) no_values)))
 
 -- what is read of a `CreateResponse`
 unfoldable pub read_create_response : {A : Type 0} → CreateResponse A → Value
@@ -97,8 +97,8 @@ written_create_key_pair_response x =
     struct_value (codes "0x42007C") (
     value (newtype_value (codes "Transparent:0x420066") (text_value (string_bytes x.private_key_unique_identifier))) (
     value (newtype_value (codes "Transparent:0x42006F") (text_value (string_bytes x.public_key_unique_identifier))) (
-    joined (told.optional (option_map written_private_key_template_attribute x.private_key)) (
-    joined (told.optional (option_map written_public_key_template_attribute x.public_key)) no_values))))
+    joined (visits.optional_field (option_map written_private_key_template_attribute x.private_key)) (
+    joined (visits.optional_field (option_map written_public_key_template_attribute x.public_key)) no_values))))
 
 -- what is read of a `CreateKeyPairResponse`
 unfoldable pub read_create_key_pair_response : {A : Type 0} → CreateKeyPairResponse A → Value
@@ -130,7 +130,7 @@ unfoldable pub written_register_response : {A : Type 0} → RegisterResponse A �
 written_register_response x =
     struct_value (codes "0x42007C") (
     value (newtype_value (codes "Transparent:0x420094") (text_value (string_bytes x.unique_identifier))) (
-    joined (told.optional (option_map written_template_attribute x.template_attribute)) no_values))
+    joined (visits.optional_field (option_map written_template_attribute x.template_attribute)) no_values))
 
 -- what is read of a `RegisterResponse`
 unfoldable pub read_register_response : {A : Type 0} → RegisterResponse A → Value
@@ -182,14 +182,14 @@ get_response_form =
 -- which `object` of a `GetResponse` is there, if it is exactly one
 abbrev pub IsGetResponseObject : {A : Type 0} → GetResponse A → Option (ManagedObject A) → Type 0
 IsGetResponseObject x None = (there x.certificate + (there x.symmetric_key + (there x.public_key + (there x.private_key + (there x.split_key + (there x.template + (there x.secret_data + there x.opaque_object)))))) ≡ 1) → ⊥
-IsGetResponseObject x (Some (managed_object.Certificate held)) = (x.certificate ≡ Some held.now) × (x.symmetric_key ≡ None) × (x.public_key ≡ None) × (x.private_key ≡ None) × (x.split_key ≡ None) × (x.template ≡ None) × (x.secret_data ≡ None) × (x.opaque_object ≡ None)
-IsGetResponseObject x (Some (managed_object.SymmetricKey held)) = (x.certificate ≡ None) × (x.symmetric_key ≡ Some held.now) × (x.public_key ≡ None) × (x.private_key ≡ None) × (x.split_key ≡ None) × (x.template ≡ None) × (x.secret_data ≡ None) × (x.opaque_object ≡ None)
-IsGetResponseObject x (Some (managed_object.PublicKey held)) = (x.certificate ≡ None) × (x.symmetric_key ≡ None) × (x.public_key ≡ Some held.now) × (x.private_key ≡ None) × (x.split_key ≡ None) × (x.template ≡ None) × (x.secret_data ≡ None) × (x.opaque_object ≡ None)
-IsGetResponseObject x (Some (managed_object.PrivateKey held)) = (x.certificate ≡ None) × (x.symmetric_key ≡ None) × (x.public_key ≡ None) × (x.private_key ≡ Some held.now) × (x.split_key ≡ None) × (x.template ≡ None) × (x.secret_data ≡ None) × (x.opaque_object ≡ None)
-IsGetResponseObject x (Some (managed_object.SplitKey held)) = (x.certificate ≡ None) × (x.symmetric_key ≡ None) × (x.public_key ≡ None) × (x.private_key ≡ None) × (x.split_key ≡ Some held.now) × (x.template ≡ None) × (x.secret_data ≡ None) × (x.opaque_object ≡ None)
-IsGetResponseObject x (Some (managed_object.Template held)) = (x.certificate ≡ None) × (x.symmetric_key ≡ None) × (x.public_key ≡ None) × (x.private_key ≡ None) × (x.split_key ≡ None) × (x.template ≡ Some held.now) × (x.secret_data ≡ None) × (x.opaque_object ≡ None)
-IsGetResponseObject x (Some (managed_object.SecretData held)) = (x.certificate ≡ None) × (x.symmetric_key ≡ None) × (x.public_key ≡ None) × (x.private_key ≡ None) × (x.split_key ≡ None) × (x.template ≡ None) × (x.secret_data ≡ Some held.now) × (x.opaque_object ≡ None)
-IsGetResponseObject x (Some (managed_object.OpaqueObject held)) = (x.certificate ≡ None) × (x.symmetric_key ≡ None) × (x.public_key ≡ None) × (x.private_key ≡ None) × (x.split_key ≡ None) × (x.template ≡ None) × (x.secret_data ≡ None) × (x.opaque_object ≡ Some held.now)
+IsGetResponseObject x (Some (managed_object.Certificate inner)) = (x.certificate ≡ Some inner.now) × (x.symmetric_key ≡ None) × (x.public_key ≡ None) × (x.private_key ≡ None) × (x.split_key ≡ None) × (x.template ≡ None) × (x.secret_data ≡ None) × (x.opaque_object ≡ None)
+IsGetResponseObject x (Some (managed_object.SymmetricKey inner)) = (x.certificate ≡ None) × (x.symmetric_key ≡ Some inner.now) × (x.public_key ≡ None) × (x.private_key ≡ None) × (x.split_key ≡ None) × (x.template ≡ None) × (x.secret_data ≡ None) × (x.opaque_object ≡ None)
+IsGetResponseObject x (Some (managed_object.PublicKey inner)) = (x.certificate ≡ None) × (x.symmetric_key ≡ None) × (x.public_key ≡ Some inner.now) × (x.private_key ≡ None) × (x.split_key ≡ None) × (x.template ≡ None) × (x.secret_data ≡ None) × (x.opaque_object ≡ None)
+IsGetResponseObject x (Some (managed_object.PrivateKey inner)) = (x.certificate ≡ None) × (x.symmetric_key ≡ None) × (x.public_key ≡ None) × (x.private_key ≡ Some inner.now) × (x.split_key ≡ None) × (x.template ≡ None) × (x.secret_data ≡ None) × (x.opaque_object ≡ None)
+IsGetResponseObject x (Some (managed_object.SplitKey inner)) = (x.certificate ≡ None) × (x.symmetric_key ≡ None) × (x.public_key ≡ None) × (x.private_key ≡ None) × (x.split_key ≡ Some inner.now) × (x.template ≡ None) × (x.secret_data ≡ None) × (x.opaque_object ≡ None)
+IsGetResponseObject x (Some (managed_object.Template inner)) = (x.certificate ≡ None) × (x.symmetric_key ≡ None) × (x.public_key ≡ None) × (x.private_key ≡ None) × (x.split_key ≡ None) × (x.template ≡ Some inner.now) × (x.secret_data ≡ None) × (x.opaque_object ≡ None)
+IsGetResponseObject x (Some (managed_object.SecretData inner)) = (x.certificate ≡ None) × (x.symmetric_key ≡ None) × (x.public_key ≡ None) × (x.private_key ≡ None) × (x.split_key ≡ None) × (x.template ≡ None) × (x.secret_data ≡ Some inner.now) × (x.opaque_object ≡ None)
+IsGetResponseObject x (Some (managed_object.OpaqueObject inner)) = (x.certificate ≡ None) × (x.symmetric_key ≡ None) × (x.public_key ≡ None) × (x.private_key ≡ None) × (x.split_key ≡ None) × (x.template ≡ None) × (x.secret_data ≡ None) × (x.opaque_object ≡ Some inner.now)
 
 -- what is written of a `GetResponse`
 unfoldable pub written_get_response : {A : Type 0} → GetResponse A → Value
@@ -197,14 +197,14 @@ written_get_response x =
     struct_value (codes "0x42007C") (
     value (written_object_type x.object_type) (
     value (newtype_value (codes "Transparent:0x420094") (text_value (string_bytes x.unique_identifier))) (
-    joined (told.optional (option_map written_certificate x.certificate)) (
-    joined (told.optional (option_map written_symmetric_key x.symmetric_key)) (
-    joined (told.optional (option_map written_public_key x.public_key)) (
-    joined (told.optional (option_map written_private_key x.private_key)) (
-    joined (told.optional (option_map written_split_key x.split_key)) (
-    joined (told.optional (option_map written_template x.template)) (
-    joined (told.optional (option_map written_secret_data x.secret_data)) (
-    joined (told.optional (option_map written_opaque_object x.opaque_object)) no_values))))))))))
+    joined (visits.optional_field (option_map written_certificate x.certificate)) (
+    joined (visits.optional_field (option_map written_symmetric_key x.symmetric_key)) (
+    joined (visits.optional_field (option_map written_public_key x.public_key)) (
+    joined (visits.optional_field (option_map written_private_key x.private_key)) (
+    joined (visits.optional_field (option_map written_split_key x.split_key)) (
+    joined (visits.optional_field (option_map written_template x.template)) (
+    joined (visits.optional_field (option_map written_secret_data x.secret_data)) (
+    joined (visits.optional_field (option_map written_opaque_object x.opaque_object)) no_values))))))))))
 
 -- what is read of a `GetResponse`
 unfoldable pub read_get_response : {A : Type 0} → GetResponse A → Value
@@ -348,7 +348,7 @@ written_query_response x =
     struct_value (codes "0x42007C") (
     value (sequence written_operation x.operations.items) (
     value (sequence written_object_type x.object_types.items) (
-    joined (told.optional (option_map
+    joined (visits.optional_field (option_map
     (λ y. newtype_value (codes "Transparent:0x42009D") (text_value (string_bytes y))) x.vendor_identification)) (
     value (sequence application_namespace_value x.application_namespaces.items) no_values))))
 
@@ -745,17 +745,17 @@ response_item_form =
 unfoldable pub written_response_item : {A : Type 0} → ResponseItem A → Value
 written_response_item x =
     struct_value (codes "0x42000F") (
-    joined (told.optional (option_map written_operation x.operation)) (
-    joined (told.optional (option_map
+    joined (visits.optional_field (option_map written_operation x.operation)) (
+    joined (visits.optional_field (option_map
     (λ y. newtype_value (codes "Transparent:0x420093") (bytes_value y.items)) x.unique_batch_item_id)) (
     value (written_result_status x.result_status) (
-    joined (told.optional (option_map written_result_reason x.result_reason)) (
-    joined (told.optional (option_map
+    joined (visits.optional_field (option_map written_result_reason x.result_reason)) (
+    joined (visits.optional_field (option_map
     (λ y. newtype_value (codes "Transparent:0x42007D") (text_value (string_bytes y))) x.result_message)) (
-    joined (told.optional (option_map
+    joined (visits.optional_field (option_map
     (λ y. newtype_value (codes "Transparent:0x420006") (bytes_value y.items)) x.asynchronous_correlation_value)) (
-    joined (told.optional (option_map written_response_payload x.payload)) (
-    joined (told.optional (option_map message_extension_value x.message_extension)) no_values))))))))
+    joined (visits.optional_field (option_map written_response_payload x.payload)) (
+    joined (visits.optional_field (option_map message_extension_value x.message_extension)) no_values))))))))
 
 -- what is read of a `ResponseItem`
 unfoldable pub read_response_item : {A : Type 0} → ResponseItem A → Value

@@ -369,8 +369,8 @@ impl<B: Allocator> Serialize for CredentialValue<B> {
     #[tactic(auto, unfolding(crate::specs::Headers::written_credential_value))]
     fn visit<V: Visitor>(&self, visitor: &mut V) -> Result<(), AllocError> {
         match self {
-            CredentialValue::UsernameAndPassword(held) => held.visit(visitor),
-            CredentialValue::Device(held) => held.visit(visitor),
+            CredentialValue::UsernameAndPassword(inner) => inner.visit(visitor),
+            CredentialValue::Device(inner) => inner.visit(visitor),
         }
     }
 }
@@ -400,8 +400,8 @@ impl<A: Allocator + Copy> reader::VariantOf<
     A,
 > for CredentialValueUsernameAndPasswordRule {
     #[tactic(auto, unfolding(kmip_ttlv_types::specs::Digits::six_digits, crate::specs::Headers::read_credential_value))]
-    fn from_content(held: UsernameAndPassword<A>) -> CredentialValue<A> {
-        CredentialValue::UsernameAndPassword(held)
+    fn from_content(inner: UsernameAndPassword<A>) -> CredentialValue<A> {
+        CredentialValue::UsernameAndPassword(inner)
     }
 }
 
@@ -430,8 +430,8 @@ impl<A: Allocator + Copy> reader::VariantOf<
     A,
 > for CredentialValueDeviceRule {
     #[tactic(auto, unfolding(kmip_ttlv_types::specs::Digits::six_digits, crate::specs::Headers::read_credential_value))]
-    fn from_content(held: Device<A>) -> CredentialValue<A> {
-        CredentialValue::Device(held)
+    fn from_content(inner: Device<A>) -> CredentialValue<A> {
+        CredentialValue::Device(inner)
     }
 }
 
@@ -1048,7 +1048,7 @@ pub enum Operation {
     Cancel,
     /// To ask for the response of one.
     Poll,
-    /// To tell a client what has changed.
+    /// To send a client what has changed.
     Notify,
     /// To give a client an object.
     Put,

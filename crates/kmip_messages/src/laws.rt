@@ -405,21 +405,21 @@ impl<A: Allocator> Sound for RequestPayload<A> {
 
     fn is_sound(&self) -> bool {
         match self {
-            RequestPayload::Create(held) => held.is_sound(),
-            RequestPayload::CreateKeyPair(held) => held.is_sound(),
-            RequestPayload::Register(held) => held.is_sound(),
-            RequestPayload::Locate(held) => held.is_sound(),
-            RequestPayload::Get(held) => held.is_sound(),
+            RequestPayload::Create(inner) => inner.is_sound(),
+            RequestPayload::CreateKeyPair(inner) => inner.is_sound(),
+            RequestPayload::Register(inner) => inner.is_sound(),
+            RequestPayload::Locate(inner) => inner.is_sound(),
+            RequestPayload::Get(inner) => inner.is_sound(),
             RequestPayload::GetAttributes(_) => true,
             RequestPayload::GetAttributeList(_) => true,
-            RequestPayload::AddAttribute(held) => held.is_sound(),
-            RequestPayload::ModifyAttribute(held) => held.is_sound(),
-            RequestPayload::DeleteAttribute(held) => held.is_sound(),
+            RequestPayload::AddAttribute(inner) => inner.is_sound(),
+            RequestPayload::ModifyAttribute(inner) => inner.is_sound(),
+            RequestPayload::DeleteAttribute(inner) => inner.is_sound(),
             RequestPayload::Activate(_) => true,
-            RequestPayload::Revoke(held) => held.is_sound(),
+            RequestPayload::Revoke(inner) => inner.is_sound(),
             RequestPayload::Destroy(_) => true,
-            RequestPayload::Query(held) => held.is_sound(),
-            RequestPayload::DiscoverVersions(held) => held.is_sound(),
+            RequestPayload::Query(inner) => inner.is_sound(),
+            RequestPayload::DiscoverVersions(inner) => inner.is_sound(),
         }
     }
 }
@@ -520,21 +520,21 @@ impl<A: Allocator> Sound for ResponsePayload<A> {
 
     fn is_sound(&self) -> bool {
         match self {
-            ResponsePayload::Create(held) => held.is_sound(),
-            ResponsePayload::CreateKeyPair(held) => held.is_sound(),
-            ResponsePayload::Register(held) => held.is_sound(),
+            ResponsePayload::Create(inner) => inner.is_sound(),
+            ResponsePayload::CreateKeyPair(inner) => inner.is_sound(),
+            ResponsePayload::Register(inner) => inner.is_sound(),
             ResponsePayload::Locate(_) => true,
-            ResponsePayload::Get(held) => held.is_sound(),
-            ResponsePayload::GetAttributes(held) => held.is_sound(),
+            ResponsePayload::Get(inner) => inner.is_sound(),
+            ResponsePayload::GetAttributes(inner) => inner.is_sound(),
             ResponsePayload::GetAttributeList(_) => true,
-            ResponsePayload::AddAttribute(held) => held.is_sound(),
-            ResponsePayload::ModifyAttribute(held) => held.is_sound(),
-            ResponsePayload::DeleteAttribute(held) => held.is_sound(),
+            ResponsePayload::AddAttribute(inner) => inner.is_sound(),
+            ResponsePayload::ModifyAttribute(inner) => inner.is_sound(),
+            ResponsePayload::DeleteAttribute(inner) => inner.is_sound(),
             ResponsePayload::Activate(_) => true,
             ResponsePayload::Revoke(_) => true,
             ResponsePayload::Destroy(_) => true,
-            ResponsePayload::Query(held) => held.is_sound(),
-            ResponsePayload::DiscoverVersions(held) => held.is_sound(),
+            ResponsePayload::Query(inner) => inner.is_sound(),
+            ResponsePayload::DiscoverVersions(inner) => inner.is_sound(),
         }
     }
 }
@@ -561,7 +561,7 @@ impl<A: Allocator> ResponseItem<A> {
         ensures { IsTrue result ↔ IfSome self.now.payload (λ y. IsSomeAnd self.now.operation (λ z. ChoosesResponsePayloadNumber (operation_number z) y)) }
     {
         match (&self.operation, &self.payload) {
-            (Some(said), Some(held)) => held.is_chosen_by_number(said.number()),
+            (Some(said), Some(inner)) => inner.is_chosen_by_number(said.number()),
             (None, Some(_)) => false,
             (_, None) => true,
         }

@@ -226,29 +226,29 @@ impl<A: Allocator> RegisterRequest<A> {
             &self.secret_data,
             &self.opaque_object,
         ) {
-            (Some(held), None, None, None, None, None, None, None) => Some(
-                ManagedObject::Certificate(held),
+            (Some(inner), None, None, None, None, None, None, None) => Some(
+                ManagedObject::Certificate(inner),
             ),
-            (None, Some(held), None, None, None, None, None, None) => Some(
-                ManagedObject::SymmetricKey(held),
+            (None, Some(inner), None, None, None, None, None, None) => Some(
+                ManagedObject::SymmetricKey(inner),
             ),
-            (None, None, Some(held), None, None, None, None, None) => Some(ManagedObject::PublicKey(
-                held,
+            (None, None, Some(inner), None, None, None, None, None) => Some(
+                ManagedObject::PublicKey(inner),
+            ),
+            (None, None, None, Some(inner), None, None, None, None) => Some(
+                ManagedObject::PrivateKey(inner),
+            ),
+            (None, None, None, None, Some(inner), None, None, None) => Some(ManagedObject::SplitKey(
+                inner,
             )),
-            (None, None, None, Some(held), None, None, None, None) => Some(
-                ManagedObject::PrivateKey(held),
-            ),
-            (None, None, None, None, Some(held), None, None, None) => Some(ManagedObject::SplitKey(
-                held,
+            (None, None, None, None, None, Some(inner), None, None) => Some(ManagedObject::Template(
+                inner,
             )),
-            (None, None, None, None, None, Some(held), None, None) => Some(ManagedObject::Template(
-                held,
-            )),
-            (None, None, None, None, None, None, Some(held), None) => Some(
-                ManagedObject::SecretData(held),
+            (None, None, None, None, None, None, Some(inner), None) => Some(
+                ManagedObject::SecretData(inner),
             ),
-            (None, None, None, None, None, None, None, Some(held)) => Some(
-                ManagedObject::OpaqueObject(held),
+            (None, None, None, None, None, None, None, Some(inner)) => Some(
+                ManagedObject::OpaqueObject(inner),
             ),
             _ => None,
         }
@@ -1179,7 +1179,7 @@ impl<A: Allocator + Copy> reader::ReadNested<A> for RevokeRequest<A> {
 pub enum QueryFunction {
     /// Its operations.
     QueryOperations,
-    /// The kinds of objects that it keeps.
+    /// The kinds of objects that it tag_values.
     QueryObjects,
     /// What it is.
     QueryServerInformation,
@@ -1476,21 +1476,21 @@ impl<B: Allocator> Serialize for RequestPayload<B> {
     #[tactic(auto, unfolding(crate::specs::Requests::written_request_payload))]
     fn visit<V: Visitor>(&self, visitor: &mut V) -> Result<(), AllocError> {
         match self {
-            RequestPayload::Create(held) => held.visit(visitor),
-            RequestPayload::CreateKeyPair(held) => held.visit(visitor),
-            RequestPayload::Register(held) => held.visit(visitor),
-            RequestPayload::Locate(held) => held.visit(visitor),
-            RequestPayload::Get(held) => held.visit(visitor),
-            RequestPayload::GetAttributes(held) => held.visit(visitor),
-            RequestPayload::GetAttributeList(held) => held.visit(visitor),
-            RequestPayload::AddAttribute(held) => held.visit(visitor),
-            RequestPayload::ModifyAttribute(held) => held.visit(visitor),
-            RequestPayload::DeleteAttribute(held) => held.visit(visitor),
-            RequestPayload::Activate(held) => held.visit(visitor),
-            RequestPayload::Revoke(held) => held.visit(visitor),
-            RequestPayload::Destroy(held) => held.visit(visitor),
-            RequestPayload::Query(held) => held.visit(visitor),
-            RequestPayload::DiscoverVersions(held) => held.visit(visitor),
+            RequestPayload::Create(inner) => inner.visit(visitor),
+            RequestPayload::CreateKeyPair(inner) => inner.visit(visitor),
+            RequestPayload::Register(inner) => inner.visit(visitor),
+            RequestPayload::Locate(inner) => inner.visit(visitor),
+            RequestPayload::Get(inner) => inner.visit(visitor),
+            RequestPayload::GetAttributes(inner) => inner.visit(visitor),
+            RequestPayload::GetAttributeList(inner) => inner.visit(visitor),
+            RequestPayload::AddAttribute(inner) => inner.visit(visitor),
+            RequestPayload::ModifyAttribute(inner) => inner.visit(visitor),
+            RequestPayload::DeleteAttribute(inner) => inner.visit(visitor),
+            RequestPayload::Activate(inner) => inner.visit(visitor),
+            RequestPayload::Revoke(inner) => inner.visit(visitor),
+            RequestPayload::Destroy(inner) => inner.visit(visitor),
+            RequestPayload::Query(inner) => inner.visit(visitor),
+            RequestPayload::DiscoverVersions(inner) => inner.visit(visitor),
         }
     }
 }
@@ -1520,8 +1520,8 @@ impl<A: Allocator + Copy> reader::VariantOf<
     A,
 > for RequestPayloadCreateRule {
     #[tactic(auto, unfolding(kmip_ttlv_types::specs::Digits::six_digits, crate::specs::Requests::read_request_payload))]
-    fn from_content(held: CreateRequest<A>) -> RequestPayload<A> {
-        RequestPayload::Create(held)
+    fn from_content(inner: CreateRequest<A>) -> RequestPayload<A> {
+        RequestPayload::Create(inner)
     }
 }
 
@@ -1550,8 +1550,8 @@ impl<A: Allocator + Copy> reader::VariantOf<
     A,
 > for RequestPayloadCreateKeyPairRule {
     #[tactic(auto, unfolding(kmip_ttlv_types::specs::Digits::six_digits, crate::specs::Requests::read_request_payload))]
-    fn from_content(held: CreateKeyPairRequest<A>) -> RequestPayload<A> {
-        RequestPayload::CreateKeyPair(held)
+    fn from_content(inner: CreateKeyPairRequest<A>) -> RequestPayload<A> {
+        RequestPayload::CreateKeyPair(inner)
     }
 }
 
@@ -1580,8 +1580,8 @@ impl<A: Allocator + Copy> reader::VariantOf<
     A,
 > for RequestPayloadRegisterRule {
     #[tactic(auto, unfolding(kmip_ttlv_types::specs::Digits::six_digits, crate::specs::Requests::read_request_payload))]
-    fn from_content(held: RegisterRequest<A>) -> RequestPayload<A> {
-        RequestPayload::Register(held)
+    fn from_content(inner: RegisterRequest<A>) -> RequestPayload<A> {
+        RequestPayload::Register(inner)
     }
 }
 
@@ -1610,8 +1610,8 @@ impl<A: Allocator + Copy> reader::VariantOf<
     A,
 > for RequestPayloadLocateRule {
     #[tactic(auto, unfolding(kmip_ttlv_types::specs::Digits::six_digits, crate::specs::Requests::read_request_payload))]
-    fn from_content(held: LocateRequest<A>) -> RequestPayload<A> {
-        RequestPayload::Locate(held)
+    fn from_content(inner: LocateRequest<A>) -> RequestPayload<A> {
+        RequestPayload::Locate(inner)
     }
 }
 
@@ -1640,8 +1640,8 @@ impl<A: Allocator + Copy> reader::VariantOf<
     A,
 > for RequestPayloadGetRule {
     #[tactic(auto, unfolding(kmip_ttlv_types::specs::Digits::six_digits, crate::specs::Requests::read_request_payload))]
-    fn from_content(held: GetRequest<A>) -> RequestPayload<A> {
-        RequestPayload::Get(held)
+    fn from_content(inner: GetRequest<A>) -> RequestPayload<A> {
+        RequestPayload::Get(inner)
     }
 }
 
@@ -1670,8 +1670,8 @@ impl<A: Allocator + Copy> reader::VariantOf<
     A,
 > for RequestPayloadGetAttributesRule {
     #[tactic(auto, unfolding(kmip_ttlv_types::specs::Digits::six_digits, crate::specs::Requests::read_request_payload))]
-    fn from_content(held: GetAttributesRequest<A>) -> RequestPayload<A> {
-        RequestPayload::GetAttributes(held)
+    fn from_content(inner: GetAttributesRequest<A>) -> RequestPayload<A> {
+        RequestPayload::GetAttributes(inner)
     }
 }
 
@@ -1700,8 +1700,8 @@ impl<A: Allocator + Copy> reader::VariantOf<
     A,
 > for RequestPayloadGetAttributeListRule {
     #[tactic(auto, unfolding(kmip_ttlv_types::specs::Digits::six_digits, crate::specs::Requests::read_request_payload))]
-    fn from_content(held: ObjectRequest<A>) -> RequestPayload<A> {
-        RequestPayload::GetAttributeList(held)
+    fn from_content(inner: ObjectRequest<A>) -> RequestPayload<A> {
+        RequestPayload::GetAttributeList(inner)
     }
 }
 
@@ -1730,8 +1730,8 @@ impl<A: Allocator + Copy> reader::VariantOf<
     A,
 > for RequestPayloadAddAttributeRule {
     #[tactic(auto, unfolding(kmip_ttlv_types::specs::Digits::six_digits, crate::specs::Requests::read_request_payload))]
-    fn from_content(held: AttributeRequest<A>) -> RequestPayload<A> {
-        RequestPayload::AddAttribute(held)
+    fn from_content(inner: AttributeRequest<A>) -> RequestPayload<A> {
+        RequestPayload::AddAttribute(inner)
     }
 }
 
@@ -1760,8 +1760,8 @@ impl<A: Allocator + Copy> reader::VariantOf<
     A,
 > for RequestPayloadModifyAttributeRule {
     #[tactic(auto, unfolding(kmip_ttlv_types::specs::Digits::six_digits, crate::specs::Requests::read_request_payload))]
-    fn from_content(held: AttributeRequest<A>) -> RequestPayload<A> {
-        RequestPayload::ModifyAttribute(held)
+    fn from_content(inner: AttributeRequest<A>) -> RequestPayload<A> {
+        RequestPayload::ModifyAttribute(inner)
     }
 }
 
@@ -1790,8 +1790,8 @@ impl<A: Allocator + Copy> reader::VariantOf<
     A,
 > for RequestPayloadDeleteAttributeRule {
     #[tactic(auto, unfolding(kmip_ttlv_types::specs::Digits::six_digits, crate::specs::Requests::read_request_payload))]
-    fn from_content(held: DeleteAttributeRequest<A>) -> RequestPayload<A> {
-        RequestPayload::DeleteAttribute(held)
+    fn from_content(inner: DeleteAttributeRequest<A>) -> RequestPayload<A> {
+        RequestPayload::DeleteAttribute(inner)
     }
 }
 
@@ -1820,8 +1820,8 @@ impl<A: Allocator + Copy> reader::VariantOf<
     A,
 > for RequestPayloadActivateRule {
     #[tactic(auto, unfolding(kmip_ttlv_types::specs::Digits::six_digits, crate::specs::Requests::read_request_payload))]
-    fn from_content(held: ObjectRequest<A>) -> RequestPayload<A> {
-        RequestPayload::Activate(held)
+    fn from_content(inner: ObjectRequest<A>) -> RequestPayload<A> {
+        RequestPayload::Activate(inner)
     }
 }
 
@@ -1850,8 +1850,8 @@ impl<A: Allocator + Copy> reader::VariantOf<
     A,
 > for RequestPayloadRevokeRule {
     #[tactic(auto, unfolding(kmip_ttlv_types::specs::Digits::six_digits, crate::specs::Requests::read_request_payload))]
-    fn from_content(held: RevokeRequest<A>) -> RequestPayload<A> {
-        RequestPayload::Revoke(held)
+    fn from_content(inner: RevokeRequest<A>) -> RequestPayload<A> {
+        RequestPayload::Revoke(inner)
     }
 }
 
@@ -1880,8 +1880,8 @@ impl<A: Allocator + Copy> reader::VariantOf<
     A,
 > for RequestPayloadDestroyRule {
     #[tactic(auto, unfolding(kmip_ttlv_types::specs::Digits::six_digits, crate::specs::Requests::read_request_payload))]
-    fn from_content(held: ObjectRequest<A>) -> RequestPayload<A> {
-        RequestPayload::Destroy(held)
+    fn from_content(inner: ObjectRequest<A>) -> RequestPayload<A> {
+        RequestPayload::Destroy(inner)
     }
 }
 
@@ -1910,8 +1910,8 @@ impl<A: Allocator + Copy> reader::VariantOf<
     A,
 > for RequestPayloadQueryRule {
     #[tactic(auto, unfolding(kmip_ttlv_types::specs::Digits::six_digits, crate::specs::Requests::read_request_payload))]
-    fn from_content(held: QueryRequest<A>) -> RequestPayload<A> {
-        RequestPayload::Query(held)
+    fn from_content(inner: QueryRequest<A>) -> RequestPayload<A> {
+        RequestPayload::Query(inner)
     }
 }
 
@@ -1940,8 +1940,8 @@ impl<A: Allocator + Copy> reader::VariantOf<
     A,
 > for RequestPayloadDiscoverVersionsRule {
     #[tactic(auto, unfolding(kmip_ttlv_types::specs::Digits::six_digits, crate::specs::Requests::read_request_payload))]
-    fn from_content(held: DiscoverVersionsRequest<A>) -> RequestPayload<A> {
-        RequestPayload::DiscoverVersions(held)
+    fn from_content(inner: DiscoverVersionsRequest<A>) -> RequestPayload<A> {
+        RequestPayload::DiscoverVersions(inner)
     }
 }
 

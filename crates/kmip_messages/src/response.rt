@@ -375,29 +375,29 @@ impl<A: Allocator> GetResponse<A> {
             &self.secret_data,
             &self.opaque_object,
         ) {
-            (Some(held), None, None, None, None, None, None, None) => Some(
-                ManagedObject::Certificate(held),
+            (Some(inner), None, None, None, None, None, None, None) => Some(
+                ManagedObject::Certificate(inner),
             ),
-            (None, Some(held), None, None, None, None, None, None) => Some(
-                ManagedObject::SymmetricKey(held),
+            (None, Some(inner), None, None, None, None, None, None) => Some(
+                ManagedObject::SymmetricKey(inner),
             ),
-            (None, None, Some(held), None, None, None, None, None) => Some(ManagedObject::PublicKey(
-                held,
+            (None, None, Some(inner), None, None, None, None, None) => Some(
+                ManagedObject::PublicKey(inner),
+            ),
+            (None, None, None, Some(inner), None, None, None, None) => Some(
+                ManagedObject::PrivateKey(inner),
+            ),
+            (None, None, None, None, Some(inner), None, None, None) => Some(ManagedObject::SplitKey(
+                inner,
             )),
-            (None, None, None, Some(held), None, None, None, None) => Some(
-                ManagedObject::PrivateKey(held),
-            ),
-            (None, None, None, None, Some(held), None, None, None) => Some(ManagedObject::SplitKey(
-                held,
+            (None, None, None, None, None, Some(inner), None, None) => Some(ManagedObject::Template(
+                inner,
             )),
-            (None, None, None, None, None, Some(held), None, None) => Some(ManagedObject::Template(
-                held,
-            )),
-            (None, None, None, None, None, None, Some(held), None) => Some(
-                ManagedObject::SecretData(held),
+            (None, None, None, None, None, None, Some(inner), None) => Some(
+                ManagedObject::SecretData(inner),
             ),
-            (None, None, None, None, None, None, None, Some(held)) => Some(
-                ManagedObject::OpaqueObject(held),
+            (None, None, None, None, None, None, None, Some(inner)) => Some(
+                ManagedObject::OpaqueObject(inner),
             ),
             _ => None,
         }
@@ -836,7 +836,7 @@ impl<A: Allocator + Copy> reader::ReadItem<A> for ApplicationNamespace<A> {
 pub struct QueryResponse<A: Allocator = Global> {
     /// Its operations.
     pub operations: Vec<Operation, A>,
-    /// The kinds of objects that it keeps.
+    /// The kinds of objects that it tag_values.
     pub object_types: Vec<ObjectType, A>,
     /// Who made it.
     pub vendor_identification: Option<String<A>>,
@@ -1077,21 +1077,21 @@ impl<B: Allocator> Serialize for ResponsePayload<B> {
     #[tactic(auto, unfolding(crate::specs::Responses::written_response_payload))]
     fn visit<V: Visitor>(&self, visitor: &mut V) -> Result<(), AllocError> {
         match self {
-            ResponsePayload::Create(held) => held.visit(visitor),
-            ResponsePayload::CreateKeyPair(held) => held.visit(visitor),
-            ResponsePayload::Register(held) => held.visit(visitor),
-            ResponsePayload::Locate(held) => held.visit(visitor),
-            ResponsePayload::Get(held) => held.visit(visitor),
-            ResponsePayload::GetAttributes(held) => held.visit(visitor),
-            ResponsePayload::GetAttributeList(held) => held.visit(visitor),
-            ResponsePayload::AddAttribute(held) => held.visit(visitor),
-            ResponsePayload::ModifyAttribute(held) => held.visit(visitor),
-            ResponsePayload::DeleteAttribute(held) => held.visit(visitor),
-            ResponsePayload::Activate(held) => held.visit(visitor),
-            ResponsePayload::Revoke(held) => held.visit(visitor),
-            ResponsePayload::Destroy(held) => held.visit(visitor),
-            ResponsePayload::Query(held) => held.visit(visitor),
-            ResponsePayload::DiscoverVersions(held) => held.visit(visitor),
+            ResponsePayload::Create(inner) => inner.visit(visitor),
+            ResponsePayload::CreateKeyPair(inner) => inner.visit(visitor),
+            ResponsePayload::Register(inner) => inner.visit(visitor),
+            ResponsePayload::Locate(inner) => inner.visit(visitor),
+            ResponsePayload::Get(inner) => inner.visit(visitor),
+            ResponsePayload::GetAttributes(inner) => inner.visit(visitor),
+            ResponsePayload::GetAttributeList(inner) => inner.visit(visitor),
+            ResponsePayload::AddAttribute(inner) => inner.visit(visitor),
+            ResponsePayload::ModifyAttribute(inner) => inner.visit(visitor),
+            ResponsePayload::DeleteAttribute(inner) => inner.visit(visitor),
+            ResponsePayload::Activate(inner) => inner.visit(visitor),
+            ResponsePayload::Revoke(inner) => inner.visit(visitor),
+            ResponsePayload::Destroy(inner) => inner.visit(visitor),
+            ResponsePayload::Query(inner) => inner.visit(visitor),
+            ResponsePayload::DiscoverVersions(inner) => inner.visit(visitor),
         }
     }
 }
@@ -1121,8 +1121,8 @@ impl<A: Allocator + Copy> reader::VariantOf<
     A,
 > for ResponsePayloadCreateRule {
     #[tactic(auto, unfolding(kmip_ttlv_types::specs::Digits::six_digits, crate::specs::Responses::read_response_payload))]
-    fn from_content(held: CreateResponse<A>) -> ResponsePayload<A> {
-        ResponsePayload::Create(held)
+    fn from_content(inner: CreateResponse<A>) -> ResponsePayload<A> {
+        ResponsePayload::Create(inner)
     }
 }
 
@@ -1151,8 +1151,8 @@ impl<A: Allocator + Copy> reader::VariantOf<
     A,
 > for ResponsePayloadCreateKeyPairRule {
     #[tactic(auto, unfolding(kmip_ttlv_types::specs::Digits::six_digits, crate::specs::Responses::read_response_payload))]
-    fn from_content(held: CreateKeyPairResponse<A>) -> ResponsePayload<A> {
-        ResponsePayload::CreateKeyPair(held)
+    fn from_content(inner: CreateKeyPairResponse<A>) -> ResponsePayload<A> {
+        ResponsePayload::CreateKeyPair(inner)
     }
 }
 
@@ -1181,8 +1181,8 @@ impl<A: Allocator + Copy> reader::VariantOf<
     A,
 > for ResponsePayloadRegisterRule {
     #[tactic(auto, unfolding(kmip_ttlv_types::specs::Digits::six_digits, crate::specs::Responses::read_response_payload))]
-    fn from_content(held: RegisterResponse<A>) -> ResponsePayload<A> {
-        ResponsePayload::Register(held)
+    fn from_content(inner: RegisterResponse<A>) -> ResponsePayload<A> {
+        ResponsePayload::Register(inner)
     }
 }
 
@@ -1211,8 +1211,8 @@ impl<A: Allocator + Copy> reader::VariantOf<
     A,
 > for ResponsePayloadLocateRule {
     #[tactic(auto, unfolding(kmip_ttlv_types::specs::Digits::six_digits, crate::specs::Responses::read_response_payload))]
-    fn from_content(held: LocateResponse<A>) -> ResponsePayload<A> {
-        ResponsePayload::Locate(held)
+    fn from_content(inner: LocateResponse<A>) -> ResponsePayload<A> {
+        ResponsePayload::Locate(inner)
     }
 }
 
@@ -1241,8 +1241,8 @@ impl<A: Allocator + Copy> reader::VariantOf<
     A,
 > for ResponsePayloadGetRule {
     #[tactic(auto, unfolding(kmip_ttlv_types::specs::Digits::six_digits, crate::specs::Responses::read_response_payload))]
-    fn from_content(held: GetResponse<A>) -> ResponsePayload<A> {
-        ResponsePayload::Get(held)
+    fn from_content(inner: GetResponse<A>) -> ResponsePayload<A> {
+        ResponsePayload::Get(inner)
     }
 }
 
@@ -1271,8 +1271,8 @@ impl<A: Allocator + Copy> reader::VariantOf<
     A,
 > for ResponsePayloadGetAttributesRule {
     #[tactic(auto, unfolding(kmip_ttlv_types::specs::Digits::six_digits, crate::specs::Responses::read_response_payload))]
-    fn from_content(held: GetAttributesResponse<A>) -> ResponsePayload<A> {
-        ResponsePayload::GetAttributes(held)
+    fn from_content(inner: GetAttributesResponse<A>) -> ResponsePayload<A> {
+        ResponsePayload::GetAttributes(inner)
     }
 }
 
@@ -1301,8 +1301,8 @@ impl<A: Allocator + Copy> reader::VariantOf<
     A,
 > for ResponsePayloadGetAttributeListRule {
     #[tactic(auto, unfolding(kmip_ttlv_types::specs::Digits::six_digits, crate::specs::Responses::read_response_payload))]
-    fn from_content(held: GetAttributeListResponse<A>) -> ResponsePayload<A> {
-        ResponsePayload::GetAttributeList(held)
+    fn from_content(inner: GetAttributeListResponse<A>) -> ResponsePayload<A> {
+        ResponsePayload::GetAttributeList(inner)
     }
 }
 
@@ -1331,8 +1331,8 @@ impl<A: Allocator + Copy> reader::VariantOf<
     A,
 > for ResponsePayloadAddAttributeRule {
     #[tactic(auto, unfolding(kmip_ttlv_types::specs::Digits::six_digits, crate::specs::Responses::read_response_payload))]
-    fn from_content(held: AttributeResponse<A>) -> ResponsePayload<A> {
-        ResponsePayload::AddAttribute(held)
+    fn from_content(inner: AttributeResponse<A>) -> ResponsePayload<A> {
+        ResponsePayload::AddAttribute(inner)
     }
 }
 
@@ -1361,8 +1361,8 @@ impl<A: Allocator + Copy> reader::VariantOf<
     A,
 > for ResponsePayloadModifyAttributeRule {
     #[tactic(auto, unfolding(kmip_ttlv_types::specs::Digits::six_digits, crate::specs::Responses::read_response_payload))]
-    fn from_content(held: AttributeResponse<A>) -> ResponsePayload<A> {
-        ResponsePayload::ModifyAttribute(held)
+    fn from_content(inner: AttributeResponse<A>) -> ResponsePayload<A> {
+        ResponsePayload::ModifyAttribute(inner)
     }
 }
 
@@ -1391,8 +1391,8 @@ impl<A: Allocator + Copy> reader::VariantOf<
     A,
 > for ResponsePayloadDeleteAttributeRule {
     #[tactic(auto, unfolding(kmip_ttlv_types::specs::Digits::six_digits, crate::specs::Responses::read_response_payload))]
-    fn from_content(held: AttributeResponse<A>) -> ResponsePayload<A> {
-        ResponsePayload::DeleteAttribute(held)
+    fn from_content(inner: AttributeResponse<A>) -> ResponsePayload<A> {
+        ResponsePayload::DeleteAttribute(inner)
     }
 }
 
@@ -1421,8 +1421,8 @@ impl<A: Allocator + Copy> reader::VariantOf<
     A,
 > for ResponsePayloadActivateRule {
     #[tactic(auto, unfolding(kmip_ttlv_types::specs::Digits::six_digits, crate::specs::Responses::read_response_payload))]
-    fn from_content(held: ObjectResponse<A>) -> ResponsePayload<A> {
-        ResponsePayload::Activate(held)
+    fn from_content(inner: ObjectResponse<A>) -> ResponsePayload<A> {
+        ResponsePayload::Activate(inner)
     }
 }
 
@@ -1451,8 +1451,8 @@ impl<A: Allocator + Copy> reader::VariantOf<
     A,
 > for ResponsePayloadRevokeRule {
     #[tactic(auto, unfolding(kmip_ttlv_types::specs::Digits::six_digits, crate::specs::Responses::read_response_payload))]
-    fn from_content(held: ObjectResponse<A>) -> ResponsePayload<A> {
-        ResponsePayload::Revoke(held)
+    fn from_content(inner: ObjectResponse<A>) -> ResponsePayload<A> {
+        ResponsePayload::Revoke(inner)
     }
 }
 
@@ -1481,8 +1481,8 @@ impl<A: Allocator + Copy> reader::VariantOf<
     A,
 > for ResponsePayloadDestroyRule {
     #[tactic(auto, unfolding(kmip_ttlv_types::specs::Digits::six_digits, crate::specs::Responses::read_response_payload))]
-    fn from_content(held: ObjectResponse<A>) -> ResponsePayload<A> {
-        ResponsePayload::Destroy(held)
+    fn from_content(inner: ObjectResponse<A>) -> ResponsePayload<A> {
+        ResponsePayload::Destroy(inner)
     }
 }
 
@@ -1511,8 +1511,8 @@ impl<A: Allocator + Copy> reader::VariantOf<
     A,
 > for ResponsePayloadQueryRule {
     #[tactic(auto, unfolding(kmip_ttlv_types::specs::Digits::six_digits, crate::specs::Responses::read_response_payload))]
-    fn from_content(held: QueryResponse<A>) -> ResponsePayload<A> {
-        ResponsePayload::Query(held)
+    fn from_content(inner: QueryResponse<A>) -> ResponsePayload<A> {
+        ResponsePayload::Query(inner)
     }
 }
 
@@ -1541,8 +1541,8 @@ impl<A: Allocator + Copy> reader::VariantOf<
     A,
 > for ResponsePayloadDiscoverVersionsRule {
     #[tactic(auto, unfolding(kmip_ttlv_types::specs::Digits::six_digits, crate::specs::Responses::read_response_payload))]
-    fn from_content(held: DiscoverVersionsResponse<A>) -> ResponsePayload<A> {
-        ResponsePayload::DiscoverVersions(held)
+    fn from_content(inner: DiscoverVersionsResponse<A>) -> ResponsePayload<A> {
+        ResponsePayload::DiscoverVersions(inner)
     }
 }
 

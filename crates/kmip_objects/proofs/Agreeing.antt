@@ -5,7 +5,7 @@ use Rattle.kmip_ttlv.specs.Names.{number, override_name, tag_of, transparent_nam
 use Rattle.kmip_ttlv.specs.Returns.{as_int32, as_number, as_octets, as_text}
 use Rattle.kmip_ttlv.specs.Rules.{at_least, equal, in_brackets, member, rule, sides}
 use Rattle.kmip_ttlv.specs.Values.{big_integer_value, bytes_value, newtype_value}
-use Rattle.kmip_ttlv.specs.WrittenItems.{held_over, is_wrapper, take_tag}
+use Rattle.kmip_ttlv.specs.WrittenItems.{is_wrapper, pending_after, take_tag}
 use Rattle.kmip_ttlv_laws.proofs.MessageParts.{PartAgrees, a_structure, any_then, as_whole, every_agrees, head_or}
 use Rattle.kmip_ttlv_laws.proofs.MessageParts.{if_present, leaf_part, leaf_then, neither_named, nothing_left}
 use Rattle.kmip_ttlv_laws.proofs.MessageParts.{optional_then, part_then, present, several_then, structure, text_is_utf8}
@@ -226,7 +226,7 @@ pub key_material_agrees : {A : Type 0} (x : KeyMaterial A)
     → PartAgrees key_material_form
     (written_key_material x) record { tag = 0x420043; typ = key_material_typ x }
     (read_key_material x)
-unfolding take_tag tag_of number transparent_name override_name held_over is_wrapper rule sides equal at_least member in_brackets trim_end chars trim_start encode key_material_content written_key_material read_key_material transparent_symmetric_key_value
+unfolding take_tag tag_of number transparent_name override_name pending_after is_wrapper rule sides equal at_least member in_brackets trim_end chars trim_start encode key_material_content written_key_material read_key_material transparent_symmetric_key_value
 key_material_agrees (key_material.Bytes x) =
     chosen_by_type first_variant (λ k. refl) (overridden_leaf (variant_wraps refl refl) refl refl (as_octets))
 key_material_agrees (key_material.TransparentSymmetricKey x) =
@@ -264,7 +264,7 @@ pub key_value_agrees : {A : Type 0} (x : KeyValue A) → IsKeyValue x
     → PartAgrees key_value_form
     (written_key_value x) record { tag = 0x420045; typ = key_value_typ x }
     (returned_key_value x)
-unfolding take_tag tag_of number transparent_name override_name held_over is_wrapper rule sides equal at_least member in_brackets trim_end chars trim_start encode key_value_content written_key_value returned_key_value written_plain_key_value returned_plain_key_value
+unfolding take_tag tag_of number transparent_name override_name pending_after is_wrapper rule sides equal at_least member in_brackets trim_end chars trim_start encode key_value_content written_key_value returned_key_value written_plain_key_value returned_plain_key_value
 key_value_agrees (key_value.Plain x) is =
     chosen_by_type first_variant (λ k. refl) (overridden_structure (variant_wraps refl refl) refl (plain_key_value_agrees x is))
 key_value_agrees (key_value.Wrapped x) is =

@@ -7,7 +7,7 @@ use Rattle.kmip_ttlv.specs.Values.{Value, bytes_value, i32_value, newtype_value,
 use Rattle.kmip_ttlv.specs.Values.{struct_value, text_value, u32_value, value}
 use Rattle.kmip_ttlv.specs.Visits.{joined}
 use Rattle.std.specs.Prelude.{List, Option, Some, [], codes, option_map, string_bytes, true, ℕ, ◌∷◌}
-use Rattle.kmip_ttlv.specs.Visits as told
+use Rattle.kmip_ttlv.specs.Visits as visits
 use Rattle.kmip_objects.specs.declared.key.UniqueIdentifier.{UniqueIdentifier}
 use Rattle.kmip_objects.specs.declared.key.KeyCompressionType.{KeyCompressionType}
 use Rattle.kmip_objects.specs.declared.key.KeyCompressionType.TheVariants as key_compression_type
@@ -158,10 +158,10 @@ wrapping_parameters_form =
 unfoldable pub written_wrapping_parameters : WrappingParameters → Value
 written_wrapping_parameters x =
     struct_value (codes "0x42002B") (
-    joined (told.optional (option_map written_block_cipher_mode x.block_cipher_mode)) (
-    joined (told.optional (option_map written_padding_method x.padding_method)) (
-    joined (told.optional (option_map written_hashing_algorithm x.hashing_algorithm)) (
-    joined (told.optional (option_map written_key_role_type x.key_role_type)) no_values))))
+    joined (visits.optional_field (option_map written_block_cipher_mode x.block_cipher_mode)) (
+    joined (visits.optional_field (option_map written_padding_method x.padding_method)) (
+    joined (visits.optional_field (option_map written_hashing_algorithm x.hashing_algorithm)) (
+    joined (visits.optional_field (option_map written_key_role_type x.key_role_type)) no_values))))
 
 -- what is read of a `WrappingParameters`
 unfoldable pub read_wrapping_parameters : WrappingParameters → Value
@@ -193,7 +193,7 @@ unfoldable pub written_encryption_key_information : {A : Type 0} → EncryptionK
 written_encryption_key_information x =
     struct_value (codes "0x420036") (
     value (newtype_value (codes "Transparent:0x420094") (text_value (string_bytes x.unique_identifier))) (
-    joined (told.optional (option_map written_wrapping_parameters x.cryptographic_parameters)) no_values))
+    joined (visits.optional_field (option_map written_wrapping_parameters x.cryptographic_parameters)) no_values))
 
 -- what is read of a `EncryptionKeyInformation`
 unfoldable pub read_encryption_key_information : {A : Type 0} → EncryptionKeyInformation A → Value
@@ -221,7 +221,7 @@ unfoldable pub written_mac_signature_key_information : {A : Type 0} → MacSigna
 written_mac_signature_key_information x =
     struct_value (codes "0x42004E") (
     value (newtype_value (codes "Transparent:0x420094") (text_value (string_bytes x.unique_identifier))) (
-    joined (told.optional (option_map written_wrapping_parameters x.cryptographic_parameters)) no_values))
+    joined (visits.optional_field (option_map written_wrapping_parameters x.cryptographic_parameters)) no_values))
 
 -- what is read of a `MacSignatureKeyInformation`
 unfoldable pub read_mac_signature_key_information : {A : Type 0} → MacSignatureKeyInformation A → Value
@@ -253,13 +253,13 @@ unfoldable pub written_key_wrapping_data : {A : Type 0} → KeyWrappingData A �
 written_key_wrapping_data x =
     struct_value (codes "0x420046") (
     value (written_wrapping_method x.wrapping_method) (
-    joined (told.optional (option_map written_encryption_key_information x.encryption_key_information)) (
-    joined (told.optional (option_map written_mac_signature_key_information x.mac_signature_key_information)) (
-    joined (told.optional (option_map
+    joined (visits.optional_field (option_map written_encryption_key_information x.encryption_key_information)) (
+    joined (visits.optional_field (option_map written_mac_signature_key_information x.mac_signature_key_information)) (
+    joined (visits.optional_field (option_map
     (λ y. newtype_value (codes "Transparent:0x42004D") (bytes_value y.items)) x.mac_signature)) (
-    joined (told.optional (option_map
+    joined (visits.optional_field (option_map
     (λ y. newtype_value (codes "Transparent:0x42003D") (bytes_value y.items)) x.iv_counter_nonce)) (
-    joined (told.optional (option_map written_encoding_option x.encoding_option)) no_values))))))
+    joined (visits.optional_field (option_map written_encoding_option x.encoding_option)) no_values))))))
 
 -- what is read of a `KeyWrappingData`
 unfoldable pub read_key_wrapping_data : {A : Type 0} → KeyWrappingData A → Value
@@ -442,11 +442,11 @@ unfoldable pub written_key_block : {A : Type 0} → KeyBlock A → Value
 written_key_block x =
     struct_value (codes "0x420040") (
     value (written_key_format_type x.key_format_type) (
-    joined (told.optional (option_map written_key_compression_type x.key_compression_type)) (
+    joined (visits.optional_field (option_map written_key_compression_type x.key_compression_type)) (
     value (written_key_value x.key_value) (
-    joined (told.optional (option_map written_cryptographic_algorithm x.cryptographic_algorithm)) (
-    joined (told.optional (option_map cryptographic_length_value x.cryptographic_length)) (
-    joined (told.optional (option_map written_key_wrapping_data x.key_wrapping_data)) no_values))))))
+    joined (visits.optional_field (option_map written_cryptographic_algorithm x.cryptographic_algorithm)) (
+    joined (visits.optional_field (option_map cryptographic_length_value x.cryptographic_length)) (
+    joined (visits.optional_field (option_map written_key_wrapping_data x.key_wrapping_data)) no_values))))))
 
 -- what is read of a `KeyBlock`
 unfoldable pub read_key_block : {A : Type 0} → KeyBlock A → Value

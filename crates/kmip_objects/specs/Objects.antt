@@ -7,7 +7,7 @@ use Rattle.kmip_ttlv.specs.Values.{Value, big_integer_value, bytes_value, i32_va
 use Rattle.kmip_ttlv.specs.Values.{struct_value, u32_value, value}
 use Rattle.kmip_ttlv.specs.Visits.{joined}
 use Rattle.std.specs.Prelude.{List, Option, Some, [], codes, option_map, true, ℕ, ◌∷◌}
-use Rattle.kmip_ttlv.specs.Visits as told
+use Rattle.kmip_ttlv.specs.Visits as visits
 use Rattle.kmip_objects.specs.declared.object.Certificate.{Certificate}
 use Rattle.kmip_objects.specs.declared.object.SymmetricKey.{SymmetricKey}
 use Rattle.kmip_objects.specs.declared.object.PublicKey.{PublicKey}
@@ -204,7 +204,7 @@ written_split_key x =
     value (key_part_identifier_value x.key_part_identifier) (
     value (split_key_threshold_value x.split_key_threshold) (
     value (written_split_key_method x.split_key_method) (
-    joined (told.optional (option_map
+    joined (visits.optional_field (option_map
     (λ y. newtype_value (codes "Transparent:0x420062") (big_integer_value y.items)) x.prime_field_size)) (
     value (written_key_block x.key_block) no_values))))))
 

@@ -5,7 +5,7 @@ ghost use Rattle.std.specs.Prelude.{◌≡◌, ◌==◌, refl, OnErr, OnOk, Some
 ghost use Rattle.std.proofs.Common.{rules};
 ghost use Rattle.std.specs.Cmp.Rules.{comparing};
 ghost use Rattle.std.specs.Ordering.{on};
-ghost use Rattle.kmip_ttlv.specs.Visits.{Tells};
+ghost use Rattle.kmip_ttlv.specs.Visits.{Receives};
 ghost use Rattle.kmip_objects.specs.Keys.{unique_identifier_form, unique_identifier_value, key_compression_type_form, written_key_compression_type, read_key_compression_type, key_compression_type_number, key_compression_type_read_number, wrapping_method_form, written_wrapping_method, read_wrapping_method, wrapping_method_number, wrapping_method_read_number, encoding_option_form, written_encoding_option, read_encoding_option, encoding_option_number, encoding_option_read_number, wrapping_parameters_form, written_wrapping_parameters, read_wrapping_parameters, encryption_key_information_form, written_encryption_key_information, read_encryption_key_information, mac_signature_key_information_form, written_mac_signature_key_information, read_mac_signature_key_information, key_wrapping_data_form, written_key_wrapping_data, read_key_wrapping_data, key_bytes_form, key_bytes_value, transparent_symmetric_key_form, transparent_symmetric_key_value, key_material_form, written_key_material, read_key_material, key_material_content, plain_key_value_form, written_plain_key_value, read_plain_key_value, wrapped_key_value_form, wrapped_key_value_value, key_value_form, written_key_value, read_key_value, key_value_content, cryptographic_length_form, cryptographic_length_value, key_block_form, written_key_block, read_key_block};
 
 use kmip_attributes::attribute::Attribute;
@@ -749,15 +749,15 @@ pub enum KeyMaterial<A: Allocator = Global> {
 }
 
 impl<A: Allocator> KeyMaterial<A> {
-    // Tells what it holds.
+    // Sends what it holds.
     #[tactic(auto, unfolding(crate::specs::Keys::key_material_content))]
-    pub(crate) fn tell<V: Visitor>(&self, visitor: &mut V) -> Result<(), AllocError>
-        ensures told { OnOk result (Tells V.knows V.step (key_material_content self.now) visitor.old visitor.new) }
+    pub(crate) fn send<V: Visitor>(&self, visitor: &mut V) -> Result<(), AllocError>
+        ensures received { OnOk result (Receives V.knows V.step (key_material_content self.now) visitor.old visitor.new) }
         ensures stopped { OnErr result (V.stopped visitor.new) }
     {
         match self {
-            KeyMaterial::Bytes(held) => held.visit(visitor),
-            KeyMaterial::TransparentSymmetricKey(held) => held.visit(visitor),
+            KeyMaterial::Bytes(inner) => inner.visit(visitor),
+            KeyMaterial::TransparentSymmetricKey(inner) => inner.visit(visitor),
         }
     }
 }
@@ -768,7 +768,7 @@ impl<B: Allocator> Serialize for KeyMaterial<B> {
     #[tactic(auto, unfolding(crate::specs::Keys::written_key_material))]
     fn visit<V: Visitor>(&self, visitor: &mut V) -> Result<(), AllocError> {
         writing::begin_newtype_variant(visitor, "Override:0x420043", "Transparent")?;
-        self.tell(visitor)?;
+        self.send(visitor)?;
         writing::end_newtype_variant(visitor, "Override:0x420043", "Transparent")
     }
 }
@@ -792,8 +792,8 @@ impl reader::Rule for KeyMaterialBytesRule {
 impl<A: Allocator + Copy> reader::VariantOf<reader::ItemElement<KeyBytes<A>>, KeyMaterial<A>, A>
     for KeyMaterialBytesRule {
     #[tactic(auto, unfolding(kmip_ttlv_types::specs::Digits::six_digits, crate::specs::Keys::read_key_material))]
-    fn from_content(held: KeyBytes<A>) -> KeyMaterial<A> {
-        KeyMaterial::Bytes(held)
+    fn from_content(inner: KeyBytes<A>) -> KeyMaterial<A> {
+        KeyMaterial::Bytes(inner)
     }
 }
 
@@ -819,8 +819,8 @@ impl<A: Allocator + Copy> reader::VariantOf<
     A,
 > for KeyMaterialTransparentSymmetricKeyRule {
     #[tactic(auto, unfolding(kmip_ttlv_types::specs::Digits::six_digits, crate::specs::Keys::read_key_material))]
-    fn from_content(held: TransparentSymmetricKey<A>) -> KeyMaterial<A> {
-        KeyMaterial::TransparentSymmetricKey(held)
+    fn from_content(inner: TransparentSymmetricKey<A>) -> KeyMaterial<A> {
+        KeyMaterial::TransparentSymmetricKey(inner)
     }
 }
 
@@ -980,15 +980,15 @@ pub enum KeyValue<A: Allocator = Global> {
 }
 
 impl<A: Allocator> KeyValue<A> {
-    // Tells what it holds.
+    // Sends what it holds.
     #[tactic(auto, unfolding(crate::specs::Keys::key_value_content))]
-    pub(crate) fn tell<V: Visitor>(&self, visitor: &mut V) -> Result<(), AllocError>
-        ensures told { OnOk result (Tells V.knows V.step (key_value_content self.now) visitor.old visitor.new) }
+    pub(crate) fn send<V: Visitor>(&self, visitor: &mut V) -> Result<(), AllocError>
+        ensures received { OnOk result (Receives V.knows V.step (key_value_content self.now) visitor.old visitor.new) }
         ensures stopped { OnErr result (V.stopped visitor.new) }
     {
         match self {
-            KeyValue::Plain(held) => held.visit(visitor),
-            KeyValue::Wrapped(held) => held.visit(visitor),
+            KeyValue::Plain(inner) => inner.visit(visitor),
+            KeyValue::Wrapped(inner) => inner.visit(visitor),
         }
     }
 }
@@ -999,7 +999,7 @@ impl<B: Allocator> Serialize for KeyValue<B> {
     #[tactic(auto, unfolding(crate::specs::Keys::written_key_value))]
     fn visit<V: Visitor>(&self, visitor: &mut V) -> Result<(), AllocError> {
         writing::begin_newtype_variant(visitor, "Override:0x420045", "Transparent")?;
-        self.tell(visitor)?;
+        self.send(visitor)?;
         writing::end_newtype_variant(visitor, "Override:0x420045", "Transparent")
     }
 }
@@ -1026,8 +1026,8 @@ impl<A: Allocator + Copy> reader::VariantOf<
     A,
 > for KeyValuePlainRule {
     #[tactic(auto, unfolding(kmip_ttlv_types::specs::Digits::six_digits, crate::specs::Keys::read_key_value))]
-    fn from_content(held: PlainKeyValue<A>) -> KeyValue<A> {
-        KeyValue::Plain(held)
+    fn from_content(inner: PlainKeyValue<A>) -> KeyValue<A> {
+        KeyValue::Plain(inner)
     }
 }
 
@@ -1050,8 +1050,8 @@ impl reader::Rule for KeyValueWrappedRule {
 impl<A: Allocator + Copy> reader::VariantOf<reader::ItemElement<WrappedKeyValue<A>>, KeyValue<A>, A>
     for KeyValueWrappedRule {
     #[tactic(auto, unfolding(kmip_ttlv_types::specs::Digits::six_digits, crate::specs::Keys::read_key_value))]
-    fn from_content(held: WrappedKeyValue<A>) -> KeyValue<A> {
-        KeyValue::Wrapped(held)
+    fn from_content(inner: WrappedKeyValue<A>) -> KeyValue<A> {
+        KeyValue::Wrapped(inner)
     }
 }
 

@@ -132,7 +132,7 @@ impl<A: Allocator> Sound for KeyValue<A> {
 
     fn is_sound(&self) -> bool {
         match self {
-            KeyValue::Plain(held) => held.is_sound(),
+            KeyValue::Plain(inner) => inner.is_sound(),
             KeyValue::Wrapped(_) => true,
         }
     }

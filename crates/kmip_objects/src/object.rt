@@ -1,5 +1,5 @@
 // Written by codegen from types.table: change that, and run codegen/codegen.
-//! What a server keeps (KMIP 1.0, section 2.2).
+//! What a server tag_values (KMIP 1.0, section 2.2).
 
 ghost use Rattle.std.specs.Prelude.{◌≡◌, ◌==◌, refl, Some, true};
 ghost use Rattle.std.proofs.Common.{rules};
@@ -544,7 +544,7 @@ impl<A: Allocator + Copy> reader::ReadStructure<A> for SplitKey<A> {
             split_key_threshold,
             split_key_method,
             prime_field_size: match prime_field_size {
-                Some(held) => Some(held.0),
+                Some(inner) => Some(inner.0),
                 None => None
             },
             key_block,
@@ -929,7 +929,7 @@ impl<A: Allocator + Copy> reader::ReadNested<A> for OpaqueObject<A> {
     }
 }
 
-/// What a server keeps.
+/// What a server tag_values.
 #[derive(Drop)]
 pub enum ManagedObject<'a, A: Allocator = Global> {
     /// A certificate.

@@ -24,8 +24,8 @@ pub use Rattle.kmip_ttlv_ser.specs.WrittenItems
 pub use Rattle.kmip_ttlv_ser.specs.Sizes
 pub use Rattle.kmip_ttlv_ser.specs.Faults
 pub use Rattle.kmip_ttlv_ser.specs.Lengths
-pub use Rattle.kmip_ttlv_ser.specs.WriteAnswers
-pub use Rattle.kmip_ttlv_reader.specs.Keeps
+pub use Rattle.kmip_ttlv_ser.specs.EncodeResults
+pub use Rattle.kmip_ttlv_reader.specs.TagValues
 pub use Rattle.kmip_ttlv_reader.specs.Rules
 pub use Rattle.kmip_ttlv_reader.specs.RuleParts
 pub use Rattle.kmip_ttlv_reader.specs.Reads
@@ -52,7 +52,7 @@ pub use Rattle.kmip_ttlv_util.specs.ReadBack
 pub use Rattle.kmip_ttlv_util.specs.Undiag
 pub use Rattle.kmip_ttlv_util.specs.Printers
 pub use Rattle.kmip_ttlv_util.specs.Lending
-pub use Rattle.kmip_ttlv_util.specs.PrintAnswers
+pub use Rattle.kmip_ttlv_util.specs.PrintResults
 pub use Rattle.kmip_ttlv_util.specs.Pieces
 pub use Rattle.kmip_ttlv_util.specs.Waiting
 pub use Rattle.kmip_ttlv_ser.specs.WriteLaws

@@ -59,4 +59,4 @@ mutual
 
 -- after the events of one value alone, the first value is that one
 pub built : (v : Value) (s : Unfinished) → visited build_step v (within [] []) ≡ s → first_of s.values ≡ v
-built v s told = ap (λ u. first_of u.values) (sym told ∙ builds v (within [] []))
+built v s received = ap (λ u. first_of u.values) (sym received ∙ builds v (within [] []))

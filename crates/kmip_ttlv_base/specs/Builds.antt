@@ -15,7 +15,7 @@ pub record Unfinished : Type 0 where
 abbrev pub within : List Value → List (List Value) → Unfinished
 within vs around = record { values = vs; around = around }
 
--- a value behind those of the innermost group
+-- a value after those of the innermost group
 abbrev pub appended : Value → Unfinished → Unfinished
 appended v s = within (s.values ++ v ∷ []) s.around
 

@@ -90,25 +90,25 @@ abbrev pub Knows : {V S : Type 0} → (V → S → Type 0) → (S → S) → V �
 Knows {S = S} knows change old new = (s : S) → knows old s → knows new (change s)
 
 -- the same, changed by all events of this value
-abbrev pub Tells : {V S : Type 0} → (V → S → Type 0) → (Event → S → S) → Value → V → V → Type 0
-Tells knows step v old new = Knows knows (visited step v) old new
+abbrev pub Receives : {V S : Type 0} → (V → S → Type 0) → (Event → S → S) → Value → V → V → Type 0
+Receives knows step v old new = Knows knows (visited step v) old new
 
 -- the same, changed by all events of these values
-abbrev pub TellsEach : {V S : Type 0} → (V → S → Type 0) → (Event → S → S) → Values → V → V → Type 0
-TellsEach knows step vs old new = Knows knows (visited_in step vs) old new
+abbrev pub ReceivesEach : {V S : Type 0} → (V → S → Type 0) → (Event → S → S) → Values → V → V → Type 0
+ReceivesEach knows step vs old new = Knows knows (visited_in step vs) old new
 
 -- the same, changed by this event
-abbrev pub TellsOf : {V S : Type 0} → (V → S → Type 0) → (Event → S → S) → Event → V → V → Type 0
-TellsOf knows step e old new = Knows knows (step e) old new
+abbrev pub ReceivesEvent : {V S : Type 0} → (V → S → Type 0) → (Event → S → S) → Event → V → V → Type 0
+ReceivesEvent knows step e old new = Knows knows (step e) old new
 
 -- the same, changed by a group's start, by what is inside, and by its end
 abbrev pub Encloses : {V S : Type 0} → (V → S → Type 0) → (Event → S → S) → Around → (S → S) → V → V → Type 0
 Encloses knows step a inside old new = Knows knows (λ s. step (ended a) (inside (step (begun a) s))) old new
 
 -- the values of a field that may be absent
-abbrev pub optional : Option Value → Values
-optional None = no_values
-optional (Some v) = value v no_values
+abbrev pub optional_field : Option Value → Values
+optional_field None = no_values
+optional_field (Some v) = value v no_values
 
 -- values after values
 abbrev pub joined : Values → Values → Values

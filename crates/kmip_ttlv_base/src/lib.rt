@@ -7,7 +7,7 @@ pub mod error;
 mod location;
 pub mod parts;
 pub mod shape;
-mod tell;
+mod send;
 pub mod visit;
 
 pub use kmip_ttlv_types as types;

@@ -20,7 +20,7 @@ ghost use Rattle.kmip_ttlv_base.specs.Values.{newtype_value, newtype_variant_val
 ghost use Rattle.kmip_ttlv_base.specs.Values.{boolean_value, i32_value, u32_value, i64_value, u64_value};
 ghost use Rattle.kmip_ttlv_base.specs.Values.{interval_value, text_value, bytes_value, big_integer_value, values_of};
 ghost use Rattle.kmip_ttlv_base.specs.Visits.{begun, ended, a_struct, a_newtype, a_newtype_variant, a_tuple_variant};
-ghost use Rattle.kmip_ttlv_base.specs.Visits.{a_seq, Tells, TellsEach, TellsOf, optional};
+ghost use Rattle.kmip_ttlv_base.specs.Visits.{a_seq, Receives, ReceivesEach, ReceivesEvent, optional_field};
 
 use crate::shape::Serialize;
 use crate::visit::{Group, Leaf, Visitor};
@@ -37,8 +37,8 @@ pub fn integer<V: Visitor>(
     name: &'static str,
     number: i32,
 ) -> Result<(), AllocError>
-    ensures told { OnOk result
-        (Tells V.knows V.step (newtype_value name.now (i32_value number)) visitor.old visitor.new) }
+    ensures received { OnOk result
+        (Receives V.knows V.step (newtype_value name.now (i32_value number)) visitor.old visitor.new) }
     ensures stopped { OnErr result (V.stopped visitor.new) }
 {
     visitor.begin(Group::Newtype { name })?;
@@ -57,8 +57,8 @@ pub fn long_integer<V: Visitor>(
     name: &'static str,
     number: i64,
 ) -> Result<(), AllocError>
-    ensures told { OnOk result
-        (Tells V.knows V.step (newtype_value name.now (i64_value number)) visitor.old visitor.new) }
+    ensures received { OnOk result
+        (Receives V.knows V.step (newtype_value name.now (i64_value number)) visitor.old visitor.new) }
     ensures stopped { OnErr result (V.stopped visitor.new) }
 {
     visitor.begin(Group::Newtype { name })?;
@@ -77,8 +77,8 @@ pub fn big_integer<V: Visitor>(
     name: &'static str,
     bytes: &[u8],
 ) -> Result<(), AllocError>
-    ensures told { OnOk result
-        (Tells V.knows V.step (newtype_value name.now (big_integer_value bytes.now)) visitor.old visitor.new) }
+    ensures received { OnOk result
+        (Receives V.knows V.step (newtype_value name.now (big_integer_value bytes.now)) visitor.old visitor.new) }
     ensures stopped { OnErr result (V.stopped visitor.new) }
 {
     visitor.begin(Group::Newtype { name })?;
@@ -97,8 +97,8 @@ pub fn enumeration<V: Visitor>(
     name: &'static str,
     number: u32,
 ) -> Result<(), AllocError>
-    ensures told { OnOk result
-        (Tells V.knows V.step (newtype_value name.now (u32_value number)) visitor.old visitor.new) }
+    ensures received { OnOk result
+        (Receives V.knows V.step (newtype_value name.now (u32_value number)) visitor.old visitor.new) }
     ensures stopped { OnErr result (V.stopped visitor.new) }
 {
     visitor.begin(Group::Newtype { name })?;
@@ -117,8 +117,8 @@ pub fn boolean<V: Visitor>(
     name: &'static str,
     truth: bool,
 ) -> Result<(), AllocError>
-    ensures told { OnOk result
-        (Tells V.knows V.step (newtype_value name.now (boolean_value truth)) visitor.old visitor.new) }
+    ensures received { OnOk result
+        (Receives V.knows V.step (newtype_value name.now (boolean_value truth)) visitor.old visitor.new) }
     ensures stopped { OnErr result (V.stopped visitor.new) }
 {
     visitor.begin(Group::Newtype { name })?;
@@ -138,8 +138,8 @@ pub fn text_string<V: Visitor>(
     name: &'static str,
     text: &str,
 ) -> Result<(), AllocError>
-    ensures told { OnOk result
-        (Tells V.knows V.step (newtype_value name.now (text_value text.now)) visitor.old visitor.new) }
+    ensures received { OnOk result
+        (Receives V.knows V.step (newtype_value name.now (text_value text.now)) visitor.old visitor.new) }
     ensures stopped { OnErr result (V.stopped visitor.new) }
 {
     visitor.begin(Group::Newtype { name })?;
@@ -158,8 +158,8 @@ pub fn byte_string<V: Visitor>(
     name: &'static str,
     bytes: &[u8],
 ) -> Result<(), AllocError>
-    ensures told { OnOk result
-        (Tells V.knows V.step (newtype_value name.now (bytes_value bytes.now)) visitor.old visitor.new) }
+    ensures received { OnOk result
+        (Receives V.knows V.step (newtype_value name.now (bytes_value bytes.now)) visitor.old visitor.new) }
     ensures stopped { OnErr result (V.stopped visitor.new) }
 {
     visitor.begin(Group::Newtype { name })?;
@@ -178,8 +178,8 @@ pub fn date_time<V: Visitor>(
     name: &'static str,
     seconds: u64,
 ) -> Result<(), AllocError>
-    ensures told { OnOk result
-        (Tells V.knows V.step (newtype_value name.now (u64_value seconds)) visitor.old visitor.new) }
+    ensures received { OnOk result
+        (Receives V.knows V.step (newtype_value name.now (u64_value seconds)) visitor.old visitor.new) }
     ensures stopped { OnErr result (V.stopped visitor.new) }
 {
     visitor.begin(Group::Newtype { name })?;
@@ -198,8 +198,8 @@ pub fn interval<V: Visitor>(
     name: &'static str,
     seconds: u32,
 ) -> Result<(), AllocError>
-    ensures told { OnOk result
-        (Tells V.knows V.step (newtype_value name.now (interval_value seconds)) visitor.old visitor.new) }
+    ensures received { OnOk result
+        (Receives V.knows V.step (newtype_value name.now (interval_value seconds)) visitor.old visitor.new) }
     ensures stopped { OnErr result (V.stopped visitor.new) }
 {
     visitor.begin(Group::Newtype { name })?;
@@ -218,8 +218,8 @@ pub fn unit_variant<V: Visitor>(
     name: &'static str,
     variant: &'static str,
 ) -> Result<(), AllocError>
-    ensures told { OnOk result
-        (Tells V.knows V.step (unit_variant_value name.now variant.now) visitor.old visitor.new) }
+    ensures received { OnOk result
+        (Receives V.knows V.step (unit_variant_value name.now variant.now) visitor.old visitor.new) }
     ensures stopped { OnErr result (V.stopped visitor.new) }
 {
     visitor.leaf(Leaf::UnitVariant { name, variant })
@@ -236,8 +236,8 @@ pub fn newtype<V: Visitor, T: Serialize>(
     name: &'static str,
     inner: &T,
 ) -> Result<(), AllocError>
-    ensures told { OnOk result
-        (Tells V.knows V.step (newtype_value name.now (T.stated inner.now)) visitor.old visitor.new) }
+    ensures received { OnOk result
+        (Receives V.knows V.step (newtype_value name.now (T.stated inner.now)) visitor.old visitor.new) }
     ensures stopped { OnErr result (V.stopped visitor.new) }
 {
     visitor.begin(Group::Newtype { name })?;
@@ -258,8 +258,8 @@ pub fn newtype_variant<V: Visitor, T: Serialize>(
     variant: &'static str,
     inner: &T,
 ) -> Result<(), AllocError>
-    ensures told { OnOk result
-        (Tells V.knows V.step (newtype_variant_value name.now variant.now (T.stated inner.now)) visitor.old visitor.new) }
+    ensures received { OnOk result
+        (Receives V.knows V.step (newtype_variant_value name.now variant.now (T.stated inner.now)) visitor.old visitor.new) }
     ensures stopped { OnErr result (V.stopped visitor.new) }
 {
     visitor.begin(Group::NewtypeVariant { name, variant })?;
@@ -270,8 +270,8 @@ pub fn newtype_variant<V: Visitor, T: Serialize>(
 /// Values one after the other, as the fields of a structure.
 #[inline(always)]
 pub fn each<V: Visitor, T: Serialize>(visitor: &mut V, values: &[T]) -> Result<(), AllocError>
-    ensures told { OnOk result
-        (TellsEach V.knows V.step (values_of (map T.stated values.now)) visitor.old visitor.new) }
+    ensures received { OnOk result
+        (ReceivesEach V.knows V.step (values_of (map T.stated values.now)) visitor.old visitor.new) }
     ensures stopped { OnErr result (V.stopped visitor.new) }
 {
     for value in values {
@@ -283,8 +283,8 @@ pub fn each<V: Visitor, T: Serialize>(visitor: &mut V, values: &[T]) -> Result<(
 /// Values one after the other, together one value.
 #[inline(always)]
 pub fn seq<V: Visitor, T: Serialize>(visitor: &mut V, values: &[T]) -> Result<(), AllocError>
-    ensures told { OnOk result
-        (Tells V.knows V.step (seq_value (values_of (map T.stated values.now))) visitor.old visitor.new) }
+    ensures received { OnOk result
+        (Receives V.knows V.step (seq_value (values_of (map T.stated values.now))) visitor.old visitor.new) }
     ensures stopped { OnErr result (V.stopped visitor.new) }
 {
     visitor.begin(Group::Seq)?;
@@ -305,8 +305,8 @@ pub fn option<V: Visitor, T: Serialize>(
     visitor: &mut V,
     value: &Option<T>,
 ) -> Result<(), AllocError>
-    ensures told { OnOk result
-        (TellsEach V.knows V.step (optional (option_map T.stated value.now)) visitor.old visitor.new) }
+    ensures received { OnOk result
+        (ReceivesEach V.knows V.step (optional_field (option_map T.stated value.now)) visitor.old visitor.new) }
     ensures stopped { OnErr result (V.stopped visitor.new) }
 {
     match value {
@@ -327,8 +327,8 @@ pub fn option<V: Visitor, T: Serialize>(
 /// ```
 #[inline(always)]
 pub fn begin_seq<V: Visitor>(visitor: &mut V) -> Result<(), AllocError>
-    ensures told { OnOk result
-        (TellsOf V.knows V.step (begun a_seq) visitor.old visitor.new) }
+    ensures received { OnOk result
+        (ReceivesEvent V.knows V.step (begun a_seq) visitor.old visitor.new) }
     ensures stopped { OnErr result (V.stopped visitor.new) }
 {
     visitor.begin(Group::Seq)
@@ -337,8 +337,8 @@ pub fn begin_seq<V: Visitor>(visitor: &mut V) -> Result<(), AllocError>
 /// The end of values that are together one value.
 #[inline(always)]
 pub fn end_seq<V: Visitor>(visitor: &mut V) -> Result<(), AllocError>
-    ensures told { OnOk result
-        (TellsOf V.knows V.step (ended a_seq) visitor.old visitor.new) }
+    ensures received { OnOk result
+        (ReceivesEvent V.knows V.step (ended a_seq) visitor.old visitor.new) }
     ensures stopped { OnErr result (V.stopped visitor.new) }
 {
     visitor.end(Group::Seq)
@@ -347,8 +347,8 @@ pub fn end_seq<V: Visitor>(visitor: &mut V) -> Result<(), AllocError>
 /// The start of a structure of this name: what follows, up to its end, is in it.
 #[inline(always)]
 pub fn begin_struct<V: Visitor>(visitor: &mut V, name: &'static str) -> Result<(), AllocError>
-    ensures told { OnOk result
-        (TellsOf V.knows V.step (begun (a_struct name.now)) visitor.old visitor.new) }
+    ensures received { OnOk result
+        (ReceivesEvent V.knows V.step (begun (a_struct name.now)) visitor.old visitor.new) }
     ensures stopped { OnErr result (V.stopped visitor.new) }
 {
     visitor.begin(Group::Struct { name })
@@ -357,8 +357,8 @@ pub fn begin_struct<V: Visitor>(visitor: &mut V, name: &'static str) -> Result<(
 /// The end of a structure of this name.
 #[inline(always)]
 pub fn end_struct<V: Visitor>(visitor: &mut V, name: &'static str) -> Result<(), AllocError>
-    ensures told { OnOk result
-        (TellsOf V.knows V.step (ended (a_struct name.now)) visitor.old visitor.new) }
+    ensures received { OnOk result
+        (ReceivesEvent V.knows V.step (ended (a_struct name.now)) visitor.old visitor.new) }
     ensures stopped { OnErr result (V.stopped visitor.new) }
 {
     visitor.end(Group::Struct { name })
@@ -373,8 +373,8 @@ pub fn end_struct<V: Visitor>(visitor: &mut V, name: &'static str) -> Result<(),
 /// ```
 #[inline(always)]
 pub fn begin_newtype<V: Visitor>(visitor: &mut V, name: &'static str) -> Result<(), AllocError>
-    ensures told { OnOk result
-        (TellsOf V.knows V.step (begun (a_newtype name.now)) visitor.old visitor.new) }
+    ensures received { OnOk result
+        (ReceivesEvent V.knows V.step (begun (a_newtype name.now)) visitor.old visitor.new) }
     ensures stopped { OnErr result (V.stopped visitor.new) }
 {
     visitor.begin(Group::Newtype { name })
@@ -383,8 +383,8 @@ pub fn begin_newtype<V: Visitor>(visitor: &mut V, name: &'static str) -> Result<
 /// The end of a newtype of this name.
 #[inline(always)]
 pub fn end_newtype<V: Visitor>(visitor: &mut V, name: &'static str) -> Result<(), AllocError>
-    ensures told { OnOk result
-        (TellsOf V.knows V.step (ended (a_newtype name.now)) visitor.old visitor.new) }
+    ensures received { OnOk result
+        (ReceivesEvent V.knows V.step (ended (a_newtype name.now)) visitor.old visitor.new) }
     ensures stopped { OnErr result (V.stopped visitor.new) }
 {
     visitor.end(Group::Newtype { name })
@@ -397,8 +397,8 @@ pub fn begin_newtype_variant<V: Visitor>(
     name: &'static str,
     variant: &'static str,
 ) -> Result<(), AllocError>
-    ensures told { OnOk result
-        (TellsOf V.knows V.step (begun (a_newtype_variant name.now variant.now)) visitor.old visitor.new) }
+    ensures received { OnOk result
+        (ReceivesEvent V.knows V.step (begun (a_newtype_variant name.now variant.now)) visitor.old visitor.new) }
     ensures stopped { OnErr result (V.stopped visitor.new) }
 {
     visitor.begin(Group::NewtypeVariant { name, variant })
@@ -411,8 +411,8 @@ pub fn end_newtype_variant<V: Visitor>(
     name: &'static str,
     variant: &'static str,
 ) -> Result<(), AllocError>
-    ensures told { OnOk result
-        (TellsOf V.knows V.step (ended (a_newtype_variant name.now variant.now)) visitor.old visitor.new) }
+    ensures received { OnOk result
+        (ReceivesEvent V.knows V.step (ended (a_newtype_variant name.now variant.now)) visitor.old visitor.new) }
     ensures stopped { OnErr result (V.stopped visitor.new) }
 {
     visitor.end(Group::NewtypeVariant { name, variant })
@@ -431,8 +431,8 @@ pub fn begin_tuple_variant<V: Visitor>(
     name: &'static str,
     variant: &'static str,
 ) -> Result<(), AllocError>
-    ensures told { OnOk result
-        (TellsOf V.knows V.step (begun (a_tuple_variant name.now variant.now)) visitor.old visitor.new) }
+    ensures received { OnOk result
+        (ReceivesEvent V.knows V.step (begun (a_tuple_variant name.now variant.now)) visitor.old visitor.new) }
     ensures stopped { OnErr result (V.stopped visitor.new) }
 {
     visitor.begin(Group::TupleVariant { name, variant })
@@ -445,8 +445,8 @@ pub fn end_tuple_variant<V: Visitor>(
     name: &'static str,
     variant: &'static str,
 ) -> Result<(), AllocError>
-    ensures told { OnOk result
-        (TellsOf V.knows V.step (ended (a_tuple_variant name.now variant.now)) visitor.old visitor.new) }
+    ensures received { OnOk result
+        (ReceivesEvent V.knows V.step (ended (a_tuple_variant name.now variant.now)) visitor.old visitor.new) }
     ensures stopped { OnErr result (V.stopped visitor.new) }
 {
     visitor.end(Group::TupleVariant { name, variant })

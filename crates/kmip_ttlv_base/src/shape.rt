@@ -3,7 +3,7 @@
 
 ghost use Rattle.std.specs.Prelude.{◌≡◌, IfOk, OnOk, OnErr};
 ghost use Rattle.kmip_ttlv_base.specs.Values.{Value, view};
-ghost use Rattle.kmip_ttlv_base.specs.Visits.{Tells};
+ghost use Rattle.kmip_ttlv_base.specs.Visits.{Receives};
 
 use crate::build::data_of;
 use crate::visit::Visitor;
@@ -48,7 +48,7 @@ pub enum Data<A: Allocator = Global> {
     None,
     /// The value in it.
     Some(Box<Data<A>, A>),
-    /// The values, one after the other. The first item uses a held tag up.
+    /// The values, one after the other. The first item uses a pending tag up.
     Seq(Vec<Data<A>, A>),
     /// A Structure of the fields, under the tag that the name is.
     Struct {
@@ -56,7 +56,7 @@ pub enum Data<A: Allocator = Global> {
         fields: Vec<Data<A>, A>,
     },
     /// A Structure of one field, under the tag that the name is. If the name begins with `Transparent:`, it is
-    /// the value in it instead, for whose item the tag that the rest of the name is, is held.
+    /// the value in it instead, whose item gets the tag that the rest of the name is.
     Newtype {
         name: &'static str,
         inner: Box<Data<A>, A>,
@@ -67,7 +67,7 @@ pub enum Data<A: Allocator = Global> {
         variant: &'static str,
     },
     /// A Structure of one field, under the tag that the name is. If the variant is named `Transparent`, it is
-    /// the value in it instead, for whose item that tag is held; and if the name begins with `Override:`,
+    /// the value in it instead, whose item gets that tag; and if the name begins with `Override:`,
     /// which is no part of the tag, that tag replaces the item's own.
     NewtypeVariant {
         name: &'static str,
@@ -179,7 +179,7 @@ pub trait Serialize {
     /// Calls a visitor with what this value is: each group and leaf of the data that stands for it, in their
     /// order. Returns the first error that the visitor returns, and no other.
     fn visit<V: Visitor>(&self, visitor: &mut V) -> Result<(), AllocError>
-        ensures told { OnOk result (Tells V.knows V.step (stated self.now) visitor.old visitor.new) }
+        ensures received { OnOk result (Receives V.knows V.step (stated self.now) visitor.old visitor.new) }
         ensures stopped { OnErr result (V.stopped visitor.new) };
 
     /// The data that stands for this value. Fails if memory runs out.

@@ -2,7 +2,7 @@
 //! and ends. So the tree that `Data` is needn't be built.
 
 ghost use Rattle.std.specs.Prelude.{OnOk, OnErr};
-ghost use Rattle.kmip_ttlv_base.specs.Visits.{Event, alone, begun, ended, leaf_value, around, TellsOf};
+ghost use Rattle.kmip_ttlv_base.specs.Visits.{Event, alone, begun, ended, leaf_value, around, ReceivesEvent};
 
 use std::alloc::AllocError;
 
@@ -87,16 +87,16 @@ pub trait Visitor {
 
     /// A value that contains no other.
     fn leaf(&mut self, leaf: Leaf<'_>) -> Result<(), AllocError>
-        ensures told { OnOk result (TellsOf knows step (alone (leaf_value leaf.entry)) self.old self.new) }
+        ensures received { OnOk result (ReceivesEvent knows step (alone (leaf_value leaf.entry)) self.old self.new) }
         ensures stopped { OnErr result (stopped self.new) };
 
     /// The start of a group: what follows, up to its end, is in it.
     fn begin(&mut self, group: Group) -> Result<(), AllocError>
-        ensures told { OnOk result (TellsOf knows step (begun (around group)) self.old self.new) }
+        ensures received { OnOk result (ReceivesEvent knows step (begun (around group)) self.old self.new) }
         ensures stopped { OnErr result (stopped self.new) };
 
     /// The end of this group, the innermost open one.
     fn end(&mut self, group: Group) -> Result<(), AllocError>
-        ensures told { OnOk result (TellsOf knows step (ended (around group)) self.old self.new) }
+        ensures received { OnOk result (ReceivesEvent knows step (ended (around group)) self.old self.new) }
         ensures stopped { OnErr result (stopped self.new) };
 }

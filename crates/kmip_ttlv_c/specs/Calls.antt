@@ -3,7 +3,7 @@ use Rattle.std.specs.Prelude.{◌≡◌, ℕ, Bool, ◌+◌, ◌/◌, ◌≤◌,
 use Rattle.std.specs.Str.{IsUtf8}
 use Rattle.kmip_ttlv_util.specs.Traces.{trace}
 use Rattle.kmip_ttlv_util.specs.Diagnostics.{hostile}
-use Rattle.kmip_ttlv_util.specs.PrintAnswers.{IsExact}
+use Rattle.kmip_ttlv_util.specs.PrintResults.{IsExact}
 use Rattle.kmip_ttlv_util.specs.Pretty.{IsPrinted, IsPretty}
 use Rattle.kmip_ttlv_util.specs.Undiag.{undiag}
 use Rattle.kmip_ttlv_util.specs.ReadBack.{ReadsLongest, IsReadBack}

@@ -5,7 +5,7 @@ ghost use Rattle.kmip_ttlv_items.specs.declared.found.FoundItem.{FoundItem as An
 ghost use Rattle.kmip_ttlv_c.specs.LentItems.{c_item, c_kind, c_fault, AnswersWalk, AnswersCheck};
 
 use crate::status::{MALFORMED, NO_ROOM, OK, OUT_OF_MEMORY};
-use kmip_ttlv_items::{Fault, FaultKind, FoundItem, KeepItem, find_fault, walk_items};
+use kmip_ttlv_items::{Fault, FaultKind, FoundItem, FromFoundItem, find_fault, walk_items};
 use std::alloc::Global;
 
 /// An item of a message.
@@ -34,10 +34,10 @@ pub struct KmipTtlvFault {
     pub kind: u32,
 }
 
-impl KeepItem for KmipTtlvItem {
-    ghost kept = { c_item };
+impl FromFoundItem for KmipTtlvItem {
+    ghost converted = { c_item };
 
-    fn keep(item: FoundItem) -> KmipTtlvItem {
+    fn from_item(item: FoundItem) -> KmipTtlvItem {
         KmipTtlvItem {
             offset: item.offset,
             depth: item.depth,

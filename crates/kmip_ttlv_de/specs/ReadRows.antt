@@ -76,7 +76,7 @@ NotRow s message outcome = Row s message outcome → ⊥
 
 -- ---- forms
 
--- a struct of this tag, behind whose fields others may come
+-- a struct of this tag, after whose fields others may come
 abbrev pub structure : List ℕ → Fields → Form
 structure name fs = struct name fs false
 
@@ -92,7 +92,7 @@ pair s u = structure (codes "0xAAAAAA") (field (codes "0xBBBBBB") s (field (code
 abbrev pub named_pair : List ℕ → Form → List ℕ → Form → Form
 named_pair n s m u = structure (codes "0xAAAAAA") (field n s (field m u no_fields))
 
--- a struct 0xAAAAAA of one Integer 0xBBBBBB, behind which no other field may come
+-- a struct 0xAAAAAA of one Integer 0xBBBBBB, after which no other field may come
 abbrev pub closed : Form
 closed = struct (codes "0xAAAAAA") (field (codes "0xBBBBBB") int32 no_fields) true
 
@@ -140,15 +140,15 @@ one_or_none = enum_in_b (only (codes "0x00000001") unit)
 abbrev pub seven_or_none : Form
 seven_or_none = enum_in_c (only (codes "0x00000007") unit)
 
--- an enum in 0xCCCCCC behind one in 0xBBBBBB
+-- an enum in 0xCCCCCC after one in 0xBBBBBB
 abbrev pub behind : Variants → Form
 behind vs = pair one_or_none (enum_in_c vs)
 
--- an enum in 0xCCCCCC behind an Enumeration of any number in 0xBBBBBB
+-- an enum in 0xCCCCCC after an Enumeration of any number in 0xBBBBBB
 abbrev pub behind_any : Variants → Form
 behind_any vs = pair any_number (enum_in_c vs)
 
--- an enum in 0xCCCCCC behind another form in 0xBBBBBB
+-- an enum in 0xCCCCCC after another form in 0xBBBBBB
 abbrev pub behind_form : Form → Variants → Form
 behind_form s vs = pair s (enum_in_c vs)
 

@@ -1,5 +1,5 @@
 //! The tags of a struct's fields, as numbers in order: each name is read once, however many items
-//! are held against them.
+//! are compared with them.
 
 ghost use Rattle.std.specs.Prelude.{◌≡◌, IfOk};
 ghost use Rattle.kmip_ttlv_base.specs.Forms.{Fields, fields_of};

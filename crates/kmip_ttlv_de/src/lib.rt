@@ -1,7 +1,7 @@
 //! Reading values from TTLV bytes by the shape of their type.
 //!
 //! `from_slice` is the entry. It calls `Decode::decode`, which goes by the shape for a type that has one; a type that reads
-//! itself has a `decode` of its own. What a shape reads is defined in specs/: `Outcomes` says as one total
+//! itself has a `decode` of its own. What a shape reads is defined in the specs/ of kmip_ttlv_reader: `Outcomes` says as one total
 //! function which value comes, or which error and where; `Reads` has one rule for each way to read
 //! from a list of items, and `Begins` says that bytes begin with an item from which a form reads a
 //! value. The two agree (`read_by_rules`).
@@ -13,7 +13,7 @@ ghost use Rattle.kmip_ttlv_types.specs.Places.{ItemsAt};
 ghost use Rattle.kmip_ttlv_base.specs.Values.{Value};
 ghost use Rattle.kmip_ttlv_base.specs.Forms.{Form};
 ghost use Rattle.kmip_ttlv_base.specs.Gives.{Gives};
-ghost use Rattle.kmip_ttlv_reader.specs.Keeps.{Keep};
+ghost use Rattle.kmip_ttlv_reader.specs.TagValues.{TagValue};
 ghost use Rattle.kmip_ttlv_reader.specs.Reads.{Reads, Begins};
 ghost use Rattle.kmip_ttlv_reader.specs.Steps.{Read, gives, ends_early, reads};
 ghost use Rattle.kmip_ttlv_reader.specs.Outcomes.{outcome, root_outcome};
@@ -37,7 +37,7 @@ use kmip_ttlv_base::error::Result;
 use std::alloc::Allocator;
 
 /// The value with which the bytes begin: one Structure, padding included, by the form of `T`
-/// (KMIP 1.0, section 9.1). Bytes behind that item are not read.
+/// (KMIP 1.0, section 9.1). Bytes after that item are not read.
 ///
 /// Errors without a place:
 ///
@@ -65,7 +65,7 @@ use std::alloc::Allocator;
 /// - `InvalidVariantMatcherSyntax`: a rule has no operator.
 /// - `MissingIdentifier`: an item in a struct without fields.
 /// - `Other`: the root's shape is a sequence or an enum; a Structure ends before its fields, or the
-///   parts of a tuple, are read; an item is too many for a tuple; an item behind the fields has the
+///   parts of a tuple, are read; an item is too many for a tuple; an item after the fields has the
 ///   tag of one of them, or the struct allows no other; a number names no variant.
 pub fn from_slice<T: Decode<A>, A: Allocator + Copy>(alloc: A, bytes: &[u8]) -> Result<T, A>
     // Which value comes, or which error and where: unless memory runs out, what the form reads the bytes as.
@@ -83,19 +83,19 @@ pub fn from_slice<T: Decode<A>, A: Allocator + Copy>(alloc: A, bytes: &[u8]) -> 
 /// What a form reads by its rules, that comes of the bytes, and nothing else.
 pub fn read_by_rules()
     // From items that stand from one place to another.
-    ensures complete { (s : Form) (bytes : List ℕ) (o : ℕ) (k k' : List Keep) (p e : ℕ) (xs ys : List Raw) (v : Value)
+    ensures complete { (s : Form) (bytes : List ℕ) (o : ℕ) (k k' : List TagValue) (p e : ℕ) (xs ys : List Raw) (v : Value)
         → p ≤ length bytes
         → ItemsAt bytes p e xs
         → Reads s k xs v k' ys
         → (q : ℕ) × (outcome s bytes o k p e ≡ reads v k' q) × ItemsAt bytes q e ys }
-    ensures sound { (s : Form) (bytes : List ℕ) (o : ℕ) (k : List Keep) (p e : ℕ) (r : Read Value)
+    ensures sound { (s : Form) (bytes : List ℕ) (o : ℕ) (k : List TagValue) (p e : ℕ) (r : Read Value)
         → AreBytes bytes
         → p ≤ e
         → p ≤ length bytes
         → outcome s bytes o k p e ≡ gives r
         → (ys : List Raw)
         → ItemsAt bytes r.next e ys
-        → (xs : List Raw) × ItemsAt bytes p e xs × Reads s k xs r.value r.kept ys }
+        → (xs : List Raw) × ItemsAt bytes p e xs × Reads s k xs r.value r.stored ys }
     // Of whole messages.
     ensures whole_complete { (s : Form) (bytes : List ℕ) (v : Value)
         → Begins s bytes v
@@ -118,7 +118,7 @@ pub fn whole_messages_never_end_early()
 
 /// What is read, from items or from bytes, is of the form's kind and names.
 pub fn what_begins_is_given()
-    ensures items { (s : Form) (k k' : List Keep) (xs ys : List Raw) (v : Value)
+    ensures items { (s : Form) (k k' : List TagValue) (xs ys : List Raw) (v : Value)
         → Reads s k xs v k' ys
         → Gives s v }
     ensures bytes { (s : Form) (bytes : List ℕ) (v : Value) → Begins s bytes v → Gives s v }

@@ -14,10 +14,10 @@ use kmip_ttlv_reader::failure::{Cause, Failure, Step, at_item, in_struct};
 use kmip_ttlv_reader::head::{
     content_there, inside, length_there, length_wanted, tag_at, type_wanted,
 };
-use kmip_ttlv_reader::keep::KeptTexts;
 use kmip_ttlv_reader::listed::is_number_type;
 use kmip_ttlv_reader::number_text::number_text;
 use kmip_ttlv_reader::scope::Scope;
+use kmip_ttlv_reader::store::TagValueStore;
 use std::alloc::Allocator;
 use std::str;
 
@@ -98,11 +98,11 @@ pub fn read_number<'b, A: Allocator + Copy>(
     variants: &[VariantShape<A>],
     typ: TtlvType,
     pos: usize,
-    kept: &mut KeptTexts<'b, A>,
+    stored: &mut TagValueStore<'b, A>,
 ) -> Step<(Data<A>, usize), A>
     requires there { pos + 4 ≤ length scope.now.bytes.now }
-    ensures read { IsRead view kept.new (number_outcome name.now (variants_of variants.now) typ
-        scope.now.bytes.now scope.now.owner kept.old pos scope.now.end) result }
+    ensures read { IsRead view stored.new (number_outcome name.now (variants_of variants.now) typ
+        scope.now.bytes.now scope.now.owner stored.old pos scope.now.end) result }
     ensures further { IfOk result (λ r. (pos + 8 ≤ r.1) × (r.1 ≤ scope.now.end) × (r.1 ≤ length scope.now.bytes.now)) }
 {
     type_wanted(
@@ -121,6 +121,6 @@ pub fn read_number<'b, A: Allocator + Copy>(
     let variant = named_unit(scope, variants, typ, pos, text)?;
     inside(scope.alloc, scope.bytes, pos, scope.end, typ, next)?;
     let lent: &'b str = variant;
-    kept.keep(tag_at(scope.bytes, pos), lent)?;
+    stored.store(tag_at(scope.bytes, pos), lent)?;
     Ok((Data::UnitVariant { name, variant }, next))
 }

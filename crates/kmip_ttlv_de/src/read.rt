@@ -21,9 +21,9 @@ use kmip_ttlv_reader::head::{
     goes_on, has_tag, inside, length_there, opened, structure_wanted, tag_at, tag_wanted,
     type_there,
 };
-use kmip_ttlv_reader::keep::KeptTexts;
 use kmip_ttlv_reader::leaf::{Leaf, read_leaf};
 use kmip_ttlv_reader::scope::Scope;
+use kmip_ttlv_reader::store::TagValueStore;
 use std::alloc::Allocator;
 
 #[inline(always)]
@@ -51,34 +51,34 @@ pub fn read_shape<'b, A: Allocator + Copy>(
     scope: &Scope<'b, A>,
     shape: &Shape<A>,
     pos: usize,
-    kept: &mut KeptTexts<'b, A>,
+    stored: &mut TagValueStore<'b, A>,
 ) -> Step<(Data<A>, usize), A>
     requires inside { pos ≤ length scope.now.bytes.now }
-    ensures read { IsRead view kept.new
-        (outcome (form_of shape.now) scope.now.bytes.now scope.now.owner kept.old pos scope.now.end) result }
+    ensures read { IsRead view stored.new
+        (outcome (form_of shape.now) scope.now.bytes.now scope.now.owner stored.old pos scope.now.end) result }
     ensures further { IfOk result (λ r. (pos + 8 ≤ r.1) × (r.1 ≤ scope.now.end) × (r.1 ≤ length scope.now.bytes.now)) }
 {
     match shape {
-        Shape::I32 => read_leaf(scope, Leaf::I32, pos, kept),
-        Shape::I64 => read_leaf(scope, Leaf::I64, pos, kept),
-        Shape::Bool => read_leaf(scope, Leaf::Bool, pos, kept),
-        Shape::Text => read_leaf(scope, Leaf::Text, pos, kept),
-        Shape::Bytes => read_leaf(scope, Leaf::Bytes, pos, kept),
-        Shape::DateTime => read_leaf(scope, Leaf::DateTime, pos, kept),
-        Shape::Interval => read_leaf(scope, Leaf::Interval, pos, kept),
-        Shape::BigInteger => read_leaf(scope, Leaf::BigInteger, pos, kept),
-        Shape::U32 => read_leaf(scope, Leaf::U32, pos, kept),
-        Shape::Enum { name, variants } => read_enum(scope, name, variants, pos, kept),
+        Shape::I32 => read_leaf(scope, Leaf::I32, pos, stored),
+        Shape::I64 => read_leaf(scope, Leaf::I64, pos, stored),
+        Shape::Bool => read_leaf(scope, Leaf::Bool, pos, stored),
+        Shape::Text => read_leaf(scope, Leaf::Text, pos, stored),
+        Shape::Bytes => read_leaf(scope, Leaf::Bytes, pos, stored),
+        Shape::DateTime => read_leaf(scope, Leaf::DateTime, pos, stored),
+        Shape::Interval => read_leaf(scope, Leaf::Interval, pos, stored),
+        Shape::BigInteger => read_leaf(scope, Leaf::BigInteger, pos, stored),
+        Shape::U32 => read_leaf(scope, Leaf::U32, pos, stored),
+        Shape::Enum { name, variants } => read_enum(scope, name, variants, pos, stored),
         Shape::Option(inner) => {
-            let (data, next) = read_shape(scope, inner, pos, kept)?;
+            let (data, next) = read_shape(scope, inner, pos, stored)?;
             Ok((some(scope.alloc, data)?, next))
         }
         Shape::Newtype { name, inner } => {
-            let (data, next) = read_shape(scope, inner, pos, kept)?;
+            let (data, next) = read_shape(scope, inner, pos, stored)?;
             Ok((newtype(scope.alloc, name, data)?, next))
         }
         Shape::Seq(inner) => {
-            let (all, next) = read_seq(scope, inner, pos, kept)?;
+            let (all, next) = read_seq(scope, inner, pos, stored)?;
             Ok((Data::Seq(all), next))
         }
         Shape::Struct {
@@ -86,7 +86,7 @@ pub fn read_shape<'b, A: Allocator + Copy>(
             fields,
             deny_unknown,
         } => {
-            let (fields, next) = read_struct(scope, name, fields, *deny_unknown, pos, kept)?;
+            let (fields, next) = read_struct(scope, name, fields, *deny_unknown, pos, stored)?;
             Ok((Data::Struct { name, fields }, next))
         }
     }
@@ -102,12 +102,12 @@ fn read_struct<'b, A: Allocator + Copy>(
     fields: &[FieldShape<A>],
     deny: bool,
     pos: usize,
-    kept: &mut KeptTexts<'b, A>,
+    stored: &mut TagValueStore<'b, A>,
 ) -> Step<(Vec<Data<A>, A>, usize), A>
     requires inside { pos ≤ length scope.now.bytes.now }
-    ensures read { IsRead (λ v. views v.items) kept.new
+    ensures read { IsRead (λ v. views v.items) stored.new
         (struct_outcome name.now (fields_of fields.now) deny (fields_outcome (fields_of fields.now))
-        scope.now.bytes.now scope.now.owner kept.old pos scope.now.end) result }
+        scope.now.bytes.now scope.now.owner stored.old pos scope.now.end) result }
     ensures further { IfOk result (λ r. (pos + 8 ≤ r.1) × (r.1 ≤ scope.now.end) × (r.1 ≤ length scope.now.bytes.now)) }
 {
     let stop = opened(scope.alloc, name, scope.bytes, pos)?;
@@ -118,7 +118,7 @@ fn read_struct<'b, A: Allocator + Copy>(
         owner,
         end: stop,
     };
-    match read_content(&content, fields, deny, pos + 8, kept) {
+    match read_content(&content, fields, deny, pos + 8, stored) {
         Ok((values, stop)) => {
             inside(
                 scope.alloc,
@@ -142,16 +142,16 @@ pub fn read_content<'b, A: Allocator + Copy>(
     fields: &[FieldShape<A>],
     deny: bool,
     pos: usize,
-    kept: &mut KeptTexts<'b, A>,
+    stored: &mut TagValueStore<'b, A>,
 ) -> Step<(Vec<Data<A>, A>, usize), A>
     requires inside { pos ≤ length scope.now.bytes.now }
     requires before { pos ≤ scope.now.end }
-    ensures read { IsRead (λ v. views v.items) kept.new
+    ensures read { IsRead (λ v. views v.items) stored.new
         (all_outcome (fields_of fields.now) deny (fields_outcome (fields_of fields.now))
-        scope.now.bytes.now scope.now.owner kept.old pos scope.now.end) result }
+        scope.now.bytes.now scope.now.owner stored.old pos scope.now.end) result }
     ensures whole { IfOk result (λ r. (r.1 ≡ scope.now.end) × (scope.now.end ≤ length scope.now.bytes.now)) }
 {
-    let (values, next) = read_fields(scope, fields, pos, kept)?;
+    let (values, next) = read_fields(scope, fields, pos, stored)?;
     let next = read_rest(scope, fields, deny, next)?;
     Ok((values, next))
 }
@@ -163,18 +163,18 @@ fn read_fields<'b, A: Allocator + Copy>(
     scope: &Scope<'b, A>,
     fields: &[FieldShape<A>],
     pos: usize,
-    kept: &mut KeptTexts<'b, A>,
+    stored: &mut TagValueStore<'b, A>,
 ) -> Step<(Vec<Data<A>, A>, usize), A>
     requires inside { pos ≤ length scope.now.bytes.now }
     requires before { pos ≤ scope.now.end }
-    ensures read { IsRead (λ v. views v.items) kept.new
-        (fields_outcome (fields_of fields.now) scope.now.bytes.now scope.now.owner kept.old pos scope.now.end) result }
+    ensures read { IsRead (λ v. views v.items) stored.new
+        (fields_outcome (fields_of fields.now) scope.now.bytes.now scope.now.owner stored.old pos scope.now.end) result }
     ensures further { IfOk result (λ r. (pos ≤ r.1) × (r.1 ≤ scope.now.end) × (r.1 ≤ length scope.now.bytes.now)) }
 {
     let mut values = Vec::with_capacity(scope.alloc, fields.len())?;
     let mut next = pos;
     for field in fields {
-        let (value, after) = read_field(scope, field.name, &field.shape, next, kept)?;
+        let (value, after) = read_field(scope, field.name, &field.shape, next, stored)?;
         values.push(value)?;
         next = after;
     }
@@ -190,13 +190,13 @@ fn read_field<'b, A: Allocator + Copy>(
     name: &str,
     shape: &Shape<A>,
     pos: usize,
-    kept: &mut KeptTexts<'b, A>,
+    stored: &mut TagValueStore<'b, A>,
 ) -> Step<(Data<A>, usize), A>
     requires inside { pos ≤ length scope.now.bytes.now }
     requires before { pos ≤ scope.now.end }
-    ensures read { IsRead view kept.new
+    ensures read { IsRead view stored.new
         (field_outcome name.now (form_of shape.now) (outcome (form_of shape.now))
-        scope.now.bytes.now scope.now.owner kept.old pos scope.now.end) result }
+        scope.now.bytes.now scope.now.owner stored.old pos scope.now.end) result }
     ensures further { IfOk result (λ r. (pos ≤ r.1) × (r.1 ≤ scope.now.end) × (r.1 ≤ length scope.now.bytes.now)) }
 {
     if pos == scope.end {
@@ -206,7 +206,7 @@ fn read_field<'b, A: Allocator + Copy>(
         return Err(missing_field(scope));
     }
     if is_struct(shape) {
-        return read_shape(scope, shape, pos, kept);
+        return read_shape(scope, shape, pos, stored);
     }
     let typ = type_there(scope.alloc, scope.bytes, pos)?;
     if !has_tag(name, tag_at(scope.bytes, pos)) {
@@ -215,7 +215,7 @@ fn read_field<'b, A: Allocator + Copy>(
         }
         tag_wanted(scope.alloc, name, scope.bytes, pos, typ)?;
     }
-    read_shape(scope, shape, pos, kept)
+    read_shape(scope, shape, pos, stored)
 }
 
 /// A sequence: the first item, and then as long as the next has its tag and type.
@@ -225,19 +225,19 @@ fn read_seq<'b, A: Allocator + Copy>(
     scope: &Scope<'b, A>,
     shape: &Shape<A>,
     pos: usize,
-    kept: &mut KeptTexts<'b, A>,
+    stored: &mut TagValueStore<'b, A>,
 ) -> Step<(Vec<Data<A>, A>, usize), A>
     requires inside { pos ≤ length scope.now.bytes.now }
-    ensures read { IsRead (λ v. views v.items) kept.new
-        (seq_outcome (outcome (form_of shape.now)) scope.now.bytes.now scope.now.owner kept.old pos scope.now.end) result }
+    ensures read { IsRead (λ v. views v.items) stored.new
+        (seq_outcome (outcome (form_of shape.now)) scope.now.bytes.now scope.now.owner stored.old pos scope.now.end) result }
     ensures further { IfOk result (λ r. (pos + 8 ≤ r.1) × (r.1 ≤ scope.now.end) × (r.1 ≤ length scope.now.bytes.now)) }
 {
     let mut values = Vec::new(scope.alloc);
-    let (first, after) = read_shape(scope, shape, pos, kept)?;
+    let (first, after) = read_shape(scope, shape, pos, stored)?;
     values.push(first)?;
     let mut next = after;
     while goes_on(scope.alloc, scope.bytes, pos, next, scope.end)? {
-        let (value, after) = read_shape(scope, shape, next, kept)?;
+        let (value, after) = read_shape(scope, shape, next, stored)?;
         values.push(value)?;
         next = after;
     }
@@ -253,19 +253,19 @@ fn read_enum<'b, A: Allocator + Copy>(
     name: &'static str,
     variants: &[VariantShape<A>],
     pos: usize,
-    kept: &mut KeptTexts<'b, A>,
+    stored: &mut TagValueStore<'b, A>,
 ) -> Step<(Data<A>, usize), A>
     requires inside { pos ≤ length scope.now.bytes.now }
-    ensures read { IsRead view kept.new
+    ensures read { IsRead view stored.new
         (enum_outcome name.now (variants_of variants.now) (variant_outcome name.now (variants_of variants.now))
-        scope.now.bytes.now scope.now.owner kept.old pos scope.now.end) result }
+        scope.now.bytes.now scope.now.owner stored.old pos scope.now.end) result }
     ensures further { IfOk result (λ r. (pos + 8 ≤ r.1) × (r.1 ≤ scope.now.end) × (r.1 ≤ length scope.now.bytes.now)) }
 {
     let typ = type_there(scope.alloc, scope.bytes, pos)?;
-    let index = chosen(scope.alloc, variants, kept, typ, scope.bytes, pos)?;
+    let index = chosen(scope.alloc, variants, stored, typ, scope.bytes, pos)?;
     match index {
-        Some(i) => read_variant(scope, name, &variants[i], typ, pos, kept),
-        None => read_number(scope, name, variants, typ, pos, kept),
+        Some(i) => read_variant(scope, name, &variants[i], typ, pos, stored),
+        None => read_number(scope, name, variants, typ, pos, stored),
     }
 }
 
@@ -278,23 +278,23 @@ fn read_variant<'b, A: Allocator + Copy>(
     shape: &VariantShape<A>,
     typ: TtlvType,
     pos: usize,
-    kept: &mut KeptTexts<'b, A>,
+    stored: &mut TagValueStore<'b, A>,
 ) -> Step<(Data<A>, usize), A>
     requires there { pos + 4 ≤ length scope.now.bytes.now }
-    ensures read { IsRead view kept.new
+    ensures read { IsRead view stored.new
         (content_outcome name.now shape.now.name.now (content_of shape.now.content) typ
-        scope.now.bytes.now scope.now.owner kept.old pos scope.now.end) result }
+        scope.now.bytes.now scope.now.owner stored.old pos scope.now.end) result }
     ensures further { IfOk result (λ r. (pos + 8 ≤ r.1) × (r.1 ≤ scope.now.end) × (r.1 ≤ length scope.now.bytes.now)) }
 {
     let variant = shape.name;
     match &shape.content {
         VariantContent::Unit => { Err(chosen_unit(scope.alloc, scope.bytes, pos, typ)) }
         VariantContent::Newtype(inner) => {
-            let (data, next) = read_shape(scope, inner, pos, kept)?;
+            let (data, next) = read_shape(scope, inner, pos, stored)?;
             Ok((newtype_variant(scope.alloc, name, variant, data)?, next))
         }
         VariantContent::Tuple(shapes) => {
-            let (fields, next) = read_tuple(scope, shapes, typ, pos, kept)?;
+            let (fields, next) = read_tuple(scope, shapes, typ, pos, stored)?;
             let data = Data::TupleVariant {
                 name,
                 variant,
@@ -313,12 +313,12 @@ fn read_tuple<'b, A: Allocator + Copy>(
     shapes: &[Shape<A>],
     typ: TtlvType,
     pos: usize,
-    kept: &mut KeptTexts<'b, A>,
+    stored: &mut TagValueStore<'b, A>,
 ) -> Step<(Vec<Data<A>, A>, usize), A>
     requires there { pos + 4 ≤ length scope.now.bytes.now }
-    ensures read { IsRead (λ v. views v.items) kept.new
+    ensures read { IsRead (λ v. views v.items) stored.new
         (tuple_outcome typ (forms_outcome (forms_of shapes.now))
-        scope.now.bytes.now scope.now.owner kept.old pos scope.now.end) result }
+        scope.now.bytes.now scope.now.owner stored.old pos scope.now.end) result }
     ensures further { IfOk result (λ r. (pos + 8 ≤ r.1) × (r.1 ≤ scope.now.end) × (r.1 ≤ length scope.now.bytes.now)) }
 {
     structure_wanted(scope.alloc, scope.bytes, pos, typ)?;
@@ -330,7 +330,7 @@ fn read_tuple<'b, A: Allocator + Copy>(
         owner: scope.owner,
         end: stop,
     };
-    let (values, next) = read_parts(&content, shapes, pos + 8, kept)?;
+    let (values, next) = read_parts(&content, shapes, pos + 8, stored)?;
     if next < stop {
         return Err(in_struct(scope.alloc, next, scope.owner, "too many items"));
     }
@@ -345,18 +345,18 @@ fn read_parts<'b, A: Allocator + Copy>(
     scope: &Scope<'b, A>,
     shapes: &[Shape<A>],
     pos: usize,
-    kept: &mut KeptTexts<'b, A>,
+    stored: &mut TagValueStore<'b, A>,
 ) -> Step<(Vec<Data<A>, A>, usize), A>
     requires inside { pos ≤ length scope.now.bytes.now }
     requires before { pos ≤ scope.now.end }
-    ensures read { IsRead (λ v. views v.items) kept.new
-        (forms_outcome (forms_of shapes.now) scope.now.bytes.now scope.now.owner kept.old pos scope.now.end) result }
+    ensures read { IsRead (λ v. views v.items) stored.new
+        (forms_outcome (forms_of shapes.now) scope.now.bytes.now scope.now.owner stored.old pos scope.now.end) result }
     ensures further { IfOk result (λ r. (pos ≤ r.1) × (r.1 ≤ scope.now.end) × (r.1 ≤ length scope.now.bytes.now)) }
 {
     let mut values = Vec::with_capacity(scope.alloc, shapes.len())?;
     let mut next = pos;
     for shape in shapes {
-        let (value, after) = read_part(scope, shape, next, kept)?;
+        let (value, after) = read_part(scope, shape, next, stored)?;
         values.push(value)?;
         next = after;
     }
@@ -371,17 +371,17 @@ fn read_part<'b, A: Allocator + Copy>(
     scope: &Scope<'b, A>,
     shape: &Shape<A>,
     pos: usize,
-    kept: &mut KeptTexts<'b, A>,
+    stored: &mut TagValueStore<'b, A>,
 ) -> Step<(Data<A>, usize), A>
     requires inside { pos ≤ length scope.now.bytes.now }
     requires before { pos ≤ scope.now.end }
-    ensures read { IsRead view kept.new
+    ensures read { IsRead view stored.new
         (part_outcome (outcome (form_of shape.now))
-        scope.now.bytes.now scope.now.owner kept.old pos scope.now.end) result }
+        scope.now.bytes.now scope.now.owner stored.old pos scope.now.end) result }
     ensures further { IfOk result (λ r. (pos ≤ r.1) × (r.1 ≤ scope.now.end) × (r.1 ≤ length scope.now.bytes.now)) }
 {
     if pos == scope.end {
         return Err(in_struct(scope.alloc, scope.end, scope.owner, "too few items"));
     }
-    read_shape(scope, shape, pos, kept)
+    read_shape(scope, shape, pos, stored)
 }

@@ -36,7 +36,7 @@ pub fn read_rest<A: Allocator + Copy>(
     read_others(scope, fields, deny, pos)
 }
 
-// The items behind the fields. The fields' tags are read once for all of them.
+// The items after the fields. The fields' tags are read once for all of them.
 #[tactic(auto, using(kmip_ttlv_reader::proofs::Steps::failure_then))]
 fn read_others<A: Allocator + Copy>(
     scope: &Scope<'_, A>,
@@ -58,7 +58,7 @@ fn read_others<A: Allocator + Copy>(
     Ok(next)
 }
 
-/// An item behind the fields, which is ignored.
+/// An item after the fields, which is ignored.
 #[tactic(auto, unfolding(kmip_ttlv_reader::specs::Outcomes::ignored), using(kmip_ttlv_reader::proofs::Steps::failing))]
 fn read_ignored<A: Allocator + Copy>(
     scope: &Scope<'_, A>,

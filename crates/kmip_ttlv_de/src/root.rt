@@ -14,8 +14,8 @@ use kmip_ttlv_base::types::{FieldType, TtlvTag};
 use kmip_ttlv_reader::errors::error;
 use kmip_ttlv_reader::failure::{Cause, Step, at_first, within};
 use kmip_ttlv_reader::head::{opened, tag_at};
-use kmip_ttlv_reader::keep::KeptTexts;
 use kmip_ttlv_reader::scope::Scope;
+use kmip_ttlv_reader::store::TagValueStore;
 use std::alloc::Allocator;
 
 // The name of the message's struct is a tag.
@@ -53,8 +53,8 @@ fn read_first<A: Allocator + Copy>(
         owner,
         end,
     };
-    let mut kept = KeptTexts::new(alloc);
-    match read_content(&scope, fields, deny, 8, &mut kept) {
+    let mut stored = TagValueStore::new(alloc);
+    match read_content(&scope, fields, deny, 8, &mut stored) {
         Ok((values, _)) => Ok(values),
         Err(failure) => Err(within(owner, failure)),
     }

@@ -270,7 +270,7 @@ pub fn small_messages()
         (codes "AAAAAA0100000018BBBBBB0100000010CCCCCC02000000040000000200000000")
         (error_at (mismatch (other_cause (codes "unknown variant"))) 32 (0xAAAAAA ∷ 0xBBBBBB ∷ []) 0xBBBBBB Structure) }
     // The last text under a tag is what a rule sees, and none of an item that is ignored.
-    ensures kept_texts { Row (behind_form (seq text) (numbers (codes "if 0xBBBBBB==a") (codes "if 0xBBBBBB==b")))
+    ensures stored_values { Row (behind_form (seq text) (numbers (codes "if 0xBBBBBB==a") (codes "if 0xBBBBBB==b")))
         (codes "AAAAAA0100000030BBBBBB07000000016100000000000000BBBBBB07000000016200000000000000CCCCCC02000000040000000700000000")
         (gives_struct (seq_value (values_of (text_value (codes "a") ∷ text_value (codes "b") ∷ [])) ∷
         newtype_variant_value (codes "0xCCCCCC") (codes "if 0xBBBBBB==b") (integer 7) ∷ []))
@@ -393,7 +393,7 @@ pub fn small_messages()
         (error_at (mismatch (invalid_tag (codes "x"))) 12 (0xAAAAAA ∷ []) 0xBBBBBB Integer)
         × Row (single (newtype (codes "x") (option int32))) (codes "AAAAAA0100000000")
         (error_at (mismatch (other_cause (codes "missing field"))) 8 (0xAAAAAA ∷ []) 0xAAAAAA Structure) }
-    // Messages that are cut right behind the type of an item that follows the fields.
+    // Messages that are cut right after the type of an item that follows the fields.
     ensures items_behind_fields { Row (single int32) (codes "AAAAAA0100000020BBBBBB02000000040000000300000000CCCCCC02") ends_early
         × Row (single int32) (codes "AAAAAA0100000020BBBBBB02000000040000000300000000CCCCCC01") ends_early
         × Row (single int32) (codes "AAAAAA0100000020BBBBBB02000000040000000300000000BBBBBB02")
@@ -416,7 +416,7 @@ pub fn small_messages()
         × OtherRow (alone (only (codes "if type==Structure") (tuple (form int32 no_forms))))
         (codes "AAAAAA0100000028CCCCCC0100000020DDDDDD02000000040000000100000000")
         (λ why. error_at why 32 (0xAAAAAA ∷ []) 0xAAAAAA Structure) }
-    // Items of an enum that are cut right behind their type.
+    // Items of an enum that are cut right after their type.
     ensures cut_enums { Row (alone (only (codes "if type==Integer") (wrapped int32))) (codes "AAAAAA0100000010CCCCCC02") ends_early
         × Row (alone (only (codes "if type==Integer") unit)) (codes "AAAAAA0100000010CCCCCC02")
         (error_at (malformed (faults.UnexpectedTtlvField parts.Length parts.Tag)) 12 (0xAAAAAA ∷ []) 0xCCCCCC Integer)

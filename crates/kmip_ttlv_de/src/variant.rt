@@ -15,23 +15,23 @@ use kmip_ttlv_base::error::MalformedTtlvError;
 use kmip_ttlv_base::shape::VariantShape;
 use kmip_ttlv_base::types::{FieldType, TtlvType};
 use kmip_ttlv_reader::failure::{Cause, Failure, Step, at_item};
-use kmip_ttlv_reader::keep::KeptTexts;
 use kmip_ttlv_reader::rules::{RuleError, Verdict, bad_rule, rule};
+use kmip_ttlv_reader::store::TagValueStore;
 use std::alloc::Allocator;
 
 // The index of the first variant whose rule holds, and none where no rule does: the item's number
-// chooses then. A rule that is refused before ends the search with its refusal.
+// chooses then. A rule before it that is an error ends the search with its error.
 #[inline(always)]
 fn choose<'n, 'b, A: Allocator + Copy, B: Allocator>(
     variants: &'n [VariantShape<B>],
-    kept: &'n KeptTexts<'b, A>,
+    stored: &'n TagValueStore<'b, A>,
     typ: TtlvType,
 ) -> Result<Option<usize>, RuleError<'n>>
-    ensures choice { choice_of result ≡ choice (variants_of variants.now) kept.now typ }
+    ensures choice { choice_of result ≡ choice (variants_of variants.now) stored.now typ }
     ensures inside { IfOk result (λ o. IfSome o (λ i. i < length variants.now)) }
 {
     for (i, variant) in variants.iter().enumerate() {
-        match rule(variant.name, kept, typ) {
+        match rule(variant.name, stored, typ) {
             Verdict::Holds => return Ok(Some(i)),
             Verdict::Refused(error) => return Err(error),
             Verdict::NoRule | Verdict::Fails => {}
@@ -46,16 +46,16 @@ fn choose<'n, 'b, A: Allocator + Copy, B: Allocator>(
 pub fn chosen<'b, A: Allocator + Copy>(
     alloc: A,
     variants: &[VariantShape<A>],
-    kept: &KeptTexts<'b, A>,
+    stored: &TagValueStore<'b, A>,
     typ: TtlvType,
     bytes: &[u8],
     pos: usize,
 ) -> Step<Option<usize>, A>
     requires there { pos + 4 ≤ length bytes.now }
-    ensures step { IsStep (λ i. i) (picked (choice (variants_of variants.now) kept.now typ) bytes.now pos typ) result }
+    ensures step { IsStep (λ i. i) (picked (choice (variants_of variants.now) stored.now typ) bytes.now pos typ) result }
     ensures inside { IfOk result (λ o. IfSome o (λ i. i < length variants.now)) }
 {
-    match choose(variants, kept, typ) {
+    match choose(variants, stored, typ) {
         Ok(Some(i)) => Ok(Some(i)),
         Ok(None) => Ok(None),
         Err(rule) => Err(bad_rule(alloc, bytes, pos, typ, rule)),

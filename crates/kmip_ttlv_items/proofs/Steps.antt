@@ -23,13 +23,13 @@ overlaid_more [] (y ∷ ys) x = ap (λ (s : List _). x ∷ s) (sym (overlaid_non
 overlaid_more (z ∷ xs) [] x = refl
 overlaid_more (z ∷ xs) (y ∷ ys) x = ap (λ (s : List _). z ∷ s) (overlaid_more xs ys x)
 
-pub keeps_more : {T : Type 0} (keep : FoundItem → T) (found : List FoundItem) (i : FoundItem) (old out new : List T) (count : ℕ) → out ≡ overlaid (map keep found) old → count ≡ length found → new ≡ set out count (keep i) → new ≡ overlaid (map keep (found ++ (i ∷ []))) old
-keeps_more keep found i old out new count kept counts is =
-    let n : count ≡ length (map keep found) = counts ∙ sym (length_map found) in
-    is ∙ ap (λ (s : List _). set s count (keep i)) kept ∙ ap (λ (m : ℕ). set (overlaid (map keep found) old) m (keep i)) n ∙ overlaid_more (map keep found) old (keep i)
-    ∙ ap (λ (s : List _). overlaid s old) (sym (map-append keep found (i ∷ [])))
+pub keeps_more : {T : Type 0} (from_item : FoundItem → T) (found : List FoundItem) (i : FoundItem) (old out new : List T) (count : ℕ) → out ≡ overlaid (map from_item found) old → count ≡ length found → new ≡ set out count (from_item i) → new ≡ overlaid (map from_item (found ++ (i ∷ []))) old
+keeps_more from_item found i old out new count converted counts is =
+    let n : count ≡ length (map from_item found) = counts ∙ sym (length_map found) in
+    is ∙ ap (λ (s : List _). set s count (from_item i)) converted ∙ ap (λ (m : ℕ). set (overlaid (map from_item found) old) m (from_item i)) n ∙ overlaid_more (map from_item found) old (from_item i)
+    ∙ ap (λ (s : List _). overlaid s old) (sym (map-append from_item found (i ∷ [])))
   where
-    length_map : (xs : List FoundItem) → length (map keep xs) ≡ length xs
+    length_map : (xs : List FoundItem) → length (map from_item xs) ≡ length xs
     length_map [] = refl
     length_map (x ∷ xs) = ap suc (length_map xs)
 

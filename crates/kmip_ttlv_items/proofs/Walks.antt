@@ -13,7 +13,7 @@ use Rattle.kmip_ttlv_items.specs.declared.found.FaultKind.{FaultKind}
 use Rattle.kmip_ttlv_items.specs.declared.found.FaultKind.TheVariants.{Surplus}
 use Rattle.kmip_ttlv_items.specs.FoundItems.{Lists}
 use Rattle.kmip_ttlv_items.specs.ItemWalks.{type_at, content_at, own_size, IsWhole, Misfits, RootMisfits, WalksTo, enters_root, enters, passes, leaves, at_root, inside, behind, Meets, at_first, on_the_way, CanStand, Ended}
-use Rattle.kmip_ttlv_items.specs.WalkPlaces.{unreached, innermost, GoesOn, into_structure, past_leaf, IsDue, root, within, IsLeafTo, PassesLeaves}
+use Rattle.kmip_ttlv_items.specs.WalkPlaces.{unreached, innermost, Continues, into_structure, past_leaf, IsDue, root, within, IsLeafTo, PassesLeaves}
 use Rattle.kmip_ttlv_items.proofs.Spans.{size_least, size_structure, own_least, own_leaf, leaf_not}
 use Rattle.kmip_ttlv_items.proofs.Lefts.{Goes, out_to, out_from, past_to, past_from, into_to, into_from, misfit, root_facts, root_misfit, root_to, root_from}
 use Rattle.kmip_ttlv_items.proofs.Steps.{IsNested, nested_within}
@@ -172,13 +172,13 @@ module _ (w : List ℕ) where
   unreached_met p es xs lt m = on_the_way (unreached_walks p es xs (met_walks p es xs lt m))
 
   -- the next item is met, and the walk moves on
-  pub met_more : (p : ℕ) (es : List ℕ) (i : FoundItem) (q : ℕ) (fs : List ℕ) (xs : List FoundItem) → IsDue w p es i → GoesOn i es q fs → Meets w p es xs → Meets w q fs (xs ++ (i ∷ []))
+  pub met_more : (p : ℕ) (es : List ℕ) (i : FoundItem) (q : ℕ) (fs : List ℕ) (xs : List FoundItem) → IsDue w p es i → Continues i es q fs → Meets w p es xs → Meets w q fs (xs ++ (i ∷ []))
   met_more p es i q fs xs (root first whole node small) goes m = by goes
     where
       met : (es ≡ []) × (xs ≡ [])
       met = met_none p es xs first m
 
-      by : GoesOn i es q fs → Meets w q fs (xs ++ (i ∷ []))
+      by : Continues i es q fs → Meets w q fs (xs ++ (i ∷ []))
       by (past_leaf leaf _ _) = absurd (leaf node)
       by (into_structure _ at ends) =
           let end = i.offset + size i.typ i.length in
@@ -195,7 +195,7 @@ module _ (w : List ℕ) where
       whole' : IsWhole w p e (length (e ∷ gs)) i
       whole' = subst (λ (s : List ℕ). IsWhole w p e (length s) i) is whole
 
-      by : GoesOn i es q fs → Meets w q fs (xs ++ (i ∷ []))
+      by : Continues i es q fs → Meets w q fs (xs ++ (i ∷ []))
       by (past_leaf leaf at same) =
           let end : q ≡ p + size i.typ i.length = at ∙ ap (λ (n : ℕ). n + size i.typ i.length) whole.offset in
           on_the_way (subst (λ (s : List ℕ). WalksTo w q s (xs ++ (i ∷ []))) (sym (same ∙ is)) (passes p q e gs xs i walks whole' leaf end))
@@ -206,7 +206,7 @@ module _ (w : List ℕ) where
           let ended : end ≡ p + size i.typ i.length = ap (λ (n : ℕ). n + size i.typ i.length) whole.offset in
           on_the_way (subst (λ (s : List ℕ). WalksTo w q s (xs ++ (i ∷ []))) (sym ends-are) (enters p q e end gs xs i walks whole' node there ended))
 
-  pub stands_on : (p : ℕ) (es : List ℕ) (i : FoundItem) (q : ℕ) (fs : List ℕ) → IsDue w p es i → GoesOn i es q fs → CanStand w p es → CanStand w q fs
+  pub stands_on : (p : ℕ) (es : List ℕ) (i : FoundItem) (q : ℕ) (fs : List ℕ) → IsDue w p es i → Continues i es q fs → CanStand w p es → CanStand w q fs
   stands_on p es i q fs due goes stands = ∥∥₁_map stands (λ (xs, m). (xs ++ (i ∷ []), met_more p es i q fs xs due goes m))
 
   pub stands_still : (p : ℕ) (es fs : List ℕ) → ((xs : List FoundItem) → Meets w p es xs → Meets w p fs xs) → CanStand w p es → CanStand w p fs
@@ -228,7 +228,7 @@ module _ (w : List ℕ) where
   due_small p es i (within e gs is some lt top whole) = omega (arith, whole.offset, whole.fits, top)
 
   -- and the walk gets further
-  pub due_onward : (p : ℕ) (es : List ℕ) (i : FoundItem) (q : ℕ) (fs : List ℕ) → IsDue w p es i → GoesOn i es q fs → length w - q < length w - p
+  pub due_onward : (p : ℕ) (es : List ℕ) (i : FoundItem) (q : ℕ) (fs : List ℕ) → IsDue w p es i → Continues i es q fs → length w - q < length w - p
   due_onward p es i q fs due (into_structure node at ends) = omega (arith, at, (due_at p es i due).0, (due_at p es i due).1, own_least i.typ i.length)
   due_onward p es i q fs due (past_leaf leaf at same) = omega (arith, at, (due_at p es i due).0, (due_at p es i due).1, own_leaf i.typ i.length leaf, size_least i.typ i.length)
 

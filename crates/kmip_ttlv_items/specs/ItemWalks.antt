@@ -124,26 +124,26 @@ CanStand bytes p es = ∥ ((xs : List FoundItem) × Meets bytes p es xs) ∥₁
 
 -- the fault at which a walk that has met these items stops: of the root, of an item in a structure, or of what
 -- follows the root
-pub data Stops (bytes : List ℕ) (xs : List FoundItem) (f : Fault) : Type 0 where
-  at_root : xs ≡ [] → f.offset ≡ 0 → RootMisfits bytes f.kind → Stops bytes xs f
+pub data StepEnds (bytes : List ℕ) (xs : List FoundItem) (f : Fault) : Type 0 where
+  at_root : xs ≡ [] → f.offset ≡ 0 → RootMisfits bytes f.kind → StepEnds bytes xs f
   inside :
       (e : ℕ) (es : List ℕ)
       → WalksTo bytes f.offset (e ∷ es) xs
       → f.offset < e
       → Misfits bytes f.offset e f.kind
-      → Stops bytes xs f
-  behind : WalksTo bytes f.offset [] xs → f.offset < length bytes → f.kind ≡ Surplus → Stops bytes xs f
+      → StepEnds bytes xs f
+  behind : WalksTo bytes f.offset [] xs → f.offset < length bytes → f.kind ≡ Surplus → StepEnds bytes xs f
 
 -- the bytes are one whole message with these items; or they are none, and a walk that met these items stops at this fault
 abbrev pub Ended : List ℕ → List FoundItem → Option Fault → Type 0
 Ended bytes xs None = Lists bytes xs
-Ended bytes xs (Some f) = Stops bytes xs f × ((all : List FoundItem) → Lists bytes all → ⊥)
+Ended bytes xs (Some f) = StepEnds bytes xs f × ((all : List FoundItem) → Lists bytes all → ⊥)
 
 -- what a walk returns: the items that it met, stored in some form in the caller's list, and how it ended
-pub record Finds {T : Type 0} (keep : FoundItem → T) (bytes : List ℕ) (old new : List T) (r : WalkEnd) : Type 0 where
+pub record Finds {T : Type 0} (from_item : FoundItem → T) (bytes : List ℕ) (old new : List T) (r : WalkEnd) : Type 0 where
   pub found : List FoundItem
   pub count : r.count ≡ length found
-  pub kept : new ≡ overlaid (map keep found) old
+  pub converted : new ≡ overlaid (map from_item found) old
   pub ended : Ended bytes found r.fault
 
 -- whether bytes are one whole message, and the first fault if not

@@ -17,7 +17,7 @@ abbrev pub left : {A : Type 0} → ItemWalk A → ℕ
 left walk = length walk.bytes.now - walk.offset
 
 -- the walk met one more item, which is whole, and moved on
-pub record Comes {A : Type 0} (old new : ItemWalk A) (i : FoundItem) : Type 0 where
+pub record StepsTo {A : Type 0} (old new : ItemWalk A) (i : FoundItem) : Type 0 where
   pub met : (xs : List FoundItem) → Met old xs → Met new (xs ++ (i ∷ []))
   pub whole : IsWhole old.bytes.now i.offset (i.offset + size i.typ i.length) i.depth i
   pub onward : left new < left old
@@ -28,7 +28,7 @@ Stays old new = (xs : List FoundItem) → Met old xs → Met new xs
 
 -- what a step returns: the item that was met, or how the walk ended
 abbrev pub Steps : {A : Type 0} → ItemWalk A → ItemWalk A → Step → Type 0
-Steps old new (Item i) = Comes old new i
+Steps old new (Item i) = StepsTo old new i
 Steps old new (End fault) = Stays old new × ((xs : List FoundItem) → Met old xs → Ended old.bytes.now xs fault)
 
 -- the walk passed any number of items

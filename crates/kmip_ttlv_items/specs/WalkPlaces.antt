@@ -22,10 +22,10 @@ innermost [] = None
 innermost (e ∷ es) = Some e
 
 -- a walk moves on: past the header of a structure, whose end is added in front; or past a leaf
-pub data GoesOn (i : FoundItem) (es : List ℕ) (q : ℕ) (fs : List ℕ) : Type 0 where
+pub data Continues (i : FoundItem) (es : List ℕ) (q : ℕ) (fs : List ℕ) : Type 0 where
   into_structure :
-      i.typ ≡ Structure → q ≡ i.offset + 8 → fs ≡ (i.offset + size i.typ i.length) ∷ es → GoesOn i es q fs
-  past_leaf : i.typ ≢ Structure → q ≡ i.offset + size i.typ i.length → fs ≡ es → GoesOn i es q fs
+      i.typ ≡ Structure → q ≡ i.offset + 8 → fs ≡ (i.offset + size i.typ i.length) ∷ es → Continues i es q fs
+  past_leaf : i.typ ≢ Structure → q ≡ i.offset + size i.typ i.length → fs ≡ es → Continues i es q fs
 
 -- what is wrong with the value of the item at an offset, if anything is: the bytes end within it, or it is no value of
 -- the type; a structure has no value of its own

@@ -21,19 +21,19 @@ pub struct FoundItem {
 }
 
 /// A type that a caller stores found items as. [`FoundItem`] stores all of an item.
-pub trait KeepItem: Copy {
+pub trait FromFoundItem: Copy {
     /// The stored form of an item.
-    ghost kept: { AnItem → Self };
+    ghost converted: { AnItem → Self };
 
     /// Converts an item to its stored form.
-    fn keep(item: FoundItem) -> Self
-        ensures { result ≡ kept item };
+    fn from_item(item: FoundItem) -> Self
+        ensures { result ≡ converted item };
 }
 
-impl KeepItem for FoundItem {
-    ghost kept = { λ item. item };
+impl FromFoundItem for FoundItem {
+    ghost converted = { λ item. item };
 
-    fn keep(item: FoundItem) -> FoundItem {
+    fn from_item(item: FoundItem) -> FoundItem {
         item
     }
 }

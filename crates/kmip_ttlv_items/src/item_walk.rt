@@ -6,7 +6,7 @@ ghost use Rattle.kmip_ttlv_types.specs.Places.{size};
 ghost use Rattle.kmip_ttlv_items.specs.declared.found.FoundItem.{FoundItem as AnItem};
 ghost use Rattle.kmip_ttlv_items.specs.Enclosing.{open_ends};
 ghost use Rattle.kmip_ttlv_items.specs.ItemWalks.{Meets, CanStand, Ended};
-ghost use Rattle.kmip_ttlv_items.specs.WalkPlaces.{GoesOn, Due};
+ghost use Rattle.kmip_ttlv_items.specs.WalkPlaces.{Continues, Due};
 
 use crate::ends::Ends;
 use crate::found::{Fault, FaultKind, FoundItem, Step};
@@ -62,7 +62,7 @@ fn due<A: Allocator>(bytes: &[u8], offset: usize, ends: &mut Ends<A>) -> Step
 #[inline(always)]
 fn enter<A: Allocator>(ends: &mut Ends<A>, item: &FoundItem) -> Result<usize, AllocError>
     requires { item.now.offset + size item.now.typ item.now.length < 2 ^ 64 }
-    ensures ok { IfOk result (λ place. GoesOn item.now (open_ends ends.old) place (open_ends ends.new)) }
+    ensures ok { IfOk result (λ place. Continues item.now (open_ends ends.old) place (open_ends ends.new)) }
     ensures err { OnErr result (open_ends ends.new ≡ open_ends ends.old) }
 {
     let next = item.offset + size_of(item.typ, item.length);

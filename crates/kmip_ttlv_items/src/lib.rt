@@ -13,6 +13,6 @@ mod item_walk;
 pub mod laws;
 mod walk;
 
-pub use found::{Fault, FaultKind, FoundItem, KeepItem, Step, WalkEnd};
+pub use found::{Fault, FaultKind, FoundItem, FromFoundItem, Step, WalkEnd};
 pub use item_walk::ItemWalk;
 pub use walk::{find_fault, walk_items};

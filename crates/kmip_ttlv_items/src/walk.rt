@@ -3,16 +3,16 @@
 ghost use Rattle.std.specs.Prelude.{◌≡◌, IfOk, length, slice_set};
 ghost use Rattle.kmip_ttlv_items.specs.ItemWalks.{Finds, Judges};
 
-use crate::found::{Fault, FoundItem, KeepItem, Step, WalkEnd};
+use crate::found::{Fault, FoundItem, FromFoundItem, Step, WalkEnd};
 use crate::item_walk::ItemWalk;
 use std::alloc::{AllocError, Allocator};
 
 /// Stores an item at an index of a list, if the list is that long.
-fn put<T: KeepItem>(out: &mut [T], index: usize, item: FoundItem)
-    ensures { out.new ≡ slice_set out.old index (T.kept item) }
+fn put<T: FromFoundItem>(out: &mut [T], index: usize, item: FoundItem)
+    ensures { out.new ≡ slice_set out.old index (T.converted item) }
 {
     if index < out.len() {
-        out[index] = T::keep(item);
+        out[index] = T::from_item(item);
     }
 }
 
@@ -28,12 +28,12 @@ fn put<T: KeepItem>(out: &mut [T], index: usize, item: FoundItem)
 /// let end = walk_items(alloc, &bytes, &mut none)?;
 /// assert!(rt; end.count == 1 && end.fault.is_none());
 /// ```
-pub fn walk_items<T: KeepItem, A: Allocator>(
+pub fn walk_items<T: FromFoundItem, A: Allocator>(
     alloc: A,
     bytes: &[u8],
     out: &mut [T],
 ) -> Result<WalkEnd, AllocError>
-    ensures { IfOk result (λ r. Finds T.kept bytes.now out.old out.new r) }
+    ensures { IfOk result (λ r. Finds T.converted bytes.now out.old out.new r) }
 {
     let mut walk = ItemWalk::new(alloc, bytes);
     let mut count = 0;

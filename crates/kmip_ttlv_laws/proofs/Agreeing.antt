@@ -11,13 +11,13 @@ use Rattle.kmip_ttlv_types.specs.Items.{Raw, Splits}
 use Rattle.kmip_ttlv_types.specs.Trees.{Fits, FitsBelow, Tree, bytes_below, leaf, node, trees_of, raw_of}
 use Rattle.kmip_ttlv_base.specs.Forms.{Form, seq, Fields, Forms, Variants, Content}
 use Rattle.kmip_ttlv_base.specs.Values.{Value, seq_value, Values, no_values, value}
-use Rattle.kmip_ttlv_ser.specs.declared.held.Held.{Held}
-use Rattle.kmip_ttlv_ser.specs.declared.held.Held.TheVariants.{Nothing}
-use Rattle.kmip_ttlv_ser.specs.WrittenItems.{◌>>=◌, enumeration, held_tag, items, items_in, left_over, some_item}
+use Rattle.kmip_ttlv_ser.specs.declared.pending.PendingTag.{PendingTag}
+use Rattle.kmip_ttlv_ser.specs.declared.pending.PendingTag.TheVariants.{Nothing}
+use Rattle.kmip_ttlv_ser.specs.WrittenItems.{◌>>=◌, enumeration, pending_tag, items, items_in, left_over, some_item}
 use Rattle.kmip_ttlv_reader.proofs.Giving.{begins_one}
-use Rattle.kmip_ttlv_reader.specs.Keeps.{Keep}
-use Rattle.kmip_ttlv_reader.specs.Reads.{Begins, Reads, ReadsContent, ReadsField, ReadsFields, ReadsForms, ReadsRun, ReadsVariant, absent, by_number, by_rule, done, ends, has_tag, here, inner, is_like, is_root, is_struct, leaf_value, more, named, names, next, no_part, part, parts, run, structure, there, whole, wrap, wrap_some, leaf as read_leaf}
-use Rattle.kmip_ttlv_laws.specs.Agreements.{Head, Agrees, goes_on, leaf_agrees, inner_agrees, option_agrees, newtype_agrees, struct_agrees, rule_agrees, tuple_agrees, number_agrees, seq_agrees, RunAgrees, last_agrees, next_agrees, FieldsAgree, no_field_agrees, nothing_agrees, absent_agrees, field_agrees, FormsAgree, no_form_agrees, form_agrees, Wraps, some_wraps, newtype_wraps, variant_wraps, Encloses, struct_encloses, newtype_encloses, variant_encloses, tuple_encloses, IsNumbered, unit_is_numbered, number_is_numbered, HasVariant, first_variant, later_variant, is_named, is_alike, is_field_of, is_run, leaf_type, with_value}
+use Rattle.kmip_ttlv_reader.specs.TagValues.{TagValue}
+use Rattle.kmip_ttlv_reader.specs.Reads.{Begins, Reads, ReadsContent, ReadsField, ReadsFields, ReadsForms, ReadsRun, ReadsVariant, absent, by_number, by_rule, done, ends, has_tag, here, inner, is_like, is_root, is_struct, decoded_leaf, more, named, names, next, no_part, part, parts, run, structure, there, whole, wrap, wrap_some, leaf as read_leaf}
+use Rattle.kmip_ttlv_laws.specs.Agreements.{Head, Agrees, goes_on, leaf_agrees, inner_agrees, option_agrees, newtype_agrees, struct_agrees, rule_agrees, tuple_agrees, number_agrees, seq_agrees, RunAgrees, last_agrees, next_agrees, FieldsAgree, no_field_agrees, nothing_agrees, absent_agrees, field_agrees, FormsAgree, no_form_agrees, form_agrees, Wraps, some_wraps, newtype_wraps, variant_wraps, EncodesStructure, struct_encloses, newtype_encloses, variant_encloses, tuple_encloses, IsNumbered, unit_is_numbered, number_is_numbered, HasVariant, first_variant, later_variant, is_named, is_alike, is_field_of, is_run, leaf_type, with_value}
 use Rattle.kmip_ttlv_laws.specs.Contents.{items_below}
 use Rattle.kmip_ttlv_laws.specs.ReadingLaws.{AgreeingIsRead, AgreeingIsWritten}
 use Rattle.kmip_ttlv_laws.proofs.Contents.{below_splits}
@@ -76,7 +76,7 @@ items_same (t ∷ ts) = ap (λ (l : List Raw). raw_of t ∷ l) (items_same ts)
 -- ---- what values are encoded as
 
 -- a value that gives an item, and then others
-two_steps : (w : Value) (ws : Values) (h : Held) (t : Tree) (ts us : List Tree) → items w h ≡ Some (t ∷ ts) → items_in ws Nothing ≡ Some us → items_in (value w ws) h ≡ Some (t ∷ (ts ++ us))
+two_steps : (w : Value) (ws : Values) (h : PendingTag) (t : Tree) (ts us : List Tree) → items w h ≡ Some (t ∷ ts) → items_in ws Nothing ≡ Some us → items_in (value w ws) h ≡ Some (t ∷ (ts ++ us))
 two_steps w ws h t ts us e f = rw e (rw f refl)
 
 -- an empty sequence, and then others
@@ -92,24 +92,24 @@ one_step w us e = by_items (items w Nothing) e
     by_items (Some ts) h = let e : ts ++ [] ≡ ts = append-nil ts in cc
 
 -- a value in wrappers
-wrapped_items : {h i : Held} {w u : Value} (t : Tree) (ts : List Tree) → Wraps h w i u → items u i ≡ Some (t ∷ ts) → items w h ≡ Some (t ∷ ts)
+wrapped_items : {h i : PendingTag} {w u : Value} (t : Tree) (ts : List Tree) → Wraps h w i u → items u i ≡ Some (t ∷ ts) → items w h ≡ Some (t ∷ ts)
 unfolding some_item
 wrapped_items t ts some_wraps e = e
 wrapped_items t ts (newtype_wraps named_is taken) e = rw named_is (rw taken (rw e refl))
 wrapped_items t ts (variant_wraps wrapper taken) e = rw wrapper (rw taken (rw e refl))
 
 -- a structure around values
-enclosing_items : {h : Held} {w : Value} {t : ℕ} {ws : Values} (us : List Tree) → Encloses h w t ws → items_in ws Nothing ≡ Some us → items w h ≡ Some (node t (trees_of us) ∷ [])
+enclosing_items : {h : PendingTag} {w : Value} {t : ℕ} {ws : Values} (us : List Tree) → EncodesStructure h w t ws → items_in ws Nothing ≡ Some us → items w h ≡ Some (node t (trees_of us) ∷ [])
 enclosing_items us (struct_encloses taken) e = rw taken (rw e refl)
 enclosing_items us (newtype_encloses {w = w} named_is taken) e = rw named_is (rw taken (rw (one_step w us e) refl))
 enclosing_items us (variant_encloses {w = w} wrapper taken) e = rw wrapper (rw taken (rw (one_step w us e) refl))
 enclosing_items us (tuple_encloses taken) e = rw taken (rw e refl)
 
 -- a number
-numbered_items : {h : Held} {w : Value} {t n : ℕ} → IsNumbered h w t n → items w h ≡ Some (leaf t Enumeration (to_be_bytes w32 n) ∷ [])
+numbered_items : {h : PendingTag} {w : Value} {t n : ℕ} → IsNumbered h w t n → items w h ≡ Some (leaf t Enumeration (to_be_bytes w32 n) ∷ [])
 unfolding enumeration
 numbered_items (unit_is_numbered taken number_is) = rw taken (rw number_is refl)
-numbered_items (number_is_numbered held small) = rw held refl
+numbered_items (number_is_numbered pending small) = rw pending refl
 
 -- the items of the values in a Structure split its content
 content_splits : (ws : Values) (us : List Tree) → items_in ws Nothing ≡ Some us → FitsBelow (trees_of us) → Splits (map raw_of us) (bytes_below (trees_of us))
@@ -120,7 +120,7 @@ content_splits ws us e f =
 -- ---- what is decoded
 
 -- the form reads the value from the items of the encoded one, if what follows doesn't continue a sequence
-pub record IsRead (s : Form) (k : List Keep) (h : Held) (w : Value) (x : Head) (v : Value) (k' : List Keep) : Type 0 where
+pub record IsRead (s : Form) (k : List TagValue) (h : PendingTag) (w : Value) (x : Head) (v : Value) (k' : List TagValue) : Type 0 where
   pub first : Tree
   pub rest : List Tree
   pub are : items w h ≡ Some (first ∷ rest)
@@ -129,7 +129,7 @@ pub record IsRead (s : Form) (k : List Keep) (h : Held) (w : Value) (x : Head) (
   pub reads : AllByRecursion Fits (first ∷ rest) → (ys : List Raw) → (is_run v ≡ true → is_like (raw_of first) ys ≡ false) → Reads s k (raw_of first ∷ (map raw_of rest ++ ys)) v k' ys
 
 -- so do the elements of a sequence, at its start and after earlier elements
-pub record RunIsRead (s : Form) (k : List Keep) (h : Held) (ws : Values) (x : Head) (vs : Values) (k' : List Keep) : Type 0 where
+pub record RunIsRead (s : Form) (k : List TagValue) (h : PendingTag) (ws : Values) (x : Head) (vs : Values) (k' : List TagValue) : Type 0 where
   pub first : Tree
   pub rest : List Tree
   pub are : items_in ws h ≡ Some (first ∷ rest)
@@ -138,39 +138,39 @@ pub record RunIsRead (s : Form) (k : List Keep) (h : Held) (ws : Values) (x : He
   pub goes_on : AllByRecursion Fits (first ∷ rest) → (r : Raw) (ys : List Raw) → HasHead r x → is_like r ys ≡ false → ReadsRun s r k (raw_of first ∷ (map raw_of rest ++ ys)) vs k' ys
 
 -- the fields read the values from the items, and use them up
-pub record FieldsAreRead (fs : Fields) (k : List Keep) (ws : Values) (y : Option Head) (vs : Values) (k' : List Keep) : Type 0 where
+pub record FieldsAreRead (fs : Fields) (k : List TagValue) (ws : Values) (y : Option Head) (vs : Values) (k' : List TagValue) : Type 0 where
   pub trees : List Tree
   pub are : items_in ws Nothing ≡ Some trees
   pub head_is : BeginsAs trees y
   pub reads : AllByRecursion Fits trees → ReadsFields fs k (map raw_of trees) vs k' []
 
 -- and so do forms
-pub record FormsAreRead (ss : Forms) (k : List Keep) (ws : Values) (y : Option Head) (vs : Values) (k' : List Keep) : Type 0 where
+pub record FormsAreRead (ss : Forms) (k : List TagValue) (ws : Values) (y : Option Head) (vs : Values) (k' : List TagValue) : Type 0 where
   pub trees : List Tree
   pub are : items_in ws Nothing ≡ Some trees
   pub head_is : BeginsAs trees y
   pub reads : AllByRecursion Fits trees → ReadsForms ss k (map raw_of trees) vs k' []
 
 -- a leaf
-leaf_is_read : {s : Form} {h : Held} {w v : Value} {t : ℕ} (k : List Keep) → held_tag h ≡ Some t → LeafIs s w v → IsRead s k h w record { tag = t; typ = leaf_type w } v (with_value s t w k)
-leaf_is_read {s} {h} {w} {v} {t} k held l =
+leaf_is_read : {s : Form} {h : PendingTag} {w v : Value} {t : ℕ} (k : List TagValue) → pending_tag h ≡ Some t → LeafIs s w v → IsRead s k h w record { tag = t; typ = leaf_type w } v (with_value s t w k)
+leaf_is_read {s} {h} {w} {v} {t} k pending l =
     let x : Raw = record { tag = t; typ = leaf_type w; content = l.content } in
     record {
       first = leaf t (leaf_type w) l.content;
       rest = [];
-      are = l.written h t held;
+      are = l.written h t pending;
       head_is = (refl, refl);
       alone = λ e. refl;
-      reads = λ f ys apart. subst (λ (u : Value). Reads s k (x ∷ ys) u (with_value s t w k) ys) l.gives (subst (λ (c : List Keep). Reads s k (x ∷ ys) (leaf_value s l.content) c ys) (l.keeps t k) (read_leaf {h = x} l.takes_it l.valid));
+      reads = λ f ys apart. subst (λ (u : Value). Reads s k (x ∷ ys) u (with_value s t w k) ys) l.gives (subst (λ (c : List TagValue). Reads s k (x ∷ ys) (decoded_leaf s l.content) c ys) (l.keeps t k) (read_leaf {h = x} l.takes_it l.valid));
     }
 
 -- a variant reads what its content reads
-variant_reads : {vs : Variants} {i : ℕ} {own name : List ℕ} {c : Content} {k k' : List Keep} {xs ys : List Raw} {v : Value} → HasVariant vs i name c → ReadsContent own name c k xs v k' ys → ReadsVariant own vs i k xs v k' ys
+variant_reads : {vs : Variants} {i : ℕ} {own name : List ℕ} {c : Content} {k k' : List TagValue} {xs ys : List Raw} {v : Value} → HasVariant vs i name c → ReadsContent own name c k xs v k' ys → ReadsVariant own vs i k xs v k' ys
 variant_reads first_variant r = here r
 variant_reads (later_variant h) r = there (variant_reads h r)
 
 -- a field reads what its form reads
-field_reads : (name : List ℕ) (s : Form) (x : Head) (r : Raw) (k k' : List Keep) (xs ys : List Raw) (v : Value) → is_field_of name s x ≡ true → HasHead r x → Reads s k (r ∷ xs) v k' ys → ReadsField name s k (r ∷ xs) v k' ys
+field_reads : (name : List ℕ) (s : Form) (x : Head) (r : Raw) (k k' : List TagValue) (xs ys : List Raw) (v : Value) → is_field_of name s x ≡ true → HasHead r x → Reads s k (r ∷ xs) v k' ys → ReadsField name s k (r ∷ xs) v k' ys
 field_reads name s x r k k' xs ys v e h read = by_kind (is_struct s) refl
   where
     by_kind : (b : Bool) → is_struct s ≡ b → ReadsField name s k (r ∷ xs) v k' ys
@@ -190,7 +190,7 @@ like_same q r x (y ∷ ys) h g = rw (h.0, h.1, g.0, g.1) refl
 
 -- a value that is no sequence is read from one item, whatever follows
 one_read :
-    (s : Form) (k k' : List Keep) (v : Value) (t : Tree) (rest : List Tree) (zs : List Raw)
+    (s : Form) (k k' : List TagValue) (v : Value) (t : Tree) (rest : List Tree) (zs : List Raw)
     → rest ≡ []
     → is_run v ≡ false
     → (AllByRecursion Fits (t ∷ rest) → (is_run v ≡ true → is_like (raw_of t) zs ≡ false) → Reads s k (raw_of t ∷ (map raw_of rest ++ zs)) v k' zs)
@@ -202,8 +202,8 @@ one_read s k k' v t rest zs e single read f =
     subst (λ (l : List Tree). Reads s k (raw_of t ∷ (map raw_of l ++ zs)) v k' zs) e (read fits apart)
 
 mutual
-  pub agreed : {s : Form} {k k' : List Keep} {h : Held} {w v : Value} {x : Head} → Agrees s k h w x v k' → IsRead s k h w x v k'
-  agreed (leaf_agrees {s = s} {k = k} {w = w} {v = v} held c) = leaf_is_read k held (leaf_of s w v c)
+  pub agreed : {s : Form} {k k' : List TagValue} {h : PendingTag} {w v : Value} {x : Head} → Agrees s k h w x v k' → IsRead s k h w x v k'
+  agreed (leaf_agrees {s = s} {k = k} {w = w} {v = v} pending c) = leaf_is_read k pending (leaf_of s w v c)
   agreed (inner_agrees wraps a) =
       let r = agreed a in
       record { first = r.first; rest = r.rest; are = wrapped_items r.first r.rest wraps r.are; head_is = r.head_is; alone = r.alone; reads = r.reads }
@@ -255,7 +255,7 @@ mutual
       let r = run_agreed a in
       record { first = r.first; rest = r.rest; are = r.are; head_is = r.head_is; alone = λ e. absurd cc; reads = λ f ys apart. r.starts f ys (apart refl) }
 
-  run_agreed : {s : Form} {k k' : List Keep} {h : Held} {ws vs : Values} {x : Head} → RunAgrees s k h ws x vs k' → RunIsRead s k h ws x vs k'
+  run_agreed : {s : Form} {k k' : List TagValue} {h : PendingTag} {ws vs : Values} {x : Head} → RunAgrees s k h ws x vs k' → RunIsRead s k h ws x vs k'
   run_agreed (last_agrees {h = h} {w = w} {x = x} a) =
       let r = agreed a in
       record {
@@ -281,7 +281,7 @@ mutual
         goes_on = λ f p ys h apart. more (like_head p (raw_of r.first) x (raw_of q.first ∷ (map raw_of q.rest ++ ys)) h r.head_is) (read f (raw_of q.first ∷ (map raw_of q.rest ++ ys))) (q.goes_on f.1 p ys h apart);
       }
 
-  fields_agreed : {fs : Fields} {k k' : List Keep} {ws vs : Values} {y : Option Head} → FieldsAgree fs k ws y vs k' → FieldsAreRead fs k ws y vs k'
+  fields_agreed : {fs : Fields} {k k' : List TagValue} {ws vs : Values} {y : Option Head} → FieldsAgree fs k ws y vs k' → FieldsAreRead fs k ws y vs k'
   fields_agreed no_field_agrees = record { trees = []; are = refl; head_is = tt; reads = λ f. done }
   fields_agreed (nothing_agrees {ws = ws} a) =
       let r = fields_agreed a in
@@ -304,7 +304,7 @@ mutual
             (q.reads (fits_last (r.first ∷ r.rest) q.trees f)));
       }
 
-  forms_agreed : {ss : Forms} {k k' : List Keep} {ws vs : Values} {y : Option Head} → FormsAgree ss k ws y vs k' → FormsAreRead ss k ws y vs k'
+  forms_agreed : {ss : Forms} {k k' : List TagValue} {ws vs : Values} {y : Option Head} → FormsAgree ss k ws y vs k' → FormsAreRead ss k ws y vs k'
   forms_agreed no_form_agrees = record { trees = []; are = refl; head_is = tt; reads = λ f. no_part }
   forms_agreed (form_agrees {w = w} {v = v} {ws = ws} {x = x} {y = y} apart a b) =
       let r = agreed a in
@@ -321,8 +321,8 @@ mutual
       }
 
 -- what a root form reads is no sequence
-root_single : {s : Form} {k k' : List Keep} {h : Held} {w v : Value} {x : Head} → is_root s ≡ true → Agrees s k h w x v k' → is_run v ≡ false
-root_single e (leaf_agrees {s = s} {w = w} {v = v} held c) = (leaf_of s w v c).single
+root_single : {s : Form} {k k' : List TagValue} {h : PendingTag} {w v : Value} {x : Head} → is_root s ≡ true → Agrees s k h w x v k' → is_run v ≡ false
+root_single e (leaf_agrees {s = s} {w = w} {v = v} pending c) = (leaf_of s w v c).single
 root_single e (inner_agrees wraps a) = root_single e a
 root_single e (option_agrees a) = root_single e a
 root_single e (newtype_agrees a) = root_single e a
@@ -333,7 +333,7 @@ root_single e (number_agrees numbered units) = refl
 root_single e (seq_agrees a) = absurd cc
 
 -- so it is read from its item alone
-alone_read : (s : Form) (k k' : List Keep) (h : Held) (w v : Value) (x : Head) (r : IsRead s k h w x v k') → is_run v ≡ false → AllByRecursion Fits (r.first ∷ r.rest) → Reads s k (raw_of r.first ∷ []) v k' []
+alone_read : (s : Form) (k k' : List TagValue) (h : PendingTag) (w v : Value) (x : Head) (r : IsRead s k h w x v k') → is_run v ≡ false → AllByRecursion Fits (r.first ∷ r.rest) → Reads s k (raw_of r.first ∷ []) v k' []
 alone_read s k k' h w v x r single fits = one_read s k k' v r.first r.rest [] (r.alone single) single (λ f. r.reads f []) fits.0
 
 pub agreeing_is_written : AgreeingIsWritten

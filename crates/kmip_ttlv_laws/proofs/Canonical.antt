@@ -7,7 +7,7 @@ use Rattle.kmip_ttlv_types.specs.declared.typ.TtlvType.TheVariants.{Structure, I
 use Rattle.kmip_ttlv_types.specs.Leaves.{is_valid}
 use Rattle.kmip_ttlv_types.specs.Items.{IsTextOf}
 use Rattle.kmip_ttlv_types.specs.Trees.{Tree, leaf, node, Trees, no_trees, tree, bytes, bytes_below, bytes_all, raw_of, leaf_bytes, node_bytes, Fits, FitsBelow, IsTreeText, AreTreeTexts}
-use Rattle.kmip_ttlv_ser.specs.declared.held.Held.TheVariants.{Nothing}
+use Rattle.kmip_ttlv_ser.specs.declared.pending.PendingTag.TheVariants.{Nothing}
 use Rattle.kmip_ttlv_ser.specs.Sizes.{FitsAfter}
 use Rattle.kmip_ttlv_laws.specs.ReadingLaws.{CanonicalIsText, ReadingTrees, WrittenIsWellFormed}
 use Rattle.kmip_ttlv_laws.specs.Texts.{Utf8}
@@ -75,7 +75,7 @@ unfolding node_bytes
 node_length tag content c a e t = omega (arith, e, ap length t.parts, length-append c t.pad, t.pad_length)
 
 -- a tree that has an encoding is made of what fits, and its canonical bytes are as long
-record Kept (t : Tree) (a : List ℕ) : Type 0 where
+record StoredValue (t : Tree) (a : List ℕ) : Type 0 where
   made : IsMade Utf8 t
   fits : Fits t
   long : length (bytes t) ≡ length a
@@ -86,7 +86,7 @@ record KeptBelow (ts : Trees) (a : List ℕ) : Type 0 where
   long : length (bytes_below ts) ≡ length a
 
 mutual
-  kept_of : (t : Tree) (a : List ℕ) → IsTreeText t a → Kept t a
+  kept_of : (t : Tree) (a : List ℕ) → IsTreeText t a → StoredValue t a
   kept_of (leaf tag typ content) a h =
       let m = content_of typ content h.0 in
       record { made = (h.1.tag_fits, m); fits = h.1.length_fits; long = leaf_length tag typ content a m h.1 }

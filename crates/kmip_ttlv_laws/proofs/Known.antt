@@ -6,27 +6,27 @@ use Rattle.std.proofs.lemmas.Bool.{and_parts, eq-eqb, eqb-true, false≢true, no
 use Rattle.std.proofs.lemmas.Option.{none-some}
 use Rattle.kmip_ttlv_base.specs.Forms.{Form, struct, option, seq, newtype, enum, any_number, text as text_form, Fields, no_fields, field, Variants, no_variants, variant, Content, unit, wrapped, tuple}
 use Rattle.kmip_ttlv_base.specs.Values.{Value, Values, text_value, u32_value}
-use Rattle.kmip_ttlv_ser.specs.declared.held.Held.{Held}
-use Rattle.kmip_ttlv_reader.specs.Keeps.{Keep, last}
+use Rattle.kmip_ttlv_ser.specs.declared.pending.PendingTag.{PendingTag}
+use Rattle.kmip_ttlv_reader.specs.TagValues.{TagValue, last}
 use Rattle.kmip_ttlv_reader.specs.Reads.{has_tag, is_struct}
 use Rattle.kmip_ttlv_laws.specs.Agreements.{Head, Agrees, FieldsAgree, HasVariant, RunAgrees, absent_agrees, field_agrees, first_variant, inner_agrees, last_agrees, later_variant, leaf_agrees, newtype_agrees, next_agrees, no_field_agrees, nothing_agrees, number_agrees, option_agrees, rule_agrees, seq_agrees, struct_agrees, tuple_agrees, with_value}
 
 -- ---- the last text of a tag
 
-found_last : (o : Option Keep) (k : List Keep) (r : Keep) → last_or o (filter (λ q. q.tag == r.tag) (k ++ r ∷ [])) ≡ Some r
+found_last : (o : Option TagValue) (k : List TagValue) (r : TagValue) → last_or o (filter (λ q. q.tag == r.tag) (k ++ r ∷ [])) ≡ Some r
 found_last o [] r = rw (eq-eqb r.tag r.tag refl) refl
 found_last o (q ∷ k) r = elim (q.tag == r.tag) as (λ b. last_or o (cond b (q ∷ filter (λ p. p.tag == r.tag) (k ++ r ∷ [])) (filter (λ p. p.tag == r.tag) (k ++ r ∷ []))) ≡ Some r) [ true ↦ found_last (Some q) k r | false ↦ found_last o k r ]
 
 -- the text that was kept last under a tag is the last
-pub last_kept : (k : List Keep) (r : Keep) → last (k ++ r ∷ []) r.tag ≡ Some r.text
+pub last_kept : (k : List TagValue) (r : TagValue) → last (k ++ r ∷ []) r.tag ≡ Some r.text
 last_kept k r = ap (option_map (λ q. q.text)) (found_last None k r)
 
-skips : (o : Option Keep) (k : List Keep) (r : Keep) (t : ℕ) → (r.tag == t) ≡ false → last_or o (filter (λ q. q.tag == t) (k ++ r ∷ [])) ≡ last_or o (filter (λ q. q.tag == t) k)
+skips : (o : Option TagValue) (k : List TagValue) (r : TagValue) (t : ℕ) → (r.tag == t) ≡ false → last_or o (filter (λ q. q.tag == t) (k ++ r ∷ [])) ≡ last_or o (filter (λ q. q.tag == t) k)
 skips o [] r t other = rw other refl
 skips o (q ∷ k) r t other = elim (q.tag == t) as (λ b. last_or o (cond b (q ∷ filter (λ p. p.tag == t) (k ++ r ∷ [])) (filter (λ p. p.tag == t) (k ++ r ∷ []))) ≡ last_or o (cond b (q ∷ filter (λ p. p.tag == t) k) (filter (λ p. p.tag == t) k))) [ true ↦ skips (Some q) k r t other | false ↦ skips o k r t other ]
 
 -- and it still is after a text under another tag
-pub still_kept : (k : List Keep) (r : Keep) (t : ℕ) → (r.tag == t) ≡ false → last (k ++ r ∷ []) t ≡ last k t
+pub still_kept : (k : List TagValue) (r : TagValue) (t : ℕ) → (r.tag == t) ≡ false → last (k ++ r ∷ []) t ≡ last k t
 still_kept k r t other = ap (option_map (λ q. q.text)) (skips None k r t other)
 
 -- ---- what is known
@@ -42,15 +42,15 @@ said [] t = None
 said (r ∷ known) t = cond (r.tag == t) r.text (said known t)
 
 -- each text that is known of a tag was kept last under it
-abbrev pub Finds : List Known → List Keep → Type 0
+abbrev pub Finds : List Known → List TagValue → Type 0
 Finds known k = (t : ℕ) (text : List ℕ) → said known t ≡ Some text → last k t ≡ Some text
 
 -- where nothing is known
-pub finds_none : (k : List Keep) → Finds [] k
+pub finds_none : (k : List TagValue) → Finds [] k
 finds_none k t text e = absurd (none-some text e)
 
 -- a text that is kept is known
-pub finds_kept : (known : List Known) (k : List Keep) (r : Keep) → Finds known k → Finds (record { tag = r.tag; text = Some r.text } ∷ known) (k ++ r ∷ [])
+pub finds_kept : (known : List Known) (k : List TagValue) (r : TagValue) → Finds known k → Finds (record { tag = r.tag; text = Some r.text } ∷ known) (k ++ r ∷ [])
 finds_kept known k r found t text =
     elim (r.tag == t) as (λ b. (r.tag == t) ≡ b → cond b (Some r.text) (said known t) ≡ Some text → last (k ++ r ∷ []) t ≡ Some text) [
       | true ↦ λ same e. subst (λ u. last (k ++ r ∷ []) u ≡ Some text) (eqb-true r.tag t same) (last_kept k r ∙ e)
@@ -58,7 +58,7 @@ finds_kept known k r found t text =
     ] refl
 
 -- that nothing is known of a tag is true in any case
-pub finds_unknown : (known : List Known) (k : List Keep) (u : ℕ) → Finds known k → Finds (record { tag = u; text = None } ∷ known) k
+pub finds_unknown : (known : List Known) (k : List TagValue) (u : ℕ) → Finds known k → Finds (record { tag = u; text = None } ∷ known) k
 finds_unknown known k u found t text =
     elim (u == t) as (λ b. cond b None (said known t) ≡ Some text → last k t ≡ Some text) [
       | true ↦ λ e. absurd (none-some text e)
@@ -94,7 +94,7 @@ abbrev mutual
 abbrev pub spares : ℕ → ℕ → Form → Boole
 spares t u s = (is_struct s || not (u == t)) && is_without t s
 
-leaf_spares : (s : Form) (u : ℕ) (w : Value) (k : List Keep) (t : ℕ) → (is_struct s || not (u == t)) ≡ true → last (with_value s u w k) t ≡ last k t
+leaf_spares : (s : Form) (u : ℕ) (w : Value) (k : List TagValue) (t : ℕ) → (is_struct s || not (u == t)) ≡ true → last (with_value s u w k) t ≡ last k t
 leaf_spares text_form u (text_value b) k t other = still_kept k _ t (not-true (u == t) other)
 leaf_spares any_number u (u32_value n) k t other = still_kept k _ t (not-true (u == t) other)
 leaf_spares _ u w k t other = refl
@@ -114,8 +114,8 @@ other_item false name u t named other =
     ] refl
 
 mutual
-  pub spared : {s : Form} {k k' : List Keep} {h : Held} {w v : Value} {x : Head} (t : ℕ) → Agrees s k h w x v k' → (is_struct s || not (x.tag == t)) ≡ true → is_without t s ≡ true → last k' t ≡ last k t
-  spared t (leaf_agrees {s = s} {k = k} {w = w} {t = u} held c) other free = leaf_spares s u w k t other
+  pub spared : {s : Form} {k k' : List TagValue} {h : PendingTag} {w v : Value} {x : Head} (t : ℕ) → Agrees s k h w x v k' → (is_struct s || not (x.tag == t)) ≡ true → is_without t s ≡ true → last k' t ≡ last k t
+  spared t (leaf_agrees {s = s} {k = k} {w = w} {t = u} pending c) other free = leaf_spares s u w k t other
   spared t (inner_agrees wraps a) other free = spared t a other free
   spared t (option_agrees {s = s} {x = x} a) other free = spared t a (or_right (is_struct s) (not (x.tag == t)) other) free
   spared t (newtype_agrees a) other free = spared t a other free
@@ -125,11 +125,11 @@ mutual
   spared t (number_agrees {k = k} {t = u} numbered units) other free = still_kept k _ t (not-true (u == t) other)
   spared t (seq_agrees a) other free = run_spared t a other free
 
-  run_spared : {s : Form} {k k' : List Keep} {h : Held} {ws vs : Values} {x : Head} (t : ℕ) → RunAgrees s k h ws x vs k' → not (x.tag == t) ≡ true → is_without t s ≡ true → last k' t ≡ last k t
+  run_spared : {s : Form} {k k' : List TagValue} {h : PendingTag} {ws vs : Values} {x : Head} (t : ℕ) → RunAgrees s k h ws x vs k' → not (x.tag == t) ≡ true → is_without t s ≡ true → last k' t ≡ last k t
   run_spared t (last_agrees {s = s} {x = x} a) other free = spared t a (or_right (is_struct s) (not (x.tag == t)) other) free
   run_spared t (next_agrees {s = s} {x = x} a single b) other free = run_spared t b other free ∙ spared t a (or_right (is_struct s) (not (x.tag == t)) other) free
 
-  fields_spared : {fs : Fields} {k k' : List Keep} {ws vs : Values} {y : Option Head} (t : ℕ) → FieldsAgree fs k ws y vs k' → are_without t fs ≡ true → last k' t ≡ last k t
+  fields_spared : {fs : Fields} {k k' : List TagValue} {ws vs : Values} {y : Option Head} (t : ℕ) → FieldsAgree fs k ws y vs k' → are_without t fs ≡ true → last k' t ≡ last k t
   fields_spared t no_field_agrees free = refl
   fields_spared t (nothing_agrees a) free = fields_spared t a free
   fields_spared t (absent_agrees {name = name} {s = s} {fs = fs} other a) free =
@@ -163,11 +163,11 @@ said_left p (r ∷ known) t text =
     ] refl
 
 -- where less is known, it is known as well
-pub finds_less : (known : List Known) (k : List Keep) (u : ℕ) (s : Form) → Finds known k → Finds (left known u s) k
+pub finds_less : (known : List Known) (k : List TagValue) (u : ℕ) (s : Form) → Finds known k → Finds (left known u s) k
 finds_less known k u s found t text e = found t text (said_left (λ r. spares r u s) known t text e).1
 
 -- after an item that agrees with its form
-pub finds_left : (known : List Known) {s : Form} {k k' : List Keep} {h : Held} {w v : Value} {x : Head} → Agrees s k h w x v k' → Finds known k → Finds (left known x.tag s) k'
+pub finds_left : (known : List Known) {s : Form} {k k' : List TagValue} {h : PendingTag} {w v : Value} {x : Head} → Agrees s k h w x v k' → Finds known k → Finds (left known x.tag s) k'
 finds_left known {s} {x = x} a found t text e =
     let both = said_left (λ r. spares r x.tag s) known t text e in
     let parts = and_parts (is_struct s || not (x.tag == t)) (is_without t s) both.0 in

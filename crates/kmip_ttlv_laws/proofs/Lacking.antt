@@ -12,7 +12,7 @@ use Rattle.kmip_ttlv_types.specs.Places.{size}
 use Rattle.kmip_ttlv_base.specs.Forms.{Content, Form, Variants}
 use Rattle.kmip_ttlv_base.specs.Values.{Value}
 use Rattle.kmip_ttlv_types.proofs.PlaceLemmas.{code_one}
-use Rattle.kmip_ttlv_reader.specs.Keeps.{Keep}
+use Rattle.kmip_ttlv_reader.specs.TagValues.{TagValue}
 use Rattle.kmip_ttlv_reader.specs.Reads.{Reads, ReadsContent, ReadsVariant, by_number, by_rule, here, leaf, parts, run, structure, there, whole, wrap, wrap_some}
 use Rattle.kmip_ttlv_laws.specs.ReadingLaws.{PaddingIsRequired, PaddingOfRootsIsRequired}
 use Rattle.kmip_ttlv_laws.specs.Padding.{LacksPadding}
@@ -59,7 +59,7 @@ not_split (w ∷ ws) x front back content e s l (y ∷ ys) z =
 -- ---- what a form reads from a Structure is split
 
 mutual
-  split_of_reads : {s : Form} {k k' : List Keep} {x : Raw} {xs ys : List Raw} {v : Value} → x.typ ≡ Structure → Reads s k (x ∷ xs) v k' ys → (zs : List Raw) × Splits zs x.content
+  split_of_reads : {s : Form} {k k' : List TagValue} {x : Raw} {xs ys : List Raw} {v : Value} → x.typ ≡ Structure → Reads s k (x ∷ xs) v k' ys → (zs : List Raw) × Splits zs x.content
   split_of_reads e (leaf {h = h} t v) = absurd (let none : is_valid Structure h.content ≡ true = subst (λ (y : TtlvType). is_valid y h.content ≡ true) e v in cc)
   split_of_reads e (wrap_some r) = split_of_reads e r
   split_of_reads e (wrap r) = split_of_reads e r
@@ -68,11 +68,11 @@ mutual
   split_of_reads e (by_rule c r) = split_of_variant e r
   split_of_reads e (by_number {h = h} c t v f) = absurd (let none : is_valid Structure h.content ≡ true = subst (λ (y : TtlvType). is_valid y h.content ≡ true) e v in cc)
 
-  split_of_variant : {name : List ℕ} {vs : Variants} {i : ℕ} {k k' : List Keep} {x : Raw} {xs ys : List Raw} {v : Value} → x.typ ≡ Structure → ReadsVariant name vs i k (x ∷ xs) v k' ys → (zs : List Raw) × Splits zs x.content
+  split_of_variant : {name : List ℕ} {vs : Variants} {i : ℕ} {k k' : List TagValue} {x : Raw} {xs ys : List Raw} {v : Value} → x.typ ≡ Structure → ReadsVariant name vs i k (x ∷ xs) v k' ys → (zs : List Raw) × Splits zs x.content
   split_of_variant e (here r) = split_of_content e r
   split_of_variant e (there r) = split_of_variant e r
 
-  split_of_content : {name vname : List ℕ} {c : Content} {k k' : List Keep} {x : Raw} {xs ys : List Raw} {v : Value} → x.typ ≡ Structure → ReadsContent name vname c k (x ∷ xs) v k' ys → (zs : List Raw) × Splits zs x.content
+  split_of_content : {name vname : List ℕ} {c : Content} {k k' : List TagValue} {x : Raw} {xs ys : List Raw} {v : Value} → x.typ ≡ Structure → ReadsContent name vname c k (x ∷ xs) v k' ys → (zs : List Raw) × Splits zs x.content
   split_of_content e (whole r) = split_of_reads e r
   split_of_content e (parts {zs = zs} t z r) = (zs, z)
 
@@ -80,4 +80,4 @@ pub padding_is_required : PaddingIsRequired
 padding_is_required s k k' x xs ys v e r = let z = split_of_reads e.is_structure r in not_split e.whole e.lacking e.front e.back x.content e.parts e.are_whole e.lacks z.0 z.1
 
 pub padding_of_roots_is_required : PaddingOfRootsIsRequired
-padding_of_roots_is_required s x a after v t e g = let r = root_of_begins s x a after v t g in padding_is_required s [] r.kept x [] [] v e r.reads
+padding_of_roots_is_required s x a after v t e g = let r = root_of_begins s x a after v t g in padding_is_required s [] r.stored x [] [] v e r.reads

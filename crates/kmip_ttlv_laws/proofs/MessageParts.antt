@@ -14,12 +14,12 @@ use Rattle.kmip_ttlv_types.specs.declared.typ.TtlvType.TheVariants.{Structure, E
 use Rattle.kmip_ttlv_types.specs.Names.{number, transparent_name}
 use Rattle.kmip_ttlv_base.specs.Forms.{Form, big_integer, date_time, int32, int64, struct, option, newtype, enum, seq, Fields, no_fields, field, Variants}
 use Rattle.kmip_ttlv_base.specs.Values.{Value, big_integer_value, date_time_value, i32_value, i64_value, newtype_value, unit_variant_value, some_value, none_value, seq_value, struct_value, Values, no_values, value, values_of}
-use Rattle.kmip_ttlv_base.specs.Visits.{joined, optional}
+use Rattle.kmip_ttlv_base.specs.Visits.{joined, optional_field}
 use Rattle.kmip_ttlv_messages.specs.MessageParts.{by_bits, optional as read_optional, optional_sequence, sequence}
-use Rattle.kmip_ttlv_ser.specs.declared.held.Held.{Held}
-use Rattle.kmip_ttlv_ser.specs.declared.held.Held.TheVariants.{Nothing}
-use Rattle.kmip_ttlv_ser.specs.WrittenItems.{take_tag, held_tag}
-use Rattle.kmip_ttlv_reader.specs.Keeps.{Keep}
+use Rattle.kmip_ttlv_ser.specs.declared.pending.PendingTag.{PendingTag}
+use Rattle.kmip_ttlv_ser.specs.declared.pending.PendingTag.TheVariants.{Nothing}
+use Rattle.kmip_ttlv_ser.specs.WrittenItems.{take_tag, pending_tag}
+use Rattle.kmip_ttlv_reader.specs.TagValues.{TagValue}
 use Rattle.kmip_ttlv_reader.specs.Reads.{has_tag}
 use Rattle.kmip_ttlv_laws.specs.Agreements.{Head, Agrees, FieldsAgree, IsNumbered, MessageAgrees, RunAgrees, Wraps, absent_agrees, field_agrees, inner_agrees, is_alike, is_named, is_field_of, is_run, goes_on, last_agrees, leaf_agrees, leaf_type, newtype_agrees, newtype_encloses, newtype_wraps, next_agrees, no_field_agrees, nothing_agrees, number_agrees, option_agrees, seq_agrees, struct_agrees, struct_encloses, unit_is_numbered}
 use Rattle.kmip_ttlv_laws.proofs.Known.{Finds, Known, finds_left, finds_less, finds_none, left}
@@ -27,13 +27,13 @@ use Rattle.kmip_ttlv_laws.specs.Returns.{ComesBack, as_big_integer, as_date_time
 
 -- whatever was kept before, the value agrees with the form as the other, as an item of this head
 pub record PartAgrees (s : Form) (w : Value) (x : Head) (v : Value) : Type 0 where
-  pub kept : List Keep → List Keep
-  pub agrees : (k : List Keep) → Agrees s k Nothing w x v (kept k)
+  pub stored : List TagValue → List TagValue
+  pub agrees : (k : List TagValue) → Agrees s k Nothing w x v (stored k)
 
 -- the same for fields, where these texts are known; of their items, if there are any, the first has this head
 pub record PartsAgree (known : List Known) (fs : Fields) (ws : Values) (y : Option Head) (vs : Values) : Type 0 where
-  pub kept : List Keep → List Keep
-  pub agrees : (k : List Keep) → Finds known k → FieldsAgree fs k ws y vs (kept k)
+  pub stored : List TagValue → List TagValue
+  pub agrees : (k : List TagValue) → Finds known k → FieldsAgree fs k ws y vs (stored k)
 
 -- the bytes of a text are UTF-8
 pub text_is_utf8 : {A : Type 0} (s : String A) → is_utf8 (string_bytes s) ≡ true
@@ -41,7 +41,7 @@ text_is_utf8 s = is_utf8-from_IsUtf8 (string_bytes s) (IsUtf8-string_bytes s)
 
 -- no fields are left
 pub nothing_left : {known : List Known} → PartsAgree known no_fields no_values None no_values
-nothing_left = record { kept = λ k. k; agrees = λ k found. no_field_agrees }
+nothing_left = record { stored = λ k. k; agrees = λ k found. no_field_agrees }
 
 -- a value that is no sequence isn't continued
 pub ends : (v : Value) (x : Head) (y : Option Head) → is_run v ≡ false → goes_on v x y ≡ false
@@ -51,8 +51,8 @@ ends v x y single = rw single refl
 pub field_then : {known : List Known} {name : List ℕ} {s : Form} {fs : Fields} {w v : Value} {ws vs : Values} {x : Head} {y : Option Head} → is_field_of name s x ≡ true → goes_on v x y ≡ false → PartAgrees s w x v → PartsAgree (left known x.tag s) fs ws y vs → PartsAgree known (field name s fs) (value w ws) (Some x) (value v vs)
 field_then {known} named apart p rest =
     record {
-      kept = λ k. rest.kept (p.kept k);
-      agrees = λ k found. field_agrees named apart (p.agrees k) (rest.agrees (p.kept k) (finds_left known (p.agrees k) found));
+      stored = λ k. rest.stored (p.stored k);
+      agrees = λ k found. field_agrees named apart (p.agrees k) (rest.agrees (p.stored k) (finds_left known (p.agrees k) found));
     }
 
 -- a field that is no sequence
@@ -61,37 +61,37 @@ part_then {v = v} {x = x} {y = y} named single p rest = field_then named (ends v
 
 -- a leaf in a newtype of the name `Transparent:TAG`, in the field of that tag
 pub leaf_then : {known : List Known} {name tag inner : List ℕ} {s : Form} {fs : Fields} {w v : Value} {ws vs : Values} {t : ℕ} {y : Option Head} → transparent_name name ≡ Some inner → take_tag Nothing inner ≡ Some t → is_field_of tag s record { tag = t; typ = leaf_type w } ≡ true → is_run v ≡ false → ComesBack s w v → PartsAgree (left known t (newtype name s)) fs ws y vs → PartsAgree known (field tag (newtype name s) fs) (value (newtype_value name w) ws) (Some record { tag = t; typ = leaf_type w }) (value (newtype_value name v) vs)
-leaf_then wraps takes named single back rest = part_then named single record { kept = _; agrees = λ k. newtype_agrees (inner_agrees (newtype_wraps wraps takes) (leaf_agrees refl back)) } rest
+leaf_then wraps takes named single back rest = part_then named single record { stored = _; agrees = λ k. newtype_agrees (inner_agrees (newtype_wraps wraps takes) (leaf_agrees refl back)) } rest
 
 -- a unit by its number
-pub unit_agrees : {tag vname name : List ℕ} {vs : Variants} {t n : ℕ} → take_tag Nothing tag ≡ Some t → number vname ≡ Some n → text_of_number n ≡ name → (k : List Keep) → NamesUnit vs k n → Agrees (enum tag vs) k Nothing (unit_variant_value tag vname) record { tag = t; typ = Enumeration } (unit_variant_value tag name) (k ++ record { tag = t; text = text_of_number n } ∷ [])
+pub unit_agrees : {tag vname name : List ℕ} {vs : Variants} {t n : ℕ} → take_tag Nothing tag ≡ Some t → number vname ≡ Some n → text_of_number n ≡ name → (k : List TagValue) → NamesUnit vs k n → Agrees (enum tag vs) k Nothing (unit_variant_value tag vname) record { tag = t; typ = Enumeration } (unit_variant_value tag name) (k ++ record { tag = t; text = text_of_number n } ∷ [])
 unit_agrees {tag} {vname} {name} {vs} {t} {n} takes numbered text k units =
     let P : List ℕ → Type 0 = λ m. Agrees (enum tag vs) k Nothing (unit_variant_value tag vname) record { tag = t; typ = Enumeration } (unit_variant_value tag m) (k ++ record { tag = t; text = text_of_number n } ∷ []) in
     subst P text (number_agrees (unit_is_numbered takes numbered) units)
 
 -- an Enumeration of one number
-pub constant_then : {known : List Known} {tag vname : List ℕ} {vs : Variants} {fs : Fields} {ws us : Values} {t n : ℕ} {y : Option Head} → take_tag Nothing tag ≡ Some t → number vname ≡ Some n → text_of_number n ≡ vname → has_tag tag t ≡ true → ((k : List Keep) → NamesUnit vs k n) → PartsAgree (left known t (enum tag vs)) fs ws y us → PartsAgree known (field tag (enum tag vs) fs) (value (unit_variant_value tag vname) ws) (Some record { tag = t; typ = Enumeration }) (value (unit_variant_value tag vname) us)
-constant_then {t = t} {n = n} takes numbered text named units rest = part_then named refl record { kept = λ k. k ++ record { tag = t; text = text_of_number n } ∷ []; agrees = λ k. unit_agrees takes numbered text k (units k) } rest
+pub constant_then : {known : List Known} {tag vname : List ℕ} {vs : Variants} {fs : Fields} {ws us : Values} {t n : ℕ} {y : Option Head} → take_tag Nothing tag ≡ Some t → number vname ≡ Some n → text_of_number n ≡ vname → has_tag tag t ≡ true → ((k : List TagValue) → NamesUnit vs k n) → PartsAgree (left known t (enum tag vs)) fs ws y us → PartsAgree known (field tag (enum tag vs) fs) (value (unit_variant_value tag vname) ws) (Some record { tag = t; typ = Enumeration }) (value (unit_variant_value tag vname) us)
+constant_then {t = t} {n = n} takes numbered text named units rest = part_then named refl record { stored = λ k. k ++ record { tag = t; text = text_of_number n } ∷ []; agrees = λ k. unit_agrees takes numbered text k (units k) } rest
 
 -- what is true of fields where less is known
 where_more_is_known : {known : List Known} {fs : Fields} {ws vs : Values} {y : Option Head} (u : ℕ) (s : Form) → PartsAgree (left known u s) fs ws y vs → PartsAgree known fs ws y vs
-where_more_is_known {known} u s rest = record { kept = rest.kept; agrees = λ k found. rest.agrees k (finds_less known k u s found) }
+where_more_is_known {known} u s rest = record { stored = rest.stored; agrees = λ k found. rest.agrees k (finds_less known k u s found) }
 
 -- an option that is left out
 pub absent_then : {known : List Known} {name : List ℕ} {s : Form} {fs : Fields} {ws vs : Values} {y : Option Head} → is_named name y ≡ false → PartsAgree known fs ws y vs → PartsAgree known (field name (option s) fs) ws y (value none_value vs)
-absent_then other rest = record { kept = rest.kept; agrees = λ k found. absent_agrees other (rest.agrees k found) }
+absent_then other rest = record { stored = rest.stored; agrees = λ k found. absent_agrees other (rest.agrees k found) }
 
 -- an option that is there
 pub present_then : {known : List Known} {name : List ℕ} {s : Form} {fs : Fields} {w v : Value} {ws vs : Values} {x : Head} {y : Option Head} → is_field_of name (option s) x ≡ true → is_run v ≡ false → PartAgrees s w x v → PartsAgree (left known x.tag (option s)) fs ws y vs → PartsAgree known (field name (option s) fs) (value w ws) (Some x) (value (some_value v) vs)
-present_then named single p rest = part_then named single record { kept = p.kept; agrees = λ k. option_agrees (p.agrees k) } rest
+present_then named single p rest = part_then named single record { stored = p.stored; agrees = λ k. option_agrees (p.agrees k) } rest
 
 -- a structure of such fields
 pub structure : {name : List ℕ} {fs : Fields} {deny : Boole} {ws vs : Values} {t : ℕ} {y : Option Head} → has_tag name t ≡ true → take_tag Nothing name ≡ Some t → PartsAgree [] fs ws y vs → PartAgrees (struct name fs deny) (struct_value name ws) record { tag = t; typ = Structure } (struct_value name vs)
-structure named takes parts = record { kept = parts.kept; agrees = λ k. struct_agrees named (struct_encloses takes) (parts.agrees k (finds_none k)) }
+structure named takes parts = record { stored = parts.stored; agrees = λ k. struct_agrees named (struct_encloses takes) (parts.agrees k (finds_none k)) }
 
 -- as a whole message
 pub message : {s : Form} {w v : Value} {x : Head} → PartAgrees s w x v → MessageAgrees s w v
-message {s} {w} {v} {x} p = (x, p.kept [], p.agrees [])
+message {s} {w} {v} {x} p = (x, p.stored [], p.agrees [])
 
 -- the head of a Structure of this tag
 abbrev pub a_structure : ℕ → Head
@@ -127,36 +127,36 @@ as_date_time_by_bits z fits =
 
 -- a leaf in a newtype of the name `Transparent:TAG`
 pub leaf_part : {name inner : List ℕ} {s : Form} {w v : Value} {t : ℕ} → transparent_name name ≡ Some inner → take_tag Nothing inner ≡ Some t → ComesBack s w v → PartAgrees (newtype name s) (newtype_value name w) record { tag = t; typ = leaf_type w } (newtype_value name v)
-leaf_part wraps takes back = record { kept = _; agrees = λ k. newtype_agrees (inner_agrees (newtype_wraps wraps takes) (leaf_agrees refl back)) }
+leaf_part wraps takes back = record { stored = _; agrees = λ k. newtype_agrees (inner_agrees (newtype_wraps wraps takes) (leaf_agrees refl back)) }
 
 -- a leaf that is encoded in a wrapper, and decoded without one
-pub wrapped_leaf : {s : Form} {w u v : Value} {h : Held} {t : ℕ} → Wraps Nothing w h u → held_tag h ≡ Some t → ComesBack s u v → PartAgrees s w record { tag = t; typ = leaf_type u } v
-wrapped_leaf wraps held back = record { kept = _; agrees = λ k. inner_agrees wraps (leaf_agrees held back) }
+pub wrapped_leaf : {s : Form} {w u v : Value} {h : PendingTag} {t : ℕ} → Wraps Nothing w h u → pending_tag h ≡ Some t → ComesBack s u v → PartAgrees s w record { tag = t; typ = leaf_type u } v
+wrapped_leaf wraps pending back = record { stored = _; agrees = λ k. inner_agrees wraps (leaf_agrees pending back) }
 
 -- an Enumeration of several numbers, of which this is one
-pub unit_part : {tag vname : List ℕ} {vs : Variants} {t n : ℕ} → take_tag Nothing tag ≡ Some t → number vname ≡ Some n → text_of_number n ≡ vname → ((k : List Keep) → NamesUnit vs k n) → PartAgrees (enum tag vs) (unit_variant_value tag vname) record { tag = t; typ = Enumeration } (unit_variant_value tag vname)
-unit_part {t = t} {n = n} takes numbered text units = record { kept = λ k. k ++ record { tag = t; text = text_of_number n } ∷ []; agrees = λ k. unit_agrees takes numbered text k (units k) }
+pub unit_part : {tag vname : List ℕ} {vs : Variants} {t n : ℕ} → take_tag Nothing tag ≡ Some t → number vname ≡ Some n → text_of_number n ≡ vname → ((k : List TagValue) → NamesUnit vs k n) → PartAgrees (enum tag vs) (unit_variant_value tag vname) record { tag = t; typ = Enumeration } (unit_variant_value tag vname)
+unit_part {t = t} {n = n} takes numbered text units = record { stored = λ k. k ++ record { tag = t; text = text_of_number n } ∷ []; agrees = λ k. unit_agrees takes numbered text k (units k) }
 
 -- the number that a name of an Enumeration says: its text is the name, and it is a unit of these
 pub record IsUnit (vs : Variants) (name : List ℕ) : Type 0 where
   pub n : ℕ
   pub numbered : number name ≡ Some n
   pub text : text_of_number n ≡ name
-  pub units : (k : List Keep) → NamesUnit vs k n
+  pub units : (k : List TagValue) → NamesUnit vs k n
 
 -- an Enumeration of listed numbers
 pub enumeration_part : {tag name : List ℕ} {vs : Variants} {t : ℕ} → take_tag Nothing tag ≡ Some t → IsUnit vs name → PartAgrees (enum tag vs) (unit_variant_value tag name) record { tag = t; typ = Enumeration } (unit_variant_value tag name)
 enumeration_part takes u = unit_part takes u.numbered u.text u.units
 
 -- one that is encoded in a wrapper, under any name, and decoded by an enum of another
-pub wrapped_unit : {own name : List ℕ} {vs : Variants} {w u : Value} {h : Held} {t n : ℕ} → Wraps Nothing w h u → IsNumbered h u t n → text_of_number n ≡ name → ((k : List Keep) → NamesUnit vs k n) → PartAgrees (enum own vs) w record { tag = t; typ = Enumeration } (unit_variant_value own name)
+pub wrapped_unit : {own name : List ℕ} {vs : Variants} {w u : Value} {h : PendingTag} {t n : ℕ} → Wraps Nothing w h u → IsNumbered h u t n → text_of_number n ≡ name → ((k : List TagValue) → NamesUnit vs k n) → PartAgrees (enum own vs) w record { tag = t; typ = Enumeration } (unit_variant_value own name)
 wrapped_unit {own} {name} {vs} {w} {u} {h} {t} {n} wraps numbered text units =
-    let P : List ℕ → List Keep → Type 0 = λ m k. Agrees (enum own vs) k Nothing w record { tag = t; typ = Enumeration } (unit_variant_value own m) (k ++ record { tag = t; text = text_of_number n } ∷ []) in
-    record { kept = λ k. k ++ record { tag = t; text = text_of_number n } ∷ []; agrees = λ k. subst (λ m. P m k) text (inner_agrees wraps (number_agrees numbered (units k))) }
+    let P : List ℕ → List TagValue → Type 0 = λ m k. Agrees (enum own vs) k Nothing w record { tag = t; typ = Enumeration } (unit_variant_value own m) (k ++ record { tag = t; text = text_of_number n } ∷ []) in
+    record { stored = λ k. k ++ record { tag = t; text = text_of_number n } ∷ []; agrees = λ k. subst (λ m. P m k) text (inner_agrees wraps (number_agrees numbered (units k))) }
 
 -- a structure that is encoded as a newtype which is no wrapper
 pub newtype_structure : {name : List ℕ} {fs : Fields} {deny : Boole} {w : Value} {vs : Values} {t : ℕ} {y : Option Head} → has_tag name t ≡ true → transparent_name name ≡ None → take_tag Nothing name ≡ Some t → PartsAgree [] fs (value w no_values) y vs → PartAgrees (struct name fs deny) (newtype_value name w) record { tag = t; typ = Structure } (struct_value name vs)
-newtype_structure named plain takes parts = record { kept = parts.kept; agrees = λ k. struct_agrees named (newtype_encloses plain takes) (parts.agrees k (finds_none k)) }
+newtype_structure named plain takes parts = record { stored = parts.stored; agrees = λ k. struct_agrees named (newtype_encloses plain takes) (parts.agrees k (finds_none k)) }
 
 -- ---- options, whether they are there or not
 
@@ -195,7 +195,7 @@ present_as h agrees single None is = tt
 present_as h agrees single (Some t) is = (agrees t is, single t)
 
 -- an option, there or left out: the name is that of its own head, and not of the next
-pub optional_then : {T : Type 0} {known : List Known} {name : List ℕ} {s : Form} {fs : Fields} {ws vs : Values} {y : Option Head} (f g : T → Value) (x : Head) (o : Option T) → is_field_of name (option s) x ≡ true → is_named name y ≡ false → PresentAgrees f g s x o → PartsAgree (left known x.tag (option s)) fs ws y vs → PartsAgree known (field name (option s) fs) (joined (optional (option_map f o)) ws) (head_or o x y) (value (read_optional g o) vs)
+pub optional_then : {T : Type 0} {known : List Known} {name : List ℕ} {s : Form} {fs : Fields} {ws vs : Values} {y : Option Head} (f g : T → Value) (x : Head) (o : Option T) → is_field_of name (option s) x ≡ true → is_named name y ≡ false → PresentAgrees f g s x o → PartsAgree (left known x.tag (option s)) fs ws y vs → PartsAgree known (field name (option s) fs) (joined (optional_field (option_map f o)) ws) (head_or o x y) (value (read_optional g o) vs)
 optional_then {s = s} f g x None named other p rest = absent_then other (where_more_is_known x.tag (option s) rest)
 optional_then f g x (Some z) named other p rest = present_then named p.1 p.0 rest
 
@@ -237,17 +237,17 @@ all_agree agrees single [] = tt
 all_agree agrees single (t ∷ ts) = (agrees t, single t, all_agree agrees single ts)
 
 -- what is kept after one or more of them
-abbrev pub run_kept : {T : Type 0} (f g : T → Value) (s : Form) (x : Head) (t : T) (ts : List T) → EachAgrees f g s x (t ∷ ts) → List Keep → List Keep
-run_kept f g s x t [] e k = e.0.kept k
-run_kept f g s x t (u ∷ us) e k = run_kept f g s x u us e.2 (e.0.kept k)
+abbrev pub run_kept : {T : Type 0} (f g : T → Value) (s : Form) (x : Head) (t : T) (ts : List T) → EachAgrees f g s x (t ∷ ts) → List TagValue → List TagValue
+run_kept f g s x t [] e k = e.0.stored k
+run_kept f g s x t (u ∷ us) e k = run_kept f g s x u us e.2 (e.0.stored k)
 
-run_agrees : {T : Type 0} (f g : T → Value) (s : Form) (x : Head) (t : T) (ts : List T) (e : EachAgrees f g s x (t ∷ ts)) (k : List Keep) → RunAgrees s k Nothing (values_of (map f (t ∷ ts))) x (values_of (map g (t ∷ ts))) (run_kept f g s x t ts e k)
+run_agrees : {T : Type 0} (f g : T → Value) (s : Form) (x : Head) (t : T) (ts : List T) (e : EachAgrees f g s x (t ∷ ts)) (k : List TagValue) → RunAgrees s k Nothing (values_of (map f (t ∷ ts))) x (values_of (map g (t ∷ ts))) (run_kept f g s x t ts e k)
 run_agrees f g s x t [] e k = last_agrees (e.0.agrees k)
-run_agrees f g s x t (u ∷ us) e k = next_agrees (e.0.agrees k) e.1 (run_agrees f g s x u us e.2 (e.0.kept k))
+run_agrees f g s x t (u ∷ us) e k = next_agrees (e.0.agrees k) e.1 (run_agrees f g s x u us e.2 (e.0.stored k))
 
 -- a sequence of one or more of them
 pub sequence_agrees : {T : Type 0} (f g : T → Value) (s : Form) (x : Head) (t : T) (ts : List T) → EachAgrees f g s x (t ∷ ts) → PartAgrees (seq s) (seq_value (values_of (map f (t ∷ ts)))) x (seq_value (values_of (map g (t ∷ ts))))
-sequence_agrees f g s x t ts e = record { kept = run_kept f g s x t ts e; agrees = λ k. seq_agrees (run_agrees f g s x t ts e k) }
+sequence_agrees f g s x t ts e = record { stored = run_kept f g s x t ts e; agrees = λ k. seq_agrees (run_agrees f g s x t ts e k) }
 
 -- the same for a list that isn't empty
 pub sequence_part : {T : Type 0} {s : Form} {x : Head} (f g : T → Value) (ts : List T) → 0 < length ts → EachAgrees f g s x ts → PartAgrees (seq s) (sequence f ts) x (sequence g ts)
@@ -278,7 +278,7 @@ several_then {name = name} {s = s} {y = y} f g x ts named other filled each rest
 pub any_then : {T : Type 0} {known : List Known} {name : List ℕ} {s : Form} {fs : Fields} {ws vs : Values} {y : Option Head} (f g : T → Value) (x : Head) (ts : List T) → is_field_of name (option (seq s)) x ≡ true → is_named name y ≡ false → EachAgrees f g s x ts → PartsAgree (left known x.tag (option (seq s))) fs ws y vs → PartsAgree known (field name (option (seq s)) fs) (value (sequence f ts) ws) (head_or (first_of ts) x y) (value (optional_sequence g ts) vs)
 any_then {s = s} f g x [] named other each rest =
     let absent = absent_then other (where_more_is_known x.tag (option (seq s)) rest) in
-    record { kept = absent.kept; agrees = λ k found. nothing_agrees (absent.agrees k found) }
+    record { stored = absent.stored; agrees = λ k found. nothing_agrees (absent.agrees k found) }
 any_then {name = name} {s = s} {y = y} f g x (t ∷ ts) named other each rest =
     let p = sequence_agrees f g s x t ts each in
-    run_then named (unlike name (seq s) x y named other) record { kept = p.kept; agrees = λ k. option_agrees (p.agrees k) } rest
+    run_then named (unlike name (seq s) x y named other) record { stored = p.stored; agrees = λ k. option_agrees (p.agrees k) } rest

@@ -7,8 +7,8 @@ use Rattle.kmip_ttlv_types.specs.Items.{Raw, Splits}
 use Rattle.kmip_ttlv_base.specs.Forms.{Form, Fields, Variants, Content, Forms, struct, seq, enum, tuple}
 use Rattle.kmip_ttlv_base.specs.Values.{Value, Values, seq_value, struct_value, tuple_variant_value, unit_variant_value, value}
 use Rattle.kmip_ttlv_types.proofs.PlaceLemmas.{splits_one}
-use Rattle.kmip_ttlv_reader.specs.Keeps.{Keep}
-use Rattle.kmip_ttlv_reader.specs.Reads.{Reads, ReadsContent, ReadsField, ReadsFields, ReadsForms, ReadsRun, ReadsVariant, absent, by_number, by_rule, done, ends, here, inner, is_like, leaf, leaf_value, may_follow, may_ignore, more, named, names, next, no_part, number_text, part, parts, run, structure, there, whole, with_leaf, wrap, wrap_some}
+use Rattle.kmip_ttlv_reader.specs.TagValues.{TagValue}
+use Rattle.kmip_ttlv_reader.specs.Reads.{Reads, ReadsContent, ReadsField, ReadsFields, ReadsForms, ReadsRun, ReadsVariant, absent, by_number, by_rule, done, ends, here, inner, is_like, leaf, decoded_leaf, may_follow, may_ignore, more, named, names, next, no_part, number_text, part, parts, run, structure, there, whole, stored_after_leaf, wrap, wrap_some}
 use Rattle.kmip_ttlv_reader.specs.Rules.{choice, chosen}
 use Rattle.kmip_ttlv_laws.specs.Padding.{AllSameButPadding, SameButPadding, both_go_on, both_end, equal_items, split_alike}
 
@@ -89,11 +89,11 @@ Leaves R ys = (left : List Raw) × R left × AllSameButPadding ys left
 
 -- what the rules read from items, they read from others that are the same but for padding
 mutual
-  pub reads_same : {s : Form} {k k' : List Keep} {xs ys : List Raw} {v : Value} → Reads s k xs v k' ys → (ws : List Raw) → AllSameButPadding xs ws → Leaves (λ (l : List Raw). Reads s k ws v k' l) ys
+  pub reads_same : {s : Form} {k k' : List TagValue} {xs ys : List Raw} {v : Value} → Reads s k xs v k' ys → (ws : List Raw) → AllSameButPadding xs ws → Leaves (λ (l : List Raw). Reads s k ws v k' l) ys
   reads_same (leaf {s = s} {h = h} {k = k} t v) ws a =
       let b = beside a in
       let e : h ∷ b.others ≡ ws = ap (λ (y : Raw). y ∷ b.others) (leaves_same v b.first) ∙ sym b.are in
-      (b.others, subst (λ (l : List Raw). Reads s k l (leaf_value s h.content) (with_leaf s h k) b.others) e (leaf t v), b.rest)
+      (b.others, subst (λ (l : List Raw). Reads s k l (decoded_leaf s h.content) (stored_after_leaf s h k) b.others) e (leaf t v), b.rest)
   reads_same (wrap_some r) ws a = let b = reads_same r ws a in (b.0, wrap_some b.1, b.2)
   reads_same (wrap r) ws a = let b = reads_same r ws a in (b.0, wrap b.1, b.2)
   reads_same (run {s = s} {h = h} {k = k} {k' = k'} {k'' = k''} {v = v} {vs = vs} r rs) ws a =
@@ -121,11 +121,11 @@ mutual
       let same-is : h ∷ b.others ≡ ws = ap (λ (y : Raw). y ∷ b.others) (leaves_same v b.first) ∙ sym b.are in
       (b.others, subst (λ (l : List Raw). Reads (enum name vs) k l (unit_variant_value name (number_text h.content)) (k ++ record { tag = h.tag; text = number_text h.content } ∷ []) b.others) same-is (by_number e t v f), b.rest)
 
-  variant_same : {name : List ℕ} {vs : Variants} {i : ℕ} {k k' : List Keep} {xs ys : List Raw} {v : Value} → ReadsVariant name vs i k xs v k' ys → (ws : List Raw) → AllSameButPadding xs ws → Leaves (λ (l : List Raw). ReadsVariant name vs i k ws v k' l) ys
+  variant_same : {name : List ℕ} {vs : Variants} {i : ℕ} {k k' : List TagValue} {xs ys : List Raw} {v : Value} → ReadsVariant name vs i k xs v k' ys → (ws : List Raw) → AllSameButPadding xs ws → Leaves (λ (l : List Raw). ReadsVariant name vs i k ws v k' l) ys
   variant_same (here r) ws a = let b = content_same r ws a in (b.0, here b.1, b.2)
   variant_same (there r) ws a = let b = variant_same r ws a in (b.0, there b.1, b.2)
 
-  content_same : {name vname : List ℕ} {c : Content} {k k' : List Keep} {xs ys : List Raw} {v : Value} → ReadsContent name vname c k xs v k' ys → (ws : List Raw) → AllSameButPadding xs ws → Leaves (λ (l : List Raw). ReadsContent name vname c k ws v k' l) ys
+  content_same : {name vname : List ℕ} {c : Content} {k k' : List TagValue} {xs ys : List Raw} {v : Value} → ReadsContent name vname c k xs v k' ys → (ws : List Raw) → AllSameButPadding xs ws → Leaves (λ (l : List Raw). ReadsContent name vname c k ws v k' l) ys
   content_same (whole r) ws a = let b = reads_same r ws a in (b.0, whole b.1, b.2)
   content_same (parts {name = name} {vname = vname} {ss = ss} {h = h} {zs = zs} {k = k} {k' = k'} {vs = vs} t z r) ws a =
       let b = beside a in
@@ -135,22 +135,22 @@ mutual
       let used : ReadsForms ss k p.parts_of vs k' [] = subst (λ (l : List Raw). ReadsForms ss k p.parts_of vs k' l) (ended g.2) g.1 in
       (b.others, subst (λ (l : List Raw). ReadsContent name vname (tuple ss) k l (tuple_variant_value name vname vs) k' b.others) (sym b.are) (parts t-is p.split used), b.rest)
 
-  forms_same : {ss : Forms} {k k' : List Keep} {xs ys : List Raw} {vs : Values} → ReadsForms ss k xs vs k' ys → (ws : List Raw) → AllSameButPadding xs ws → Leaves (λ (l : List Raw). ReadsForms ss k ws vs k' l) ys
+  forms_same : {ss : Forms} {k k' : List TagValue} {xs ys : List Raw} {vs : Values} → ReadsForms ss k xs vs k' ys → (ws : List Raw) → AllSameButPadding xs ws → Leaves (λ (l : List Raw). ReadsForms ss k ws vs k' l) ys
   forms_same no_part ws a = (ws, no_part, a)
   forms_same (part r rs) ws a = let b = reads_same r ws a in let c = forms_same rs b.0 b.2 in (c.0, part b.1 c.1, c.2)
 
-  run_same : {s : Form} {h : Raw} {k k' : List Keep} {xs ys : List Raw} {vs : Values} → ReadsRun s h k xs vs k' ys → (g : Raw) → h.tag ≡ g.tag → h.typ ≡ g.typ → (ws : List Raw) → AllSameButPadding xs ws → Leaves (λ (l : List Raw). ReadsRun s g k ws vs k' l) ys
+  run_same : {s : Form} {h : Raw} {k k' : List TagValue} {xs ys : List Raw} {vs : Values} → ReadsRun s h k xs vs k' ys → (g : Raw) → h.tag ≡ g.tag → h.typ ≡ g.typ → (ws : List Raw) → AllSameButPadding xs ws → Leaves (λ (l : List Raw). ReadsRun s g k ws vs k' l) ys
   run_same (ends {h = h} e) g t u ws a = (ws, ends (sym (like_same h g t u a) ∙ e), a)
   run_same (more {h = h} e r rs) g t u ws a =
       let b = reads_same r ws a in
       let c = run_same rs g t u b.0 b.2 in
       (c.0, more (sym (like_same h g t u a) ∙ e) b.1 c.1, c.2)
 
-  fields_same : {fs : Fields} {k k' : List Keep} {xs ys : List Raw} {vs : Values} → ReadsFields fs k xs vs k' ys → (ws : List Raw) → AllSameButPadding xs ws → Leaves (λ (l : List Raw). ReadsFields fs k ws vs k' l) ys
+  fields_same : {fs : Fields} {k k' : List TagValue} {xs ys : List Raw} {vs : Values} → ReadsFields fs k xs vs k' ys → (ws : List Raw) → AllSameButPadding xs ws → Leaves (λ (l : List Raw). ReadsFields fs k ws vs k' l) ys
   fields_same done ws a = (ws, done, a)
   fields_same (next r rs) ws a = let b = field_same r ws a in let c = fields_same rs b.0 b.2 in (c.0, next b.1 c.1, c.2)
 
-  field_same : {name : List ℕ} {s : Form} {k k' : List Keep} {xs ys : List Raw} {v : Value} → ReadsField name s k xs v k' ys → (ws : List Raw) → AllSameButPadding xs ws → Leaves (λ (l : List Raw). ReadsField name s k ws v k' l) ys
+  field_same : {name : List ℕ} {s : Form} {k k' : List TagValue} {xs ys : List Raw} {v : Value} → ReadsField name s k xs v k' ys → (ws : List Raw) → AllSameButPadding xs ws → Leaves (λ (l : List Raw). ReadsField name s k ws v k' l) ys
   field_same (absent {name = name} o n) ws a = (ws, absent o (sym (names_same name a) ∙ n), a)
   field_same (named {name = name} n o r) ws a = let b = reads_same r ws a in (b.0, named (sym (names_same name a) ∙ n) o b.1, b.2)
   field_same (inner o r) ws a = let b = reads_same r ws a in (b.0, inner o b.1, b.2)

@@ -8,9 +8,9 @@ use Rattle.kmip_ttlv_base.specs.Errors.{Kind, Location, io_error, exceeds_limit,
 use Rattle.kmip_ttlv_base.specs.Errors.{view_of_kind, kind_of}
 use Rattle.kmip_ttlv_base.specs.Forms.{Form}
 use Rattle.kmip_ttlv_base.specs.Values.{Value}
-use Rattle.kmip_ttlv_ser.specs.declared.held.Held.TheVariants.{Nothing}
+use Rattle.kmip_ttlv_ser.specs.declared.pending.PendingTag.TheVariants.{Nothing}
 use Rattle.kmip_ttlv_ser.specs.WrittenItems.{items}
-use Rattle.kmip_ttlv_ser.specs.WriteAnswers.{IsRefusedAs, origin}
+use Rattle.kmip_ttlv_ser.specs.EncodeResults.{FailsAs, origin}
 use Rattle.kmip_ttlv_reader.specs.Reads.{Begins}
 use Rattle.kmip_ttlv_reader.specs.ReadResults.{ErrorStands, NothingBegins, sort_of_kind}
 use Rattle.kmip_ttlv_laws.specs.Rereads.{IsOfSize}
@@ -42,7 +42,7 @@ if_decoding_fails (Ok y) begins stands = tt
 if_decoding_fails {s = s} {bytes = bytes} (Err e) (v, b) stands = decoding_fails (view_of_kind (kind_of e)) s bytes v b stands
 
 -- what has items is refused by their size, or for want of memory
-pub refused_by_size : (v : Value) (ts : List Tree) (k : Kind) (l : Location) → items v Nothing ≡ Some ts → IsRefusedAs v origin k l → IsOfSize k
+pub refused_by_size : (v : Value) (ts : List Tree) (k : Kind) (l : Location) → items v Nothing ≡ Some ts → FailsAs v origin k l → IsOfSize k
 refused_by_size v ts out_of_memory l are r = tt
 refused_by_size v ts length_overflow l are r = tt
 refused_by_size v ts (malformed x) l are r = let no : items v Nothing ≡ None = r.no_items in absurd cc

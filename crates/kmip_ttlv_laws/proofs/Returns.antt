@@ -10,12 +10,12 @@ use Rattle.kmip_ttlv_types.specs.Items.{Raw}
 use Rattle.kmip_ttlv_types.specs.Trees.{leaf as leaf_tree}
 use Rattle.kmip_ttlv_base.specs.Forms.{Form, int32, int64, boolean, text, octets, date_time, interval, big_integer, any_number}
 use Rattle.kmip_ttlv_base.specs.Values.{Value, boolean_value, i8_value, i16_value, i32_value, u32_value, i64_value, u64_value, date_time_value, interval_value, text_value, bytes_value, big_integer_value, unit_variant_value}
-use Rattle.kmip_ttlv_ser.specs.declared.held.Held.{Held}
-use Rattle.kmip_ttlv_ser.specs.declared.held.Held.TheVariants.{Plain}
+use Rattle.kmip_ttlv_ser.specs.declared.pending.PendingTag.{PendingTag}
+use Rattle.kmip_ttlv_ser.specs.declared.pending.PendingTag.TheVariants.{Plain}
 use Rattle.kmip_ttlv_types.specs.Primitives.{sign_extended}
-use Rattle.kmip_ttlv_ser.specs.WrittenItems.{held_tag, items, enumeration, one_leaf, ◌>>=◌}
-use Rattle.kmip_ttlv_reader.specs.Keeps.{Keep}
-use Rattle.kmip_ttlv_reader.specs.Reads.{Reads, leaf, by_number, leaf_value, takes, with_leaf}
+use Rattle.kmip_ttlv_ser.specs.WrittenItems.{pending_tag, items, enumeration, one_leaf, ◌>>=◌}
+use Rattle.kmip_ttlv_reader.specs.TagValues.{TagValue}
+use Rattle.kmip_ttlv_reader.specs.Reads.{Reads, leaf, by_number, decoded_leaf, takes, stored_after_leaf}
 use Rattle.kmip_ttlv_laws.specs.Agreements.{is_run, leaf_type, with_value}
 use Rattle.kmip_ttlv_laws.specs.ReadingLaws.{LeavesComeBack, UnitsComeBack}
 use Rattle.kmip_ttlv_laws.specs.Returns.{ComesBack, as_big_integer, as_big_octets, as_boolean, as_date, as_date_time, as_int16, as_int32, as_int64, as_int8, as_interval, as_number, as_octets, as_text}
@@ -23,14 +23,14 @@ use Rattle.kmip_ttlv_laws.specs.Returns.{ComesBack, as_big_integer, as_big_octet
 -- a value is encoded as one leaf, whose type and content the form takes, and it reads the other value from these
 pub record LeafIs (s : Form) (w v : Value) : Type 0 where
   pub content : List ℕ
-  pub written : (h : Held) (t : ℕ) → held_tag h ≡ Some t → items w h ≡ Some (leaf_tree t (leaf_type w) content ∷ [])
+  pub written : (h : PendingTag) (t : ℕ) → pending_tag h ≡ Some t → items w h ≡ Some (leaf_tree t (leaf_type w) content ∷ [])
   pub takes_it : takes s (leaf_type w) ≡ true
   pub valid : is_valid (leaf_type w) content ≡ true
-  pub gives : leaf_value s content ≡ v
+  pub gives : decoded_leaf s content ≡ v
   pub single : is_run v ≡ false
-  pub keeps : (t : ℕ) (k : List Keep) → with_leaf s record { tag = t; typ = leaf_type w; content = content } k ≡ with_value s t w k
+  pub keeps : (t : ℕ) (k : List TagValue) → stored_after_leaf s record { tag = t; typ = leaf_type w; content = content } k ≡ with_value s t w k
 
-leaf_by : (s : Form) (w v : Value) (content : List ℕ) → ((h : Held) → items w h ≡ one_leaf h (leaf_type w) content) → takes s (leaf_type w) ≡ true → is_valid (leaf_type w) content ≡ true → leaf_value s content ≡ v → is_run v ≡ false → ((t : ℕ) (k : List Keep) → with_leaf s record { tag = t; typ = leaf_type w; content = content } k ≡ with_value s t w k) → LeafIs s w v
+leaf_by : (s : Form) (w v : Value) (content : List ℕ) → ((h : PendingTag) → items w h ≡ one_leaf h (leaf_type w) content) → takes s (leaf_type w) ≡ true → is_valid (leaf_type w) content ≡ true → decoded_leaf s content ≡ v → is_run v ≡ false → ((t : ℕ) (k : List TagValue) → stored_after_leaf s record { tag = t; typ = leaf_type w; content = content } k ≡ with_value s t w k) → LeafIs s w v
 leaf_by s w v content are takes_it valid gives single keeps = record {
   content = content;
   written = λ h t e. are h ∙ ap (λ (o : Option ℕ). o >>= λ n. Some (leaf_tree n (leaf_type w) content ∷ [])) e;
@@ -74,8 +74,8 @@ pub leaves_come_back : LeavesComeBack
 leaves_come_back s v w t k xs c =
     let l = leaf_of s v w c in
     let x : Raw = record { tag = t; typ = leaf_type v; content = l.content } in
-    let read : Reads s k (x ∷ xs) (leaf_value s l.content) (with_leaf s x k) xs = leaf l.takes_it l.valid in
-    (leaf_tree t (leaf_type v) l.content, l.written (Plain t) t refl, subst (λ (u : Value). Reads s k (x ∷ xs) u (with_leaf s x k) xs) l.gives read)
+    let read : Reads s k (x ∷ xs) (decoded_leaf s l.content) (stored_after_leaf s x k) xs = leaf l.takes_it l.valid in
+    (leaf_tree t (leaf_type v) l.content, l.written (Plain t) t refl, subst (λ (u : Value). Reads s k (x ∷ xs) u (stored_after_leaf s x k) xs) l.gives read)
 
 -- a unit variant comes back by its number
 pub units_come_back : UnitsComeBack

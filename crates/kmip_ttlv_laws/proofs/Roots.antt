@@ -11,9 +11,9 @@ use Rattle.kmip_ttlv_base.specs.Forms.{Form}
 use Rattle.kmip_ttlv_base.specs.Values.{Value}
 use Rattle.kmip_ttlv_reader.proofs.Standing.{length_more}
 use Rattle.kmip_ttlv_types.proofs.PlaceLemmas.{item_at_text, item_one}
-use Rattle.kmip_ttlv_reader.specs.Keeps.{Keep}
+use Rattle.kmip_ttlv_reader.specs.TagValues.{TagValue}
 use Rattle.kmip_ttlv_reader.specs.Reads.{Begins, Reads, is_root}
-use Rattle.kmip_ttlv_ser.specs.declared.held.Held.TheVariants.{Nothing}
+use Rattle.kmip_ttlv_ser.specs.declared.pending.PendingTag.TheVariants.{Nothing}
 use Rattle.kmip_ttlv_ser.specs.Sizes.{FitsAfter}
 use Rattle.kmip_ttlv_laws.proofs.RootForms.{root_structure}
 use Rattle.kmip_ttlv_laws.proofs.Padding.{reads_same, turned, types_same}
@@ -36,18 +36,18 @@ one_item x y a b after other p q e =
 pub record ReadsRoot (s : Form) (x : Raw) (v : Value) : Type 0 where
   pub root : is_root s ≡ true
   pub is_structure : x.typ ≡ Structure
-  pub kept : List Keep
-  pub reads : Reads s [] (x ∷ []) v kept []
+  pub stored : List TagValue
+  pub reads : Reads s [] (x ∷ []) v stored []
 
 -- a form reads from the item what bytes with the item's encoding in front begin with; and conversely
 pub root_of_begins : (s : Form) (x : Raw) (text after : List ℕ) (v : Value) → IsTextOf x text → Begins s (text ++ after) v → ReadsRoot s x v
 root_of_begins s x text after v t g =
     let same : g.item ≡ x = one_item g.item x g.item_text text g.after after g.is_text t (sym g.parts) in
-    subst (λ (y : Raw). ReadsRoot s y v) same record { root = g.root; is_structure = g.is_structure; kept = g.kept; reads = g.reads }
+    subst (λ (y : Raw). ReadsRoot s y v) same record { root = g.root; is_structure = g.is_structure; stored = g.stored; reads = g.reads }
 
 pub begins_of_root : (s : Form) (x : Raw) (text after : List ℕ) (v : Value) → IsTextOf x text → ReadsRoot s x v → Begins s (text ++ after) v
 begins_of_root s x text after v t r =
-    record { root = r.root; item = x; item_text = text; after = after; kept = r.kept; is_text = t; is_structure = r.is_structure; parts = refl; reads = r.reads }
+    record { root = r.root; item = x; item_text = text; after = after; stored = r.stored; is_text = t; is_structure = r.is_structure; parts = refl; reads = r.reads }
 
 pub later_bytes : LaterBytes
 later_bytes s x text after other v t =
@@ -78,7 +78,7 @@ message_alone s w after v le = (there, back)
     there : Begins s w v → Begins s (take (8 + length_at w 0) w ++ after) v
     there g =
         let e : take (8 + length_at w 0) w ≡ g.item_text = front_text w g.item g.item_text g.after g.parts g.is_structure g.is_text in
-        let h : Begins s (g.item_text ++ after) v = begins_of_root s g.item g.item_text after v g.is_text record { root = g.root; is_structure = g.is_structure; kept = g.kept; reads = g.reads } in
+        let h : Begins s (g.item_text ++ after) v = begins_of_root s g.item g.item_text after v g.is_text record { root = g.root; is_structure = g.is_structure; stored = g.stored; reads = g.reads } in
         subst (λ (l : List ℕ). Begins s (l ++ after) v) (sym e) h
 
     -- the length is the same, because it is within the message
@@ -97,13 +97,13 @@ message_alone s w after v le = (there, back)
         let e : take (8 + length_at (front ++ after) 0) (front ++ after) ≡ g.item_text = front_text (front ++ after) g.item g.item_text g.after g.parts g.is_structure g.is_text in
         let same : g.item_text ≡ front = sym e ∙ ap (λ k. take (8 + k) (front ++ after)) len_same ∙ take_at front after (8 + length_at w 0) long in
         let text : IsTextOf g.item front = subst (IsTextOf g.item) same g.is_text in
-        let h : Begins s (front ++ drop (8 + length_at w 0) w) v = begins_of_root s g.item front (drop (8 + length_at w 0) w) v text record { root = g.root; is_structure = g.is_structure; kept = g.kept; reads = g.reads } in
+        let h : Begins s (front ++ drop (8 + length_at w 0) w) v = begins_of_root s g.item front (drop (8 + length_at w 0) w) v text record { root = g.root; is_structure = g.is_structure; stored = g.stored; reads = g.reads } in
         subst (λ (l : List ℕ). Begins s l v) (take-append-drop (8 + length_at w 0) w) h
 
 -- bytes begin with what a root form reads from their first item alone
 pub begins_alone : (s : Form) (x : Raw) (text after : List ℕ) (v : Value) → is_root s ≡ true → IsTextOf x text → Begins s (text ++ after) v ↔ ReadsAlone s x v
 begins_alone s x text after v e t =
-    (λ g. let r = root_of_begins s x text after v t g in (r.kept, r.reads), λ r. begins_of_root s x text after v t record { root = e; is_structure = root_structure e r.1; kept = r.0; reads = r.1 })
+    (λ g. let r = root_of_begins s x text after v t g in (r.stored, r.reads), λ r. begins_of_root s x text after v t record { root = e; is_structure = root_structure e r.1; stored = r.0; reads = r.1 })
 
 pub reading_what_was_written : ReadingWhatWasWritten
 reading_what_was_written v d n written r rest s w is root =
@@ -117,7 +117,7 @@ reading_what_was_written v d n written r rest s w is root =
 root_alike : (s : Form) (x y : Raw) (v : Value) → SameButPadding x y → ReadsRoot s x v → ReadsRoot s y v
 root_alike s x y v e r =
     let b = reads_same r.reads (y ∷ []) (both_go_on e both_end) in
-    record { root = r.root; is_structure = sym (types_same e) ∙ r.is_structure; kept = r.kept; reads = subst (λ (l : List Raw). Reads s [] (y ∷ []) v r.kept l) (nothing_left b.0 b.2) b.1 }
+    record { root = r.root; is_structure = sym (types_same e) ∙ r.is_structure; stored = r.stored; reads = subst (λ (l : List Raw). Reads s [] (y ∷ []) v r.stored l) (nothing_left b.0 b.2) b.1 }
   where
     nothing_left : (l : List Raw) → AllSameButPadding [] l → l ≡ []
     nothing_left l both_end = refl

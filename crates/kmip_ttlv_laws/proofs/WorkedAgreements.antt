@@ -5,7 +5,7 @@ use Rattle.std.proofs.lemmas.List.Elements.{recursion_from_All}
 use Rattle.std.specs.Str.{chars, is_utf8, trim_end, trim_start}
 use lib.Utf8.{encode}
 use Rattle.kmip_ttlv_types.specs.Names.{number, override_name, tag_of, transparent_name}
-use Rattle.kmip_ttlv_ser.specs.WrittenItems.{held_over, is_wrapper, take_tag}
+use Rattle.kmip_ttlv_ser.specs.WrittenItems.{pending_after, is_wrapper, take_tag}
 use Rattle.kmip_ttlv_reader.specs.Rules.{at_least, equal, in_brackets, member, rule, sides}
 use Rattle.kmip_ttlv_types.specs.declared.typ.TtlvType.TheVariants.{Integer}
 use Rattle.kmip_ttlv_base.specs.Forms.{int32, newtype}
@@ -48,7 +48,7 @@ options_agree =
 
 -- an attribute whose name chooses an algorithm
 algorithm_agrees : PartAgrees attribute_form (written_attribute (codes "Cryptographic Algorithm") (unit_variant_value (codes "420028") (codes "0x00000003"))) (a_structure 0x420008) (read_attribute (codes "Cryptographic Algorithm") (codes "if 0x42000A==Cryptographic Algorithm") (unit_variant_value (codes "algorithm") (codes "0x00000003")))
-unfolding take_tag tag_of number transparent_name override_name held_over is_wrapper rule sides equal at_least member in_brackets trim_end chars trim_start encode
+unfolding take_tag tag_of number transparent_name override_name pending_after is_wrapper rule sides equal at_least member in_brackets trim_end chars trim_start encode
 algorithm_agrees =
     structure refl refl (
     kept_then refl refl (wrapped_text_kept (newtype_wraps refl refl) refl algorithm_utf8) (
@@ -57,7 +57,7 @@ algorithm_agrees =
 
 -- one whose name chooses a number
 length_agrees : PartAgrees attribute_form (written_attribute (codes "Cryptographic Length") (i32_value (pos 128))) (a_structure 0x420008) (read_attribute (codes "Cryptographic Length") (codes "if 0x42000A in [Cryptographic Length, Cryptographic Usage Mask]") (i32_value (pos 128)))
-unfolding take_tag tag_of number transparent_name override_name held_over is_wrapper rule sides equal at_least member in_brackets trim_end chars trim_start encode
+unfolding take_tag tag_of number transparent_name override_name pending_after is_wrapper rule sides equal at_least member in_brackets trim_end chars trim_start encode
 length_agrees =
     structure refl refl (
     kept_then refl refl (wrapped_text_kept (newtype_wraps refl refl) refl length_utf8) (

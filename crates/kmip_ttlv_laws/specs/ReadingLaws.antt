@@ -7,13 +7,13 @@ use Rattle.kmip_ttlv_types.specs.Places.{length_at}
 use Rattle.kmip_ttlv_types.specs.Trees.{Tree, bytes, bytes_all, raw_of, IsTreeText}
 use Rattle.kmip_ttlv_base.specs.Forms.{Form, enum, Variants}
 use Rattle.kmip_ttlv_base.specs.Values.{Value, unit_variant_value}
-use Rattle.kmip_ttlv_ser.specs.declared.held.Held.{Held}
-use Rattle.kmip_ttlv_ser.specs.declared.held.Held.TheVariants.{Nothing, Plain}
-use Rattle.kmip_ttlv_ser.specs.WriteAnswers.{IsWrittenAs}
+use Rattle.kmip_ttlv_ser.specs.declared.pending.PendingTag.{PendingTag}
+use Rattle.kmip_ttlv_ser.specs.declared.pending.PendingTag.TheVariants.{Nothing, Plain}
+use Rattle.kmip_ttlv_ser.specs.EncodeResults.{IsWrittenAs}
 use Rattle.kmip_ttlv_ser.specs.WrittenItems.{items, take_tag}
 use Rattle.kmip_ttlv_reader.specs.ReadResults.{NothingBegins, other}
-use Rattle.kmip_ttlv_reader.specs.Keeps.{Keep}
-use Rattle.kmip_ttlv_reader.specs.Reads.{Reads, Begins, is_root, with_leaf}
+use Rattle.kmip_ttlv_reader.specs.TagValues.{TagValue}
+use Rattle.kmip_ttlv_reader.specs.Reads.{Reads, Begins, is_root, stored_after_leaf}
 use Rattle.kmip_ttlv_laws.specs.Contents.{ContainsItems}
 use Rattle.kmip_ttlv_laws.specs.Texts.{TextsAreUtf8}
 use Rattle.kmip_ttlv_laws.specs.Agreements.{Head, Agrees, MessageAgrees}
@@ -47,9 +47,9 @@ CutMessages =
 abbrev pub OneTree : Type 0
 OneTree = (t u : Tree) (text : List ℕ) → IsTreeText t text → IsTreeText u text → t ≡ u
 
--- from the item alone, with no texts kept before, the form reads the value
+-- from the item alone, with no texts stored before, the form reads the value
 abbrev pub ReadsAlone : Form → Raw → Value → Type 0
-ReadsAlone s x v = (kept : List Keep) × Reads s [] (x ∷ []) v kept []
+ReadsAlone s x v = (stored : List TagValue) × Reads s [] (x ∷ []) v stored []
 
 -- encoded bytes, after any number of others, begin with what a root form reads from the first of the items
 abbrev pub ReadingWhatWasWritten : Type 0
@@ -87,10 +87,10 @@ PaddingOfTreesIsFree =
     → IsTreeText t b
     → Begins s (a ++ after) v ↔ Begins s (b ++ later) v
 
--- no form reads from a Structure whose last item lacks padding, whatever was kept before and whatever follows
+-- no form reads from a Structure whose last item lacks padding, whatever was stored before and whatever follows
 abbrev pub PaddingIsRequired : Type 0
 PaddingIsRequired =
-    (s : Form) (k k' : List Keep) (x : Raw) (xs ys : List Raw) (v : Value)
+    (s : Form) (k k' : List TagValue) (x : Raw) (xs ys : List Raw) (v : Value)
     → EndsInLack x
     → Reads s k (x ∷ xs) v k' ys
     → ⊥
@@ -128,37 +128,37 @@ ReadingTrees =
     → IsTreeText t text
     → Begins s (text ++ after) v ↔ ReadsAlone s (raw_of t) v
 
--- the one value is encoded under this tag as one leaf, from which the form reads the other, whatever was kept before
+-- the one value is encoded under this tag as one leaf, from which the form reads the other, whatever was stored before
 -- and whatever follows
-abbrev pub LeafComesBack : Form → Value → Value → ℕ → List Keep → List Raw → Type 0
+abbrev pub LeafComesBack : Form → Value → Value → ℕ → List TagValue → List Raw → Type 0
 LeafComesBack s v w t k xs =
-    (x : Tree) × (items v (Plain t) ≡ Some (x ∷ [])) × Reads s k (raw_of x ∷ xs) w (with_leaf s (raw_of x) k) xs
+    (x : Tree) × (items v (Plain t) ≡ Some (x ∷ [])) × Reads s k (raw_of x ∷ xs) w (stored_after_leaf s (raw_of x) k) xs
 
 -- each pair of values that comes back does so as one leaf
 abbrev pub LeavesComeBack : Type 0
 LeavesComeBack =
-    (s : Form) (v w : Value) (t : ℕ) (k : List Keep) (xs : List Raw)
+    (s : Form) (v w : Value) (t : ℕ) (k : List TagValue) (xs : List Raw)
     → ComesBack s v w
     → LeafComesBack s v w t k xs
 
--- the variant is encoded under the held tag as one leaf, from which the enum reads the unit named by the number's
--- text, and keeps that text, whatever was kept before and whatever follows
-abbrev pub UnitComesBack : (name vname own : List ℕ) → Variants → Held → (t n : ℕ) → List Keep → List Raw → Type 0
+-- the variant is encoded under the pending tag as one leaf, from which the enum reads the unit named by the number's
+-- text, and stores that text, whatever was stored before and whatever follows
+abbrev pub UnitComesBack : (name vname own : List ℕ) → Variants → PendingTag → (t n : ℕ) → List TagValue → List Raw → Type 0
 UnitComesBack name vname own vs w t n k xs =
-    let kept = k ++ record { tag = t; text = text_of_number n } ∷ [] in
+    let stored = k ++ record { tag = t; text = text_of_number n } ∷ [] in
     (x : Tree) × (items (unit_variant_value name vname) w ≡ Some (x ∷ []))
-    × Reads (enum own vs) k (raw_of x ∷ xs) (unit_variant_value own (text_of_number n)) kept xs
+    × Reads (enum own vs) k (raw_of x ∷ xs) (unit_variant_value own (text_of_number n)) stored xs
 
 -- each unit variant of a number does so, if the enum names a unit by that number
 abbrev pub UnitsComeBack : Type 0
 UnitsComeBack =
-    (name vname own : List ℕ) (vs : Variants) (w : Held) (t n : ℕ) (k : List Keep) (xs : List Raw)
+    (name vname own : List ℕ) (vs : Variants) (w : PendingTag) (t n : ℕ) (k : List TagValue) (xs : List Raw)
     → take_tag w name ≡ Some t → number vname ≡ Some n → NamesUnit vs k n → UnitComesBack name vname own vs w t n k xs
 
 -- what agrees with a form is encoded as items, the first of this head
 abbrev pub AgreeingIsWritten : Type 0
 AgreeingIsWritten =
-    (s : Form) (k k' : List Keep) (h : Held) (w v : Value) (x : Head) → Agrees s k h w x v k'
+    (s : Form) (k k' : List TagValue) (h : PendingTag) (w v : Value) (x : Head) → Agrees s k h w x v k'
     → (t : Tree) × (ts : List Tree) × (items w h ≡ Some (t ∷ ts)) × ((raw_of t).tag ≡ x.tag) × ((raw_of t).typ ≡ x.typ)
 
 -- if a value agrees with a root form, as another one, and is encoded, the bytes begin with that one and no other

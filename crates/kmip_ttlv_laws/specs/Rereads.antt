@@ -4,9 +4,9 @@ use Rattle.kmip_ttlv_types.specs.Trees.{Tree}
 use Rattle.kmip_ttlv_base.specs.Errors.{Kind, length_overflow, out_of_memory}
 use Rattle.kmip_ttlv_base.specs.Forms.{Form}
 use Rattle.kmip_ttlv_base.specs.Values.{Value}
-use Rattle.kmip_ttlv_ser.specs.declared.held.Held.TheVariants.{Nothing}
+use Rattle.kmip_ttlv_ser.specs.declared.pending.PendingTag.TheVariants.{Nothing}
 use Rattle.kmip_ttlv_ser.specs.WrittenItems.{items}
-use Rattle.kmip_ttlv_ser.specs.WriteAnswers.{IsWrittenAs}
+use Rattle.kmip_ttlv_ser.specs.EncodeResults.{IsWrittenAs}
 use Rattle.kmip_ttlv_reader.specs.Reads.{Begins}
 
 -- what is sound has items; their bytes begin with a value; and what is decoded from such a value is equal

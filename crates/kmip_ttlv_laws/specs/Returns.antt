@@ -9,9 +9,9 @@ use Rattle.kmip_ttlv_base.specs.Forms.{Variants, unit}
 use Rattle.kmip_ttlv_base.specs.Values.{Value, boolean_value, i8_value, i16_value, i32_value, i64_value, u64_value}
 use Rattle.kmip_ttlv_base.specs.Values.{date_time_value, u32_value, interval_value, text_value, bytes_value, big_integer_value}
 use Rattle.kmip_ttlv_types.specs.Primitives.{sign_extended}
-use Rattle.kmip_ttlv_reader.specs.Keeps.{Keep}
+use Rattle.kmip_ttlv_reader.specs.TagValues.{TagValue}
 use Rattle.kmip_ttlv_reader.specs.Reads.{number_text, first_named}
-use Rattle.kmip_ttlv_reader.specs.Rules.{by_value, choice}
+use Rattle.kmip_ttlv_reader.specs.Rules.{number_decides, choice}
 
 -- by this form the one value, encoded as a leaf, is decoded as the other
 pub data ComesBack : Form → Value → Value → Type 0 where
@@ -34,8 +34,8 @@ abbrev pub text_of_number : ℕ → List ℕ
 text_of_number n = number_text (to_be_bytes w32 n)
 
 -- no rule chooses a variant for an Enumeration, and the first variant of the number's text is a unit
-pub record NamesUnit (vs : Variants) (k : List Keep) (n : ℕ) : Type 0 where
-  pub no_rule : choice vs k Enumeration ≡ by_value
+pub record NamesUnit (vs : Variants) (k : List TagValue) (n : ℕ) : Type 0 where
+  pub no_rule : choice vs k Enumeration ≡ number_decides
   pub named : first_named (text_of_number n) vs ≡ Some unit
 
 -- a text is none of these

@@ -169,7 +169,7 @@ pub fn leaves_are_read_back()
 pub fn units_are_read_back()
     // No rule may choose a variant before the number does, and the first variant of that name must be a
     // unit: a variant named `0x1` is encoded as 00000001, and looked for as `0x00000001`. The name must be
-    // one that can be taken: under a held tag that doesn't override nothing is encoded.
+    // one that can be taken: under a pending tag that doesn't override nothing is encoded.
     ensures { UnitsComeBack }
 {}
 

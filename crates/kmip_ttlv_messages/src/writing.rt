@@ -1,13 +1,13 @@
 //! Telling leaves that may be absent, those of a `String` or a `Vec`, the items of a `Vec`, and Date-Times. All else that a
 //! `visit` is made of is that of `kmip_ttlv_base::parts`, which is reexported here.
 //!
-//! Of a number with a sign in an option the prover doesn't know that it fits its type. So what is told of one
+//! Of a number with a sign in an option the prover doesn't know that it fits its type. So what the visitor receives of one
 //! is stated by its bits, which are those of the number itself where it fits.
 
 ghost use Rattle.std.specs.Prelude.{OnOk, OnErr, option_map, string_bytes};
 ghost use Rattle.std.specs.Int.{w32, w64};
 ghost use Rattle.kmip_ttlv_base.specs.Values.{newtype_value, boolean_value, i32_value, u32_value, i64_value, date_time_value, interval_value, text_value, bytes_value, big_integer_value};
-ghost use Rattle.kmip_ttlv_base.specs.Visits.{Tells, TellsEach, optional};
+ghost use Rattle.kmip_ttlv_base.specs.Visits.{Receives, ReceivesEach, optional_field};
 ghost use Rattle.kmip_ttlv_messages.specs.MessageParts.{by_bits, sequence};
 
 use kmip_ttlv_base::parts;
@@ -32,7 +32,7 @@ pub fn date_time<V: Visitor>(
     name: &'static str,
     seconds: i64,
 ) -> Result<(), AllocError>
-    ensures told { OnOk result (Tells V.knows V.step (newtype_value name.now (date_time_value seconds)) visitor.old visitor.new) }
+    ensures received { OnOk result (Receives V.knows V.step (newtype_value name.now (date_time_value seconds)) visitor.old visitor.new) }
     ensures stopped { OnErr result (V.stopped visitor.new) }
 {
     visitor.begin(Group::Newtype { name })?;
@@ -51,7 +51,7 @@ pub fn string<V: Visitor, A: Allocator>(
     name: &'static str,
     text: &String<A>,
 ) -> Result<(), AllocError>
-    ensures told { OnOk result (Tells V.knows V.step (newtype_value name.now (text_value (string_bytes text.now))) visitor.old visitor.new) }
+    ensures received { OnOk result (Receives V.knows V.step (newtype_value name.now (text_value (string_bytes text.now))) visitor.old visitor.new) }
     ensures stopped { OnErr result (V.stopped visitor.new) }
 {
     parts::text_string(visitor, name, text.as_str())
@@ -68,7 +68,7 @@ pub fn bytes<V: Visitor, A: Allocator>(
     name: &'static str,
     value: &Vec<u8, A>,
 ) -> Result<(), AllocError>
-    ensures told { OnOk result (Tells V.knows V.step (newtype_value name.now (bytes_value value.now.items)) visitor.old visitor.new) }
+    ensures received { OnOk result (Receives V.knows V.step (newtype_value name.now (bytes_value value.now.items)) visitor.old visitor.new) }
     ensures stopped { OnErr result (V.stopped visitor.new) }
 {
     parts::byte_string(visitor, name, value.as_slice())
@@ -85,7 +85,7 @@ pub fn big_integer_bytes<V: Visitor, A: Allocator>(
     name: &'static str,
     value: &Vec<u8, A>,
 ) -> Result<(), AllocError>
-    ensures told { OnOk result (Tells V.knows V.step (newtype_value name.now (big_integer_value value.now.items)) visitor.old visitor.new) }
+    ensures received { OnOk result (Receives V.knows V.step (newtype_value name.now (big_integer_value value.now.items)) visitor.old visitor.new) }
     ensures stopped { OnErr result (V.stopped visitor.new) }
 {
     parts::big_integer(visitor, name, value.as_slice())
@@ -101,20 +101,20 @@ pub fn several<V: Visitor, T: Serialize, A: Allocator>(
     visitor: &mut V,
     items: &Vec<T, A>,
 ) -> Result<(), AllocError>
-    ensures told { OnOk result (Tells V.knows V.step (sequence T.stated items.now.items) visitor.old visitor.new) }
+    ensures received { OnOk result (Receives V.knows V.step (sequence T.stated items.now.items) visitor.old visitor.new) }
     ensures stopped { OnErr result (V.stopped visitor.new) }
 {
     parts::seq(visitor, items.as_slice())
 }
 
-/// An Integer, in a newtype of this name. Where it is absent, nothing is told.
+/// An Integer, in a newtype of this name. Where it is absent, the visitor receives nothing.
 #[inline(always)]
 pub fn optional_integer<V: Visitor>(
     visitor: &mut V,
     name: &'static str,
     number: &Option<i32>,
 ) -> Result<(), AllocError>
-    ensures told { OnOk result (TellsEach V.knows V.step (optional (option_map (λ x. newtype_value name.now (i32_value (by_bits w32 x))) number.now)) visitor.old visitor.new) }
+    ensures received { OnOk result (ReceivesEach V.knows V.step (optional_field (option_map (λ x. newtype_value name.now (i32_value (by_bits w32 x))) number.now)) visitor.old visitor.new) }
     ensures stopped { OnErr result (V.stopped visitor.new) }
 {
     match number {
@@ -123,14 +123,14 @@ pub fn optional_integer<V: Visitor>(
     }
 }
 
-/// A Long Integer, in a newtype of this name. Where it is absent, nothing is told.
+/// A Long Integer, in a newtype of this name. Where it is absent, the visitor receives nothing.
 #[inline(always)]
 pub fn optional_long_integer<V: Visitor>(
     visitor: &mut V,
     name: &'static str,
     number: &Option<i64>,
 ) -> Result<(), AllocError>
-    ensures told { OnOk result (TellsEach V.knows V.step (optional (option_map (λ x. newtype_value name.now (i64_value (by_bits w64 x))) number.now)) visitor.old visitor.new) }
+    ensures received { OnOk result (ReceivesEach V.knows V.step (optional_field (option_map (λ x. newtype_value name.now (i64_value (by_bits w64 x))) number.now)) visitor.old visitor.new) }
     ensures stopped { OnErr result (V.stopped visitor.new) }
 {
     match number {
@@ -139,14 +139,14 @@ pub fn optional_long_integer<V: Visitor>(
     }
 }
 
-/// A Date-Time, in seconds since 1970, in a newtype of this name. Where it is absent, nothing is told.
+/// A Date-Time, in seconds since 1970, in a newtype of this name. Where it is absent, the visitor receives nothing.
 #[inline(always)]
 pub fn optional_date_time<V: Visitor>(
     visitor: &mut V,
     name: &'static str,
     seconds: &Option<i64>,
 ) -> Result<(), AllocError>
-    ensures told { OnOk result (TellsEach V.knows V.step (optional (option_map (λ x. newtype_value name.now (date_time_value (by_bits w64 x))) seconds.now)) visitor.old visitor.new) }
+    ensures received { OnOk result (ReceivesEach V.knows V.step (optional_field (option_map (λ x. newtype_value name.now (date_time_value (by_bits w64 x))) seconds.now)) visitor.old visitor.new) }
     ensures stopped { OnErr result (V.stopped visitor.new) }
 {
     match seconds {
@@ -155,14 +155,14 @@ pub fn optional_date_time<V: Visitor>(
     }
 }
 
-/// A Boolean, in a newtype of this name. Where it is absent, nothing is told.
+/// A Boolean, in a newtype of this name. Where it is absent, the visitor receives nothing.
 #[inline(always)]
 pub fn optional_boolean<V: Visitor>(
     visitor: &mut V,
     name: &'static str,
     truth: &Option<bool>,
 ) -> Result<(), AllocError>
-    ensures told { OnOk result (TellsEach V.knows V.step (optional (option_map (λ x. newtype_value name.now (boolean_value x)) truth.now)) visitor.old visitor.new) }
+    ensures received { OnOk result (ReceivesEach V.knows V.step (optional_field (option_map (λ x. newtype_value name.now (boolean_value x)) truth.now)) visitor.old visitor.new) }
     ensures stopped { OnErr result (V.stopped visitor.new) }
 {
     match truth {
@@ -171,14 +171,14 @@ pub fn optional_boolean<V: Visitor>(
     }
 }
 
-/// An Interval, in seconds, in a newtype of this name. Where it is absent, nothing is told.
+/// An Interval, in seconds, in a newtype of this name. Where it is absent, the visitor receives nothing.
 #[inline(always)]
 pub fn optional_interval<V: Visitor>(
     visitor: &mut V,
     name: &'static str,
     seconds: &Option<u32>,
 ) -> Result<(), AllocError>
-    ensures told { OnOk result (TellsEach V.knows V.step (optional (option_map (λ x. newtype_value name.now (interval_value x)) seconds.now)) visitor.old visitor.new) }
+    ensures received { OnOk result (ReceivesEach V.knows V.step (optional_field (option_map (λ x. newtype_value name.now (interval_value x)) seconds.now)) visitor.old visitor.new) }
     ensures stopped { OnErr result (V.stopped visitor.new) }
 {
     match seconds {
@@ -187,14 +187,14 @@ pub fn optional_interval<V: Visitor>(
     }
 }
 
-/// An Enumeration of any number, in a newtype of this name. Where it is absent, nothing is told.
+/// An Enumeration of any number, in a newtype of this name. Where it is absent, the visitor receives nothing.
 #[inline(always)]
 pub fn optional_enumeration<V: Visitor>(
     visitor: &mut V,
     name: &'static str,
     number: &Option<u32>,
 ) -> Result<(), AllocError>
-    ensures told { OnOk result (TellsEach V.knows V.step (optional (option_map (λ x. newtype_value name.now (u32_value x)) number.now)) visitor.old visitor.new) }
+    ensures received { OnOk result (ReceivesEach V.knows V.step (optional_field (option_map (λ x. newtype_value name.now (u32_value x)) number.now)) visitor.old visitor.new) }
     ensures stopped { OnErr result (V.stopped visitor.new) }
 {
     match number {
@@ -203,14 +203,14 @@ pub fn optional_enumeration<V: Visitor>(
     }
 }
 
-/// A Text String, in a newtype of this name. Where it is absent, nothing is told.
+/// A Text String, in a newtype of this name. Where it is absent, the visitor receives nothing.
 #[inline(always)]
 pub fn optional_text_string<V: Visitor, A: Allocator>(
     visitor: &mut V,
     name: &'static str,
     text: &Option<String<A>>,
 ) -> Result<(), AllocError>
-    ensures told { OnOk result (TellsEach V.knows V.step (optional (option_map (λ x. newtype_value name.now (text_value (string_bytes x))) text.now)) visitor.old visitor.new) }
+    ensures received { OnOk result (ReceivesEach V.knows V.step (optional_field (option_map (λ x. newtype_value name.now (text_value (string_bytes x))) text.now)) visitor.old visitor.new) }
     ensures stopped { OnErr result (V.stopped visitor.new) }
 {
     match text {
@@ -219,14 +219,14 @@ pub fn optional_text_string<V: Visitor, A: Allocator>(
     }
 }
 
-/// A Byte String, in a newtype of this name. Where it is absent, nothing is told.
+/// A Byte String, in a newtype of this name. Where it is absent, the visitor receives nothing.
 #[inline(always)]
 pub fn optional_byte_string<V: Visitor, A: Allocator>(
     visitor: &mut V,
     name: &'static str,
     bytes: &Option<Vec<u8, A>>,
 ) -> Result<(), AllocError>
-    ensures told { OnOk result (TellsEach V.knows V.step (optional (option_map (λ x. newtype_value name.now (bytes_value x.items)) bytes.now)) visitor.old visitor.new) }
+    ensures received { OnOk result (ReceivesEach V.knows V.step (optional_field (option_map (λ x. newtype_value name.now (bytes_value x.items)) bytes.now)) visitor.old visitor.new) }
     ensures stopped { OnErr result (V.stopped visitor.new) }
 {
     match bytes {
@@ -235,14 +235,14 @@ pub fn optional_byte_string<V: Visitor, A: Allocator>(
     }
 }
 
-/// A Big Integer, the highest byte first, in a newtype of this name. Where it is absent, nothing is told.
+/// A Big Integer, the highest byte first, in a newtype of this name. Where it is absent, the visitor receives nothing.
 #[inline(always)]
 pub fn optional_big_integer<V: Visitor, A: Allocator>(
     visitor: &mut V,
     name: &'static str,
     bytes: &Option<Vec<u8, A>>,
 ) -> Result<(), AllocError>
-    ensures told { OnOk result (TellsEach V.knows V.step (optional (option_map (λ x. newtype_value name.now (big_integer_value x.items)) bytes.now)) visitor.old visitor.new) }
+    ensures received { OnOk result (ReceivesEach V.knows V.step (optional_field (option_map (λ x. newtype_value name.now (big_integer_value x.items)) bytes.now)) visitor.old visitor.new) }
     ensures stopped { OnErr result (V.stopped visitor.new) }
 {
     match bytes {

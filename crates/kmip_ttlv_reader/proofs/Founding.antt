@@ -11,12 +11,12 @@ use Rattle.kmip_ttlv_types.specs.Places.{ItemAt, ItemsAt, code_at, length_at, si
 use Rattle.kmip_ttlv_types.proofs.PlaceLemmas.{code_one, items_in_order, plain_bytes, raw_with, splits_items_at, text_at_item}
 use Rattle.kmip_ttlv_base.specs.Forms.{Content, Fields, Form, Forms, Variants, enum, field, form, newtype, no_fields, no_forms, no_variants, option, seq, struct, tuple, unit, variant, wrapped}
 use Rattle.kmip_ttlv_base.specs.Values.{Value, Values, newtype_value, seq_value, some_value, struct_value, tuple_variant_value, value}
-use Rattle.kmip_ttlv_reader.specs.Keeps.{Keep}
+use Rattle.kmip_ttlv_reader.specs.TagValues.{TagValue}
 use Rattle.kmip_ttlv_reader.specs.ReadLaws.{AreBytes}
 use Rattle.kmip_ttlv_reader.specs.Outcomes.{all_outcome, by_index, content_outcome, enum_outcome, field_outcome, fields_outcome, first_outcome, first_type, forms_outcome, goes_on, ignored, leaf_outcome, named_first, number_outcome, outcome, part_outcome, picked, rest_outcome, root_outcome, run_outcome, seq_outcome, struct_outcome, tuple_outcome, unit_wanted, variant_outcome}
 use Rattle.kmip_ttlv_reader.specs.Reads.{Begins, Reads, ReadsContent, ReadsField, ReadsFields, ReadsForms, ReadsRun, ReadsVariant}
 use Rattle.kmip_ttlv_reader.specs.Reads.{absent, by_number, by_rule, done, ends, first_named, has_fields, has_tag, here, inner, is_like, is_number_type, is_option, is_root, is_struct, leaf, may_follow, more, named, names, names_tag, next, no_part, number_text, part, parts, run, structure, takes, there, whole, wrap, wrap_some}
-use Rattle.kmip_ttlv_reader.specs.Rules.{Choice, Verdict, by_value, choice, choice_refused, chosen, fails as rule_fails, first_by, holds, no_rule, past, refused, rule}
+use Rattle.kmip_ttlv_reader.specs.Rules.{Choice, Verdict, number_decides, choice, choice_invalid, chosen, fails as rule_fails, first_by, holds, no_rule, past, refused, rule}
 use Rattle.kmip_ttlv_reader.specs.Steps.{Outcome, Read, Reader, ends_early, gives}
 use Rattle.kmip_ttlv_reader.specs.Wholes.{AreWhole, BeginsWhole}
 use Rattle.kmip_ttlv_reader.proofs.Onward.{ContentAt, Onward, StructureAt, content_at, content_is, early_has, failed, given, given_has, inside_is, item_end_is, length_is, must_is, must_not_is, on_early, on_if, on_map, on_then, on_within, opened_is, sized_is, structure_is, tag_is, type_is, wanted_is}
@@ -34,12 +34,12 @@ record Found (n : ℕ) (P : List Raw → List Raw → Type 0) (b : List ℕ) (p 
   whole_left : AreWhole b p e → AreWhole b q e
 
 -- what an outcome gives is found, and where whole items stand it is no early end
-abbrev IsFound : {V : Type 0} → ℕ → (List Raw → V → List Keep → List Raw → Type 0) → List ℕ → ℕ → ℕ → Outcome (Read V) → Type 0
-IsFound n P b p e o = Onward (NotWhole n b p e) (λ r. Found n (λ xs ys. P xs r.value r.kept ys) b p e r.next) o
+abbrev IsFound : {V : Type 0} → ℕ → (List Raw → V → List TagValue → List Raw → Type 0) → List ℕ → ℕ → ℕ → Outcome (Read V) → Type 0
+IsFound n P b p e o = Onward (NotWhole n b p e) (λ r. Found n (λ xs ys. P xs r.value r.stored ys) b p e r.next) o
 
 -- what a reader gives is found, wherever it reads
-abbrev Finds : {V : Type 0} → ℕ → Reader V → (List Keep → List Raw → V → List Keep → List Raw → Type 0) → List ℕ → Type 0
-Finds {V} n read P b = (o : ℕ) (k : List Keep) (p e : ℕ) → p ≤ e → p ≤ length b → IsFound n (P k) b p e (read b o k p e)
+abbrev Finds : {V : Type 0} → ℕ → Reader V → (List TagValue → List Raw → V → List TagValue → List Raw → Type 0) → List ℕ → Type 0
+Finds {V} n read P b = (o : ℕ) (k : List TagValue) (p e : ℕ) → p ≤ e → p ≤ length b → IsFound n (P k) b p e (read b o k p e)
 
 -- the same items, seen in another way
 found_map : {n m : ℕ} {P Q : List Raw → List Raw → Type 0} {b : List ℕ} {p e q : ℕ} → m ≤ n → Found n P b p e q → ((xs ys : List Raw) → ItemsAt b p e xs → P xs ys → Q xs ys) → Found m Q b p e q
@@ -141,10 +141,10 @@ rest_found (suc n) fs deny b o p e fuel le in_bytes =
     (λ over. given (ltb-false _ _ over, found_none b p e le in_bytes (λ ys _ h. h)))
 
 -- all that a structure contains: the fields, and what may follow them
-abbrev ReadsAll : Fields → Bool → List Keep → List Raw → Values → List Keep → List Raw → Type 0
+abbrev ReadsAll : Fields → Bool → List TagValue → List Raw → Values → List TagValue → List Raw → Type 0
 ReadsAll fs deny k xs vs k' ys = (rest : List Raw) × ReadsFields fs k xs vs k' rest × Follows fs deny rest ys
 
-all_found : (fs : Fields) (deny : Bool) (read : Reader Values) (b : List ℕ) → Finds 0 read (ReadsFields fs) b → (o : ℕ) (k : List Keep) (p e : ℕ) → p ≤ e → p ≤ length b → Onward (NotWhole 0 b p e) (λ r. (e ≤ r.next) × Found 0 (λ xs ys. ReadsAll fs deny k xs r.value r.kept ys) b p e r.next) (all_outcome fs deny read b o k p e)
+all_found : (fs : Fields) (deny : Bool) (read : Reader Values) (b : List ℕ) → Finds 0 read (ReadsFields fs) b → (o : ℕ) (k : List TagValue) (p e : ℕ) → p ≤ e → p ≤ length b → Onward (NotWhole 0 b p e) (λ r. (e ≤ r.next) × Found 0 (λ xs ys. ReadsAll fs deny k xs r.value r.stored ys) b p e r.next) (all_outcome fs deny read b o k p e)
 unfolding all_outcome
 all_found fs deny read b one o k p e le in_bytes =
     on_then (one o k p e le in_bytes) (λ x head.
@@ -196,21 +196,21 @@ goes_is b first p e le in_bytes =
     on_then (type_is b p (λ short w _. head_cut b p e short w lt)) (λ t _. given ((λ _. lt), like_first b first p e lt)))
 
 -- a run of items like any of the first place's tag and type
-abbrev RunOf : Form → List ℕ → ℕ → List Keep → List Raw → Values → List Keep → List Raw → Type 0
+abbrev RunOf : Form → List ℕ → ℕ → List TagValue → List Raw → Values → List TagValue → List Raw → Type 0
 RunOf s b first k xs vs k' ys = (h : Raw) → h.tag ≡ tag_at b first → code h.typ ≡ code_at b first → ReadsRun s h k xs vs k' ys
 
-run_found : (s : Form) (read : Reader Value) (b : List ℕ) → Finds 1 read (Reads s) b → (n first o : ℕ) (k : List Keep) (p e : ℕ) → length b < p + n → p ≤ e → p ≤ length b → IsFound 0 (RunOf s b first k) b p e (run_outcome n read first b o k p e)
+run_found : (s : Form) (read : Reader Value) (b : List ℕ) → Finds 1 read (Reads s) b → (n first o : ℕ) (k : List TagValue) (p e : ℕ) → length b < p + n → p ≤ e → p ≤ length b → IsFound 0 (RunOf s b first k) b p e (run_outcome n read first b o k p e)
 unfolding run_outcome
 run_found s read b one zero first o k p e fuel le in_bytes = absurd (omega arith)
 run_found s read b one (suc n) first o k p e fuel le in_bytes =
     on_then (goes_is b first p e le in_bytes) (λ go is.
     on_if go _ _
     (λ yes. on_then (on_early (λ never w _. never w (is.0 yes)) (one o k p e le in_bytes)) (λ x head.
-    on_then (on_early (behind_cut 0 head) (run_found s read b one n first o x.kept x.next e (omega (arith, head.not_back)) head.not_past head.there)) (λ rs tail.
+    on_then (on_early (behind_cut 0 head) (run_found s read b one n first o x.stored x.next e (omega (arith, head.not_back)) head.not_past head.there)) (λ rs tail.
     given (found_map (omega arith) (found_then head tail (λ xs ys zs items f g h tag typ. more (is.1 h xs tag typ items ∙ yes) f (g h tag typ))) (λ xs ys _ x. x)))))
     (λ other. given (found_none b p e le in_bytes (λ ys items h tag typ. ends (is.1 h ys tag typ items ∙ other)))))
 
-seq_reads : (s : Form) (b : List ℕ) (p e : ℕ) (k k' k'' : List Keep) (xs ys zs : List Raw) (v : Value) (vs : Values) → 1 + p ≤ e → ItemsAt b p e xs → Reads s k xs v k' ys → RunOf s b p k' ys vs k'' zs → Reads (seq s) k xs (seq_value (value v vs)) k'' zs
+seq_reads : (s : Form) (b : List ℕ) (p e : ℕ) (k k' k'' : List TagValue) (xs ys zs : List Raw) (v : Value) (vs : Values) → 1 + p ≤ e → ItemsAt b p e xs → Reads s k xs v k' ys → RunOf s b p k' ys vs k'' zs → Reads (seq s) k xs (seq_value (value v vs)) k'' zs
 seq_reads s b p e k k' k'' [] ys zs v vs lt items x f = absurd (omega (arith, items))
 seq_reads s b p e k k' k'' (h ∷ xs) ys zs v vs lt items x f = run x (f h items.0.tag items.0.typ)
 
@@ -218,8 +218,8 @@ seq_found : (s : Form) (read : Reader Value) (b : List ℕ) → Finds 1 read (Re
 unfolding seq_outcome
 seq_found s read b one o k p e le in_bytes =
     on_then (one o k p e le in_bytes) (λ x head.
-    on_then (on_early (behind_cut 1 head) (run_found s read b one (suc (length b)) p o x.kept x.next e (omega arith) head.not_past head.there)) (λ rs tail.
-    given (found_then head tail (λ xs ys zs items f g. seq_reads s b p e k x.kept rs.kept xs ys zs x.value rs.value (omega (arith, head.not_back, head.not_past)) items f g))))
+    on_then (on_early (behind_cut 1 head) (run_found s read b one (suc (length b)) p o x.stored x.next e (omega arith) head.not_past head.there)) (λ rs tail.
+    given (found_then head tail (λ xs ys zs items f g. seq_reads s b p e k x.stored rs.stored xs ys zs x.value rs.value (omega (arith, head.not_back, head.not_past)) items f g))))
 
 -- ---- enums
 
@@ -238,7 +238,7 @@ unit_is : {E : Type 0} (b : List ℕ) (o p : ℕ) (t : TtlvType) (c : Option Con
 unit_is b o p t (Some unit) = given refl
 unit_is b o p t _ = failed
 
-number_found : (name : List ℕ) (vs : Variants) (t : TtlvType) (b : List ℕ) (o : ℕ) (k : List Keep) (p e : ℕ) → choice vs k t ≡ by_value → code t ≡ code_at b p → IsFound 1 (Reads (enum name vs) k) b p e (number_outcome name vs t b o k p e)
+number_found : (name : List ℕ) (vs : Variants) (t : TtlvType) (b : List ℕ) (o : ℕ) (k : List TagValue) (p e : ℕ) → choice vs k t ≡ number_decides → code t ≡ code_at b p → IsFound 1 (Reads (enum name vs) k) b p e (number_outcome name vs t b o k p e)
 unfolding number_outcome
 number_found name vs t b o k p e by_it typ =
     on_then (wanted_is (is_number_type t) Enumeration b p t) (λ _ taken.
@@ -248,28 +248,28 @@ number_found name vs t b o k p e by_it typ =
     on_then (unit_is b o p t (first_named (number_text c.0) vs)) (λ _ has.
     on_then (inside_is b p e t c.1) (λ _ in_e. given (found_item b p e t c.0 c.1 typ at.0 in_e (λ bytes ys. by_number by_it taken at.1 has))))))))
 
-rule_reads : (name : List ℕ) (vs : Variants) (b : List ℕ) (p e i : ℕ) (t : TtlvType) (k k' : List Keep) (xs ys : List Raw) (v : Value) → code t ≡ code_at b p → choice vs k t ≡ chosen i → 1 + p ≤ e → ItemsAt b p e xs → ReadsVariant name vs i k xs v k' ys → Reads (enum name vs) k xs v k' ys
+rule_reads : (name : List ℕ) (vs : Variants) (b : List ℕ) (p e i : ℕ) (t : TtlvType) (k k' : List TagValue) (xs ys : List Raw) (v : Value) → code t ≡ code_at b p → choice vs k t ≡ chosen i → 1 + p ≤ e → ItemsAt b p e xs → ReadsVariant name vs i k xs v k' ys → Reads (enum name vs) k xs v k' ys
 rule_reads name vs b p e i t k k' [] ys v typ c lt items r = absurd (omega (arith, items))
 rule_reads name vs b p e i t k k' (h ∷ xs) ys v typ c lt items r = by_rule (subst (λ (u : TtlvType). choice vs k u ≡ chosen i) (code_one t h.typ (typ ∙ sym items.0.typ)) c) r
 
 -- the reader of a variant finds it where it is chosen
 abbrev FindsVariants : List ℕ → Variants → (ℕ → TtlvType → Reader Value) → List ℕ → Type 0
-FindsVariants name vs at b = (i : ℕ) (t : TtlvType) (o : ℕ) (k : List Keep) (p e : ℕ) → choice vs k t ≡ chosen i → code t ≡ code_at b p → p ≤ e → p ≤ length b → IsFound 1 (ReadsVariant name vs i k) b p e (at i t b o k p e)
+FindsVariants name vs at b = (i : ℕ) (t : TtlvType) (o : ℕ) (k : List TagValue) (p e : ℕ) → choice vs k t ≡ chosen i → code t ≡ code_at b p → p ≤ e → p ≤ length b → IsFound 1 (ReadsVariant name vs i k) b p e (at i t b o k p e)
 
 -- what a choice picks
 abbrev Picks : Choice → Option ℕ → Type 0
 Picks c (Some i) = c ≡ chosen i
-Picks c None = c ≡ by_value
+Picks c None = c ≡ number_decides
 
 picked_is : {E : Type 0} (c : Choice) (b : List ℕ) (p : ℕ) (t : TtlvType) → Onward E (Picks c) (picked c b p t)
 picked_is (chosen i) b p t = given refl
-picked_is by_value b p t = given refl
-picked_is (choice_refused m) b p t = failed
+picked_is number_decides b p t = given refl
+picked_is (choice_invalid m) b p t = failed
 
-index_found : (name : List ℕ) (vs : Variants) (at : ℕ → TtlvType → Reader Value) (b : List ℕ) → FindsVariants name vs at b → (i : Option ℕ) (t : TtlvType) (o : ℕ) (k : List Keep) (p e : ℕ) → Picks (choice vs k t) i → code t ≡ code_at b p → p ≤ e → p ≤ length b → IsFound 1 (Reads (enum name vs) k) b p e (by_index i at (number_outcome name vs) t b o k p e)
+index_found : (name : List ℕ) (vs : Variants) (at : ℕ → TtlvType → Reader Value) (b : List ℕ) → FindsVariants name vs at b → (i : Option ℕ) (t : TtlvType) (o : ℕ) (k : List TagValue) (p e : ℕ) → Picks (choice vs k t) i → code t ≡ code_at b p → p ≤ e → p ≤ length b → IsFound 1 (Reads (enum name vs) k) b p e (by_index i at (number_outcome name vs) t b o k p e)
 index_found name vs at b one None t o k p e is typ le in_bytes = number_found name vs t b o k p e is typ
 index_found name vs at b one (Some i) t o k p e is typ le in_bytes =
-    on_map (λ x. x) (λ r h. found_map (omega arith) h (λ xs ys items x. rule_reads name vs b p e i t k r.kept xs ys r.value typ is (omega (arith, h.not_back, h.not_past)) items x)) (one i t o k p e is typ le in_bytes)
+    on_map (λ x. x) (λ r h. found_map (omega arith) h (λ xs ys items x. rule_reads name vs b p e i t k r.stored xs ys r.value typ is (omega (arith, h.not_back, h.not_past)) items x)) (one i t o k p e is typ le in_bytes)
 
 enum_found : (name : List ℕ) (vs : Variants) (at : ℕ → TtlvType → Reader Value) (b : List ℕ) → FindsVariants name vs at b → Finds 1 (enum_outcome name vs at) (Reads (enum name vs)) b
 unfolding enum_outcome
@@ -284,7 +284,7 @@ unfolding part_outcome
 part_found s read b one o k p e le in_bytes =
     on_if (p == e) _ _ (λ _. failed) (λ differ. on_map (λ never w _. never w (omega (arith, eqb-false p e differ))) (λ r h. found_map (omega arith) h (λ xs ys items x. x)) (one o k p e le in_bytes))
 
-tuple_found : (name vname : List ℕ) (ss : Forms) (t : TtlvType) (read : Reader Values) (b : List ℕ) → Finds 0 read (ReadsForms ss) b → (o : ℕ) (k : List Keep) (p e : ℕ) → code t ≡ code_at b p → IsFound 1 (λ xs vs k' ys. ReadsContent name vname (tuple ss) k xs (tuple_variant_value name vname vs) k' ys) b p e (tuple_outcome t read b o k p e)
+tuple_found : (name vname : List ℕ) (ss : Forms) (t : TtlvType) (read : Reader Values) (b : List ℕ) → Finds 0 read (ReadsForms ss) b → (o : ℕ) (k : List TagValue) (p e : ℕ) → code t ≡ code_at b p → IsFound 1 (λ xs vs k' ys. ReadsContent name vname (tuple ss) k xs (tuple_variant_value name vname vs) k' ys) b p e (tuple_outcome t read b o k p e)
 unfolding tuple_outcome
 tuple_found name vname ss t read b one o k p e typ =
     on_then (structure_is b p t) (λ _ is.
@@ -311,7 +311,7 @@ mutual
   fields_found no_fields b o k p e le in_bytes = given (found_none b p e le in_bytes (λ ys items. done))
   fields_found (field name s fs) b o k p e le in_bytes =
       on_then (field_found name s (outcome s) b (outcome_found s b) o k p e le in_bytes) (λ x head.
-      on_then (on_early (behind_cut 0 head) (fields_found fs b o x.kept x.next e head.not_past head.there)) (λ rs tail.
+      on_then (on_early (behind_cut 0 head) (fields_found fs b o x.stored x.next e head.not_past head.there)) (λ rs tail.
       given (found_then head tail (λ xs ys zs items f g. next f g))))
 
   variant_found : (name : List ℕ) (vs : Variants) (b : List ℕ) → FindsVariants name vs (variant_outcome name vs) b
@@ -321,7 +321,7 @@ mutual
   variant_found name (variant vname c vs) b (suc i) t o k p e is typ le in_bytes =
       on_map (λ x. x) (λ r h. found_map (omega arith) h (λ xs ys items x. there x)) (variant_found name vs b i t o k p e (later_is (rule vname k t) (choice vs k t) i is) typ le in_bytes)
 
-  content_found : (name vname : List ℕ) (c : Content) (b : List ℕ) (t : TtlvType) (o : ℕ) (k : List Keep) (p e : ℕ) → code t ≡ code_at b p → p ≤ e → p ≤ length b → IsFound 1 (ReadsContent name vname c k) b p e (content_outcome name vname c t b o k p e)
+  content_found : (name vname : List ℕ) (c : Content) (b : List ℕ) (t : TtlvType) (o : ℕ) (k : List TagValue) (p e : ℕ) → code t ≡ code_at b p → p ≤ e → p ≤ length b → IsFound 1 (ReadsContent name vname c k) b p e (content_outcome name vname c t b o k p e)
   content_found name vname unit b t o k p e typ le in_bytes = failed
   content_found name vname (wrapped s) b t o k p e typ le in_bytes = on_then (outcome_found s b o k p e le in_bytes) (λ r h. given (found_map (omega arith) h (λ xs ys items x. whole x)))
   content_found name vname (tuple ss) b t o k p e typ le in_bytes = on_then (tuple_found name vname ss t (forms_outcome ss) b (forms_found ss b) o k p e typ) (λ r h. given h)
@@ -330,16 +330,16 @@ mutual
   forms_found no_forms b o k p e le in_bytes = given (found_none b p e le in_bytes (λ ys items. no_part))
   forms_found (form s ss) b o k p e le in_bytes =
       on_then (part_found s (outcome s) b (outcome_found s b) o k p e le in_bytes) (λ x head.
-      on_then (on_early (behind_cut 0 head) (forms_found ss b o x.kept x.next e head.not_past head.there)) (λ rs tail.
+      on_then (on_early (behind_cut 0 head) (forms_found ss b o x.stored x.next e head.not_past head.there)) (λ rs tail.
       given (found_then head tail (λ xs ys zs items f g. part f g))))
 
 -- what reading gives at a place, the form reads from the items there
-pub found_at : (s : Form) (b : List ℕ) (o : ℕ) (k : List Keep) (p e : ℕ) (r : Read Value) → AreBytes b → p ≤ e → p ≤ length b → outcome s b o k p e ≡ gives r → (ys : List Raw) → ItemsAt b r.next e ys → (xs : List Raw) × ItemsAt b p e xs × Reads s k xs r.value r.kept ys
+pub found_at : (s : Form) (b : List ℕ) (o : ℕ) (k : List TagValue) (p e : ℕ) (r : Read Value) → AreBytes b → p ≤ e → p ≤ length b → outcome s b o k p e ≡ gives r → (ys : List Raw) → ItemsAt b r.next e ys → (xs : List Raw) × ItemsAt b p e xs × Reads s k xs r.value r.stored ys
 found_at s b o k p e r bytes le in_bytes is ys items = (given_has r (outcome_found s b o k p e le in_bytes) is).items bytes ys items
 
 -- ---- whole messages
 
-begins_struct : (name : List ℕ) (fs : Fields) (deny : Bool) (b : List ℕ) (k : List Keep) (stop q : ℕ) (vs : Values) → has_tag name (tag_at b 0) ≡ true → StructureAt b 0 stop → stop ≤ q → Found 0 (λ xs ys. ReadsAll fs deny [] xs vs k ys) b 8 stop q → AreBytes b → Begins (struct name fs deny) b (struct_value name vs)
+begins_struct : (name : List ℕ) (fs : Fields) (deny : Bool) (b : List ℕ) (k : List TagValue) (stop q : ℕ) (vs : Values) → has_tag name (tag_at b 0) ≡ true → StructureAt b 0 stop → stop ≤ q → Found 0 (λ xs ys. ReadsAll fs deny [] xs vs k ys) b 8 stop q → AreBytes b → Begins (struct name fs deny) b (struct_value name vs)
 begins_struct name fs deny b k stop q vs named_so at reached all bytes =
     let c = content_at b 0 in
     let n = size Structure (length_at b 0) in
@@ -350,7 +350,7 @@ begins_struct name fs deny b k stop q vs named_so at reached all bytes =
       item = raw_with (tag_at b 0) Structure c;
       item_text = take n b;
       after = drop n b;
-      kept = k;
+      stored = k;
       is_text = text_at_item b 0 (raw_with (tag_at b 0) Structure c) item;
       is_structure = refl;
       parts = sym (take-append-drop n b);
@@ -368,11 +368,11 @@ first_found name fs deny b =
     on_then (named_any name (tag_of name)) (λ _ _.
     on_then (opened_is name b 0 (λ short. message_cut b (λ e. head_cut b 0 e short))) (λ stop at.
     on_then (on_within (tag_at b 0) (on_early (λ never. message_cut b (λ e. structure_cut b 0 e stop at.1 never)) (all_found fs deny (fields_outcome fs) b (fields_found fs b) (tag_at b 0) [] 8 stop (omega (arith, at.1.stops)) at.1.content_there))) (λ a all.
-    given (begins_struct name fs deny b a.kept stop a.next a.value at.0 at.1 all.0 all.1))))
+    given (begins_struct name fs deny b a.stored stop a.next a.value at.0 at.1 all.0 all.1))))
 
 -- another form around it, which reads as much
-begins_around : (s t : Form) (b : List ℕ) (v w : Value) → is_root t ≡ is_root s → ((k k' : List Keep) (xs ys : List Raw) → Reads s k xs v k' ys → Reads t k xs w k' ys) → Begins s b v → Begins t b w
-begins_around s t b v w same f h = record { root = same ∙ h.root; item = h.item; item_text = h.item_text; after = h.after; kept = h.kept; is_text = h.is_text; is_structure = h.is_structure; parts = h.parts; reads = f [] h.kept (h.item ∷ []) [] h.reads }
+begins_around : (s t : Form) (b : List ℕ) (v w : Value) → is_root t ≡ is_root s → ((k k' : List TagValue) (xs ys : List Raw) → Reads s k xs v k' ys → Reads t k xs w k' ys) → Begins s b v → Begins t b w
+begins_around s t b v w same f h = record { root = same ∙ h.root; item = h.item; item_text = h.item_text; after = h.after; stored = h.stored; is_text = h.is_text; is_structure = h.is_structure; parts = h.parts; reads = f [] h.stored (h.item ∷ []) [] h.reads }
 
 -- what a message is read as, the form reads from its item, and whole messages don't end early
 root_found : (s : Form) (b : List ℕ) → Onward (BeginsWhole b → ⊥) (λ v. AreBytes b → Begins s b v) (root_outcome s b)

@@ -15,8 +15,8 @@ use Rattle.kmip_ttlv_types.proofs.PlaceLemmas.{type_of-code, items_at_splits, it
 use Rattle.kmip_ttlv_base.specs.Forms.{Form, Fields, Variants, Content, Forms, option, int32, no_variants, variant, unit}
 use Rattle.kmip_ttlv_base.specs.Gives.{ContentGives, EachGives, FieldsGive, FormsGive, Gives, VariantsGive}
 use Rattle.kmip_ttlv_base.specs.Values.{Value, Values, none_value, unit_variant_value, some_value, newtype_value, newtype_variant_value}
-use Rattle.kmip_ttlv_reader.specs.Keeps.{Keep}
-use Rattle.kmip_ttlv_reader.specs.Reads.{is_option, is_struct, has_tag, is_like, names_tag, has_fields, may_ignore, may_follow, takes, leaf_value, first_named, number_text}
+use Rattle.kmip_ttlv_reader.specs.TagValues.{TagValue}
+use Rattle.kmip_ttlv_reader.specs.Reads.{is_option, is_struct, has_tag, is_like, names_tag, has_fields, may_ignore, may_follow, takes, decoded_leaf, first_named, number_text}
 use Rattle.kmip_ttlv_reader.specs.Reads.{Reads, ReadsVariant, ReadsContent, ReadsForms, ReadsRun, ReadsFields, ReadsField, Begins, is_root, leaf, wrap_some, wrap, run, structure, by_rule, by_number, here, there, whole, parts, no_part, part, ends, more, done, next, absent, named, inner}
 use Rattle.kmip_ttlv_reader.specs.Steps.{Outcome, gives, Read, Reader, reads, ◌>>=◌, mapped}
 use Rattle.kmip_ttlv_reader.specs.Outcomes.{type_there, tag_wanted, length_there, structure_wanted, inside, end_there, length_wanted, content_there, type_wanted, leaf_outcome, opened, item_end, ignored, rest_outcome, all_outcome, struct_outcome, field_outcome, goes_on}
@@ -25,7 +25,7 @@ use Rattle.kmip_ttlv_reader.proofs.NumberLemmas.{valid_length, number_length}
 
 -- ---- what the rules read, the form gives
 
-leaf_gives : (s : Form) (t : TtlvType) (c : List ℕ) → takes s t ≡ true → Gives s (leaf_value s c)
+leaf_gives : (s : Form) (t : TtlvType) (c : List ℕ) → takes s t ≡ true → Gives s (decoded_leaf s c)
 leaf_gives int32 t c e = tt
 leaf_gives s t c e = grind arith
 
@@ -44,7 +44,7 @@ unit_gives name vname (variant n c vs) e =
 
 -- and each rule takes an item at least
 mutual
-  read_is : {s : Form} {k k' : List Keep} {xs ys : List Raw} {v : Value} → Reads s k xs v k' ys → Gives s v × (length ys < length xs)
+  read_is : {s : Form} {k k' : List TagValue} {xs ys : List Raw} {v : Value} → Reads s k xs v k' ys → Gives s v × (length ys < length xs)
   read_is (leaf {s = s} {h = h} t v) = (leaf_gives s h.typ h.content t, omega arith)
   read_is (wrap_some r) = read_is r
   read_is (wrap r) = let i = read_is r in ((refl, i.0), i.1)
@@ -53,29 +53,29 @@ mutual
   read_is (by_rule e r) = variant_is r
   read_is (by_number {name = name} {vs = vs} {h = h} e t v f) = (unit_gives name (number_text h.content) vs f, omega arith)
 
-  variant_is : {name : List ℕ} {vs : Variants} {i : ℕ} {k k' : List Keep} {xs ys : List Raw} {v : Value} → ReadsVariant name vs i k xs v k' ys → VariantsGive name vs v × (length ys < length xs)
+  variant_is : {name : List ℕ} {vs : Variants} {i : ℕ} {k k' : List TagValue} {xs ys : List Raw} {v : Value} → ReadsVariant name vs i k xs v k' ys → VariantsGive name vs v × (length ys < length xs)
   variant_is (here r) = let i = content_is r in (inl i.0, i.1)
   variant_is (there r) = let i = variant_is r in (inr i.0, i.1)
 
-  content_is : {name vname : List ℕ} {c : Content} {k k' : List Keep} {xs ys : List Raw} {v : Value} → ReadsContent name vname c k xs v k' ys → ContentGives name vname c v × (length ys < length xs)
+  content_is : {name vname : List ℕ} {c : Content} {k k' : List TagValue} {xs ys : List Raw} {v : Value} → ReadsContent name vname c k xs v k' ys → ContentGives name vname c v × (length ys < length xs)
   content_is (whole r) = let i = read_is r in ((refl, refl, i.0), i.1)
   content_is (parts t z r) = ((refl, refl, forms_give r), omega arith)
 
-  forms_give : {ss : Forms} {k k' : List Keep} {xs ys : List Raw} {vs : Values} → ReadsForms ss k xs vs k' ys → FormsGive ss vs
+  forms_give : {ss : Forms} {k k' : List TagValue} {xs ys : List Raw} {vs : Values} → ReadsForms ss k xs vs k' ys → FormsGive ss vs
   forms_give no_part = tt
   forms_give (part r rs) = ((read_is r).0, forms_give rs)
 
-  run_is : {s : Form} {h : Raw} {k k' : List Keep} {xs ys : List Raw} {vs : Values} → ReadsRun s h k xs vs k' ys → EachGives (Gives s) vs × (length ys ≤ length xs)
+  run_is : {s : Form} {h : Raw} {k k' : List TagValue} {xs ys : List Raw} {vs : Values} → ReadsRun s h k xs vs k' ys → EachGives (Gives s) vs × (length ys ≤ length xs)
   run_is (ends e) = (tt, omega arith)
   run_is (more e r rs) = let i = read_is r in let j = run_is rs in ((i.0, j.0), omega (arith, i.1, j.1))
 
-  fields_give : {fs : Fields} {k k' : List Keep} {xs ys : List Raw} {vs : Values} → ReadsFields fs k xs vs k' ys → FieldsGive fs vs
+  fields_give : {fs : Fields} {k k' : List TagValue} {xs ys : List Raw} {vs : Values} → ReadsFields fs k xs vs k' ys → FieldsGive fs vs
   fields_give done = tt
   fields_give (next (absent {s = s} o n) rs) = (absent_gives s o, fields_give rs)
   fields_give (next (named n o r) rs) = ((read_is r).0, fields_give rs)
   fields_give (next (inner o r) rs) = ((read_is r).0, fields_give rs)
 
-pub reads_gives : {s : Form} {k k' : List Keep} {xs ys : List Raw} {v : Value} → Reads s k xs v k' ys → Gives s v
+pub reads_gives : {s : Form} {k k' : List TagValue} {xs ys : List Raw} {v : Value} → Reads s k xs v k' ys → Gives s v
 reads_gives r = (read_is r).0
 
 -- what bytes begin with, the form gives
@@ -117,7 +117,7 @@ content_given b p x item valid =
     rw (length_given b p x item, fixed_given b p 8 x.typ x.content item.len valid, past, ← item.content, valid, le-ltb (length b) (p + size x.typ (length_at b p)) item.there) refl
 
 -- what reading gives: the value, the texts kept, and a place from which the other items stand
-record Given {V : Type 0} (o : Outcome (Read V)) (b : List ℕ) (e : ℕ) (v : V) (k : List Keep) (ys : List Raw) : Type 0 where
+record Given {V : Type 0} (o : Outcome (Read V)) (b : List ℕ) (e : ℕ) (v : V) (k : List TagValue) (ys : List Raw) : Type 0 where
   next : ℕ
   is : o ≡ reads v k next
   behind : ItemsAt b next e ys
@@ -138,11 +138,11 @@ leaf_is int32 t e = refl
 leaf_is s t e = cc
 
 -- a value in another
-mapped_given : {V W : Type 0} {o : Outcome (Read V)} {b : List ℕ} {e : ℕ} {v : V} {k : List Keep} {ys : List Raw} (f : V → W) → Given o b e v k ys → Given (mapped f o) b e (f v) k ys
+mapped_given : {V W : Type 0} {o : Outcome (Read V)} {b : List ℕ} {e : ℕ} {v : V} {k : List TagValue} {ys : List Raw} (f : V → W) → Given o b e v k ys → Given (mapped f o) b e (f v) k ys
 mapped_given f g = record { next = g.next; is = ap (mapped f) g.is; behind = g.behind }
 
 -- the same outcome gives the same
-as_given : {V : Type 0} {o o' : Outcome (Read V)} {b : List ℕ} {e : ℕ} {v : V} {k : List Keep} {ys : List Raw} → Given o' b e v k ys → o ≡ o' → Given o b e v k ys
+as_given : {V : Type 0} {o o' : Outcome (Read V)} {b : List ℕ} {e : ℕ} {v : V} {k : List TagValue} {ys : List Raw} → Given o' b e v k ys → o ≡ o' → Given o b e v k ys
 as_given g same = record { next = g.next; is = same ∙ g.is; behind = g.behind }
 
 -- ---- structures
@@ -192,7 +192,7 @@ rest_given (suc n) fs deny b o p e (x ∷ xs) lt items ok =
     (rest_given n fs deny b o _ e xs (omega arith) items.1 each.1)
 
 -- all that a structure contains
-all_given : {vs : Values} {k' : List Keep} {xs : List Raw} (fs : Fields) (deny : Bool) (read : Reader Values) (b : List ℕ) (o : ℕ) (k : List Keep) (p e : ℕ) → e ≤ length b → Given (read b o k p e) b e vs k' xs → may_follow fs deny xs ≡ true → all_outcome fs deny read b o k p e ≡ reads vs k' e
+all_given : {vs : Values} {k' : List TagValue} {xs : List Raw} (fs : Fields) (deny : Bool) (read : Reader Values) (b : List ℕ) (o : ℕ) (k : List TagValue) (p e : ℕ) → e ≤ length b → Given (read b o k p e) b e vs k' xs → may_follow fs deny xs ≡ true → all_outcome fs deny read b o k p e ≡ reads vs k' e
 unfolding all_outcome
 all_given {xs = xs} fs deny read b o k p e le g ok = rw (g.is, rest_given (suc (length b)) fs deny b o g.next e xs (omega (arith, in_order b g.next e xs g.behind)) g.behind ok) refl
 
@@ -223,7 +223,7 @@ Leads (x ∷ xs) t = x.typ ≡ t
 mutual
   unfolding outcome leaf_outcome fields_outcome variant_outcome content_outcome forms_outcome seq_outcome struct_outcome tuple_outcome part_outcome enum_outcome field_outcome number_outcome type_wanted structure_wanted run_outcome
 
-  given : {s : Form} {k k' : List Keep} {xs ys : List Raw} {v : Value} → Reads s k xs v k' ys → (b : List ℕ) (o p e : ℕ) → e ≤ length b → ItemsAt b p e xs → Given (outcome s b o k p e) b e v k' ys
+  given : {s : Form} {k k' : List TagValue} {xs ys : List Raw} {v : Value} → Reads s k xs v k' ys → (b : List ℕ) (o p e : ℕ) → e ≤ length b → ItemsAt b p e xs → Given (outcome s b o k p e) b e v k' ys
   given (leaf {s = s} {h = h} {xs = xs} t v) b o p e le items = record {
     next = p + size h.typ (length_at b p);
     is = rw (leaf_is s h.typ t, type_given b p h items.0, t, content_given b p h items.0 v, first_inside b p e h xs items, ← items.0.tag) refl;
@@ -252,11 +252,11 @@ mutual
         behind = items.1;
       }
 
-  given_variant : {name : List ℕ} {vs : Variants} {i : ℕ} {k k' : List Keep} {xs ys : List Raw} {v : Value} → ReadsVariant name vs i k xs v k' ys → (t : TtlvType) → Leads xs t → (b : List ℕ) (o p e : ℕ) → e ≤ length b → ItemsAt b p e xs → Given (variant_outcome name vs i t b o k p e) b e v k' ys
+  given_variant : {name : List ℕ} {vs : Variants} {i : ℕ} {k k' : List TagValue} {xs ys : List Raw} {v : Value} → ReadsVariant name vs i k xs v k' ys → (t : TtlvType) → Leads xs t → (b : List ℕ) (o p e : ℕ) → e ≤ length b → ItemsAt b p e xs → Given (variant_outcome name vs i t b o k p e) b e v k' ys
   given_variant (here r) t first b o p e le items = given_content r t first b o p e le items
   given_variant (there r) t first b o p e le items = given_variant r t first b o p e le items
 
-  given_content : {name vname : List ℕ} {c : Content} {k k' : List Keep} {xs ys : List Raw} {v : Value} → ReadsContent name vname c k xs v k' ys → (t : TtlvType) → Leads xs t → (b : List ℕ) (o p e : ℕ) → e ≤ length b → ItemsAt b p e xs → Given (content_outcome name vname c t b o k p e) b e v k' ys
+  given_content : {name vname : List ℕ} {c : Content} {k k' : List TagValue} {xs ys : List Raw} {v : Value} → ReadsContent name vname c k xs v k' ys → (t : TtlvType) → Leads xs t → (b : List ℕ) (o p e : ℕ) → e ≤ length b → ItemsAt b p e xs → Given (content_outcome name vname c t b o k p e) b e v k' ys
   given_content (whole {name = name} {vname = vname} r) t first b o p e le items = mapped_given (newtype_variant_value name vname) (given r b o p e le items)
   given_content (parts {h = h} {xs = xs} {zs = zs} is z r) t first b o p e le items =
       let g = given_forms r b o (p + 8) (p + 8 + length_at b p) (omega (arith, items.0.there)) (content_items b p h zs items.0 z) in
@@ -266,14 +266,14 @@ mutual
         behind = behind_structure b p e h xs is items;
       }
 
-  given_forms : {ss : Forms} {k k' : List Keep} {xs ys : List Raw} {vs : Values} → ReadsForms ss k xs vs k' ys → (b : List ℕ) (o p e : ℕ) → e ≤ length b → ItemsAt b p e xs → Given (forms_outcome ss b o k p e) b e vs k' ys
+  given_forms : {ss : Forms} {k k' : List TagValue} {xs ys : List Raw} {vs : Values} → ReadsForms ss k xs vs k' ys → (b : List ℕ) (o p e : ℕ) → e ≤ length b → ItemsAt b p e xs → Given (forms_outcome ss b o k p e) b e vs k' ys
   given_forms no_part b o p e le items = record { next = p; is = refl; behind = items }
   given_forms (part {xs = xs} r rs) b o p e le items =
       let g = given r b o p e le items in
       let i = given_forms rs b o g.next e le g.behind in
       record { next = i.next; is = rw (goes_past b p e xs (omega (arith, (read_is r).1)) items, g.is, i.is) refl; behind = i.behind }
 
-  given_run : {s : Form} {h : Raw} {k k' : List Keep} {xs ys : List Raw} {vs : Values} → ReadsRun s h k xs vs k' ys → (n : ℕ) (b : List ℕ) (o first p e : ℕ) → length xs < n → e ≤ length b → ItemAt b first h → ItemsAt b p e xs → Given (run_outcome n (outcome s) first b o k p e) b e vs k' ys
+  given_run : {s : Form} {h : Raw} {k k' : List TagValue} {xs ys : List Raw} {vs : Values} → ReadsRun s h k xs vs k' ys → (n : ℕ) (b : List ℕ) (o first p e : ℕ) → length xs < n → e ≤ length b → ItemAt b first h → ItemsAt b p e xs → Given (run_outcome n (outcome s) first b o k p e) b e vs k' ys
   given_run r zero b o first p e lt le at items = absurd (omega arith)
   given_run (ends {h = h} {xs = xs} c) (suc n) b o first p e lt le at items = record { next = p; is = rw (goes_given b first p e h xs at items, c) refl; behind = items }
   given_run (more {h = h} {xs = xs} c r rs) (suc n) b o first p e lt le at items =
@@ -281,14 +281,14 @@ mutual
       let i = given_run rs n b o first g.next e (omega (arith, (read_is r).1)) le at g.behind in
       record { next = i.next; is = rw (goes_given b first p e h xs at items, c, g.is, i.is) refl; behind = i.behind }
 
-  given_fields : {fs : Fields} {k k' : List Keep} {xs ys : List Raw} {vs : Values} → ReadsFields fs k xs vs k' ys → (b : List ℕ) (o p e : ℕ) → e ≤ length b → ItemsAt b p e xs → Given (fields_outcome fs b o k p e) b e vs k' ys
+  given_fields : {fs : Fields} {k k' : List TagValue} {xs ys : List Raw} {vs : Values} → ReadsFields fs k xs vs k' ys → (b : List ℕ) (o p e : ℕ) → e ≤ length b → ItemsAt b p e xs → Given (fields_outcome fs b o k p e) b e vs k' ys
   given_fields done b o p e le items = record { next = p; is = refl; behind = items }
   given_fields (next r rs) b o p e le items =
       let g = given_field r b o p e le items in
       let i = given_fields rs b o g.next e le g.behind in
       record { next = i.next; is = rw (g.is, i.is) refl; behind = i.behind }
 
-  given_field : {name : List ℕ} {s : Form} {k k' : List Keep} {xs ys : List Raw} {v : Value} → ReadsField name s k xs v k' ys → (b : List ℕ) (o p e : ℕ) → e ≤ length b → ItemsAt b p e xs → Given (field_outcome name s (outcome s) b o k p e) b e v k' ys
+  given_field : {name : List ℕ} {s : Form} {k k' : List TagValue} {xs ys : List Raw} {v : Value} → ReadsField name s k xs v k' ys → (b : List ℕ) (o p e : ℕ) → e ≤ length b → ItemsAt b p e xs → Given (field_outcome name s (outcome s) b o k p e) b e v k' ys
   given_field (absent {xs = []} opt none) b o p e le items = record { next = p; is = rw (eq-eqb p e items, opt) refl; behind = items }
   given_field (absent {s = s} {xs = x ∷ xs} opt none) b o p e le items = record {
     next = p;
@@ -301,7 +301,7 @@ mutual
   given_field (inner {xs = xs} is r) b o p e le items = as_given (given r b o p e le items) (rw (goes_past b p e xs (omega (arith, (read_is r).1)) items, is) refl)
 
 -- what the rules read from items that stand from p to e, reading gives there
-pub given_at : (s : Form) (b : List ℕ) (o : ℕ) (k k' : List Keep) (p e : ℕ) (xs ys : List Raw) (v : Value) → p ≤ length b → ItemsAt b p e xs → Reads s k xs v k' ys → (q : ℕ) × (outcome s b o k p e ≡ reads v k' q) × ItemsAt b q e ys
+pub given_at : (s : Form) (b : List ℕ) (o : ℕ) (k k' : List TagValue) (p e : ℕ) (xs ys : List Raw) (v : Value) → p ≤ length b → ItemsAt b p e xs → Reads s k xs v k' ys → (q : ℕ) × (outcome s b o k p e ≡ reads v k' q) × ItemsAt b q e ys
 given_at s b o k k' p e xs ys v le items r =
     let g = given r b o p e (items_in_order b p e xs le items).1 items in
     (g.next, g.is, g.behind)
@@ -312,7 +312,7 @@ leaf_no_root : (s : Form) (t : TtlvType) → takes s t ≡ true → is_root s �
 leaf_no_root int32 t e f = cc
 leaf_no_root s t e f = cc
 
-given_message : {s : Form} {k k' : List Keep} {xs ys : List Raw} {v : Value} → Reads s k xs v k' ys → k ≡ [] → is_root s ≡ true → (b : List ℕ) (e : ℕ) → ItemsAt b 0 e xs → root_outcome s b ≡ gives v
+given_message : {s : Form} {k k' : List TagValue} {xs ys : List Raw} {v : Value} → Reads s k xs v k' ys → k ≡ [] → is_root s ≡ true → (b : List ℕ) (e : ℕ) → ItemsAt b 0 e xs → root_outcome s b ≡ gives v
 unfolding root_outcome first_outcome
 given_message (leaf {s = s} {h = h} t v) none root b e items = absurd (leaf_no_root s h.typ t root)
 given_message (wrap_some r) none root b e items = rw (given_message r none root b e items) refl

@@ -18,5 +18,5 @@ pub mod Structures
 pub mod TableLemmas
 pub mod Cuts
 pub mod ChosenLemmas
-mod HeldRows
+mod StoredRows
 mod PartLemmas

@@ -9,8 +9,8 @@ use Rattle.kmip_ttlv_types.specs.Leaves.{is_valid}
 use Rattle.kmip_ttlv_types.specs.Names.{tag_of}
 use Rattle.kmip_ttlv_base.specs.Forms.{Form, Fields, Variants, Content, Forms, struct, option, seq, newtype, enum, no_fields, field, no_variants, variant, unit, wrapped, tuple, no_forms, form}
 use Rattle.kmip_ttlv_base.specs.Values.{Value, Values}
-use Rattle.kmip_ttlv_reader.specs.Keeps.{Keep}
-use Rattle.kmip_ttlv_reader.specs.Rules.{Choice, choice_refused, choice}
+use Rattle.kmip_ttlv_reader.specs.TagValues.{TagValue}
+use Rattle.kmip_ttlv_reader.specs.Rules.{Choice, choice_invalid, choice}
 use Rattle.kmip_ttlv_reader.specs.Reads.{is_option, is_struct, is_number_type, has_tag, names_tag, has_fields, takes, first_named, number_text}
 use Rattle.kmip_ttlv_reader.specs.Steps.{Outcome, gives, ends_early, fails, Reader, ◌>>=◌, must, must_not, within}
 use Rattle.kmip_ttlv_reader.specs.Outcomes.{type_there, typed, tag_wanted, tagged, length_there, structure_wanted, inside, end_there, length_wanted, content_there, type_wanted, leaf_outcome, opened, item_end, ignored, rest_outcome, all_outcome, struct_outcome, field_outcome, goes_on, run_outcome, seq_outcome}
@@ -85,7 +85,7 @@ sized_more b c p after t None le = refl
 sized_more b c p after t (Some w) le = rw (length_more b c p le, tag_more b c p (omega arith)) refl
 
 picked_more : (x : Choice) (b c : List ℕ) (p : ℕ) (t : TtlvType) → p + 4 ≤ length b → picked x (b ++ c) p t ≡ picked x b p t
-picked_more (choice_refused m) b c p t le = rw (tag_more b c p le) refl
+picked_more (choice_invalid m) b c p t le = rw (tag_more b c p le) refl
 picked_more x b c p t le = refl
 
 unit_more : (x : Option Content) (b c : List ℕ) (o p : ℕ) (t : TtlvType) → p + 4 ≤ length b → unit_wanted (b ++ c) o p t x ≡ unit_wanted b o p t x
@@ -148,14 +148,14 @@ rest_still (suc n) zero le fs deny b c o p e = absurd (omega arith)
 rest_still (suc n) (suc m) le fs deny b c o p e = either (nat_lt p e) (bind (ignored_still fs deny b c o p e) (λ q _. rest_still n m (omega arith) fs deny b c o q e)) (still refl)
 
 -- a reader's outcome stands, wherever it reads
-abbrev Keeps : {V : Type 0} → Reader V → List ℕ → List ℕ → Type 0
-Keeps read b c = (o : ℕ) (k : List Keep) (p e : ℕ) → Still (read b o k p e) (read (b ++ c) o k p e)
+abbrev TagValues : {V : Type 0} → Reader V → List ℕ → List ℕ → Type 0
+TagValues read b c = (o : ℕ) (k : List TagValue) (p e : ℕ) → Still (read b o k p e) (read (b ++ c) o k p e)
 
-all_still : (fs : Fields) (deny : Bool) (read : Reader Values) (b c : List ℕ) → Keeps read b c → Keeps (all_outcome fs deny read) b c
+all_still : (fs : Fields) (deny : Bool) (read : Reader Values) (b c : List ℕ) → TagValues read b c → TagValues (all_outcome fs deny read) b c
 unfolding all_outcome
 all_still fs deny read b c one o k p e = bind (one o k p e) (λ rs _. bind (rest_still (suc (length b)) (suc (length (b ++ c))) (omega (arith, length-append b c)) fs deny b c o rs.next e) (λ q _. still refl))
 
-field_still : (name : List ℕ) (s : Form) (read : Reader Value) (b c : List ℕ) → Keeps read b c → Keeps (field_outcome name s read) b c
+field_still : (name : List ℕ) (s : Form) (read : Reader Value) (b c : List ℕ) → TagValues read b c → TagValues (field_outcome name s read) b c
 unfolding field_outcome tag_wanted
 field_still name s read b c one o k p e =
     either (p == e) (still refl) (either (is_struct s) (one o k p e) (type_then b c p (λ t le. rw (tagged_more name b c p t (tag_of name) le, tag_more b c p le)
@@ -164,7 +164,7 @@ field_still name s read b c one o k p e =
 -- ---- sequences
 
 -- where no item's header is there, the bytes end too early
-outcome_early : (s : Form) (b : List ℕ) (o : ℕ) (k : List Keep) (p e : ℕ) → nat_lt (length b) (p + 4) ≡ true → outcome s b o k p e ≡ ends_early
+outcome_early : (s : Form) (b : List ℕ) (o : ℕ) (k : List TagValue) (p e : ℕ) → nat_lt (length b) (p + 4) ≡ true → outcome s b o k p e ≡ ends_early
 unfolding outcome struct_outcome seq_outcome enum_outcome leaf_outcome opened type_there
 outcome_early (option s) b o k p e early = rw (outcome_early s b o k p e early) refl
 outcome_early (newtype name s) b o k p e early = rw (outcome_early s b o k p e early) refl
@@ -172,24 +172,24 @@ outcome_early (seq s) b o k p e early = rw (outcome_early s b o k p e early) ref
 outcome_early s b o k p e early = rw early refl
 
 -- among more bytes it may take more steps
-run_still : (read : Reader Value) (n m first : ℕ) → n ≤ m → (b c : List ℕ) → first + 4 ≤ length b → Keeps read b c → (o : ℕ) (k : List Keep) (p e : ℕ) → Still (run_outcome n read first b o k p e) (run_outcome m read first (b ++ c) o k p e)
+run_still : (read : Reader Value) (n m first : ℕ) → n ≤ m → (b c : List ℕ) → first + 4 ≤ length b → TagValues read b c → (o : ℕ) (k : List TagValue) (p e : ℕ) → Still (run_outcome n read first b o k p e) (run_outcome m read first (b ++ c) o k p e)
 unfolding run_outcome goes_on
 run_still read zero m first steps b c le one o k p e = record { stands = tt }
 run_still read (suc n) zero first steps b c le one o k p e = absurd (omega arith)
 run_still read (suc n) (suc m) first steps b c le one o k p e =
     bind (either (p == e) (still refl) (type_then b c p (λ t here. still (rw (tag_more b c p here, code_more b c p here, tag_more b c first le, code_more b c first le) refl))))
-    (λ more _. either more (bind (one o k p e) (λ r _. bind (run_still read n m first (omega arith) b c le one o r.kept r.next e) (λ rs _. still refl))) (still refl))
+    (λ more _. either more (bind (one o k p e) (λ r _. bind (run_still read n m first (omega arith) b c le one o r.stored r.next e) (λ rs _. still refl))) (still refl))
 
 -- ---- enums
 
-index_still : (i : Option ℕ) (at : ℕ → TtlvType → Reader Value) (name : List ℕ) (vs : Variants) (t : TtlvType) (b c : List ℕ) (o : ℕ) (k : List Keep) (p e : ℕ) → p + 4 ≤ length b → ((i : ℕ) → Still (at i t b o k p e) (at i t (b ++ c) o k p e)) → Still (by_index i at (number_outcome name vs) t b o k p e) (by_index i at (number_outcome name vs) t (b ++ c) o k p e)
+index_still : (i : Option ℕ) (at : ℕ → TtlvType → Reader Value) (name : List ℕ) (vs : Variants) (t : TtlvType) (b c : List ℕ) (o : ℕ) (k : List TagValue) (p e : ℕ) → p + 4 ≤ length b → ((i : ℕ) → Still (at i t b o k p e) (at i t (b ++ c) o k p e)) → Still (by_index i at (number_outcome name vs) t b o k p e) (by_index i at (number_outcome name vs) t (b ++ c) o k p e)
 unfolding number_outcome type_wanted inside
 index_still (Some i) at name vs t b c o k p e le one = one i
 index_still None at name vs t b c o k p e le one =
     rw (tag_more b c p le) (after (must (is_number_type t) _) (λ _. length_then b c p (λ n le8. rw (length_more b c p le8) (after (must (length_at b p == 4) _) (λ _.
     bind (content_still b c p t le) (λ x _. still (rw (unit_more (first_named (number_text x.0) vs) b c o p t le) refl)))))))
 
-enum_still : (name : List ℕ) (vs : Variants) (at : ℕ → TtlvType → Reader Value) (b c : List ℕ) → ((i : ℕ) (t : TtlvType) (o : ℕ) (k : List Keep) (p e : ℕ) → p + 4 ≤ length b → Still (at i t b o k p e) (at i t (b ++ c) o k p e)) → Keeps (enum_outcome name vs at) b c
+enum_still : (name : List ℕ) (vs : Variants) (at : ℕ → TtlvType → Reader Value) (b c : List ℕ) → ((i : ℕ) (t : TtlvType) (o : ℕ) (k : List TagValue) (p e : ℕ) → p + 4 ≤ length b → Still (at i t b o k p e) (at i t (b ++ c) o k p e)) → TagValues (enum_outcome name vs at) b c
 unfolding enum_outcome
 enum_still name vs at b c one o k p e =
     type_then b c p (λ t le. rw (picked_more (choice vs k t) b c p t le) (after (picked (choice vs k t) b p t) (λ i. index_still i at name vs t b c o k p e le (λ j. one j t o k p e le))))
@@ -199,7 +199,7 @@ enum_still name vs at b c one o k p e =
 mutual
   unfolding outcome leaf_outcome struct_outcome seq_outcome fields_outcome variant_outcome content_outcome tuple_outcome forms_outcome part_outcome type_wanted structure_wanted inside
 
-  outcome_still : (s : Form) (b c : List ℕ) (o : ℕ) (k : List Keep) (p e : ℕ) → Still (outcome s b o k p e) (outcome s (b ++ c) o k p e)
+  outcome_still : (s : Form) (b c : List ℕ) (o : ℕ) (k : List TagValue) (p e : ℕ) → Still (outcome s b o k p e) (outcome s (b ++ c) o k p e)
   outcome_still (struct name fs deny) b c o k p e =
       bind (opened_then name b c p (λ stop le. rw (tag_more b c p le)
       (bind (within_still (tag_at b p) (all_still fs deny (fields_outcome fs) b c (fields_still fs b c) (tag_at b p) k (p + 8) stop)) (λ rs _. still refl)))) (λ r _. still refl)
@@ -207,28 +207,28 @@ mutual
   outcome_still (newtype name s) b c o k p e = bind (outcome_still s b c o k p e) (λ r _. still refl)
   outcome_still (seq s) b c o k p e =
       bind (bind (outcome_still s b c o k p e) (λ r is. bind (run_still (outcome s) (suc (length b)) (suc (length (b ++ c))) p (omega (arith, length-append b c)) b c
-      (header_there b p (outcome s b o k p e) r (outcome_early s b o k p e) is) (outcome_still s b c) o r.kept r.next e) (λ rs _. still refl))) (λ r _. still refl)
+      (header_there b p (outcome s b o k p e) r (outcome_early s b o k p e) is) (outcome_still s b c) o r.stored r.next e) (λ rs _. still refl))) (λ r _. still refl)
   outcome_still (enum name vs) b c o k p e = enum_still name vs (variant_outcome name vs) b c (variant_still name vs b c) o k p e
   outcome_still s b c o k p e = type_then b c p (λ t le. rw (tag_more b c p le) (after (must (takes s t) _) (λ _. bind (content_still b c p t le) (λ x _. still refl))))
 
-  fields_still : (fs : Fields) (b c : List ℕ) (o : ℕ) (k : List Keep) (p e : ℕ) → Still (fields_outcome fs b o k p e) (fields_outcome fs (b ++ c) o k p e)
+  fields_still : (fs : Fields) (b c : List ℕ) (o : ℕ) (k : List TagValue) (p e : ℕ) → Still (fields_outcome fs b o k p e) (fields_outcome fs (b ++ c) o k p e)
   fields_still no_fields b c o k p e = still refl
-  fields_still (field name s fs) b c o k p e = bind (field_still name s (outcome s) b c (outcome_still s b c) o k p e) (λ r _. bind (fields_still fs b c o r.kept r.next e) (λ rs _. still refl))
+  fields_still (field name s fs) b c o k p e = bind (field_still name s (outcome s) b c (outcome_still s b c) o k p e) (λ r _. bind (fields_still fs b c o r.stored r.next e) (λ rs _. still refl))
 
-  variant_still : (name : List ℕ) (vs : Variants) (b c : List ℕ) (i : ℕ) (t : TtlvType) (o : ℕ) (k : List Keep) (p e : ℕ) → p + 4 ≤ length b → Still (variant_outcome name vs i t b o k p e) (variant_outcome name vs i t (b ++ c) o k p e)
+  variant_still : (name : List ℕ) (vs : Variants) (b c : List ℕ) (i : ℕ) (t : TtlvType) (o : ℕ) (k : List TagValue) (p e : ℕ) → p + 4 ≤ length b → Still (variant_outcome name vs i t b o k p e) (variant_outcome name vs i t (b ++ c) o k p e)
   variant_still name no_variants b c i t o k p e le = record { stands = tt }
   variant_still name (variant vname x vs) b c zero t o k p e le = among_still name vname x b c t o k p e le
   variant_still name (variant vname x vs) b c (suc i) t o k p e le = variant_still name vs b c i t o k p e le
 
-  among_still : (name vname : List ℕ) (x : Content) (b c : List ℕ) (t : TtlvType) (o : ℕ) (k : List Keep) (p e : ℕ) → p + 4 ≤ length b → Still (content_outcome name vname x t b o k p e) (content_outcome name vname x t (b ++ c) o k p e)
+  among_still : (name vname : List ℕ) (x : Content) (b c : List ℕ) (t : TtlvType) (o : ℕ) (k : List TagValue) (p e : ℕ) → p + 4 ≤ length b → Still (content_outcome name vname x t b o k p e) (content_outcome name vname x t (b ++ c) o k p e)
   among_still name vname unit b c t o k p e le = still (rw (tag_more b c p le) refl)
   among_still name vname (wrapped s) b c t o k p e le = bind (outcome_still s b c o k p e) (λ r _. still refl)
   among_still name vname (tuple ss) b c t o k p e le =
       rw (tag_more b c p le) (bind (after (must (is_structure t) _) (λ _. length_then b c p (λ n _. bind (forms_still ss b c o k (p + 8) (p + 8 + n)) (λ rs _. still refl)))) (λ r _. still refl))
 
-  forms_still : (ss : Forms) (b c : List ℕ) (o : ℕ) (k : List Keep) (p e : ℕ) → Still (forms_outcome ss b o k p e) (forms_outcome ss (b ++ c) o k p e)
+  forms_still : (ss : Forms) (b c : List ℕ) (o : ℕ) (k : List TagValue) (p e : ℕ) → Still (forms_outcome ss b o k p e) (forms_outcome ss (b ++ c) o k p e)
   forms_still no_forms b c o k p e = still refl
-  forms_still (form s ss) b c o k p e = bind (either (p == e) (still refl) (outcome_still s b c o k p e)) (λ r _. bind (forms_still ss b c o r.kept r.next e) (λ rs _. still refl))
+  forms_still (form s ss) b c o k p e = bind (either (p == e) (still refl) (outcome_still s b c o k p e)) (λ r _. bind (forms_still ss b c o r.stored r.next e) (λ rs _. still refl))
 
 -- ---- whole messages
 

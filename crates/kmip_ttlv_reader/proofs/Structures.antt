@@ -5,7 +5,7 @@ use Rattle.kmip_ttlv_types.specs.Digits.{tag_text}
 use Rattle.kmip_ttlv_types.specs.Places.{tag_at}
 use Rattle.kmip_ttlv_base.specs.Values.{Value, none_value}
 use Rattle.kmip_ttlv_base.specs.Forms.{Fields, Form, option}
-use Rattle.kmip_ttlv_reader.specs.Keeps.{Keep}
+use Rattle.kmip_ttlv_reader.specs.TagValues.{TagValue}
 use Rattle.kmip_ttlv_reader.specs.Reads.{has_tag, is_option, is_struct}
 use Rattle.kmip_ttlv_reader.specs.ReadFaults.{in_struct}
 use Rattle.kmip_ttlv_reader.specs.Spots.{field_there, optional_there}
@@ -21,7 +21,7 @@ unfolding first_outcome
 first_is tag fs deny b = rw (tag_of_number tag) refl
 
 -- a field that may not be absent is there, and then it is read
-pub field_is : (tag : ℕ) (s : Form) (read : Reader Value) (b : List ℕ) (o : ℕ) (k : List Keep) (p e : ℕ)
+pub field_is : (tag : ℕ) (s : Form) (read : Reader Value) (b : List ℕ) (o : ℕ) (k : List TagValue) (p e : ℕ)
     → is_option s ≡ false
     → is_struct s ≡ false
     → field_outcome (tag_text tag) s read b o k p e ≡ (field_there tag b o p e >>= λ u. read b o k p e)
@@ -48,7 +48,7 @@ field_is tag s read b o k p e plain leaf = rw (plain, leaf) (by_end (p == e))
     by_end false = by_type (type_there b p)
 
 -- a field that may be absent: whether it is there, and then it is read
-pub optional_is : (tag : ℕ) (s : Form) (read : Reader Value) (b : List ℕ) (o : ℕ) (k : List Keep) (p e : ℕ)
+pub optional_is : (tag : ℕ) (s : Form) (read : Reader Value) (b : List ℕ) (o : ℕ) (k : List TagValue) (p e : ℕ)
     → field_outcome (tag_text tag) (option s) read b o k p e ≡ (optional_there tag b p e >>= λ there. if there then read b o k p e else reads none_value k p)
 unfolding field_outcome
 optional_is tag s read b o k p e = by_end (p == e)

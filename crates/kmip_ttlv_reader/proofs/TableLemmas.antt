@@ -7,9 +7,9 @@ use Rattle.kmip_ttlv_types.specs.declared.typ.TtlvType.{TtlvType}
 use Rattle.kmip_ttlv_types.specs.Names.{after_prefix}
 use Rattle.kmip_ttlv_base.specs.Values.{Value, unit_variant_value}
 use Rattle.kmip_ttlv_base.specs.Forms.{Variants, no_variants, variant, unit, wrapped, tuple, enum}
-use Rattle.kmip_ttlv_reader.specs.Keeps.{Keep}
+use Rattle.kmip_ttlv_reader.specs.TagValues.{TagValue}
 use Rattle.kmip_ttlv_reader.specs.Reads.{first_named}
-use Rattle.kmip_ttlv_reader.specs.Rules.{choice, by_value, rule, verdict, no_rule}
+use Rattle.kmip_ttlv_reader.specs.Rules.{choice, number_decides, rule, verdict, no_rule}
 use Rattle.kmip_ttlv_reader.specs.Steps.{Outcome, gives, ends_early, fails, ◌>>=◌}
 use Rattle.kmip_ttlv_reader.specs.Outcomes.{outcome, enum_outcome, number_outcome, type_there, picked, by_index, variant_outcome}
 use Rattle.kmip_ttlv_reader.specs.ListedRows.{AreListed, IsRowNamed}
@@ -76,11 +76,11 @@ row_nowhere vs name rows i l left = left ∙ nothing rows i l
     nothing (r ∷ rows) (suc i) l = nothing rows i (omega arith)
 
 -- where no name is a rule, the number chooses
-no_rule_there : (name : List ℕ) (k : List Keep) (t : TtlvType) → after_prefix (codes "if ") name ≡ None → rule name k t ≡ no_rule
+no_rule_there : (name : List ℕ) (k : List TagValue) (t : TtlvType) → after_prefix (codes "if ") name ≡ None → rule name k t ≡ no_rule
 unfolding rule
 no_rule_there name k t none = ap (λ body. verdict name body k t) none
 
-listed_choice : {T : Type 0} (own : List ℕ) (f : T → Value) (vs : Variants) (rows : List (Bor (List ℕ) × T)) (k : List Keep) (t : TtlvType) → AreListed own f vs rows → choice vs k t ≡ by_value
+listed_choice : {T : Type 0} (own : List ℕ) (f : T → Value) (vs : Variants) (rows : List (Bor (List ℕ) × T)) (k : List TagValue) (t : TtlvType) → AreListed own f vs rows → choice vs k t ≡ number_decides
 listed_choice own f no_variants rows k t h = refl
 listed_choice own f (variant name unit vs) [] k t h = absurd h
 listed_choice own f (variant name unit vs) (row ∷ rows) k t h = rw (no_rule_there name k t h.1, listed_choice own f vs rows k t h.3) refl
@@ -89,7 +89,7 @@ listed_choice own f (variant name (wrapped s) vs) (row ∷ rows) k t h = absurd 
 listed_choice own f (variant name (tuple ss) vs) [] k t h = absurd h
 listed_choice own f (variant name (tuple ss) vs) (row ∷ rows) k t h = absurd h
 
-pub listed_is : {T : Type 0} (own : List ℕ) (f : T → Value) (vs : Variants) (rows : List (Bor (List ℕ) × T)) (b : List ℕ) (o : ℕ) (k : List Keep) (p e : ℕ) → AreListed own f vs rows
+pub listed_is : {T : Type 0} (own : List ℕ) (f : T → Value) (vs : Variants) (rows : List (Bor (List ℕ) × T)) (b : List ℕ) (o : ℕ) (k : List TagValue) (p e : ℕ) → AreListed own f vs rows
     → outcome (enum own vs) b o k p e ≡ (type_there b p >>= λ t. number_outcome own vs t b o k p e)
 unfolding outcome enum_outcome
 listed_is own f vs rows b o k p e h = by (type_there b p)

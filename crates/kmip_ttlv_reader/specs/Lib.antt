@@ -1,6 +1,6 @@
-pub mod Keeps
-pub mod Kept
-pub mod HeldTexts
+pub mod TagValues
+pub mod StoredValue
+pub mod StoredTexts
 pub mod Rules
 pub mod Reads
 pub mod Steps

@@ -1,7 +1,8 @@
 -- What bytes are read as by a form: one total function. Each line is a step, in the order of reading, and the first
--- that fails is the error. In it b are all bytes, o is the owner's tag, k are the texts kept, p is the place and e where
--- the structure around it ends; t is an item's type and n its length. A number of steps is at most the number of bytes
--- and one: each item has eight bytes at least, so the steps never run out before the bytes.
+-- that fails is the error. `X_there` reads X, or the bytes end early; `X_wanted` checks X, or is an error. In it b are all
+-- bytes, o is the tag of the innermost struct, k are the texts stored, p is an offset and e where the structure around it
+-- ends; t is an item's type and n its length. `run_outcome` and `rest_outcome` take a bound for the recursion first, the
+-- number of bytes and one, which is never reached: an item has eight bytes at least.
 use Rattle.std.specs.Prelude.{ℕ, zero, suc, ◌+◌, Bool, false, List, [], ◌∷◌, ◌++◌, length, take, drop, codes}
 use Rattle.std.specs.Prelude.{Option, Some, None, ◌==◌, ◌&&◌, if◌then◌else◌, nat_lt}
 use Rattle.kmip_ttlv_types.specs.declared.typ.TtlvType.{TtlvType}
@@ -26,8 +27,8 @@ use Rattle.kmip_ttlv_base.specs.Forms.{Content, unit, wrapped, tuple, Forms, no_
 use Rattle.kmip_ttlv_reader.specs.ReadFaults.{at_item, in_struct, bad_code, overflow, at_first}
 use Rattle.kmip_ttlv_reader.specs.Steps.{Fault, Outcome, gives, ends_early, fails, ◌>>=◌, ◌>>◌, must, must_not, within}
 use Rattle.kmip_ttlv_reader.specs.Steps.{reads, mapped, Reader}
-use Rattle.kmip_ttlv_reader.specs.Rules.{Choice, chosen, by_value, choice_refused, choice}
-use Rattle.kmip_ttlv_reader.specs.Reads.{is_option, is_struct, has_tag, names_tag, has_fields, takes, leaf_value, with_leaf}
+use Rattle.kmip_ttlv_reader.specs.Rules.{Choice, chosen, number_decides, choice_invalid, choice}
+use Rattle.kmip_ttlv_reader.specs.Reads.{is_option, is_struct, has_tag, names_tag, has_fields, takes, decoded_leaf, stored_after_leaf}
 use Rattle.kmip_ttlv_reader.specs.Reads.{is_number_type, number_text, first_named}
 
 -- ---- an item's header
@@ -64,19 +65,19 @@ structure_wanted b p t =
 unfoldable pub inside : List ℕ → ℕ → ℕ → TtlvType → ℕ → Outcome (Unit {0})
 inside b p e t q = must_not (nat_lt e q) (fails (overflow b p e t q))
 
--- the place behind the item's padding
+-- the place after the item's padding
 unfoldable pub end_there : List ℕ → ℕ → TtlvType → ℕ → Outcome ℕ
 end_there b p t n = if nat_lt (length b) (p + size t n) then ends_early else gives (p + size t n)
 
 -- ---- leaves
 
--- the item's length is the one that is wanted, if one is; a fault is so far behind its first byte
+-- the item's length is the one that is wanted, if one is; the error's offset is so many bytes from its first one
 abbrev pub length_wanted : List ℕ → ℕ → ℕ → TtlvType → Option ℕ → Outcome (Unit {0})
 length_wanted b p after t None = gives tt
 length_wanted b p after t (Some w) =
     must (length_at b p == w) (fails (at_item b p after t (malformed (faults.InvalidLength w (length_at b p) t))))
 
--- the content of a leaf, and the place behind its padding
+-- the content of a leaf, and the place after its padding
 unfoldable pub content_there : List ℕ → ℕ → TtlvType → Outcome (List ℕ × ℕ)
 content_there b p t = do
   n ← length_there b p
@@ -109,7 +110,7 @@ leaf_outcome s b o k p e = do
   type_wanted (takes s t) (first_type s) b p t
   c ← content_there b p t
   inside b p e t c.1
-  reads (leaf_value s c.0) (with_leaf s record { tag = tag_at b p; typ = t; content = c.0 } k) c.1
+  reads (decoded_leaf s c.0) (stored_after_leaf s record { tag = tag_at b p; typ = t; content = c.0 } k) c.1
 
 -- ---- structures and what they contain
 
@@ -122,12 +123,12 @@ opened name b p = do
   n ← length_there b p
   gives (p + 8 + n)
 
--- the place behind an item: a structure is passed over by its length
+-- the place after an item: a structure is passed over by its length
 unfoldable pub item_end : List ℕ → ℕ → TtlvType → Outcome ℕ
 item_end b p t =
     if is_structure t then (length_there b p >>= end_there b p t) else (content_there b p t >>= λ c. gives c.1)
 
--- an item behind the fields, which is ignored: the place behind it
+-- an item after the fields, which is ignored: the place after it
 unfoldable pub ignored : Fields → Bool → List ℕ → ℕ → ℕ → ℕ → Outcome ℕ
 ignored fs deny b o p e = do
   t ← type_there b p
@@ -138,7 +139,7 @@ ignored fs deny b o p e = do
   inside b p e t q
   gives q
 
--- the items behind the fields, up to the end, in at most so many steps
+-- the items after the fields, up to the end, in at most so many steps
 unfoldable pub rest_outcome : ℕ → Fields → Bool → List ℕ → ℕ → ℕ → ℕ → Outcome ℕ
 rest_outcome zero fs deny b o p e = ends_early
 rest_outcome (suc n) fs deny b o p e =
@@ -149,7 +150,7 @@ unfoldable pub all_outcome : Fields → Bool → Reader Values → Reader Values
 all_outcome fs deny read b o k p e = do
   rs ← read b o k p e
   q ← rest_outcome (suc (length b)) fs deny b o rs.next e
-  reads rs.value rs.kept q
+  reads rs.value rs.stored q
 
 -- a struct: a fault in it has its tag as a parent; whether it goes too far is asked last
 unfoldable pub struct_outcome : List ℕ → Fields → Bool → Reader Values → Reader Values
@@ -157,7 +158,7 @@ struct_outcome name fs deny read b o k p e = do
   stop ← opened name b p
   rs ← within (tag_at b p) (all_outcome fs deny read b (tag_at b p) k (p + 8) stop)
   inside b p e Structure stop
-  reads rs.value rs.kept stop
+  reads rs.value rs.stored stop
 
 -- a field: a struct goes by its own name, any other by the field's, and an option may be left out
 unfoldable pub field_outcome : List ℕ → Form → Reader Value → Reader Value
@@ -175,27 +176,27 @@ goes_on b first p e =
     if p == e then gives false else
     (type_there b p >>= λ t. gives ((tag_at b p == tag_at b first) && (code_at b p == code_at b first)))
 
--- a sequence behind its first item, in at most so many steps
+-- a sequence after its first item, in at most so many steps
 unfoldable pub run_outcome : ℕ → Reader Value → ℕ → Reader Values
 run_outcome zero read first b o k p e = ends_early
 run_outcome (suc n) read first b o k p e =
     goes_on b first p e >>= λ more.
     if more
     then (read b o k p e >>= λ r.
-    run_outcome n read first b o r.kept r.next e >>= λ rs.
-    reads (value r.value rs.value) rs.kept rs.next)
+    run_outcome n read first b o r.stored r.next e >>= λ rs.
+    reads (value r.value rs.value) rs.stored rs.next)
     else reads no_values k p
 
 -- a sequence: its first item, and then as long as the next is like that one
 unfoldable pub seq_outcome : Reader Value → Reader Values
 seq_outcome read b o k p e = do
   r ← read b o k p e
-  rs ← run_outcome (suc (length b)) read p b o r.kept r.next e
-  reads (value r.value rs.value) rs.kept rs.next
+  rs ← run_outcome (suc (length b)) read p b o r.stored r.next e
+  reads (value r.value rs.value) rs.stored rs.next
 
 -- ---- enums
 
--- content at a variant that a number names, the item's bytes being read
+-- the error if the variant that a number names has content; its offset is after the item
 abbrev pub named_content : List ℕ → ℕ → TtlvType → FieldType → Fault
 named_content b p t actual = at_item b p 16 t (malformed (faults.UnexpectedTtlvField parts.Tag actual))
 
@@ -225,13 +226,13 @@ tuple_outcome t read b o k p e = do
   rs ← read b o k (p + 8) (p + 8 + n)
   must_not (nat_lt rs.next (p + 8 + n)) (fails (in_struct rs.next o (codes "too many items")))
   inside b p e t (p + 8 + n)
-  reads rs.value rs.kept (p + 8 + n)
+  reads rs.value rs.stored (p + 8 + n)
 
 -- the variant that a rule chose, by its index, if one did
 abbrev pub picked : Choice → List ℕ → ℕ → TtlvType → Outcome (Option ℕ)
 picked (chosen i) b p t = gives (Some i)
-picked by_value b p t = gives None
-picked (choice_refused m) b p t = fails (at_item b p 4 t (mismatch m))
+picked number_decides b p t = gives None
+picked (choice_invalid m) b p t = fails (at_item b p 4 t (mismatch m))
 
 -- what reads the variant at an index, or the one that a number names
 abbrev pub by_index : Option ℕ → (ℕ → TtlvType → Reader Value) → (TtlvType → Reader Value) → TtlvType → Reader Value
@@ -267,8 +268,8 @@ unfoldable mutual
   fields_outcome no_fields b o k p e = reads no_values k p
   fields_outcome (field name s fs) b o k p e =
       field_outcome name s (outcome s) b o k p e >>= λ r.
-      fields_outcome fs b o r.kept r.next e >>= λ rs.
-      reads (value r.value rs.value) rs.kept rs.next
+      fields_outcome fs b o r.stored r.next e >>= λ rs.
+      reads (value r.value rs.value) rs.stored rs.next
 
   -- the variant at this index, at an item of this type
   pub variant_outcome : List ℕ → Variants → ℕ → TtlvType → Reader Value
@@ -289,8 +290,8 @@ unfoldable mutual
   forms_outcome no_forms b o k p e = reads no_values k p
   forms_outcome (form s ss) b o k p e =
       part_outcome (outcome s) b o k p e >>= λ r.
-      forms_outcome ss b o r.kept r.next e >>= λ rs.
-      reads (value r.value rs.value) rs.kept rs.next
+      forms_outcome ss b o r.stored r.next e >>= λ rs.
+      reads (value r.value rs.value) rs.stored rs.next
 
 -- ---- whole messages: structs, with options and newtypes around them
 

@@ -7,12 +7,12 @@ use Rattle.kmip_ttlv_base.specs.declared.error.MalformedTtlvError.TheVariants as
 use Rattle.kmip_ttlv_base.specs.Errors.{Kind, malformed, mismatch, other_cause}
 use Rattle.kmip_ttlv_reader.specs.Steps.{Fault}
 
--- so far behind the first byte of the item at p
+-- so far after the first byte of the item at p
 abbrev pub at_item : List ℕ → ℕ → ℕ → TtlvType → Kind → Fault
 at_item b p after t why =
     record { why = why; place = record { offset = Some (p + after); parents = []; tag = Some (tag_at b p); typ = Some t } }
 
--- in the struct of this tag
+-- `Other` with these words, at an offset; its tag is that of the innermost struct
 abbrev pub in_struct : ℕ → ℕ → List ℕ → Fault
 in_struct offset tag words = record {
   why = mismatch (other_cause words);

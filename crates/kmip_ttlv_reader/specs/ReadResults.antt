@@ -43,24 +43,24 @@ IsFault f (Err e) = IsMemory e ⊎ (seen e ≡ f)
 
 -- ---- bytes that go on
 
--- what an error says of bytes that go on
-pub data Sort : Type 0 where
-  memory : Sort
-  early_end : Sort
-  other : Sort
+-- whether more bytes could help
+pub data ErrorSort : Type 0 where
+  memory : ErrorSort
+  early_end : ErrorSort
+  other : ErrorSort
 
 -- what an error of this kind says
-abbrev pub sort_of_kind : Kind → Sort
+abbrev pub sort_of_kind : Kind → ErrorSort
 sort_of_kind (io_error e) = early_end
 sort_of_kind out_of_memory = memory
 sort_of_kind _ = other
 
 -- what an error says
-abbrev pub sort_of : {A : Type 0} → Error A → Sort
+abbrev pub sort_of : {A : Type 0} → Error A → ErrorSort
 sort_of e = sort_of_kind (view_of_kind (kind_of e))
 
 -- no value is read from the bytes; but for an early end, none whatever bytes follow
-abbrev pub NothingBegins : Form → List ℕ → Sort → Type 0
+abbrev pub NothingBegins : Form → List ℕ → ErrorSort → Type 0
 NothingBegins s bytes memory = Unit {0}
 NothingBegins s bytes early_end = (v : Value) → Begins s bytes v → ⊥
 NothingBegins s bytes other = (after : List ℕ) (v : Value) → Begins s (bytes ++ after) v → ⊥

@@ -20,8 +20,8 @@ use Rattle.kmip_ttlv_base.specs.Values.{Values, no_values, value}
 use Rattle.kmip_ttlv_base.specs.Forms.{Form, struct, option, seq, newtype, enum, int32, int64, boolean, text, octets}
 use Rattle.kmip_ttlv_base.specs.Forms.{date_time, interval, big_integer, any_number, Fields, no_fields, field, Variants, no_variants, variant}
 use Rattle.kmip_ttlv_base.specs.Forms.{Content, unit, wrapped, tuple, Forms, no_forms, form}
-use Rattle.kmip_ttlv_reader.specs.Keeps.{Keep}
-use Rattle.kmip_ttlv_reader.specs.Rules.{chosen, by_value, choice}
+use Rattle.kmip_ttlv_reader.specs.TagValues.{TagValue}
+use Rattle.kmip_ttlv_reader.specs.Rules.{chosen, number_decides, choice}
 
 -- the name is that of this tag
 abbrev pub has_tag : List ℕ → ℕ → Bool
@@ -89,17 +89,17 @@ takes any_number Enumeration = true
 takes _ _ = false
 
 -- the value that the form gives for a leaf's content
-abbrev pub leaf_value : Form → List ℕ → Value
-leaf_value int32 content = i32_value (cast_signed w32 (from_be_bytes w32 content))
-leaf_value int64 content = i64_value (cast_signed w64 (from_be_bytes w64 content))
-leaf_value boolean content = boolean_value (from_be_bytes w64 content == 1)
-leaf_value text content = text_value content
-leaf_value octets content = bytes_value content
-leaf_value date_time content = date_time_value (cast_signed w64 (from_be_bytes w64 content))
-leaf_value interval content = interval_value (from_be_bytes w32 content)
-leaf_value big_integer content = big_integer_value content
-leaf_value any_number content = u32_value (from_be_bytes w32 content)
-leaf_value _ content = none_value
+abbrev pub decoded_leaf : Form → List ℕ → Value
+decoded_leaf int32 content = i32_value (cast_signed w32 (from_be_bytes w32 content))
+decoded_leaf int64 content = i64_value (cast_signed w64 (from_be_bytes w64 content))
+decoded_leaf boolean content = boolean_value (from_be_bytes w64 content == 1)
+decoded_leaf text content = text_value content
+decoded_leaf octets content = bytes_value content
+decoded_leaf date_time content = date_time_value (cast_signed w64 (from_be_bytes w64 content))
+decoded_leaf interval content = interval_value (from_be_bytes w32 content)
+decoded_leaf big_integer content = big_integer_value content
+decoded_leaf any_number content = u32_value (from_be_bytes w32 content)
+decoded_leaf _ content = none_value
 
 -- the types that an enum reads by value
 abbrev pub is_number_type : TtlvType → Bool
@@ -116,10 +116,10 @@ abbrev pub number_text : List ℕ → List ℕ
 number_text content = 48 ∷ 120 ∷ flat_map byte_digits content
 
 -- a text is kept under its item's tag, and so is the text of an Enumeration's number; no other leaf is
-abbrev pub with_leaf : Form → Raw → List Keep → List Keep
-with_leaf text x k = k ++ record { tag = x.tag; text = x.content } ∷ []
-with_leaf any_number x k = k ++ record { tag = x.tag; text = number_text x.content } ∷ []
-with_leaf _ x k = k
+abbrev pub stored_after_leaf : Form → Raw → List TagValue → List TagValue
+stored_after_leaf text x k = k ++ record { tag = x.tag; text = x.content } ∷ []
+stored_after_leaf any_number x k = k ++ record { tag = x.tag; text = number_text x.content } ∷ []
+stored_after_leaf _ x k = k
 
 -- the content of the first variant of this name
 abbrev pub first_named : List ℕ → Variants → Option Content
@@ -127,28 +127,28 @@ first_named name no_variants = None
 first_named name (variant vname c vs) = if bytes_eq vname name then Some c else first_named name vs
 
 mutual
-  -- from these items, with these texts kept, the form reads a value, and leaves these items and texts
-  pub data Reads : Form → List Keep → List Raw → Value → List Keep → List Raw → Type 0 where
+  -- from these items, with these texts stored, the form reads a value, and leaves these items and texts
+  pub data Reads : Form → List TagValue → List Raw → Value → List TagValue → List Raw → Type 0 where
     leaf :
-        {s : Form} {h : Raw} {xs : List Raw} {k : List Keep}
+        {s : Form} {h : Raw} {xs : List Raw} {k : List TagValue}
         → takes s h.typ ≡ true
         → is_valid h.typ h.content ≡ true
-        → Reads s k (h ∷ xs) (leaf_value s h.content) (with_leaf s h k) xs
+        → Reads s k (h ∷ xs) (decoded_leaf s h.content) (stored_after_leaf s h k) xs
     wrap_some :
-        {s : Form} {k k' : List Keep} {xs ys : List Raw} {v : Value}
+        {s : Form} {k k' : List TagValue} {xs ys : List Raw} {v : Value}
         → Reads s k xs v k' ys
         → Reads (option s) k xs (some_value v) k' ys
     wrap :
-        {s : Form} {name : List ℕ} {k k' : List Keep} {xs ys : List Raw} {v : Value}
+        {s : Form} {name : List ℕ} {k k' : List TagValue} {xs ys : List Raw} {v : Value}
         → Reads s k xs v k' ys
         → Reads (newtype name s) k xs (newtype_value name v) k' ys
     run :
-        {s : Form} {h : Raw} {k k' k'' : List Keep} {xs ys zs : List Raw} {v : Value} {vs : Values}
+        {s : Form} {h : Raw} {k k' k'' : List TagValue} {xs ys zs : List Raw} {v : Value} {vs : Values}
         → Reads s k (h ∷ xs) v k' ys
         → ReadsRun s h k' ys vs k'' zs
         → Reads (seq s) k (h ∷ xs) (seq_value (value v vs)) k'' zs
     structure :
-        {name : List ℕ} {fs : Fields} {deny : Bool} {h : Raw} {xs zs rest : List Raw} {k k' : List Keep} {vs : Values}
+        {name : List ℕ} {fs : Fields} {deny : Bool} {h : Raw} {xs zs rest : List Raw} {k k' : List TagValue} {vs : Values}
         → names name (h ∷ []) ≡ true
         → h.typ ≡ Structure
         → Splits zs h.content
@@ -156,13 +156,13 @@ mutual
         → may_follow fs deny rest ≡ true
         → Reads (struct name fs deny) k (h ∷ xs) (struct_value name vs) k' xs
     by_rule :
-        {name : List ℕ} {vs : Variants} {h : Raw} {xs ys : List Raw} {k k' : List Keep} {v : Value} {i : ℕ}
+        {name : List ℕ} {vs : Variants} {h : Raw} {xs ys : List Raw} {k k' : List TagValue} {v : Value} {i : ℕ}
         → choice vs k h.typ ≡ chosen i
         → ReadsVariant name vs i k (h ∷ xs) v k' ys
         → Reads (enum name vs) k (h ∷ xs) v k' ys
     by_number :
-        {name : List ℕ} {vs : Variants} {h : Raw} {xs : List Raw} {k : List Keep}
-        → choice vs k h.typ ≡ by_value
+        {name : List ℕ} {vs : Variants} {h : Raw} {xs : List Raw} {k : List TagValue}
+        → choice vs k h.typ ≡ number_decides
         → is_number_type h.typ ≡ true
         → is_valid h.typ h.content ≡ true
         → first_named (number_text h.content) vs ≡ Some unit
@@ -171,76 +171,76 @@ mutual
         (k ++ record { tag = h.tag; text = number_text h.content } ∷ []) xs
 
   -- the variant at this index reads
-  pub data ReadsVariant : List ℕ → Variants → ℕ → List Keep → List Raw → Value → List Keep → List Raw → Type 0 where
+  pub data ReadsVariant : List ℕ → Variants → ℕ → List TagValue → List Raw → Value → List TagValue → List Raw → Type 0 where
     here :
-        {name vname : List ℕ} {c : Content} {vs : Variants} {k k' : List Keep} {xs ys : List Raw} {v : Value}
+        {name vname : List ℕ} {c : Content} {vs : Variants} {k k' : List TagValue} {xs ys : List Raw} {v : Value}
         → ReadsContent name vname c k xs v k' ys
         → ReadsVariant name (variant vname c vs) 0 k xs v k' ys
     there :
-        {name vname : List ℕ} {c : Content} {vs : Variants} {i : ℕ} {k k' : List Keep} {xs ys : List Raw} {v : Value}
+        {name vname : List ℕ} {c : Content} {vs : Variants} {i : ℕ} {k k' : List TagValue} {xs ys : List Raw} {v : Value}
         → ReadsVariant name vs i k xs v k' ys
         → ReadsVariant name (variant vname c vs) (suc i) k xs v k' ys
 
   -- the content of a variant reads: a form from the same item, or forms that use up a structure's items
-  pub data ReadsContent : List ℕ → List ℕ → Content → List Keep → List Raw → Value → List Keep → List Raw → Type 0 where
+  pub data ReadsContent : List ℕ → List ℕ → Content → List TagValue → List Raw → Value → List TagValue → List Raw → Type 0 where
     whole :
-        {name vname : List ℕ} {s : Form} {k k' : List Keep} {xs ys : List Raw} {v : Value}
+        {name vname : List ℕ} {s : Form} {k k' : List TagValue} {xs ys : List Raw} {v : Value}
         → Reads s k xs v k' ys
         → ReadsContent name vname (wrapped s) k xs (newtype_variant_value name vname v) k' ys
     parts :
-        {name vname : List ℕ} {ss : Forms} {h : Raw} {xs zs : List Raw} {k k' : List Keep} {vs : Values}
+        {name vname : List ℕ} {ss : Forms} {h : Raw} {xs zs : List Raw} {k k' : List TagValue} {vs : Values}
         → h.typ ≡ Structure
         → Splits zs h.content
         → ReadsForms ss k zs vs k' []
         → ReadsContent name vname (tuple ss) k (h ∷ xs) (tuple_variant_value name vname vs) k' xs
 
   -- the forms read one after the other
-  pub data ReadsForms : Forms → List Keep → List Raw → Values → List Keep → List Raw → Type 0 where
-    no_part : {k : List Keep} {xs : List Raw} → ReadsForms no_forms k xs no_values k xs
+  pub data ReadsForms : Forms → List TagValue → List Raw → Values → List TagValue → List Raw → Type 0 where
+    no_part : {k : List TagValue} {xs : List Raw} → ReadsForms no_forms k xs no_values k xs
     part :
-        {s : Form} {ss : Forms} {k k' k'' : List Keep} {xs ys zs : List Raw} {v : Value} {vs : Values}
+        {s : Form} {ss : Forms} {k k' k'' : List TagValue} {xs ys zs : List Raw} {v : Value} {vs : Values}
         → Reads s k xs v k' ys
         → ReadsForms ss k' ys vs k'' zs
         → ReadsForms (form s ss) k xs (value v vs) k'' zs
 
   -- the form reads again, as long as the first item is like this one
-  pub data ReadsRun : Form → Raw → List Keep → List Raw → Values → List Keep → List Raw → Type 0 where
+  pub data ReadsRun : Form → Raw → List TagValue → List Raw → Values → List TagValue → List Raw → Type 0 where
     ends :
-        {s : Form} {h : Raw} {k : List Keep} {xs : List Raw}
+        {s : Form} {h : Raw} {k : List TagValue} {xs : List Raw}
         → is_like h xs ≡ false
         → ReadsRun s h k xs no_values k xs
     more :
-        {s : Form} {h : Raw} {k k' k'' : List Keep} {xs ys zs : List Raw} {v : Value} {vs : Values}
+        {s : Form} {h : Raw} {k k' k'' : List TagValue} {xs ys zs : List Raw} {v : Value} {vs : Values}
         → is_like h xs ≡ true
         → Reads s k xs v k' ys
         → ReadsRun s h k' ys vs k'' zs
         → ReadsRun s h k xs (value v vs) k'' zs
 
   -- the fields read one after the other
-  pub data ReadsFields : Fields → List Keep → List Raw → Values → List Keep → List Raw → Type 0 where
-    done : {k : List Keep} {xs : List Raw} → ReadsFields no_fields k xs no_values k xs
+  pub data ReadsFields : Fields → List TagValue → List Raw → Values → List TagValue → List Raw → Type 0 where
+    done : {k : List TagValue} {xs : List Raw} → ReadsFields no_fields k xs no_values k xs
     next :
-        {name : List ℕ} {s : Form} {fs : Fields} {k k' k'' : List Keep} {xs ys zs : List Raw} {v : Value} {vs : Values}
+        {name : List ℕ} {s : Form} {fs : Fields} {k k' k'' : List TagValue} {xs ys zs : List Raw} {v : Value} {vs : Values}
         → ReadsField name s k xs v k' ys
         → ReadsFields fs k' ys vs k'' zs
         → ReadsFields (field name s fs) k xs (value v vs) k'' zs
 
   -- one field: an option is left out where its name isn't the next item's; a struct goes by its own name, any other by
   -- the field's
-  pub data ReadsField : List ℕ → Form → List Keep → List Raw → Value → List Keep → List Raw → Type 0 where
+  pub data ReadsField : List ℕ → Form → List TagValue → List Raw → Value → List TagValue → List Raw → Type 0 where
     absent :
-        {name : List ℕ} {s : Form} {k : List Keep} {xs : List Raw}
+        {name : List ℕ} {s : Form} {k : List TagValue} {xs : List Raw}
         → is_option s ≡ true
         → names name xs ≡ false
         → ReadsField name s k xs none_value k xs
     named :
-        {name : List ℕ} {s : Form} {k k' : List Keep} {xs ys : List Raw} {v : Value}
+        {name : List ℕ} {s : Form} {k k' : List TagValue} {xs ys : List Raw} {v : Value}
         → names name xs ≡ true
         → is_struct s ≡ false
         → Reads s k xs v k' ys
         → ReadsField name s k xs v k' ys
     inner :
-        {name : List ℕ} {s : Form} {k k' : List Keep} {xs ys : List Raw} {v : Value}
+        {name : List ℕ} {s : Form} {k k' : List TagValue} {xs ys : List Raw} {v : Value}
         → is_struct s ≡ true
         → Reads s k xs v k' ys
         → ReadsField name s k xs v k' ys
@@ -258,8 +258,8 @@ pub record Begins (s : Form) (bytes : List ℕ) (v : Value) : Type 0 where
   pub item : Raw
   pub item_text : List ℕ
   pub after : List ℕ
-  pub kept : List Keep
+  pub stored : List TagValue
   pub is_text : IsTextOf item item_text
   pub is_structure : item.typ ≡ Structure
   pub parts : bytes ≡ item_text ++ after
-  pub reads : Reads s [] (item ∷ []) v kept []
+  pub reads : Reads s [] (item ∷ []) v stored []

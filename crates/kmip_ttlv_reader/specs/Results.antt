@@ -7,7 +7,7 @@ use Rattle.kmip_ttlv_reader.specs.declared.failure.Cause.TheVariants as causes
 use Rattle.kmip_ttlv_reader.specs.declared.failure.FaultAt.{FaultAt}
 use Rattle.kmip_ttlv_reader.specs.declared.failure.Failure.{Failure}
 use Rattle.kmip_ttlv_reader.specs.declared.failure.Failure.TheVariants as failures
-use Rattle.kmip_ttlv_reader.specs.Keeps.{Keep}
+use Rattle.kmip_ttlv_reader.specs.TagValues.{TagValue}
 use Rattle.kmip_ttlv_reader.specs.Steps.{Outcome, gives, ends_early, fails, Fault, Read, reads}
 use Rattle.kmip_ttlv_reader.specs.ReadResults.{IsError, seen}
 
@@ -40,8 +40,8 @@ abbrev pub IsStep : {X V A : Type 0} → (X → V) → Outcome V → Result X (F
 IsStep view o (Ok x) = o ≡ gives (view x)
 IsStep view o (Err r) = IsFailure o r
 
--- the same of a value and the place behind it, where these are the texts kept by then
-abbrev pub IsRead : {X V A : Type 0} → (X → V) → List Keep → Outcome (Read V) → Result (X × ℕ) (Failure A) → Type 0
+-- the same for a value and the offset after it; k are the texts stored by then
+abbrev pub IsRead : {X V A : Type 0} → (X → V) → List TagValue → Outcome (Read V) → Result (X × ℕ) (Failure A) → Type 0
 IsRead view k o (Ok r) = o ≡ reads (view r.0) k r.1
 IsRead view k o (Err r) = IsFailure o r
 

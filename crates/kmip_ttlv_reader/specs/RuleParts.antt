@@ -5,24 +5,24 @@ use Rattle.std.specs.Borrow.{Bor}
 use Rattle.std.specs.Str.{bytes_eq, trim, trim_end, trim_start, chars}
 use lib.Utf8.{encode}
 use Rattle.kmip_ttlv_types.specs.Names.{after_prefix, number, tag_of}
-use Rattle.kmip_ttlv_reader.specs.Keeps.{Keep, last}
-use Rattle.kmip_ttlv_reader.specs.Rules.{Verdict, says, with_text, sides, in_brackets, type_name}
+use Rattle.kmip_ttlv_reader.specs.TagValues.{TagValue, last}
+use Rattle.kmip_ttlv_reader.specs.Rules.{Verdict, plain_verdict, with_text, sides, in_brackets, type_name}
 use Rattle.kmip_ttlv_types.specs.declared.typ.TtlvType.{TtlvType}
 use Rattle.kmip_ttlv_reader.specs.declared.rules.RuleParts.{RuleParts}
 use Rattle.kmip_ttlv_reader.specs.declared.rules.RuleParts.TheVariants as parts
 
--- the last text kept under a tag is one of these; not where there is no such tag
-abbrev pub wants : ℕ → List (List ℕ) → List Keep → Verdict
-wants t texts ks = with_text (last ks t) (λ text. says (list_any (bytes_eq text) texts))
+-- the last text stored under a tag is one of these; not where there is no such tag
+abbrev pub wants : ℕ → List (List ℕ) → List TagValue → Verdict
+wants t texts ks = with_text (last ks t) (λ text. plain_verdict (list_any (bytes_eq text) texts))
 
 -- the texts themselves
 abbrev pub texts_of : List (Bor (List ℕ)) → List (List ℕ)
 texts_of texts = map (λ one. one.now) texts
 
--- what a rule in parts says of the kept texts and of an item's type
-abbrev pub wanted : RuleParts → List Keep → TtlvType → Verdict
+-- what a rule in parts says of the stored texts and of an item's type
+abbrev pub wanted : RuleParts → List TagValue → TtlvType → Verdict
 wanted (parts.Texts tag texts) ks typ = wants tag (texts_of texts.now) ks
-wanted (parts.Type asked) ks typ = says (bytes_eq (type_name asked) (type_name typ))
+wanted (parts.Type asked) ks typ = plain_verdict (bytes_eq (type_name asked) (type_name typ))
 
 -- the tag and the one text of `==`, where it asks for no type
 abbrev pub parts_of_equal : List ℕ → List ℕ → Option (ℕ × List (List ℕ))
@@ -40,6 +40,7 @@ parts_by None (Some x) member = None
 parts_by None None (Some x) = parts_of_member x.0 x.1
 parts_by None None None = None
 
+-- the parts of a rule, by what follows `if `
 abbrev pub parts_of_body : List ℕ → Option (ℕ × List (List ℕ))
 parts_of_body body = parts_by (sides (codes "==") body) (sides (codes ">=") body) (sides (codes "in") body)
 

@@ -7,7 +7,7 @@ use Rattle.kmip_ttlv_base.specs.Values.{Value, none_value, some_value, seq_value
 use Rattle.kmip_ttlv_base.specs.Forms.{Form, Fields, newtype, struct}
 use Rattle.kmip_ttlv_reader.specs.declared.failure.Failure.{Failure}
 use Rattle.kmip_ttlv_reader.specs.declared.scope.Scope.{Scope}
-use Rattle.kmip_ttlv_reader.specs.Keeps.{Keep}
+use Rattle.kmip_ttlv_reader.specs.TagValues.{TagValue}
 use Rattle.kmip_ttlv_reader.specs.Steps.{Outcome, Read, Reader, reads, fails, gives, ◌>>=◌}
 use Rattle.kmip_ttlv_types.specs.Places.{tag_at}
 use Rattle.kmip_ttlv_reader.specs.Reads.{has_tag}
@@ -15,9 +15,9 @@ use Rattle.kmip_ttlv_reader.specs.Outcomes.{type_there, tag_wanted}
 use Rattle.kmip_ttlv_reader.specs.ReadFaults.{in_struct}
 use Rattle.kmip_ttlv_reader.specs.Results.{IsFailure}
 
--- the texts that were kept, and the place of the next item
+-- the stored texts, and the place of the next item
 pub record Spot : Type 0 where
-  pub kept : List Keep
+  pub stored : List TagValue
   pub pos : ℕ
 
 -- the place is among the bytes and in the structure
@@ -26,11 +26,11 @@ IsWithin scope spot = (spot.pos ≤ scope.end) × (spot.pos ≤ length scope.byt
 
 -- what is read from this spot in this structure
 abbrev pub at : {V A : Type 0} → Reader V → Scope A → Spot → Outcome (Read V)
-at read scope spot = read scope.bytes.now scope.owner spot.kept spot.pos scope.end
+at read scope spot = read scope.bytes.now scope.owner spot.stored spot.pos scope.end
 
 -- the result is that outcome, up to this spot, or memory ran out
 abbrev pub IsReadTo : {X V A : Type 0} → (X → V) → Spot → Outcome (Read V) → Result X (Failure A) → Type 0
-IsReadTo view spot o (Ok x) = o ≡ reads (view x) spot.kept spot.pos
+IsReadTo view spot o (Ok x) = o ≡ reads (view x) spot.stored spot.pos
 IsReadTo view spot o (Err r) = IsFailure o r
 
 -- the name of the wrapper around a leaf of this tag

@@ -1,7 +1,7 @@
 -- What a step of reading comes to, and how steps follow one another.
 use Rattle.std.specs.Prelude.{ℕ, Bool, List, ◌∷◌, if◌then◌else◌}
 use Rattle.kmip_ttlv_base.specs.Errors.{Kind, Location}
-use Rattle.kmip_ttlv_reader.specs.Keeps.{Keep}
+use Rattle.kmip_ttlv_reader.specs.TagValues.{TagValue}
 
 -- what is wrong with the bytes, and where
 pub record Fault : Type 0 where
@@ -14,10 +14,10 @@ pub data Outcome (A : Type 0) : Type 0 where
   ends_early : Outcome A
   fails : Fault → Outcome A
 
--- what was read, all texts that were kept, and the place behind it
+-- what was read, all stored texts, and the offset after it
 pub record Read (V : Type 0) : Type 0 where
   pub value : V
-  pub kept : List Keep
+  pub stored : List TagValue
   pub next : ℕ
 
 -- a step, and then what depends on its result
@@ -46,15 +46,15 @@ within tag (gives x) = gives x
 within tag ends_early = ends_early
 within tag (fails x) = fails record x { place = record x.place { parents = tag ∷ x.place.parents } }
 
--- a value, the texts kept and the place behind it
-abbrev pub reads : {V : Type 0} → V → List Keep → ℕ → Outcome (Read V)
-reads v k q = gives record { value = v; kept = k; next = q }
+-- a value, the texts stored and the place after it
+abbrev pub reads : {V : Type 0} → V → List TagValue → ℕ → Outcome (Read V)
+reads v k q = gives record { value = v; stored = k; next = q }
 
 -- the same with a function of the value in its place
 abbrev pub mapped : {V W : Type 0} → (V → W) → Outcome (Read V) → Outcome (Read W)
-mapped f o = o >>= λ r. reads (f r.value) r.kept r.next
+mapped f o = o >>= λ r. reads (f r.value) r.stored r.next
 
 -- What reads from a place in the bytes, within a structure that ends at another place. The innermost struct around has
--- the owner's tag; rules see the texts that were kept before.
+-- the owner's tag; rules see the stored texts before.
 abbrev pub Reader : Type 0 → Type 0
-Reader V = List ℕ → (owner : ℕ) → List Keep → (pos end : ℕ) → Outcome (Read V)
+Reader V = List ℕ → (owner : ℕ) → List TagValue → (pos end : ℕ) → Outcome (Read V)

@@ -1,7 +1,7 @@
 -- What the code returns of rules, against their definitions.
 use Rattle.std.specs.Prelude.{ℕ, Option, Some, None, Result, Ok, Err}
 use Rattle.kmip_ttlv_base.specs.Errors.{Mismatch, invalid_rule, invalid_tag}
-use Rattle.kmip_ttlv_reader.specs.Rules.{Verdict, no_rule, holds, fails, refused, Choice, chosen, by_value, choice_refused}
+use Rattle.kmip_ttlv_reader.specs.Rules.{Verdict, no_rule, holds, fails, refused, Choice, chosen, number_decides, choice_invalid}
 use Rattle.kmip_ttlv_reader.specs.declared.rules.RuleError.{RuleError}
 use Rattle.kmip_ttlv_reader.specs.declared.rules.RuleError.TheVariants as faults
 use Rattle.kmip_ttlv_reader.specs.declared.rules.Verdict.{Verdict as Answer}
@@ -22,5 +22,5 @@ verdict_of (answers.Refused e) = refused (mismatch_of e)
 -- a choice as its definition has it
 abbrev pub choice_of : Result (Option ℕ) RuleError → Choice
 choice_of (Ok (Some i)) = chosen i
-choice_of (Ok None) = by_value
-choice_of (Err e) = choice_refused (mismatch_of e)
+choice_of (Ok None) = number_decides
+choice_of (Err e) = choice_invalid (mismatch_of e)

@@ -9,7 +9,7 @@ ghost use Rattle.kmip_ttlv_reader.specs.Reads.{first_named, number_text};
 ghost use Rattle.kmip_ttlv_reader.specs.Rules.{rule};
 ghost use Rattle.kmip_ttlv_reader.specs.Outcomes.{outcome};
 ghost use Rattle.kmip_ttlv_reader.specs.Spots.{IsWithin, IsReadTo, at};
-ghost use Rattle.kmip_ttlv_reader.specs.Chosen.{IsChosen, IsHeld, IsTried, IsNever, unnamed};
+ghost use Rattle.kmip_ttlv_reader.specs.Chosen.{IsChosen, IsVerdict, IsTried, IsFailed, unnamed};
 
 use crate::cursor::Cursor;
 use crate::element::Element;
@@ -118,9 +118,9 @@ fn named_rule_holds<'b, A: Allocator + Copy>(
     typ: TtlvType,
 ) -> Step<bool, A>
     requires there { cursor.now.pos + 4 ≤ length scope.now.bytes.now }
-    ensures { IsHeld (rule name.now cursor.now.kept typ) scope.now.bytes.now cursor.now.pos typ result }
+    ensures { IsVerdict (rule name.now cursor.now.stored typ) scope.now.bytes.now cursor.now.pos typ result }
 {
-    match rule(name, cursor.kept_texts(), typ) {
+    match rule(name, cursor.stored_values(), typ) {
         Verdict::Holds => Ok(true),
         Verdict::NoRule | Verdict::Fails => Ok(false),
         Verdict::Refused(error) => {
@@ -137,10 +137,10 @@ fn rule_holds<'b, R: Rule, A: Allocator + Copy>(
     typ: TtlvType,
 ) -> Step<bool, A>
     requires there { cursor.now.pos + 4 ≤ length scope.now.bytes.now }
-    ensures { IsHeld (rule (codes "if " ++ R.condition) cursor.now.kept typ) scope.now.bytes.now cursor.now.pos typ result }
+    ensures { IsVerdict (rule (codes "if " ++ R.condition) cursor.now.stored typ) scope.now.bytes.now cursor.now.pos typ result }
 {
     match R::parts() {
-        Some(parts) => Ok(parts_hold(parts, cursor.kept_texts(), typ)),
+        Some(parts) => Ok(parts_hold(parts, cursor.stored_values(), typ)),
         None => named_rule_holds(scope, cursor, R::name(), typ),
     }
 }
@@ -205,7 +205,7 @@ fn read_either<
     }
 }
 
-/// A variant, and others behind it.
+/// A variant, and others after it.
 impl<
     R: VariantOf<E, T, A>,
     E: Element<A>,
@@ -236,7 +236,7 @@ fn unnamed<'b, X: Drop, A: Allocator + Copy>(
     typ: TtlvType,
 ) -> Step<X, A>
     requires there { pos + 4 ≤ length scope.now.bytes.now }
-    ensures { IsNever (unnamed scope.now.bytes.now scope.now.owner pos typ) result }
+    ensures { IsFailed (unnamed scope.now.bytes.now scope.now.owner pos typ) result }
 {
     type_wanted(
         scope.alloc,

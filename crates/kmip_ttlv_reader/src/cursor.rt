@@ -15,19 +15,19 @@ ghost use Rattle.kmip_ttlv_reader.specs.ListedRows.{AreListed};
 
 use crate::failure::{Cause, Failure, Step, at_item, in_struct};
 use crate::head::{tag_at, type_there};
-use crate::keep::KeptTexts;
 use crate::leaf::{LeafValue, read_leaf_as};
 use crate::listed::{Listed, read_listed};
 use crate::scope::Scope;
+use crate::store::TagValueStore;
 use kmip_ttlv_base::error::SerdeError;
 use kmip_ttlv_base::types::{TtlvTag, TtlvType};
 use std::alloc::{Allocator, Global};
 use std::marker::Model;
 
-/// How far reading has come in a structure, and the texts that were kept for the rules of enums.
+/// How far reading has come in a structure, and the stored texts for the rules of enums.
 #[derive(Drop)]
 pub struct Cursor<'b, A: Allocator = Global> {
-    kept: KeptTexts<'b, A>,
+    stored: TagValueStore<'b, A>,
     pos: usize,
 }
 
@@ -36,7 +36,7 @@ impl<'b, A: Allocator> Model for Cursor<'b, A> {
 
     ghost Value = { Spot };
 
-    ghost view = { λ c. record { kept = c.kept; pos = c.pos } };
+    ghost view = { λ c. record { stored = c.stored; pos = c.pos } };
 }
 
 /// Whether a tag has this number, of which the last three bytes count.
@@ -120,14 +120,14 @@ fn read_wrapped<'b, K: LeafValue<A>, A: Allocator + Copy>(
     scope: &Scope<'b, A>,
     tag: u32,
     pos: usize,
-    kept: &mut KeptTexts<'b, A>,
+    stored: &mut TagValueStore<'b, A>,
 ) -> Step<(K, usize), A>
     requires inside { pos ≤ length scope.now.bytes.now }
-    ensures read { IsRead (λ x. newtype_value (wrapper_name tag) (K.value x)) kept.new
-        (outcome (wrapped_leaf tag (form_of_leaf K.leaf)) scope.now.bytes.now scope.now.owner kept.old pos scope.now.end) result }
+    ensures read { IsRead (λ x. newtype_value (wrapper_name tag) (K.value x)) stored.new
+        (outcome (wrapped_leaf tag (form_of_leaf K.leaf)) scope.now.bytes.now scope.now.owner stored.old pos scope.now.end) result }
     ensures further { IfOk result (λ r. (pos + 8 ≤ r.1) × (r.1 ≤ scope.now.end) × (r.1 ≤ length scope.now.bytes.now)) }
 {
-    read_leaf_as(scope, pos, kept)
+    read_leaf_as(scope, pos, stored)
 }
 
 // A leaf, as its form has it.
@@ -135,14 +135,14 @@ fn read_wrapped<'b, K: LeafValue<A>, A: Allocator + Copy>(
 fn read_bare<'b, K: LeafValue<A>, A: Allocator + Copy>(
     scope: &Scope<'b, A>,
     pos: usize,
-    kept: &mut KeptTexts<'b, A>,
+    stored: &mut TagValueStore<'b, A>,
 ) -> Step<(K, usize), A>
     requires inside { pos ≤ length scope.now.bytes.now }
-    ensures read { IsRead K.value kept.new
-        (outcome (form_of_leaf K.leaf) scope.now.bytes.now scope.now.owner kept.old pos scope.now.end) result }
+    ensures read { IsRead K.value stored.new
+        (outcome (form_of_leaf K.leaf) scope.now.bytes.now scope.now.owner stored.old pos scope.now.end) result }
     ensures further { IfOk result (λ r. (pos + 8 ≤ r.1) × (r.1 ≤ scope.now.end) × (r.1 ≤ length scope.now.bytes.now)) }
 {
-    read_leaf_as(scope, pos, kept)
+    read_leaf_as(scope, pos, stored)
 }
 
 // A field that is a leaf within its wrapper.
@@ -152,13 +152,13 @@ fn read_leaf_field<'b, K: LeafValue<A>, A: Allocator + Copy>(
     scope: &Scope<'b, A>,
     tag: u32,
     pos: usize,
-    kept: &mut KeptTexts<'b, A>,
+    stored: &mut TagValueStore<'b, A>,
 ) -> Step<(K, usize), A>
     requires inside { pos ≤ length scope.now.bytes.now }
     requires before { pos ≤ scope.now.end }
-    ensures read { IsRead (λ x. newtype_value (wrapper_name tag) (K.value x)) kept.new
+    ensures read { IsRead (λ x. newtype_value (wrapper_name tag) (K.value x)) stored.new
         (field_outcome (tag_text tag) (wrapped_leaf tag (form_of_leaf K.leaf)) (outcome (wrapped_leaf tag (form_of_leaf K.leaf)))
-        scope.now.bytes.now scope.now.owner kept.old pos scope.now.end) result }
+        scope.now.bytes.now scope.now.owner stored.old pos scope.now.end) result }
     ensures further { IfOk result (λ r. (pos + 8 ≤ r.1) × (r.1 ≤ scope.now.end) × (r.1 ≤ length scope.now.bytes.now)) }
 {
     if pos == scope.end {
@@ -168,7 +168,7 @@ fn read_leaf_field<'b, K: LeafValue<A>, A: Allocator + Copy>(
     if !is_tag(tag, tag_at(scope.bytes, pos)) {
         tag_is(scope.alloc, tag, scope.bytes, pos, typ)?;
     }
-    read_wrapped(scope, tag, pos, kept)
+    read_wrapped(scope, tag, pos, stored)
 }
 
 // A field that is a leaf within its wrapper, where it is there.
@@ -178,13 +178,13 @@ fn read_optional_leaf<'b, K: LeafValue<A>, A: Allocator + Copy>(
     scope: &Scope<'b, A>,
     tag: u32,
     pos: usize,
-    kept: &mut KeptTexts<'b, A>,
+    stored: &mut TagValueStore<'b, A>,
 ) -> Step<(Option<K>, usize), A>
     requires inside { pos ≤ length scope.now.bytes.now }
     requires before { pos ≤ scope.now.end }
-    ensures read { IsRead (optional_value (λ x. newtype_value (wrapper_name tag) (K.value x))) kept.new
+    ensures read { IsRead (optional_value (λ x. newtype_value (wrapper_name tag) (K.value x))) stored.new
         (field_outcome (tag_text tag) (option (wrapped_leaf tag (form_of_leaf K.leaf))) (outcome (option (wrapped_leaf tag (form_of_leaf K.leaf))))
-        scope.now.bytes.now scope.now.owner kept.old pos scope.now.end) result }
+        scope.now.bytes.now scope.now.owner stored.old pos scope.now.end) result }
     ensures further { IfOk result (λ r. (pos ≤ r.1) × (r.1 ≤ scope.now.end) × (r.1 ≤ length scope.now.bytes.now)) }
 {
     if pos == scope.end {
@@ -194,17 +194,17 @@ fn read_optional_leaf<'b, K: LeafValue<A>, A: Allocator + Copy>(
     if !is_tag(tag, tag_at(scope.bytes, pos)) {
         return Ok((None, pos));
     }
-    let (value, next) = read_wrapped(scope, tag, pos, kept)?;
+    let (value, next) = read_wrapped(scope, tag, pos, stored)?;
     Ok((Some(value), next))
 }
 
 impl<'b, A: Allocator + Copy> Cursor<'b, A> {
-    /// At this place of a message, with no texts kept. Takes no memory.
+    /// At this place of a message, with no texts stored. Takes no memory.
     pub fn new(alloc: A, pos: usize) -> Cursor<'b, A>
-        ensures { result ≡ record { kept = []; pos = pos } }
+        ensures { result ≡ record { stored = []; pos = pos } }
     {
         Cursor {
-            kept: KeptTexts::new(alloc),
+            stored: TagValueStore::new(alloc),
             pos,
         }
     }
@@ -217,18 +217,18 @@ impl<'b, A: Allocator + Copy> Cursor<'b, A> {
         self.pos
     }
 
-    /// The texts that were kept.
+    /// The stored texts.
     #[inline(always)]
-    pub fn kept_texts(&self) -> &KeptTexts<'b, A>
-        ensures { result.now ≡ self.now.kept }
+    pub fn stored_values(&self) -> &TagValueStore<'b, A>
+        ensures { result.now ≡ self.now.stored }
     {
-        &self.kept
+        &self.stored
     }
 
     /// Goes to another place.
     #[inline(always)]
     pub fn go_to(&mut self, pos: usize)
-        ensures { self.new ≡ record { kept = self.old.kept; pos = pos } }
+        ensures { self.new ≡ record { stored = self.old.stored; pos = pos } }
     {
         self.pos = pos;
     }
@@ -242,7 +242,7 @@ impl<'b, A: Allocator + Copy> Cursor<'b, A> {
             scope.now self.old) result }
         ensures within { IfOk result (λ _. IsWithin scope.now self.new) }
     {
-        let (value, next) = read_leaf_field(scope, tag, self.pos, &mut self.kept)?;
+        let (value, next) = read_leaf_field(scope, tag, self.pos, &mut self.stored)?;
         self.pos = next;
         Ok(value)
     }
@@ -260,7 +260,7 @@ impl<'b, A: Allocator + Copy> Cursor<'b, A> {
             scope.now self.old) result }
         ensures within { IfOk result (λ _. IsWithin scope.now self.new) }
     {
-        let (value, next) = read_optional_leaf(scope, tag, self.pos, &mut self.kept)?;
+        let (value, next) = read_optional_leaf(scope, tag, self.pos, &mut self.stored)?;
         self.pos = next;
         Ok(value)
     }
@@ -274,7 +274,7 @@ impl<'b, A: Allocator + Copy> Cursor<'b, A> {
         ensures within { IfOk result (λ _. IsWithin scope.now self.new) }
         ensures further { IfOk result (λ _. self.old.pos + 8 ≤ self.new.pos) }
     {
-        let (value, next) = read_wrapped(scope, tag, self.pos, &mut self.kept)?;
+        let (value, next) = read_wrapped(scope, tag, self.pos, &mut self.stored)?;
         self.pos = next;
         Ok(value)
     }
@@ -287,7 +287,7 @@ impl<'b, A: Allocator + Copy> Cursor<'b, A> {
         ensures within { IfOk result (λ _. IsWithin scope.now self.new) }
         ensures further { IfOk result (λ _. self.old.pos + 8 ≤ self.new.pos) }
     {
-        let (value, next) = read_bare(scope, self.pos, &mut self.kept)?;
+        let (value, next) = read_bare(scope, self.pos, &mut self.stored)?;
         self.pos = next;
         Ok(value)
     }
@@ -305,7 +305,7 @@ impl<'b, A: Allocator + Copy> Cursor<'b, A> {
         ensures within { IfOk result (λ _. IsWithin scope.now self.new) }
         ensures further { IfOk result (λ _. self.old.pos + 8 ≤ self.new.pos) }
     {
-        let (value, next) = read_listed(scope, table, self.pos, &mut self.kept)?;
+        let (value, next) = read_listed(scope, table, self.pos, &mut self.stored)?;
         self.pos = next;
         Ok(value)
     }

@@ -103,7 +103,7 @@ pub fn at_first<A: Allocator + Copy>(alloc: A, cause: Cause<A>) -> Failure<A>
     make_fault(alloc, cause, 0, None, None)
 }
 
-/// So far behind the first byte of the item at `pos`.
+/// So far after the first byte of the item at `pos`.
 #[cold]
 pub fn at_item<A: Allocator + Copy>(
     alloc: A,

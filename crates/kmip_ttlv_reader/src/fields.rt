@@ -1,5 +1,5 @@
 //! Fields that read themselves: each kind of field is a type, and the fields of a structure are a tuple of up to four of them,
-//! or `Four` of them with others behind. What is read has the same layout.
+//! or `Four` of them with others after. What is read has the same layout.
 
 ghost use Rattle.std.specs.Prelude.{◌≡◌, ◌≤◌, true, false, length, IfOk};
 ghost use Rattle.kmip_ttlv_types.specs.Digits.{tag_text};
@@ -99,7 +99,7 @@ impl<A: Allocator + Copy> FieldList<A> for () {
     }
 }
 
-// A field, and others behind it: what tuples are read by.
+// A field, and others after it: what tuples are read by.
 #[derive(Drop)]
 struct Then<H, R> {
     kind: PhantomData<(H, R)>,
@@ -248,7 +248,7 @@ impl<F1: Field<A>, F2: Field<A>, F3: Field<A>, F4: Field<A>, A: Allocator + Copy
     }
 }
 
-/// Four fields, and others behind them.
+/// Four fields, and others after them.
 #[derive(Drop)]
 pub struct Four<F1, F2, F3, F4, R> {
     kind: PhantomData<(F1, F2, F3, F4, R)>,

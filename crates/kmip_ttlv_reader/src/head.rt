@@ -1,4 +1,4 @@
-//! The steps of reading an item: each is a step of the page.
+//! The steps of reading an item. Each function's contract cites the definition of its name in specs/Outcomes.
 
 ghost use Rattle.std.specs.Prelude.{◌≡◌, ◌≢◌, ◌+◌, ◌<◌, ◌≤◌, ◌^◌, length, IfOk, true};
 ghost use Rattle.kmip_ttlv_types.specs.Places.{length_at, size};
@@ -174,7 +174,7 @@ pub fn length_wanted<A: Allocator + Copy>(
     Ok(())
 }
 
-/// The content of a leaf, and the place behind its padding.
+/// The content of a leaf, and the place after its padding.
 #[tactic(auto, unfolding(crate::specs::Outcomes::content_there), using(crate::proofs::Steps::failing))]
 #[inline(always)]
 pub fn content_there<A: Allocator + Copy>(
@@ -202,7 +202,7 @@ pub fn content_there<A: Allocator + Copy>(
     Ok((content, next))
 }
 
-/// The place behind an item's padding.
+/// The place after an item's padding.
 #[tactic(auto, unfolding(crate::specs::Outcomes::end_there))]
 #[inline(always)]
 pub fn end_there<A: Allocator + Copy>(
@@ -244,7 +244,7 @@ pub fn has_tag(name: &str, tag: TtlvTag) -> bool
     TtlvTag::from_name(name) == Some(tag)
 }
 
-/// The place behind an item.
+/// The place after an item.
 #[tactic(auto, unfolding(crate::specs::Outcomes::item_end), using(crate::proofs::Steps::failure_then))]
 #[inline(always)]
 pub fn item_end<A: Allocator + Copy>(

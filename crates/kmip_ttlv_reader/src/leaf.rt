@@ -3,15 +3,15 @@
 ghost use Rattle.std.specs.Prelude.{◌≡◌, ◌+◌, ◌≤◌, length, true, IfOk};
 ghost use Rattle.kmip_ttlv_types.specs.Leaves.{is_valid};
 ghost use Rattle.kmip_ttlv_base.specs.Values.{Value, view};
-ghost use Rattle.kmip_ttlv_reader.specs.Reads.{takes, leaf_value, with_leaf};
+ghost use Rattle.kmip_ttlv_reader.specs.Reads.{takes, decoded_leaf, stored_after_leaf};
 ghost use Rattle.kmip_ttlv_reader.specs.Outcomes.{leaf_outcome, first_type};
 ghost use Rattle.kmip_ttlv_reader.specs.Results.{IsRead};
 ghost use Rattle.kmip_ttlv_reader.specs.LeafForms.{form_of_leaf};
 
 use crate::failure::Step;
 use crate::head::{content_there, inside, tag_at, type_there, type_wanted};
-use crate::keep::KeptTexts;
 use crate::scope::Scope;
+use crate::store::TagValueStore;
 use kmip_ttlv_base::shape::Data;
 use kmip_ttlv_base::types::numbers::{number_of_eight, number_of_four};
 use kmip_ttlv_base::types::{TtlvTag, TtlvType};
@@ -88,7 +88,7 @@ fn leaf_data<A: Allocator + Copy>(
 ) -> Result<Data<A>, AllocError>
     requires takes { takes (form_of_leaf leaf) typ ≡ true }
     requires valid { is_valid typ content.now ≡ true }
-    ensures { IfOk result (λ d. view d ≡ leaf_value (form_of_leaf leaf) content.now) }
+    ensures { IfOk result (λ d. view d ≡ decoded_leaf (form_of_leaf leaf) content.now) }
 {
     Ok(match leaf {
         Leaf::I32 => Data::I32(number_of_four(content).cast_signed()),
@@ -105,21 +105,21 @@ fn leaf_data<A: Allocator + Copy>(
 
 // A text is kept under its item's tag, and so is the text of an Enumeration's number; no other leaf is.
 #[inline(always)]
-fn keep_leaf<'b, A: Allocator + Copy>(
+fn store_leaf<'b, A: Allocator + Copy>(
     leaf: Leaf,
     tag: TtlvTag,
     typ: TtlvType,
     content: &'b [u8],
-    kept: &mut KeptTexts<'b, A>,
+    stored: &mut TagValueStore<'b, A>,
 ) -> Result<(), AllocError>
     requires takes { takes (form_of_leaf leaf) typ ≡ true }
     requires valid { is_valid typ content.now ≡ true }
-    ensures ok { IfOk result (λ _. kept.new ≡ with_leaf (form_of_leaf leaf)
-        record { tag = tag; typ = typ; content = content.now } kept.old) }
+    ensures ok { IfOk result (λ _. stored.new ≡ stored_after_leaf (form_of_leaf leaf)
+        record { tag = tag; typ = typ; content = content.now } stored.old) }
 {
     match leaf {
-        Leaf::Text => kept.keep(tag, text_of(content))?,
-        Leaf::U32 => kept.keep_number(tag, content)?,
+        Leaf::Text => stored.store(tag, text_of(content))?,
+        Leaf::U32 => stored.store_number(tag, content)?,
         Leaf::I32 | Leaf::I64 | Leaf::Bool | Leaf::Bytes => {}
         Leaf::DateTime | Leaf::Interval | Leaf::BigInteger => {}
     }
@@ -133,11 +133,11 @@ pub fn read_leaf<'b, A: Allocator + Copy>(
     scope: &Scope<'b, A>,
     leaf: Leaf,
     pos: usize,
-    kept: &mut KeptTexts<'b, A>,
+    stored: &mut TagValueStore<'b, A>,
 ) -> Step<(Data<A>, usize), A>
     requires inside { pos ≤ length scope.now.bytes.now }
-    ensures read { IsRead view kept.new
-        (leaf_outcome (form_of_leaf leaf) scope.now.bytes.now scope.now.owner kept.old pos scope.now.end) result }
+    ensures read { IsRead view stored.new
+        (leaf_outcome (form_of_leaf leaf) scope.now.bytes.now scope.now.owner stored.old pos scope.now.end) result }
     ensures further { IfOk result (λ r. (pos + 8 ≤ r.1) × (r.1 ≤ scope.now.end) × (r.1 ≤ length scope.now.bytes.now)) }
 {
     let typ = type_there(scope.alloc, scope.bytes, pos)?;
@@ -152,7 +152,7 @@ pub fn read_leaf<'b, A: Allocator + Copy>(
     let (content, next) = content_there(scope.alloc, scope.bytes, pos, typ)?;
     inside(scope.alloc, scope.bytes, pos, scope.end, typ, next)?;
     let data = leaf_data(scope.alloc, leaf, typ, content)?;
-    keep_leaf(leaf, tag_at(scope.bytes, pos), typ, content, kept)?;
+    store_leaf(leaf, tag_at(scope.bytes, pos), typ, content, stored)?;
     Ok((data, next))
 }
 
@@ -174,7 +174,7 @@ pub trait LeafValue<A: Allocator>: Sized + Drop {
     fn decode(alloc: A, typ: TtlvType, content: &[u8]) -> Result<Self, AllocError>
         requires takes { takes (form_of_leaf leaf) typ ≡ true }
         requires valid { is_valid typ content.now ≡ true }
-        ensures { IfOk result (λ x. value x ≡ leaf_value (form_of_leaf leaf) content.now) };
+        ensures { IfOk result (λ x. value x ≡ decoded_leaf (form_of_leaf leaf) content.now) };
 }
 
 /// A leaf as a value of the type.
@@ -183,11 +183,11 @@ pub trait LeafValue<A: Allocator>: Sized + Drop {
 pub fn read_leaf_as<'b, K: LeafValue<A>, A: Allocator + Copy>(
     scope: &Scope<'b, A>,
     pos: usize,
-    kept: &mut KeptTexts<'b, A>,
+    stored: &mut TagValueStore<'b, A>,
 ) -> Step<(K, usize), A>
     requires inside { pos ≤ length scope.now.bytes.now }
-    ensures read { IsRead K.value kept.new
-        (leaf_outcome (form_of_leaf K.leaf) scope.now.bytes.now scope.now.owner kept.old pos scope.now.end) result }
+    ensures read { IsRead K.value stored.new
+        (leaf_outcome (form_of_leaf K.leaf) scope.now.bytes.now scope.now.owner stored.old pos scope.now.end) result }
     ensures further { IfOk result (λ r. (pos + 8 ≤ r.1) × (r.1 ≤ scope.now.end) × (r.1 ≤ length scope.now.bytes.now)) }
 {
     let leaf = K::leaf();
@@ -203,6 +203,6 @@ pub fn read_leaf_as<'b, K: LeafValue<A>, A: Allocator + Copy>(
     let (content, next) = content_there(scope.alloc, scope.bytes, pos, item_type)?;
     inside(scope.alloc, scope.bytes, pos, scope.end, item_type, next)?;
     let value = K::decode(scope.alloc, item_type, content)?;
-    keep_leaf(leaf, tag_at(scope.bytes, pos), item_type, content, kept)?;
+    store_leaf(leaf, tag_at(scope.bytes, pos), item_type, content, stored)?;
     Ok((value, next))
 }

@@ -3,7 +3,7 @@
 ghost use Rattle.std.specs.Prelude.{◌≡◌, ◌+◌, ◌<◌, ◌≤◌, ◌++◌, length, true, IfOk};
 ghost use Rattle.kmip_ttlv_base.specs.Values.{unit_variant_value};
 ghost use Rattle.kmip_ttlv_base.specs.Forms.{enum};
-ghost use Rattle.kmip_ttlv_reader.specs.Keeps.{Keep};
+ghost use Rattle.kmip_ttlv_reader.specs.TagValues.{TagValue};
 ghost use Rattle.kmip_ttlv_reader.specs.Reads.{is_number_type, first_named};
 ghost use Rattle.kmip_ttlv_reader.specs.Outcomes.{outcome, number_outcome, unit_wanted};
 ghost use Rattle.kmip_ttlv_reader.specs.Results.{IsRead, IsStep};
@@ -13,9 +13,9 @@ use crate::failure::{Step, in_struct};
 use crate::head::{
     content_there, inside, length_there, length_wanted, tag_at, type_there, type_wanted,
 };
-use crate::keep::KeptTexts;
 use crate::number_text::number_text;
 use crate::scope::Scope;
+use crate::store::TagValueStore;
 use kmip_ttlv_base::types::TtlvType;
 use std::alloc::Allocator;
 use std::str;
@@ -88,12 +88,12 @@ fn read_number<'b, T: Listed, A: Allocator + Copy>(
     table: &[(&'static str, T)],
     typ: TtlvType,
     pos: usize,
-    kept: &mut KeptTexts<'b, A>,
+    stored: &mut TagValueStore<'b, A>,
 ) -> Step<(T, usize), A>
     requires there { pos + 4 ≤ length scope.now.bytes.now }
     requires listed { AreListed T.own T.value T.variants table.now }
-    ensures read { IsRead T.value kept.new
-        (number_outcome T.own T.variants typ scope.now.bytes.now scope.now.owner kept.old pos scope.now.end) result }
+    ensures read { IsRead T.value stored.new
+        (number_outcome T.own T.variants typ scope.now.bytes.now scope.now.owner stored.old pos scope.now.end) result }
     ensures further { IfOk result (λ r. (pos + 8 ≤ r.1) × (r.1 ≤ scope.now.end) × (r.1 ≤ length scope.now.bytes.now)) }
 {
     type_wanted(
@@ -112,7 +112,7 @@ fn read_number<'b, T: Listed, A: Allocator + Copy>(
     let (name, value) = row_wanted(scope, table, typ, pos, text)?;
     inside(scope.alloc, scope.bytes, pos, scope.end, typ, next)?;
     let lent: &'b str = name;
-    kept.keep(tag_at(scope.bytes, pos), lent)?;
+    stored.store(tag_at(scope.bytes, pos), lent)?;
     Ok((value, next))
 }
 
@@ -122,14 +122,14 @@ pub fn read_listed<'b, T: Listed, A: Allocator + Copy>(
     scope: &Scope<'b, A>,
     table: &[(&'static str, T)],
     pos: usize,
-    kept: &mut KeptTexts<'b, A>,
+    stored: &mut TagValueStore<'b, A>,
 ) -> Step<(T, usize), A>
     requires inside { pos ≤ length scope.now.bytes.now }
     requires listed { AreListed T.own T.value T.variants table.now }
-    ensures read { IsRead T.value kept.new
-        (outcome (enum T.own T.variants) scope.now.bytes.now scope.now.owner kept.old pos scope.now.end) result }
+    ensures read { IsRead T.value stored.new
+        (outcome (enum T.own T.variants) scope.now.bytes.now scope.now.owner stored.old pos scope.now.end) result }
     ensures further { IfOk result (λ r. (pos + 8 ≤ r.1) × (r.1 ≤ scope.now.end) × (r.1 ≤ length scope.now.bytes.now)) }
 {
     let typ = type_there(scope.alloc, scope.bytes, pos)?;
-    read_number(scope, table, typ, pos, kept)
+    read_number(scope, table, typ, pos, stored)
 }

@@ -1,4 +1,4 @@
-//! The text that a number is kept as.
+//! The text that a number is stored as.
 
 ghost use Rattle.std.specs.Prelude.{◌≡◌, ◌<◌, length, true};
 ghost use Rattle.std.specs.Str.{IsAscii};

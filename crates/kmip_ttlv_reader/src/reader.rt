@@ -2,7 +2,7 @@
 //!
 //! A type that stands for a structure implements `ReadStructure`: it names its tag and its fields, each by
 //! a kind that is a type (`Leaf`, `OptionalLeaf`, `Nested`, `OptionalNested`, `Several`), and says how it is made
-//! of them. The fields are a tuple of up to four, or `Four` with others behind. `read_message` reads it, and as a part of
+//! of them. The fields are a tuple of up to four, or `Four` with others after. `read_message` reads it, and as a part of
 //! another `read_structure`. A type that stands for any other item implements `ReadItem`, by a call of `Cursor` or, as a
 //! `Choice`, by `read_choice`.
 

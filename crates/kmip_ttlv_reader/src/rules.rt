@@ -9,12 +9,12 @@ ghost use Rattle.std.specs.Str.{bytes_eq};
 ghost use Rattle.kmip_ttlv_base.specs.Errors.{mismatch, view_of_serde};
 ghost use Rattle.kmip_ttlv_reader.specs.ReadFaults.{at_item};
 ghost use Rattle.kmip_ttlv_reader.specs.Results.{IsFailureOf};
-ghost use Rattle.kmip_ttlv_reader.specs.Rules.{rule, type_name, sides, in_brackets, equal, at_least, member, says};
+ghost use Rattle.kmip_ttlv_reader.specs.Rules.{rule, type_name, sides, in_brackets, equal, at_least, member, plain_verdict};
 ghost use Rattle.kmip_ttlv_reader.specs.RuleParts.{wants, texts_of, wanted};
 ghost use Rattle.kmip_ttlv_reader.specs.Verdicts.{verdict_of, mismatch_of};
 
 use crate::failure::{Cause, Failure, at_item};
-use crate::keep::KeptTexts;
+use crate::store::TagValueStore;
 use kmip_ttlv_base::error::SerdeError;
 use kmip_ttlv_base::types::{TtlvTag, TtlvType, number};
 use std::alloc::{AllocError, Allocator};
@@ -41,17 +41,17 @@ pub enum Verdict<'n> {
     Refused(RuleError<'n>),
 }
 
-/// What the name of a variant says of the kept texts, of which the last one under a tag counts,
+/// What the name of a variant says of the stored texts, of which the last one under a tag counts,
 /// and of an item's type.
 ///
 /// A name that begins with `if ` is a rule. The rest is cut at its first `==`; without one at its
 /// first `>=`; without one at its first `in`; both sides are trimmed.
 ///
 /// - `type==NAME` holds for the type of that name.
-/// - `TAG==TEXT` holds where the text kept under the tag is that one; not where there is no such
+/// - `TAG==TEXT` holds where the text stored under the tag is that one; not where there is no such
 ///   tag.
-/// - `TAG>=NUMBER` holds where the text kept under the tag is a number and at least the other.
-/// - `TAG in [TEXT, ..]` holds where the text kept under the tag is one of those between the
+/// - `TAG>=NUMBER` holds where the text stored under the tag is a number and at least the other.
+/// - `TAG in [TEXT, ..]` holds where the text stored under the tag is one of those between the
 ///   commas, each trimmed; not where the brackets are missing.
 ///
 /// A rule without operator is refused with the whole name. `>=`, and `in` with brackets, are
@@ -61,22 +61,22 @@ pub enum Verdict<'n> {
 #[inline(always)]
 pub fn rule<'n, 'b, A: Allocator + Copy>(
     name: &'n str,
-    kept: &'n KeptTexts<'b, A>,
+    stored: &'n TagValueStore<'b, A>,
     typ: TtlvType,
 ) -> Verdict<'n>
-    ensures { verdict_of result ≡ rule name.now kept.now typ }
+    ensures { verdict_of result ≡ rule name.now stored.now typ }
 {
     let Some(body) = name.strip_prefix("if ") else {
         return Verdict::NoRule;
     };
     if let Some((left, right)) = sides("==", body) {
-        return equal(left, right, kept, typ);
+        return equal(left, right, stored, typ);
     }
     if let Some((left, right)) = sides(">=", body) {
-        return at_least(left, right, kept);
+        return at_least(left, right, stored);
     }
     match sides("in", body) {
-        Some((left, right)) => member(left, right, kept),
+        Some((left, right)) => member(left, right, stored),
         None => Verdict::Refused(RuleError::InvalidVariantMatcherSyntax(name)),
     }
 }
@@ -84,7 +84,7 @@ pub fn rule<'n, 'b, A: Allocator + Copy>(
 /// A rule in parts, by which it is tested without its name being parsed.
 #[derive(Clone, Copy)]
 pub enum RuleParts {
-    /// It holds where the last text kept under the tag is one of the texts.
+    /// It holds where the last text stored under the tag is one of the texts.
     Texts {
         /// The tag.
         tag: u32,
@@ -95,27 +95,27 @@ pub enum RuleParts {
     Type(TtlvType),
 }
 
-/// Whether a rule in parts holds, by the kept texts and of an item of this type.
+/// Whether a rule in parts holds, by the stored texts and of an item of this type.
 #[inline(always)]
 pub fn parts_hold<'b, A: Allocator + Copy>(
     parts: RuleParts,
-    kept: &KeptTexts<'b, A>,
+    stored: &TagValueStore<'b, A>,
     typ: TtlvType,
 ) -> bool
-    ensures { says result ≡ wanted parts kept.now typ }
+    ensures { plain_verdict result ≡ wanted parts stored.now typ }
 {
     match parts {
-        RuleParts::Texts { tag, texts } => is_kept(tag, texts, kept),
+        RuleParts::Texts { tag, texts } => is_kept(tag, texts, stored),
         RuleParts::Type(asked) => type_name(asked) == type_name(typ),
     }
 }
 
-// Whether the last text kept under the tag is one of these.
+// Whether the last text stored under the tag is one of these.
 #[inline(always)]
-fn is_kept<'b, A: Allocator + Copy>(tag: u32, texts: &[&str], kept: &KeptTexts<'b, A>) -> bool
-    ensures { says result ≡ wants tag (texts_of texts.now) kept.now }
+fn is_kept<'b, A: Allocator + Copy>(tag: u32, texts: &[&str], stored: &TagValueStore<'b, A>) -> bool
+    ensures { plain_verdict result ≡ wants tag (texts_of texts.now) stored.now }
 {
-    match kept.last_under(tag) {
+    match stored.last_under(tag) {
         Some(text) => is_among(text, texts),
         None => false,
     }
@@ -133,10 +133,10 @@ pub fn is_among(text: &str, texts: &[&str]) -> bool
     false
 }
 
-// The verdict of a rule that is not refused.
+// The verdict of a rule without an error.
 #[inline(always)]
-fn told<'n>(answer: bool) -> Verdict<'n>
-    ensures { verdict_of result ≡ says answer }
+fn verdict_by<'n>(answer: bool) -> Verdict<'n>
+    ensures { verdict_of result ≡ plain_verdict answer }
 {
     if answer {
         Verdict::Holds
@@ -176,21 +176,21 @@ fn type_name(typ: TtlvType) -> &'static str
 fn equal<'n, 'b, A: Allocator + Copy>(
     left: &str,
     right: &str,
-    kept: &KeptTexts<'b, A>,
+    stored: &TagValueStore<'b, A>,
     typ: TtlvType,
 ) -> Verdict<'n>
-    ensures { verdict_of result ≡ equal kept.now typ left.now right.now }
+    ensures { verdict_of result ≡ equal stored.now typ left.now right.now }
 {
     if left == "type" {
-        return told(right == type_name(typ));
+        return verdict_by(right == type_name(typ));
     }
     let Some(tag) = TtlvTag::from_name(left) else {
         return Verdict::Fails;
     };
-    let Some(text) = kept.last(tag) else {
+    let Some(text) = stored.last(tag) else {
         return Verdict::Fails;
     };
-    told(text == right)
+    verdict_by(text == right)
 }
 
 // `>=`
@@ -198,14 +198,14 @@ fn equal<'n, 'b, A: Allocator + Copy>(
 fn at_least<'n, 'b, A: Allocator + Copy>(
     left: &'n str,
     right: &'n str,
-    kept: &'n KeptTexts<'b, A>,
+    stored: &'n TagValueStore<'b, A>,
 ) -> Verdict<'n>
-    ensures { verdict_of result ≡ at_least kept.now left.now right.now }
+    ensures { verdict_of result ≡ at_least stored.now left.now right.now }
 {
     let Some(tag) = TtlvTag::from_name(left) else {
         return Verdict::Refused(RuleError::InvalidTag(left));
     };
-    let Some((text, seen)) = kept.last_with_number(tag) else {
+    let Some((text, seen)) = stored.last_with_number(tag) else {
         return Verdict::Fails;
     };
     let Some(seen) = seen else {
@@ -214,7 +214,7 @@ fn at_least<'n, 'b, A: Allocator + Copy>(
     let Some(wanted) = number(right) else {
         return Verdict::Refused(RuleError::InvalidTag(right));
     };
-    told(seen >= wanted)
+    verdict_by(seen >= wanted)
 }
 
 // `in`
@@ -222,9 +222,9 @@ fn at_least<'n, 'b, A: Allocator + Copy>(
 fn member<'n, 'b, A: Allocator + Copy>(
     left: &'n str,
     right: &str,
-    kept: &KeptTexts<'b, A>,
+    stored: &TagValueStore<'b, A>,
 ) -> Verdict<'n>
-    ensures { verdict_of result ≡ member kept.now left.now right.now }
+    ensures { verdict_of result ≡ member stored.now left.now right.now }
 {
     let Some(all) = in_brackets(right) else {
         return Verdict::Fails;
@@ -232,10 +232,10 @@ fn member<'n, 'b, A: Allocator + Copy>(
     let Some(tag) = TtlvTag::from_name(left) else {
         return Verdict::Refused(RuleError::InvalidTag(left));
     };
-    let Some(text) = kept.last(tag) else {
+    let Some(text) = stored.last(tag) else {
         return Verdict::Fails;
     };
-    told(all.split(',').any(|one| one.trim() == text))
+    verdict_by(all.split(',').any(|one| one.trim() == text))
 }
 
 // What stands between a bracket at the start and a later one at the end.

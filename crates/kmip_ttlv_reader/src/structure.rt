@@ -104,7 +104,7 @@ fn opened<A: Allocator + Copy>(alloc: A, tag: u32, bytes: &[u8], pos: usize) -> 
     Ok(pos + 8 + n as usize)
 }
 
-// An item behind the fields, which is ignored.
+// An item after the fields, which is ignored.
 #[tactic(auto, unfolding(crate::specs::Outcomes::ignored), using(crate::proofs::Steps::failing))]
 fn read_ignored<'b, T: ReadStructure<A>, A: Allocator + Copy>(
     scope: &Scope<'b, A>,

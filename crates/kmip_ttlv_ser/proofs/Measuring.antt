@@ -3,11 +3,11 @@ use Rattle.std.proofs.Common.{◌≡◌, ℕ, ◌+◌, ◌-◌, ◌<◌, ◌≤�
 use Rattle.kmip_ttlv_types.specs.declared.typ.TtlvType.{TtlvType}
 use Rattle.kmip_ttlv_types.specs.ItemTypes.{pad_len}
 use Rattle.kmip_ttlv_types.specs.Trees.{Tree, leaf, node, trees_of, bytes_below, bytes_all}
-use Rattle.kmip_ttlv_ser.specs.declared.held.Held.{Held}
-use Rattle.kmip_ttlv_ser.specs.declared.held.Place.{Place}
-use Rattle.kmip_ttlv_ser.specs.WrittenItems.{◌>>=◌, take_tag, held_tag, one_leaf, one_node, one_structure, some_item}
+use Rattle.kmip_ttlv_ser.specs.declared.pending.PendingTag.{PendingTag}
+use Rattle.kmip_ttlv_ser.specs.declared.pending.Place.{Place}
+use Rattle.kmip_ttlv_ser.specs.WrittenItems.{◌>>=◌, take_tag, pending_tag, one_leaf, one_node, one_structure, some_item}
 use Rattle.kmip_ttlv_ser.specs.Sizes.{sizes, sizes_all}
-use Rattle.kmip_ttlv_ser.specs.Faults.{Fault, under_name, structure_fault, within, place_after, inside}
+use Rattle.kmip_ttlv_ser.specs.Faults.{EncodeFault, under_name, structure_fault, within, place_after, inside}
 use Rattle.kmip_ttlv_ser.specs.Lengths.{reach, Under, structure_long, IsLongContent}
 use Rattle.kmip_ttlv_ser.specs.Passes.{Overlong, Measured}
 use Rattle.kmip_ttlv_ser.proofs.Leaves.{place_len, below_is, one_leaf_len, one_node_len, fits_below, sizes_below_is, opened_below_is}
@@ -35,12 +35,12 @@ measured_leaf p q t typ c old n is short e small = record {
   kept = sym (append-nil old);
 }
 
-pub leaf_measured : (w : Held) (t : ℕ) (typ : TtlvType) (c old : List ℕ) (p : Place) (n : ℕ) → held_tag w ≡ Some t → length c ≡ n → n < 2 ^ 32 → p.offset + (8 + n + pad_len n) < 2 ^ 64 → Measured (one_leaf w typ c) p record { offset = p.offset + (8 + n + pad_len n); opened = false } old old
+pub leaf_measured : (w : PendingTag) (t : ℕ) (typ : TtlvType) (c old : List ℕ) (p : Place) (n : ℕ) → pending_tag w ≡ Some t → length c ≡ n → n < 2 ^ 32 → p.offset + (8 + n + pad_len n) < 2 ^ 64 → Measured (one_leaf w typ c) p record { offset = p.offset + (8 + n + pad_len n); opened = false } old old
 leaf_measured w t typ c old p n is len short small =
     let q : Place = record { offset = p.offset + (8 + n + pad_len n); opened = false } in
     subst (λ o. Measured (o >>= λ u. Some (leaf u typ c ∷ [])) p q old old) (sym is) (measured_leaf p q t typ c old n len short refl small)
 
-pub leaf_too_far : (A S : Type 0) (w : Held) (t : ℕ) (typ : TtlvType) (c : List ℕ) (f : Fault) (p : Place) (n : ℕ) → held_tag w ≡ Some t → length c ≡ n → 2 ^ 64 ≤ p.offset + (8 + n + pad_len n) → Overlong A S (one_leaf w typ c) f p.offset
+pub leaf_too_far : (A S : Type 0) (w : PendingTag) (t : ℕ) (typ : TtlvType) (c : List ℕ) (f : EncodeFault) (p : Place) (n : ℕ) → pending_tag w ≡ Some t → length c ≡ n → 2 ^ 64 ≤ p.offset + (8 + n + pad_len n) → Overlong A S (one_leaf w typ c) f p.offset
 leaf_too_far A S w t typ c f p n is len far =
     let all : 2 ^ 64 ≤ p.offset + length (bytes_all (leaf t typ c ∷ [])) = omega (arith, far, one_leaf_len t typ c ∙ ap (λ k. 8 + k + pad_len k) len) in
     inr (inr (subst (λ o. 2 ^ 64 ≤ reach (o >>= λ u. Some (leaf u typ c ∷ [])) f p.offset) (sym is) all))
@@ -73,41 +73,41 @@ closed t o p q n old start mid len is m short =
           ∙ ap (λ ys. old ++ ys) (ap (λ k. k ∷ sizes_all ts) (count ∙ sym below) ∙ ap (λ ys. length (bytes_below (trees_of ts)) ∷ ys) (sym (sizes_below_is ts)) ∙ sym (append-nil (sizes (node t (trees_of ts)))));
     }
 
-node_reach : (t : ℕ) (o : Option (List Tree)) (f : Fault) (n : ℕ) → reach o f (n + 8) ≤ reach (one_node t o) f n
+node_reach : (t : ℕ) (o : Option (List Tree)) (f : EncodeFault) (n : ℕ) → reach o f (n + 8) ≤ reach (one_node t o) f n
 node_reach t None f n = omega arith
 node_reach t (Some ts) f n = omega (arith, one_node_len t ts)
 
 -- a structure that is too long, under the tag that its name gave
-overlong_at : (A S whole : Type 0) (w : Held) (name : List ℕ) (t : ℕ) (o : Option (List Tree)) (f : Fault) (p : Place) → take_tag w name ≡ Some t → Overlong A (whole ⊎ S) (one_node t o) f p.offset → Overlong A (structure_long w name whole S) (one_structure w name o) (structure_fault w name p f) p.offset
+overlong_at : (A S whole : Type 0) (w : PendingTag) (name : List ℕ) (t : ℕ) (o : Option (List Tree)) (f : EncodeFault) (p : Place) → take_tag w name ≡ Some t → Overlong A (whole ⊎ S) (one_node t o) f p.offset → Overlong A (structure_long w name whole S) (one_structure w name o) (structure_fault w name p f) p.offset
 overlong_at A S whole w name t o f p is h = subst (λ k. Overlong A (Under k (λ _. whole ⊎ S)) (k >>= λ u. one_node u o) (under_name k name w p (λ _. f)) p.offset) (sym is) h
 
-whole_reach : (o : Option (List Tree)) (f : Fault) (p q : Place) (start mid : List ℕ) → Measured o (inside p) q start mid → 2 ^ 32 ≤ q.offset - (p.offset + 8) → IsLongContent o f
+whole_reach : (o : Option (List Tree)) (f : EncodeFault) (p q : Place) (start mid : List ℕ) → Measured o (inside p) q start mid → 2 ^ 32 ≤ q.offset - (p.offset + 8) → IsLongContent o f
 whole_reach o f p q start mid m long = subst (λ x. 2 ^ 32 ≤ reach x f 0) (sym m.are) (omega (arith, long, place_len (inside p) q m.trees m.reached))
 
 -- a structure whose content was measured
-pub structure_ends : (w : Held) (name : List ℕ) (t : ℕ) (o : Option (List Tree)) (p q : Place) (old mid : List ℕ) → take_tag w name ≡ Some t → Measured o (inside p) q (old ++ 0 ∷ []) mid → q.offset - (p.offset + 8) < 2 ^ 32
+pub structure_ends : (w : PendingTag) (name : List ℕ) (t : ℕ) (o : Option (List Tree)) (p q : Place) (old mid : List ℕ) → take_tag w name ≡ Some t → Measured o (inside p) q (old ++ 0 ∷ []) mid → q.offset - (p.offset + 8) < 2 ^ 32
     → Measured (one_structure w name o) p q old (set mid (length old) (q.offset - (p.offset + 8)))
 structure_ends w name t o p q old mid is m short =
     let n = q.offset - (p.offset + 8) in
     subst (λ k. Measured (k >>= λ u. one_node u o) p q old (set mid (length old) n)) (sym is) (closed t o p q n old (old ++ 0 ∷ []) mid refl refl m short)
 
-pub structure_too_long : (A S : Type 0) (w : Held) (name : List ℕ) (t : ℕ) (o : Option (List Tree)) (f f0 : Fault) (p q : Place) (start mid : List ℕ) → take_tag w name ≡ Some t → Measured o (inside p) q start mid → 2 ^ 32 ≤ q.offset - (p.offset + 8)
+pub structure_too_long : (A S : Type 0) (w : PendingTag) (name : List ℕ) (t : ℕ) (o : Option (List Tree)) (f f0 : EncodeFault) (p q : Place) (start mid : List ℕ) → take_tag w name ≡ Some t → Measured o (inside p) q start mid → 2 ^ 32 ≤ q.offset - (p.offset + 8)
     → Overlong A (structure_long w name (IsLongContent o f0) S) (one_structure w name o) (structure_fault w name p f) p.offset
 structure_too_long A S w name t o f f0 p q start mid is m long =
     overlong_at A S (IsLongContent o f0) w name t o f p is (inr (inl (inl (whole_reach o f0 p q start mid m long))))
 
 -- a length in a structure's content is too long
-pub structure_overlong : (A S whole : Type 0) (w : Held) (name : List ℕ) (t : ℕ) (o : Option (List Tree)) (f : Fault) (p : Place) → take_tag w name ≡ Some t → Overlong A S o f (p.offset + 8)
+pub structure_overlong : (A S whole : Type 0) (w : PendingTag) (name : List ℕ) (t : ℕ) (o : Option (List Tree)) (f : EncodeFault) (p : Place) → take_tag w name ≡ Some t → Overlong A S o f (p.offset + 8)
     → Overlong A (structure_long w name whole S) (one_structure w name o) (structure_fault w name p f) p.offset
 structure_overlong A S whole w name t o f p is long =
     overlong_at A S whole w name t o f p is (long_up A A S (whole ⊎ S) (reach o f (p.offset + 8)) (reach (one_node t o) f p.offset) (λ a. a) (λ s. inr s) (node_reach t o f p.offset) long)
 
-far_content : (o : Option (List Tree)) (f : Fault) (n : ℕ) → n ≤ f.offset → n ≤ reach o f n
+far_content : (o : Option (List Tree)) (f : EncodeFault) (n : ℕ) → n ≤ f.offset → n ≤ reach o f n
 far_content None f n h = h
 far_content (Some ts) f n h = omega arith
 
 -- the structure's header ends beyond the greatest offset
-pub header_too_far : (A S whole : Type 0) (w : Held) (name : List ℕ) (t : ℕ) (o : Option (List Tree)) (f : Fault) (p : Place) → take_tag w name ≡ Some t → p.offset + 8 ≤ f.offset → 2 ^ 64 ≤ p.offset + 8
+pub header_too_far : (A S whole : Type 0) (w : PendingTag) (name : List ℕ) (t : ℕ) (o : Option (List Tree)) (f : EncodeFault) (p : Place) → take_tag w name ≡ Some t → p.offset + 8 ≤ f.offset → 2 ^ 64 ≤ p.offset + 8
     → Overlong A (structure_long w name whole S) (one_structure w name o) (structure_fault w name p f) p.offset
 header_too_far A S whole w name t o f p is least far =
     structure_overlong A S whole w name t o f p is (inr (inr (omega (arith, far, far_content o f (p.offset + 8) least))))
@@ -129,15 +129,15 @@ wrapper_ends o p q old new m more = record {
   kept = m.kept;
 }
 
-wrapped_reach : (ts : List Tree) (f : Fault) (p : Place) → reach (Some ts) f p.offset ≤ reach (some_item ts) (within (Some ts) p f) p.offset
+wrapped_reach : (ts : List Tree) (f : EncodeFault) (p : Place) → reach (Some ts) f p.offset ≤ reach (some_item ts) (within (Some ts) p f) p.offset
 unfolding some_item
 wrapped_reach [] f p = omega arith
 wrapped_reach (t ∷ ts) f p = omega arith
 
-wrapper_reach : (o : Option (List Tree)) (f : Fault) (p : Place) → reach o f p.offset ≤ reach (o >>= some_item) (within o p f) p.offset
+wrapper_reach : (o : Option (List Tree)) (f : EncodeFault) (p : Place) → reach o f p.offset ≤ reach (o >>= some_item) (within o p f) p.offset
 wrapper_reach None f p = omega arith
 wrapper_reach (Some ts) f p = wrapped_reach ts f p
 
 -- a length in a wrapper is too long
-pub wrapper_overlong : (A S : Type 0) (o : Option (List Tree)) (f : Fault) (p : Place) → Overlong A S o f p.offset → Overlong A S (o >>= some_item) (within o p f) p.offset
+pub wrapper_overlong : (A S : Type 0) (o : Option (List Tree)) (f : EncodeFault) (p : Place) → Overlong A S o f p.offset → Overlong A S (o >>= some_item) (within o p f) p.offset
 wrapper_overlong A S o f p long = long_up A A S S (reach o f p.offset) (reach (o >>= some_item) (within o p f) p.offset) (λ a. a) (λ s. s) (wrapper_reach o f p) long

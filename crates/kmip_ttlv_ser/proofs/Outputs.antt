@@ -6,15 +6,15 @@ use Rattle.std.specs.Io.KnownBytes.{Appends}
 use Rattle.std.specs.declared.io.Error.{Error}
 use Rattle.kmip_ttlv_types.specs.Streams.{AppendsFront, UsesRoom, IsTight}
 use Rattle.kmip_ttlv_types.specs.Trees.{Tree, bytes_all}
-use Rattle.kmip_ttlv_ser.specs.declared.held.Place.{Place}
+use Rattle.kmip_ttlv_ser.specs.declared.pending.Place.{Place}
 use Rattle.kmip_ttlv_ser.specs.Passes.{Measured}
 use Rattle.std.specs.Borrow.{GName}
 use Rattle.std.specs.declared.io.ErrorKind.{ErrorKind as IoKind}
 use Rattle.kmip_ttlv_base.specs.Errors.{Kind, io_error, Location, unknown}
 use Rattle.kmip_ttlv_base.specs.Values.{Value}
-use Rattle.kmip_ttlv_ser.specs.declared.held.Held.TheVariants.{Nothing}
+use Rattle.kmip_ttlv_ser.specs.declared.pending.PendingTag.TheVariants.{Nothing}
 use Rattle.kmip_ttlv_ser.specs.WrittenItems.{items}
-use Rattle.kmip_ttlv_ser.specs.WriteAnswers.{IsWrittenAs, WrittenTo, PartlyWritten, IsNotWritten}
+use Rattle.kmip_ttlv_ser.specs.EncodeResults.{IsWrittenAs, WrittenTo, PartlyWritten, IsNotWritten}
 use Rattle.kmip_ttlv_ser.specs.Gathers.{Lent, Reached, Sends, IsGathered}
 use Rattle.kmip_ttlv_ser.specs.Outputs.{Before, IsGiven}
 use Rattle.kmip_ttlv_ser.proofs.Leaves.{place_len}
@@ -37,24 +37,24 @@ tight_after (Some before) None xs ys used tight = absurd used
 tight_after (Some before) (Some after) xs ys used tight = omega (arith, used, tight, length-append xs ys)
 
 -- a sink that fails at this piece
-pub fails_now : (start : Before) (sent piece : List ℕ) (held held' : Option (List ℕ)) (room : Option ℕ) (failure : Option Error) (failed : Bool) → failed ≡ is_some failure → failed ≡ false → IsGiven start sent held room failure → AppendsFront held held' piece → IsTight room (length piece)
-    → AppendsFront start.held held' (sent ++ piece) × IsTight start.room (length (sent ++ piece))
-fails_now start sent piece held held' room (Some e) failed is not given front tight = let k : true ≡ false = sym is ∙ not in absurd cc
-fails_now start sent piece held held' room None failed is not given front tight = (front_after start.held held held' sent piece given.0 front, tight_after start.room room sent piece given.1 tight)
+pub fails_now : (start : Before) (sent piece : List ℕ) (pending held' : Option (List ℕ)) (room : Option ℕ) (failure : Option Error) (failed : Bool) → failed ≡ is_some failure → failed ≡ false → IsGiven start sent pending room failure → AppendsFront pending held' piece → IsTight room (length piece)
+    → AppendsFront start.pending held' (sent ++ piece) × IsTight start.room (length (sent ++ piece))
+fails_now start sent piece pending held' room (Some e) failed is not given front tight = let k : true ≡ false = sym is ∙ not in absurd cc
+fails_now start sent piece pending held' room None failed is not given front tight = (front_after start.pending pending held' sent piece given.0 front, tight_after start.room room sent piece given.1 tight)
 
 -- a sink that got nothing yet
-pub given_nothing : (xs ys : List ℕ) (free room : ℕ) (failure : Option Error) → ys ≡ xs → free ≤ room → failure ≡ None → IsGiven record { held = Some xs; room = Some free } [] (Some ys) (Some room) failure
+pub given_nothing : (xs ys : List ℕ) (free room : ℕ) (failure : Option Error) → ys ≡ xs → free ≤ room → failure ≡ None → IsGiven record { pending = Some xs; room = Some free } [] (Some ys) (Some room) failure
 given_nothing xs ys free room (Some e) same le none = let k : Some e ≡ None = none in absurd cc
 given_nothing xs ys free room None same le none = (same ∙ sym (append-nil xs), omega (arith, le))
 
 -- there was room for what was measured
-pub never_fails : (o : Option (List Tree)) (p q : Place) (plan xs : List ℕ) (free : ℕ) (held : Option (List ℕ)) (room : Option ℕ) (failure : Option Error) (e : Error) → (m : Measured o p q [] plan) → q.offset ≤ p.offset + free → failure ≡ Some e → IsGiven record { held = Some xs; room = Some free } (bytes_all m.trees) held room failure → ⊥
-never_fails o p q plan xs free held room None e m fits is given = let k : None ≡ Some e = is in absurd cc
-never_fails o p q plan xs free held room (Some f) e m fits is given = absurd (omega (arith, fits, given.1, place_len p q m.trees m.reached))
+pub never_fails : (o : Option (List Tree)) (p q : Place) (plan xs : List ℕ) (free : ℕ) (pending : Option (List ℕ)) (room : Option ℕ) (failure : Option Error) (e : Error) → (m : Measured o p q [] plan) → q.offset ≤ p.offset + free → failure ≡ Some e → IsGiven record { pending = Some xs; room = Some free } (bytes_all m.trees) pending room failure → ⊥
+never_fails o p q plan xs free pending room None e m fits is given = let k : None ≡ Some e = is in absurd cc
+never_fails o p q plan xs free pending room (Some f) e m fits is given = absurd (omega (arith, fits, given.1, place_len p q m.trees m.reached))
 
-pub gave_all : (start : Before) (sent xs ys : List ℕ) (room : Option ℕ) (failure : Option Error) → failure ≡ None → start.held ≡ Some xs → IsGiven start sent (Some ys) room failure → ys ≡ xs ++ sent
-gave_all start sent xs ys room (Some e) is held given = let k : Some e ≡ None = is in absurd cc
-gave_all start sent xs ys room None is held given = let a : Appends (Some xs) (Some ys) sent = subst (λ h. Appends h (Some ys) sent) held given.0 in a
+pub gave_all : (start : Before) (sent xs ys : List ℕ) (room : Option ℕ) (failure : Option Error) → failure ≡ None → start.pending ≡ Some xs → IsGiven start sent (Some ys) room failure → ys ≡ xs ++ sent
+gave_all start sent xs ys room (Some e) is pending given = let k : Some e ≡ None = is in absurd cc
+gave_all start sent xs ys room None is pending given = let a : Appends (Some xs) (Some ys) sent = subst (λ h. Appends h (Some ys) sent) pending given.0 in a
 
 -- ---- a writer behind a buffer
 

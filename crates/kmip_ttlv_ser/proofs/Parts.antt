@@ -1,9 +1,9 @@
 -- The items of values one after the other, and of what is in a wrapper.
 use Rattle.std.proofs.Common.{◌≡◌, ℕ, ◌+◌, Bool, List, [], ◌∷◌, ◌++◌, length, Option, Some, None, refl, sym, ap₂, arith}
 use Rattle.kmip_ttlv_types.specs.Trees.{Tree, bytes_all}
-use Rattle.kmip_ttlv_ser.specs.declared.held.Held.{Held}
-use Rattle.kmip_ttlv_ser.specs.declared.held.Held.TheVariants.{Nothing}
-use Rattle.kmip_ttlv_ser.specs.declared.held.Place.{Place}
+use Rattle.kmip_ttlv_ser.specs.declared.pending.PendingTag.{PendingTag}
+use Rattle.kmip_ttlv_ser.specs.declared.pending.PendingTag.TheVariants.{Nothing}
+use Rattle.kmip_ttlv_ser.specs.declared.pending.Place.{Place}
 use Rattle.kmip_ttlv_ser.specs.WrittenItems.{◌>>=◌, some_item, left_over}
 use Rattle.kmip_ttlv_ser.specs.Faults.{place_after}
 use Rattle.kmip_ttlv_ser.proofs.Leaves.{len_append, opened_append}
@@ -27,7 +27,7 @@ pub nothing_left : (ts : List Tree) → left_over Nothing ts ≡ Nothing
 nothing_left [] = refl
 nothing_left (t ∷ ts) = refl
 
-pub left_append : (w : Held) (xs ys : List Tree) → left_over (left_over w xs) ys ≡ left_over w (xs ++ ys)
+pub left_append : (w : PendingTag) (xs ys : List Tree) → left_over (left_over w xs) ys ≡ left_over w (xs ++ ys)
 left_append w [] ys = refl
 left_append w (x ∷ xs) ys = nothing_left ys
 

@@ -9,9 +9,9 @@ use Rattle.kmip_ttlv_types.specs.Primitives.{sign_byte, sign_extended}
 use Rattle.std.specs.Int.{w32, w64, to_be_bytes, cast_unsigned, from_bool}
 use Rattle.kmip_ttlv_types.specs.Trees.{Tree, leaf, node, trees_of, leaf_bytes, node_bytes, bytes_below, bytes_all}
 use Rattle.kmip_ttlv_base.specs.Values.{Value, boolean_value, i8_value, i16_value, i32_value, u32_value, i64_value, u64_value, date_time_value, interval_value, text_value, bytes_value, big_integer_value, none_value as none, some_value as some, seq_value, struct_value, newtype_value, unit_variant_value, newtype_variant_value, tuple_variant_value, unsupported_value, Values, no_values, value}
-use Rattle.kmip_ttlv_ser.specs.declared.held.Held.{Held}
-use Rattle.kmip_ttlv_ser.specs.declared.held.Held.TheVariants.{Nothing, Plain, Overriding}
-use Rattle.kmip_ttlv_ser.specs.WrittenItems.{◌>>=◌, is_wrapper, without_override, held_over, take_tag, one_leaf, one_node, held_tag, some_item, left_over, enumeration, newtype_row, variant_row, items, items_in}
+use Rattle.kmip_ttlv_ser.specs.declared.pending.PendingTag.{PendingTag}
+use Rattle.kmip_ttlv_ser.specs.declared.pending.PendingTag.TheVariants.{Nothing, Plain, Overriding}
+use Rattle.kmip_ttlv_ser.specs.WrittenItems.{◌>>=◌, is_wrapper, without_override, pending_after, take_tag, one_leaf, one_node, pending_tag, some_item, left_over, enumeration, newtype_row, variant_row, items, items_in}
 use Rattle.kmip_ttlv_types.proofs.Padding.{length-sign_extended}
 use Rattle.kmip_ttlv_ser.specs.declared.emitter.Emitter.{Emitter}
 use Rattle.kmip_ttlv_ser.specs.Sizes.{sizes, sizes_below, sizes_all}
@@ -21,15 +21,15 @@ use Rattle.std.proofs.lemmas.List.Concat.{flat_map-append}
 use Rattle.kmip_ttlv_base.specs.Visits.{visited, visited_in}
 use Rattle.kmip_ttlv_ser.specs.Emits.{Written, HasWritten, state, wrote, header_of, began, waits, began_newtype, began_variant, emit_step}
 
-wrote_some : {S : Type 0} (st : S) (o : Option (List Tree)) (w : Held) (ts : List Tree) (old plan rest : List ℕ) → o ≡ Some ts → plan ≡ rest → wrote o (state st old plan w) ≡ state st (old ++ bytes_all ts) rest (left_over w ts)
+wrote_some : {S : Type 0} (st : S) (o : Option (List Tree)) (w : PendingTag) (ts : List Tree) (old plan rest : List ℕ) → o ≡ Some ts → plan ≡ rest → wrote o (state st old plan w) ≡ state st (old ++ bytes_all ts) rest (left_over w ts)
 wrote_some st o w ts old plan rest e p = rw (e, p) refl
 
-leaf_sizes : (w : Held) (typ : TtlvType) (c : List ℕ) (ts : List Tree) → one_leaf w typ c ≡ Some ts → sizes_all ts ≡ []
+leaf_sizes : (w : PendingTag) (typ : TtlvType) (c : List ℕ) (ts : List Tree) → one_leaf w typ c ≡ Some ts → sizes_all ts ≡ []
 leaf_sizes Nothing typ c ts e = let k : None ≡ Some ts = e in absurd cc
 leaf_sizes (Plain t) typ c ts e = ap sizes_all (sym (some_same (leaf t typ c ∷ []) ts e))
 leaf_sizes (Overriding t) typ c ts e = ap sizes_all (sym (some_same (leaf t typ c ∷ []) ts e))
 
-leaf_emits : {S : Type 0} (w : Held) (typ : TtlvType) (c : List ℕ) (st : S) (ts : List Tree) (old plan rest : List ℕ) → one_leaf w typ c ≡ Some ts → plan ≡ sizes_all ts ++ rest → wrote (one_leaf w typ c) (state st old plan w) ≡ state st (old ++ bytes_all ts) rest (left_over w ts)
+leaf_emits : {S : Type 0} (w : PendingTag) (typ : TtlvType) (c : List ℕ) (st : S) (ts : List Tree) (old plan rest : List ℕ) → one_leaf w typ c ≡ Some ts → plan ≡ sizes_all ts ++ rest → wrote (one_leaf w typ c) (state st old plan w) ≡ state st (old ++ bytes_all ts) rest (left_over w ts)
 leaf_emits w typ c st ts old plan rest e p = wrote_some st (one_leaf w typ c) w ts old plan rest e (p ∙ ap (λ ns. ns ++ rest) (leaf_sizes w typ c ts e))
 
 number_sizes : (t : ℕ) (o : Option ℕ) (ts : List Tree) → (o >>= λ n. one_leaf (Plain t) Enumeration (to_be_bytes w32 n)) ≡ Some ts → sizes_all ts ≡ []
@@ -52,10 +52,10 @@ node_bytes_are t us old =
     ∙ ap (λ bs. old ++ bs) (sym (append-nil (header t Structure (length (bytes_below (trees_of us))) ++ bytes_below (trees_of us))))
 
 -- this writes the bytes of these items, whatever was written before, and leaves whatever plan follows
-abbrev pub Does : {S : Type 0} → (Written S → Written S) → Held → Option (List Tree) → Type 0
+abbrev pub Does : {S : Type 0} → (Written S → Written S) → PendingTag → Option (List Tree) → Type 0
 Does {S = S} k w o = (st : S) (ts : List Tree) (old plan rest : List ℕ) → o ≡ Some ts → plan ≡ sizes_all ts ++ rest → k (state st old plan w) ≡ state st (old ++ bytes_all ts) rest (left_over w ts)
 
-structure_does : {S : Type 0} (o : Option ℕ) (below : Option (List Tree)) (k : Written S → Written S) (w : Held) → Does k Nothing below → Does (λ s. k (began o s)) w (o >>= λ t. one_node t below)
+structure_does : {S : Type 0} (o : Option ℕ) (below : Option (List Tree)) (k : Written S → Written S) (w : PendingTag) → Does k Nothing below → Does (λ s. k (began o s)) w (o >>= λ t. one_node t below)
 structure_does None below k w ih st ts old plan rest e p = let n : None ≡ Some ts = e in absurd cc
 structure_does (Some t) None k w ih st ts old plan rest e p = let n : None ≡ Some ts = e in absurd cc
 structure_does (Some t) (Some us) k w ih st ts old plan rest e p =
@@ -67,28 +67,28 @@ structure_does (Some t) (Some us) k w ih st ts old plan rest e p =
     ∙ ap (λ h. state st (old ++ bytes_all (node t (trees_of us) ∷ [])) rest h) (nothing_left us)
     ∙ ap (λ vs. state st (old ++ bytes_all vs) rest (left_over w vs)) (sym same)
 
-some_left : (o : Option (List Tree)) (ts : List Tree) (u w : Held) → (o >>= some_item) ≡ Some ts → left_over u ts ≡ left_over w ts
+some_left : (o : Option (List Tree)) (ts : List Tree) (u w : PendingTag) → (o >>= some_item) ≡ Some ts → left_over u ts ≡ left_over w ts
 unfolding some_item
 some_left None ts u w e = let n : None ≡ Some ts = e in absurd cc
 some_left (Some []) ts u w e = let n : None ≡ Some ts = e in absurd cc
 some_left (Some (x ∷ xs)) ts u w e = let same : x ∷ xs ≡ ts = some_same (x ∷ xs) ts e in ap (left_over u) (sym same) ∙ ap (left_over w) same
 
-wrapper_does : {S : Type 0} (o : Option ℕ) (f : ℕ → Held) (inside : Held → Option (List Tree)) (k : Written S → Written S) (w : Held) → ((u : Held) → Does k u (inside u)) → Does (λ s. k (waits o f s)) w (o >>= λ t. inside (f t) >>= some_item)
+wrapper_does : {S : Type 0} (o : Option ℕ) (f : ℕ → PendingTag) (inside : PendingTag → Option (List Tree)) (k : Written S → Written S) (w : PendingTag) → ((u : PendingTag) → Does k u (inside u)) → Does (λ s. k (waits o f s)) w (o >>= λ t. inside (f t) >>= some_item)
 wrapper_does None f inside k w ih st ts old plan rest e p = let n : None ≡ Some ts = e in absurd cc
 wrapper_does (Some t) f inside k w ih st ts old plan rest e p =
     ih (f t) st ts old plan rest (unwrap (inside (f t)) ts e) p
     ∙ ap (λ h. state st (old ++ bytes_all ts) rest h) (some_left (inside (f t)) ts (f t) w e)
 
-newtype_does : {S : Type 0} (r : Option (List ℕ)) (name : List ℕ) (inside : Held → Option (List Tree)) (k : Written S → Written S) (w : Held) → ((u : Held) → Does k u (inside u)) → Does (λ s. k (began_newtype r name s)) w (newtype_row r name w inside)
+newtype_does : {S : Type 0} (r : Option (List ℕ)) (name : List ℕ) (inside : PendingTag → Option (List Tree)) (k : Written S → Written S) (w : PendingTag) → ((u : PendingTag) → Does k u (inside u)) → Does (λ s. k (began_newtype r name s)) w (newtype_row r name w inside)
 newtype_does None name inside k w ih st ts old plan rest e p = structure_does (take_tag w name) (inside Nothing) k w (ih Nothing) st ts old plan rest e p
 newtype_does (Some n) name inside k w ih st ts old plan rest e p = wrapper_does (take_tag w n) Plain inside k w ih st ts old plan rest e p
 
-variant_does : {S : Type 0} (b : Bool) (name : List ℕ) (inside : Held → Option (List Tree)) (k : Written S → Written S) (w : Held) → ((u : Held) → Does k u (inside u)) → Does (λ s. k (began_variant b name s)) w (variant_row b name w inside)
-variant_does true name inside k w ih st ts old plan rest e p = wrapper_does (take_tag w (without_override name)) (held_over w name) inside k w ih st ts old plan rest e p
+variant_does : {S : Type 0} (b : Bool) (name : List ℕ) (inside : PendingTag → Option (List Tree)) (k : Written S → Written S) (w : PendingTag) → ((u : PendingTag) → Does k u (inside u)) → Does (λ s. k (began_variant b name s)) w (variant_row b name w inside)
+variant_does true name inside k w ih st ts old plan rest e p = wrapper_does (take_tag w (without_override name)) (pending_after w name) inside k w ih st ts old plan rest e p
 variant_does false name inside k w ih st ts old plan rest e p = structure_does (take_tag w (without_override (without_override name))) (inside Nothing) k w (ih Nothing) st ts old plan rest e p
 
 mutual
-  pub emits : {S : Type 0} (v : Value) (w : Held) → Does {S = S} (visited emit_step v) w (items v w)
+  pub emits : {S : Type 0} (v : Value) (w : PendingTag) → Does {S = S} (visited emit_step v) w (items v w)
   emits (boolean_value b) w st ts old plan rest e p = leaf_emits w Boolean (to_be_bytes w64 (from_bool b)) st ts old plan rest e p
   emits (i8_value z) w st ts old plan rest e p = leaf_emits w Integer (to_be_bytes w32 (cast_unsigned w32 z)) st ts old plan rest e p
   emits (i16_value z) w st ts old plan rest e p = leaf_emits w Integer (to_be_bytes w32 (cast_unsigned w32 z)) st ts old plan rest e p
@@ -111,7 +111,7 @@ mutual
   emits (tuple_variant_value name vname vs) w st ts old plan rest e p = structure_does (take_tag w (without_override name)) (items_in vs Nothing) (visited_in emit_step vs) w (emits_in vs Nothing) st ts old plan rest e p
   emits (unsupported_value name) w st ts old plan rest e p = let n : None ≡ Some ts = e in absurd cc
 
-  pub emits_in : {S : Type 0} (vs : Values) (w : Held) → Does {S = S} (visited_in emit_step vs) w (items_in vs w)
+  pub emits_in : {S : Type 0} (vs : Values) (w : PendingTag) → Does {S = S} (visited_in emit_step vs) w (items_in vs w)
   emits_in no_values w st ts old plan rest e p =
       let same : [] ≡ ts = some_same [] ts e in
       ap (λ ns. state st old ns w) (p ∙ ap (λ us. sizes_all us ++ rest) (sym same)) ∙ ap (λ bs. state st bs rest w) (sym (append-nil old)) ∙ ap (λ us. state st (old ++ bytes_all us) rest (left_over w us)) same
@@ -149,40 +149,40 @@ big_integer_bytes_are t bs old n len =
     ∙ sym (append-nil ((old ++ header t BigInteger (length c)) ++ c))
     ∙ leaf_bytes_are t BigInteger c old [] (sym (ap (λ k. replicate k 0) more))
 
-one_leaf_is : (w v : Held) (typ : TtlvType) (c : List ℕ) (t : ℕ) → w ≡ v → held_tag v ≡ Some t → one_leaf w typ c ≡ Some (leaf t typ c ∷ [])
+one_leaf_is : (w v : PendingTag) (typ : TtlvType) (c : List ℕ) (t : ℕ) → w ≡ v → pending_tag v ≡ Some t → one_leaf w typ c ≡ Some (leaf t typ c ∷ [])
 one_leaf_is w v typ c t same is = ap (λ u. one_leaf u typ c) same ∙ ap (λ o. o >>= λ u. Some (leaf u typ c ∷ [])) is
 
 -- one item was written, under the tag that was held
-pub wrote_one : {S O : Type 0} (given : S → List ℕ → O → Type 0) (e : Emitter O) (s : Written S) (o : Option (List Tree)) (x : Tree) → o ≡ Some (x ∷ []) → given s.start (s.bytes ++ bytes_all (x ∷ [])) e.out → s.plan ≡ e.plan.now → Nothing ≡ e.held → HasWritten given e (wrote o s)
-wrote_one given e s o x is gave plan held = subst (λ k. HasWritten given e (wrote k s)) (sym is) record { gave = gave; plan_is = plan; held_is = held }
+pub wrote_one : {S O : Type 0} (given : S → List ℕ → O → Type 0) (e : Emitter O) (s : Written S) (o : Option (List Tree)) (x : Tree) → o ≡ Some (x ∷ []) → given s.start (s.bytes ++ bytes_all (x ∷ [])) e.out → s.plan ≡ e.plan.now → Nothing ≡ e.pending → HasWritten given e (wrote o s)
+wrote_one given e s o x is gave plan pending = subst (λ k. HasWritten given e (wrote k s)) (sym is) record { gave = gave; plan_is = plan; pending_is = pending }
 
-pub wrote_leaf : {S O : Type 0} (given : S → List ℕ → O → Type 0) (old e : Emitter O) (s : Written S) (t : ℕ) (typ : TtlvType) (c bytes : List ℕ) → HasWritten given old s → held_tag old.held ≡ Some t → bytes ≡ s.bytes ++ bytes_all (leaf t typ c ∷ []) → given s.start bytes e.out → e.plan.now ≡ old.plan.now → e.held ≡ Nothing
-    → HasWritten given e (wrote (one_leaf s.held typ c) s)
-wrote_leaf given old e s t typ c bytes h tag are gave plan held =
-    wrote_one given e s (one_leaf s.held typ c) (leaf t typ c) (one_leaf_is s.held old.held typ c t h.held_is tag) (subst (λ bs. given s.start bs e.out) are gave) (h.plan_is ∙ sym plan) (sym held)
+pub wrote_leaf : {S O : Type 0} (given : S → List ℕ → O → Type 0) (old e : Emitter O) (s : Written S) (t : ℕ) (typ : TtlvType) (c bytes : List ℕ) → HasWritten given old s → pending_tag old.pending ≡ Some t → bytes ≡ s.bytes ++ bytes_all (leaf t typ c ∷ []) → given s.start bytes e.out → e.plan.now ≡ old.plan.now → e.pending ≡ Nothing
+    → HasWritten given e (wrote (one_leaf s.pending typ c) s)
+wrote_leaf given old e s t typ c bytes h tag are gave plan pending =
+    wrote_one given e s (one_leaf s.pending typ c) (leaf t typ c) (one_leaf_is s.pending old.pending typ c t h.pending_is tag) (subst (λ bs. given s.start bs e.out) are gave) (h.plan_is ∙ sym plan) (sym pending)
 
-unit_items : (name vname : List ℕ) (w v : Held) (t n : ℕ) → w ≡ v → take_tag v name ≡ Some t → number vname ≡ Some n → items (unit_variant_value name vname) w ≡ Some (leaf t Enumeration (to_be_bytes w32 n) ∷ [])
+unit_items : (name vname : List ℕ) (w v : PendingTag) (t n : ℕ) → w ≡ v → take_tag v name ≡ Some t → number vname ≡ Some n → items (unit_variant_value name vname) w ≡ Some (leaf t Enumeration (to_be_bytes w32 n) ∷ [])
 unfolding enumeration
 unit_items name vname w v t n same is number_is = rw (same, is, number_is) refl
 
-pub wrote_unit : {S O : Type 0} (given : S → List ℕ → O → Type 0) (old e : Emitter O) (s : Written S) (name vname c : List ℕ) (t n : ℕ) → HasWritten given old s → take_tag old.held name ≡ Some t → number vname ≡ Some n → c ≡ to_be_bytes w32 n
-    → HasWritten given e (wrote (one_leaf (Plain t) Enumeration c) (state s.start s.bytes s.plan (Plain t))) → HasWritten given e (wrote (items (unit_variant_value name vname) s.held) s)
+pub wrote_unit : {S O : Type 0} (given : S → List ℕ → O → Type 0) (old e : Emitter O) (s : Written S) (name vname c : List ℕ) (t n : ℕ) → HasWritten given old s → take_tag old.pending name ≡ Some t → number vname ≡ Some n → c ≡ to_be_bytes w32 n
+    → HasWritten given e (wrote (one_leaf (Plain t) Enumeration c) (state s.start s.bytes s.plan (Plain t))) → HasWritten given e (wrote (items (unit_variant_value name vname) s.pending) s)
 wrote_unit {S = S} given old e s name vname c t n h is number_is content leaf_written =
     let written = subst (λ b. HasWritten given e (wrote (one_leaf (Plain t) Enumeration b) (state s.start s.bytes s.plan (Plain t)))) content leaf_written in
-    subst (λ k. HasWritten given e (wrote k s)) (sym (unit_items name vname s.held old.held t n h.held_is is number_is)) record { gave = written.gave; plan_is = written.plan_is; held_is = written.held_is }
+    subst (λ k. HasWritten given e (wrote k s)) (sym (unit_items name vname s.pending old.pending t n h.pending_is is number_is)) record { gave = written.gave; plan_is = written.plan_is; pending_is = written.pending_is }
 
-no_items : (w v : Held) (t : ℕ) (name vname : List ℕ) → w ≡ v → take_tag v name ≡ Some t → number vname ≡ None → items (unit_variant_value name vname) w ≡ None
+no_items : (w v : PendingTag) (t : ℕ) (name vname : List ℕ) → w ≡ v → take_tag v name ≡ Some t → number vname ≡ None → items (unit_variant_value name vname) w ≡ None
 unfolding enumeration
 no_items w v t name vname same is none_is = rw (same, is, none_is) refl
 
-pub wrote_no_unit : {S O : Type 0} (given : S → List ℕ → O → Type 0) (e : Emitter O) (s : Written S) (name vname : List ℕ) (t : ℕ) → HasWritten given e s → take_tag e.held name ≡ Some t → number vname ≡ None → HasWritten given e (wrote (items (unit_variant_value name vname) s.held) s)
-wrote_no_unit given e s name vname t h is none_is = subst (λ k. HasWritten given e (wrote k s)) (sym (no_items s.held e.held t name vname h.held_is is none_is)) h
+pub wrote_no_unit : {S O : Type 0} (given : S → List ℕ → O → Type 0) (e : Emitter O) (s : Written S) (name vname : List ℕ) (t : ℕ) → HasWritten given e s → take_tag e.pending name ≡ Some t → number vname ≡ None → HasWritten given e (wrote (items (unit_variant_value name vname) s.pending) s)
+wrote_no_unit given e s name vname t h is none_is = subst (λ k. HasWritten given e (wrote k s)) (sym (no_items s.pending e.pending t name vname h.pending_is is none_is)) h
 
 -- after all events of a value its bytes were written
-pub all_given : {S O : Type 0} (given : S → List ℕ → O → Type 0) (v : Value) (ts : List Tree) (start : S) (plan : List ℕ) (old new : Emitter O) → items v Nothing ≡ Some ts → plan ≡ sizes_all ts → given start [] old.out → old.plan.now ≡ plan → old.held ≡ Nothing
+pub all_given : {S O : Type 0} (given : S → List ℕ → O → Type 0) (v : Value) (ts : List Tree) (start : S) (plan : List ℕ) (old new : Emitter O) → items v Nothing ≡ Some ts → plan ≡ sizes_all ts → given start [] old.out → old.plan.now ≡ plan → old.pending ≡ Nothing
     → ((s : Written S) → HasWritten given old s → HasWritten given new (visited emit_step v s)) → given start (bytes_all ts) new.out
-all_given {S = S} given v ts start plan old new are planned empty plan_is held told =
-    let begins : HasWritten given old (state start [] plan Nothing) = record { gave = empty; plan_is = sym plan_is; held_is = sym held } in
-    let ends = told (state start [] plan Nothing) begins in
+all_given {S = S} given v ts start plan old new are planned empty plan_is pending received =
+    let begins : HasWritten given old (state start [] plan Nothing) = record { gave = empty; plan_is = sym plan_is; pending_is = sym pending } in
+    let ends = received (state start [] plan Nothing) begins in
     let is = emits v Nothing start ts [] plan [] are (planned ∙ sym (append-nil (sizes_all ts))) in
     subst (λ (s : Written S). given s.start s.bytes new.out) is ends.gave

@@ -9,10 +9,10 @@ use Rattle.kmip_ttlv_types.specs.ItemTypes.{is_structure}
 use Rattle.kmip_ttlv_types.specs.Names.{number, tag_of, below_tag_limit, transparent_name}
 use Rattle.kmip_ttlv_types.specs.Trees.{Tree, leaf, node, trees_of, bytes_all, Fits}
 use Rattle.kmip_ttlv_base.specs.Values.{Value, boolean_value, i8_value, i16_value, i32_value, u32_value, i64_value, u64_value, date_time_value, interval_value, text_value, bytes_value, big_integer_value, none_value as none, some_value as some, seq_value, struct_value, newtype_value, unit_variant_value, newtype_variant_value, tuple_variant_value, unsupported_value, Values, no_values, value}
-use Rattle.kmip_ttlv_ser.specs.declared.held.Held.{Held}
-use Rattle.kmip_ttlv_ser.specs.declared.held.Held.TheVariants.{Nothing, Plain, Overriding}
-use Rattle.kmip_ttlv_ser.specs.WrittenItems.{◌>>=◌, take_tag, held_tag, one_leaf, one_node, enumeration, some_item, held_over, without_override, is_wrapper, left_over, newtype_row, variant_row, items, items_in}
-use Rattle.kmip_ttlv_ser.specs.WriteAnswers.{IsWrittenAs}
+use Rattle.kmip_ttlv_ser.specs.declared.pending.PendingTag.{PendingTag}
+use Rattle.kmip_ttlv_ser.specs.declared.pending.PendingTag.TheVariants.{Nothing, Plain, Overriding}
+use Rattle.kmip_ttlv_ser.specs.WrittenItems.{◌>>=◌, take_tag, pending_tag, one_leaf, one_node, enumeration, some_item, pending_after, without_override, is_wrapper, left_over, newtype_row, variant_row, items, items_in}
+use Rattle.kmip_ttlv_ser.specs.EncodeResults.{IsWrittenAs}
 use Rattle.kmip_ttlv_ser.specs.WriteLaws.{IsSound, AreSound}
 use Rattle.kmip_ttlv_ser.proofs.Leaves.{fits_each, each_front, each_back}
 use Rattle.kmip_ttlv_ser.proofs.Parts.{some_same, split_of, unwrap}
@@ -22,7 +22,7 @@ abbrev Sound : List Tree → Type 0
 Sound ts = AllByRecursion Fits ts → AllByRecursion IsSound ts
 
 -- the held tag has three bytes
-abbrev Small : Held → Type 0
+abbrev Small : PendingTag → Type 0
 Small Nothing = Unit {0}
 Small (Plain t) = t < 2 ^ 24
 Small (Overriding t) = t < 2 ^ 24
@@ -43,7 +43,7 @@ overridden : (o : Option ℕ) (s t : ℕ) → s < 2 ^ 24 → (o >>= λ _. Some s
 overridden None s t h e = let k : None ≡ Some t = e in absurd cc
 overridden (Some n) s t h e = subst (λ k. k < 2 ^ 24) (some_same s t e) h
 
-taken : (w : Held) (name : List ℕ) (t : ℕ) → Small w → take_tag w name ≡ Some t → t < 2 ^ 24
+taken : (w : PendingTag) (name : List ℕ) (t : ℕ) → Small w → take_tag w name ≡ Some t → t < 2 ^ 24
 unfolding take_tag
 taken Nothing name t h e = named name t e
 taken (Plain s) name t h e = let k : None ≡ Some t = e in absurd cc
@@ -53,17 +53,17 @@ over_at : (o : Option (List ℕ)) (t : ℕ) → t < 2 ^ 24 → Small (elim o [ N
 over_at None t h = h
 over_at (Some rest) t h = h
 
-over_small : (w : Held) (name : List ℕ) (t : ℕ) → t < 2 ^ 24 → Small (held_over w name t)
-unfolding held_over
+over_small : (w : PendingTag) (name : List ℕ) (t : ℕ) → t < 2 ^ 24 → Small (pending_after w name t)
+unfolding pending_after
 over_small Nothing name t h = over_at _ t h
 over_small (Plain s) name t h = h
 over_small (Overriding s) name t h = h
 
-left_small : (w : Held) (ts : List Tree) → Small w → Small (left_over w ts)
+left_small : (w : PendingTag) (ts : List Tree) → Small w → Small (left_over w ts)
 left_small w [] h = h
 left_small w (t ∷ ts) h = tt
 
-held_small : (w : Held) (t : ℕ) → Small w → held_tag w ≡ Some t → t < 2 ^ 24
+held_small : (w : PendingTag) (t : ℕ) → Small w → pending_tag w ≡ Some t → t < 2 ^ 24
 held_small Nothing t h e = let k : None ≡ Some t = e in absurd cc
 held_small (Plain s) t h e = subst (λ k. k < 2 ^ 24) (some_same s t e) h
 held_small (Overriding s) t h e = subst (λ k. k < 2 ^ 24) (some_same s t e) h
@@ -74,8 +74,8 @@ leaf_at (Some t) typ c ts plain small e =
     let same = some_same (leaf t typ c ∷ []) ts e in
     λ h. let each : AllByRecursion Fits (leaf t typ c ∷ []) = subst (AllByRecursion Fits) (sym same) h in subst (AllByRecursion IsSound) same ((small t refl, plain, each.0), tt)
 
-leaf_sound : (w : Held) (typ : TtlvType) (c : List ℕ) (ts : List Tree) → is_structure typ ≡ false → Small w → one_leaf w typ c ≡ Some ts → Sound ts
-leaf_sound w typ c ts plain h e = leaf_at (held_tag w) typ c ts plain (λ t i. held_small w t h i) e
+leaf_sound : (w : PendingTag) (typ : TtlvType) (c : List ℕ) (ts : List Tree) → is_structure typ ≡ false → Small w → one_leaf w typ c ≡ Some ts → Sound ts
+leaf_sound w typ c ts plain h e = leaf_at (pending_tag w) typ c ts plain (λ t i. held_small w t h i) e
 
 are_sound : (ts : List Tree) → AllByRecursion IsSound ts → AreSound (trees_of ts)
 are_sound [] h = tt
@@ -93,12 +93,12 @@ wrapper_sound : (k : Option ℕ) (its : ℕ → Option (List Tree)) (ts : List T
 wrapper_sound None its ts inner e = let x : None ≡ Some ts = e in absurd cc
 wrapper_sound (Some t) its ts inner e = inner t refl (unwrap (its t) ts e)
 
-newtype_sound : (o : Option (List ℕ)) (name : List ℕ) (w : Held) (its : Held → Option (List Tree)) (ts : List Tree) → Small w → ((u : Held) (us : List Tree) → Small u → its u ≡ Some us → Sound us) → newtype_row o name w its ≡ Some ts → Sound ts
+newtype_sound : (o : Option (List ℕ)) (name : List ℕ) (w : PendingTag) (its : PendingTag → Option (List Tree)) (ts : List Tree) → Small w → ((u : PendingTag) (us : List Tree) → Small u → its u ≡ Some us → Sound us) → newtype_row o name w its ≡ Some ts → Sound ts
 newtype_sound None name w its ts h inner e = structure_sound (take_tag w name) (its Nothing) ts (λ t i. taken w name t h i) (λ us i. inner Nothing us tt i) e
 newtype_sound (Some n) name w its ts h inner e = wrapper_sound (take_tag w n) (λ t. its (Plain t)) ts (λ t i j. inner (Plain t) ts (taken w n t h i) j) e
 
-variant_sound : (b : Bool) (name : List ℕ) (w : Held) (its : Held → Option (List Tree)) (ts : List Tree) → Small w → ((u : Held) (us : List Tree) → Small u → its u ≡ Some us → Sound us) → variant_row b name w its ≡ Some ts → Sound ts
-variant_sound true name w its ts h inner e = let n = without_override name in wrapper_sound (take_tag w n) (λ t. its (held_over w name t)) ts (λ t i j. inner (held_over w name t) ts (over_small w name t (taken w n t h i)) j) e
+variant_sound : (b : Bool) (name : List ℕ) (w : PendingTag) (its : PendingTag → Option (List Tree)) (ts : List Tree) → Small w → ((u : PendingTag) (us : List Tree) → Small u → its u ≡ Some us → Sound us) → variant_row b name w its ≡ Some ts → Sound ts
+variant_sound true name w its ts h inner e = let n = without_override name in wrapper_sound (take_tag w n) (λ t. its (pending_after w name t)) ts (λ t i j. inner (pending_after w name t) ts (over_small w name t (taken w n t h i)) j) e
 variant_sound false name w its ts h inner e = let n = without_override (without_override name) in structure_sound (take_tag w n) (its Nothing) ts (λ t i. taken w n t h i) (λ us i. inner Nothing us tt i) e
 
 number_sound : (o : Option ℕ) (t : ℕ) (ts : List Tree) → t < 2 ^ 24 → (o >>= λ n. one_leaf (Plain t) Enumeration (to_be_bytes w32 n)) ≡ Some ts → Sound ts
@@ -115,7 +115,7 @@ sound_append [] ys h k = k
 sound_append (x ∷ xs) ys h k = (h.0, sound_append xs ys h.1 k)
 
 mutual
-  value_sound : (v : Value) (w : Held) (ts : List Tree) → Small w → items v w ≡ Some ts → Sound ts
+  value_sound : (v : Value) (w : PendingTag) (ts : List Tree) → Small w → items v w ≡ Some ts → Sound ts
   value_sound (boolean_value b) w ts h e = leaf_sound w Boolean _ ts refl h e
   value_sound (i8_value z) w ts h e = leaf_sound w Integer _ ts refl h e
   value_sound (i16_value z) w ts h e = leaf_sound w Integer _ ts refl h e
@@ -138,7 +138,7 @@ mutual
   value_sound (tuple_variant_value name vname vs) w ts h e = structure_sound (take_tag w (without_override name)) (items_in vs Nothing) ts (λ t i. taken w (without_override name) t h i) (λ us i. values_sound vs Nothing us tt i) e
   value_sound (unsupported_value name) w ts h e = let k : None ≡ Some ts = e in absurd cc
 
-  values_sound : (vs : Values) (w : Held) (ts : List Tree) → Small w → items_in vs w ≡ Some ts → Sound ts
+  values_sound : (vs : Values) (w : PendingTag) (ts : List Tree) → Small w → items_in vs w ≡ Some ts → Sound ts
   values_sound no_values w ts h e = λ f. subst (AllByRecursion IsSound) (some_same [] ts e) tt
   values_sound (value v vs) w ts h e =
       let s = split_of (items v w) (λ a. items_in vs (left_over w a)) ts e in

@@ -8,7 +8,7 @@ use Rattle.kmip_ttlv_types.specs.ItemTypes.{is_structure, pad_len, padding}
 use Rattle.kmip_ttlv_types.specs.Items.{header, IsTextOf, Splits}
 use Rattle.kmip_ttlv_types.specs.Trees.{Tree, leaf, node, leaf_bytes, node_bytes, bytes, bytes_below, bytes_all, raw_of}
 use Rattle.kmip_ttlv_base.specs.Values.{Value}
-use Rattle.kmip_ttlv_ser.specs.WriteAnswers.{IsWrittenAs}
+use Rattle.kmip_ttlv_ser.specs.EncodeResults.{IsWrittenAs}
 use Rattle.kmip_ttlv_ser.specs.WriteLaws.{IsSound}
 use Rattle.kmip_ttlv_ser.proofs.Sound.{items_sound}
 

@@ -12,13 +12,13 @@ use Rattle.kmip_ttlv_base.specs.Values.{u64_value, date_time_value, interval_val
 use Rattle.kmip_ttlv_base.specs.Values.{none_value as none, some_value as some, seq_value, struct_value, newtype_value}
 use Rattle.kmip_ttlv_base.specs.Values.{unit_variant_value, newtype_variant_value, tuple_variant_value}
 use Rattle.kmip_ttlv_base.specs.Values.{unsupported_value, Values, no_values, value}
-use Rattle.kmip_ttlv_ser.specs.declared.held.Held.{Held}
-use Rattle.kmip_ttlv_ser.specs.declared.held.Held.TheVariants.{Nothing, Plain, Overriding}
-use Rattle.kmip_ttlv_ser.specs.declared.held.Place.{Place}
-use Rattle.kmip_ttlv_ser.specs.WrittenItems.{take_tag, held_over, without_override, is_wrapper, left_over, items}
+use Rattle.kmip_ttlv_ser.specs.declared.pending.PendingTag.{PendingTag}
+use Rattle.kmip_ttlv_ser.specs.declared.pending.PendingTag.TheVariants.{Nothing, Plain, Overriding}
+use Rattle.kmip_ttlv_ser.specs.declared.pending.Place.{Place}
+use Rattle.kmip_ttlv_ser.specs.WrittenItems.{take_tag, pending_after, without_override, is_wrapper, left_over, items}
 
 -- why a value can't be encoded, and the number of bytes before the invalid field
-pub record Fault : Type 0 where
+pub record EncodeFault : Type 0 where
   pub kind : Kind
   pub offset : ℕ
 
@@ -27,19 +27,19 @@ abbrev pub due : Bool → FieldType
 due true = Content
 due false = Tag
 
--- an item, while no tag is held
+-- an item, while no tag is pending
 abbrev pub no_tag : Bool → Kind
 no_tag opened = malformed (UnexpectedTtlvField (due opened) TypeAndLengthAndValue)
 
--- a tag, or the end of a wrapper, while a tag is held
+-- a tag, or the end of a wrapper, while a tag is pending
 abbrev pub tag_unused : Kind
 tag_unused = malformed (UnexpectedTtlvField Typ Tag)
 
--- the bytes of a held tag, which come before the next field
-abbrev pub held_len : Held → ℕ
-held_len Nothing = 0
-held_len (Plain t) = 3
-held_len (Overriding t) = 3
+-- the bytes of a pending tag, which come before the next field
+abbrev pub pending_len : PendingTag → ℕ
+pending_len Nothing = 0
+pending_len (Plain t) = 3
+pending_len (Overriding t) = 3
 
 -- whether the last field written is a structure's length, after a tree
 abbrev mutual
@@ -64,52 +64,52 @@ place_after p ts = record { offset = p.offset + length (bytes_all ts); opened = 
 abbrev pub inside : Place → Place
 inside p = record { offset = p.offset + 8; opened = true }
 
--- an error at the field that comes next, after the held tag
-abbrev pub fault_at : Kind → Held → Place → Fault
-fault_at kind w p = record { kind = kind; offset = p.offset + held_len w }
+-- an error at the field that comes next, after the pending tag
+abbrev pub fault_at : Kind → PendingTag → Place → EncodeFault
+fault_at kind w p = record { kind = kind; offset = p.offset + pending_len w }
 
--- why a name can't be taken: it is no tag, or a tag is held
+-- why a name can't be taken: it is no tag, or a tag is pending
 abbrev pub name_kind : Option ℕ → List ℕ → Kind
 name_kind None name = mismatch (invalid_tag name)
 name_kind (Some n) name = tag_unused
 
 -- the error of a named value: of its name, or of what follows under the tag
-abbrev pub under_name : Option ℕ → List ℕ → Held → Place → (ℕ → Fault) → Fault
+abbrev pub under_name : Option ℕ → List ℕ → PendingTag → Place → (ℕ → EncodeFault) → EncodeFault
 under_name None name w p below = fault_at (name_kind (tag_of name) name) w p
 under_name (Some t) name w p below = below t
 
 -- the error of a structure: of its name, or of its content
-abbrev pub structure_fault : Held → List ℕ → Place → Fault → Fault
+abbrev pub structure_fault : PendingTag → List ℕ → Place → EncodeFault → EncodeFault
 structure_fault w name p below = under_name (take_tag w name) name w p (λ t. below)
 
 -- the error of a wrapper: of its content, or that it has no item
-abbrev pub within : Option (List Tree) → Place → Fault → Fault
+abbrev pub within : Option (List Tree) → Place → EncodeFault → EncodeFault
 within None p below = below
 within (Some ts) p below = record { kind = tag_unused; offset = p.offset + 3 }
 
 -- the error of a newtype, by what follows `Transparent:` in its name
 abbrev pub newtype_fault :
-    Option (List ℕ) → List ℕ → Held → Place → (Held → Option (List Tree)) → (Held → Place → Fault) → Fault
+    Option (List ℕ) → List ℕ → PendingTag → Place → (PendingTag → Option (List Tree)) → (PendingTag → Place → EncodeFault) → EncodeFault
 newtype_fault None name w p its stop = structure_fault w name p (stop Nothing (inside p))
 newtype_fault (Some n) name w p its stop =
     under_name (take_tag w n) n w p (λ t. within (its (Plain t)) p (stop (Plain t) p))
 
 -- the error of a newtype variant, by whether it is named `Transparent`
-abbrev pub variant_fault : Bool → List ℕ → Held → Place → (Held → Option (List Tree)) → (Held → Place → Fault) → Fault
+abbrev pub variant_fault : Bool → List ℕ → PendingTag → Place → (PendingTag → Option (List Tree)) → (PendingTag → Place → EncodeFault) → EncodeFault
 variant_fault true name w p its stop =
     let n = without_override name in
-    under_name (take_tag w n) n w p (λ t. within (its (held_over w name t)) p (stop (held_over w name t) p))
+    under_name (take_tag w n) n w p (λ t. within (its (pending_after w name t)) p (stop (pending_after w name t) p))
 variant_fault false name w p its stop =
     structure_fault w (without_override (without_override name)) p (stop Nothing (inside p))
 
 -- the error of the first value if it has no items, else that of what follows
-abbrev pub in_turn : Option (List Tree) → Fault → (List Tree → Fault) → Fault
+abbrev pub in_turn : Option (List Tree) → EncodeFault → (List Tree → EncodeFault) → EncodeFault
 in_turn None here later = here
 in_turn (Some ts) here later = later ts
 
 -- the first error of a value that has no items
 abbrev mutual
-  pub fault : Value → Held → Place → Fault
+  pub fault : Value → PendingTag → Place → EncodeFault
   fault (boolean_value b) w p = fault_at (no_tag p.opened) w p
   fault (i8_value z) w p = fault_at (no_tag p.opened) w p
   fault (i16_value z) w p = fault_at (no_tag p.opened) w p
@@ -135,6 +135,6 @@ abbrev mutual
   fault (unsupported_value name) w p = fault_at (mismatch (unsupported_rust_type name)) w p
 
   -- used only if a value has no items
-  pub fault_in : Values → Held → Place → Fault
+  pub fault_in : Values → PendingTag → Place → EncodeFault
   fault_in no_values w p = fault_at (no_tag p.opened) w p
   fault_in (value v vs) w p = in_turn (items v w) (fault v w p) (λ ts. fault_in vs (left_over w ts) (place_after p ts))

@@ -1,4 +1,4 @@
--- What a writer behind a buffer got.
+-- What a writer after a buffer got.
 use Rattle.std.specs.Prelude.{◌≡◌, ℕ, List, ◌++◌, Option, None, Some}
 use Rattle.std.specs.Borrow.{GName}
 use Rattle.std.specs.Io.KnownBytes.{Appends}

@@ -6,12 +6,12 @@ use Rattle.kmip_ttlv_types.specs.Trees.{Tree, bytes_all}
 use Rattle.kmip_ttlv_base.specs.Values.{Value, text_value, bytes_value, big_integer_value, some_value as some}
 use Rattle.kmip_ttlv_base.specs.Values.{seq_value, struct_value, newtype_value, newtype_variant_value}
 use Rattle.kmip_ttlv_base.specs.Values.{tuple_variant_value, Values, no_values, value}
-use Rattle.kmip_ttlv_ser.specs.declared.held.Held.{Held}
-use Rattle.kmip_ttlv_ser.specs.declared.held.Held.TheVariants.{Nothing, Plain}
-use Rattle.kmip_ttlv_ser.specs.declared.held.Place.{Place}
-use Rattle.kmip_ttlv_ser.specs.WrittenItems.{take_tag, held_over, without_override, is_wrapper, left_over, items}
+use Rattle.kmip_ttlv_ser.specs.declared.pending.PendingTag.{PendingTag}
+use Rattle.kmip_ttlv_ser.specs.declared.pending.PendingTag.TheVariants.{Nothing, Plain}
+use Rattle.kmip_ttlv_ser.specs.declared.pending.Place.{Place}
+use Rattle.kmip_ttlv_ser.specs.WrittenItems.{take_tag, pending_after, without_override, is_wrapper, left_over, items}
 use Rattle.kmip_ttlv_ser.specs.WrittenItems.{items_in}
-use Rattle.kmip_ttlv_ser.specs.Faults.{Fault, fault, fault_in}
+use Rattle.kmip_ttlv_ser.specs.Faults.{EncodeFault, fault, fault_in}
 
 -- a text, a byte string or a sign-extended big integer anywhere in a value is too long
 abbrev mutual
@@ -32,7 +32,7 @@ abbrev mutual
   HaveLongLeaf (value v vs) = HasLongLeaf v ⊎ HaveLongLeaf vs
 
 -- how many bytes there are up to the first error, or to the end if there is none, after n earlier ones
-abbrev pub reach : Option (List Tree) → Fault → ℕ → ℕ
+abbrev pub reach : Option (List Tree) → EncodeFault → ℕ → ℕ
 reach None stop n = stop.offset
 reach (Some ts) stop n = n + length (bytes_all ts)
 
@@ -41,7 +41,7 @@ abbrev pub content_start : Place
 content_start = record { offset = 0; opened = true }
 
 -- a structure's content, counted up to the first error, is too long
-abbrev pub IsLongContent : Option (List Tree) → Fault → Type 0
+abbrev pub IsLongContent : Option (List Tree) → EncodeFault → Type 0
 IsLongContent below stop = 2 ^ 32 ≤ reach below stop 0
 
 -- a tag was taken, and then this holds
@@ -55,23 +55,23 @@ After None later = ⊥
 After (Some ts) later = later ts
 
 -- a structure under a name's tag: its own content is too long, or that of a structure inside
-abbrev pub structure_long : Held → List ℕ → Type 0 → Type 0 → Type 0
+abbrev pub structure_long : PendingTag → List ℕ → Type 0 → Type 0 → Type 0
 structure_long w name whole inside = Under (take_tag w name) (λ t. whole ⊎ inside)
 
 -- a newtype, by what follows `Transparent:` in its name; whole means that its own structure is too long
-abbrev pub newtype_long : Option (List ℕ) → List ℕ → Held → Type 0 → (Held → Type 0) → Type 0
+abbrev pub newtype_long : Option (List ℕ) → List ℕ → PendingTag → Type 0 → (PendingTag → Type 0) → Type 0
 newtype_long None name w whole inside = structure_long w name whole (inside Nothing)
 newtype_long (Some n) name w whole inside = Under (take_tag w n) (λ t. inside (Plain t))
 
 -- a newtype variant, by whether it is named `Transparent`
-abbrev pub variant_long : Bool → List ℕ → Held → Type 0 → (Held → Type 0) → Type 0
-variant_long true name w whole inside = Under (take_tag w (without_override name)) (λ t. inside (held_over w name t))
+abbrev pub variant_long : Bool → List ℕ → PendingTag → Type 0 → (PendingTag → Type 0) → Type 0
+variant_long true name w whole inside = Under (take_tag w (without_override name)) (λ t. inside (pending_after w name t))
 variant_long false name w whole inside =
     structure_long w (without_override (without_override name)) whole (inside Nothing)
 
 -- a structure, counted up to the first error, is too long
 abbrev mutual
-  pub HasLongStructure : Value → Held → Type 0
+  pub HasLongStructure : Value → PendingTag → Type 0
   HasLongStructure (some v) w = HasLongStructure v w
   HasLongStructure (seq_value vs) w = HaveLongStructure vs w
   HasLongStructure (struct_value name vs) w =
@@ -88,7 +88,7 @@ abbrev mutual
       (IsLongContent (items_in vs Nothing) (fault_in vs Nothing content_start)) (HaveLongStructure vs Nothing)
   HasLongStructure _ w = ⊥
 
-  pub HaveLongStructure : Values → Held → Type 0
+  pub HaveLongStructure : Values → PendingTag → Type 0
   HaveLongStructure no_values w = ⊥
   HaveLongStructure (value v vs) w =
       HasLongStructure v w ⊎ After (items v w) (λ ts. HaveLongStructure vs (left_over w ts))

@@ -2,7 +2,7 @@ pub mod WrittenItems
 pub mod Sizes
 pub mod Faults
 pub mod Lengths
-pub mod WriteAnswers
+pub mod EncodeResults
 pub mod Passes
 pub mod Measures
 pub mod Outputs

@@ -10,10 +10,10 @@ Given {S = S} given piece old new = (start : S) (sent : List ℕ) → given star
 
 -- a sink before it got anything: what it held, and how much more it has room for
 pub record Before : Type 0 where
-  pub held : Option (List ℕ)
+  pub pending : Option (List ℕ)
   pub room : Option ℕ
 
 -- a sink got these bytes, or failed after a beginning of them, and then it has too little room, if that is known
 abbrev pub IsGiven : Before → List ℕ → Option (List ℕ) → Option ℕ → Option Error → Type 0
-IsGiven start sent held room None = Appends start.held held sent × UsesRoom start.room room (length sent)
-IsGiven start sent held room (Some e) = AppendsFront start.held held sent × IsTight start.room (length sent)
+IsGiven start sent pending room None = Appends start.pending pending sent × UsesRoom start.room room (length sent)
+IsGiven start sent pending room (Some e) = AppendsFront start.pending pending sent × IsTight start.room (length sent)

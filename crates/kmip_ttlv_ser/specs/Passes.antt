@@ -7,14 +7,14 @@ use Rattle.kmip_ttlv_base.specs.declared.error.Error.{Error}
 use Rattle.kmip_ttlv_base.specs.Errors.{Kind, mismatch, invalid_tag, invalid_variant, unsupported_rust_type}
 use Rattle.kmip_ttlv_base.specs.Errors.{length_overflow, unknown, only_offset, kind_of, view_of_kind, location_of}
 use Rattle.kmip_ttlv_base.specs.Errors.{view_of_location, IsMemory}
-use Rattle.kmip_ttlv_ser.specs.declared.held.Place.{Place}
-use Rattle.kmip_ttlv_ser.specs.declared.refusal.Cause.{Cause}
-use Rattle.kmip_ttlv_ser.specs.declared.refusal.Cause.TheVariants.{NoTag, TagUnused, InvalidTag, InvalidVariant}
-use Rattle.kmip_ttlv_ser.specs.declared.refusal.Cause.TheVariants.{UnsupportedType}
-use Rattle.kmip_ttlv_ser.specs.declared.refusal.Refusal.{Refusal}
-use Rattle.kmip_ttlv_ser.specs.declared.refusal.Refusal.TheVariants.{LengthOverflow, Refused}
+use Rattle.kmip_ttlv_ser.specs.declared.pending.Place.{Place}
+use Rattle.kmip_ttlv_ser.specs.declared.encode_error.Cause.{Cause}
+use Rattle.kmip_ttlv_ser.specs.declared.encode_error.Cause.TheVariants.{NoTag, TagUnused, InvalidTag, InvalidVariant}
+use Rattle.kmip_ttlv_ser.specs.declared.encode_error.Cause.TheVariants.{UnsupportedType}
+use Rattle.kmip_ttlv_ser.specs.declared.encode_error.EncodeError.{EncodeError}
+use Rattle.kmip_ttlv_ser.specs.declared.encode_error.EncodeError.TheVariants.{LengthOverflow, Invalid}
 use Rattle.kmip_ttlv_ser.specs.Sizes.{sizes_all}
-use Rattle.kmip_ttlv_ser.specs.Faults.{Fault, no_tag, tag_unused, place_after}
+use Rattle.kmip_ttlv_ser.specs.Faults.{EncodeFault, no_tag, tag_unused, place_after}
 use Rattle.kmip_ttlv_ser.specs.Lengths.{reach}
 
 -- the kind of error of a cause
@@ -26,7 +26,7 @@ kind_of_cause (InvalidVariant name) = mismatch (invalid_variant name.now)
 kind_of_cause (UnsupportedType name) = mismatch (unsupported_rust_type name.now)
 
 -- a leaf is too long, or a structure, or the offset that is reached after n bytes
-abbrev pub Overlong : Type 0 → Type 0 → Option (List Tree) → Fault → ℕ → Type 0
+abbrev pub Overlong : Type 0 → Type 0 → Option (List Tree) → EncodeFault → ℕ → Type 0
 Overlong leaf structure o stop n = leaf ⊎ structure ⊎ (2 ^ 64 ≤ reach o stop n)
 
 -- the items are there, q is the place after them, and their structures' lengths were added
@@ -39,8 +39,8 @@ pub record Measured (o : Option (List Tree)) (p q : Place) (old new : List ℕ) 
   pub kept : new ≡ old ++ sizes_all trees
 
 -- the error that is returned for a `Refusal`; its text may need memory
-abbrev pub IsErrorOf : {A : Type 0} → Refusal → Error A → Type 0
+abbrev pub IsErrorOf : {A : Type 0} → EncodeError → Error A → Type 0
 IsErrorOf LengthOverflow e = (view_of_kind (kind_of e) ≡ length_overflow) × (view_of_location (location_of e) ≡ unknown)
-IsErrorOf (Refused cause offset) e =
+IsErrorOf (Invalid cause offset) e =
     IsMemory e
     ⊎ ((view_of_kind (kind_of e) ≡ kind_of_cause cause) × (view_of_location (location_of e) ≡ only_offset offset))

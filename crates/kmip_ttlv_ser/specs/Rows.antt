@@ -5,18 +5,18 @@ use Rattle.kmip_ttlv_base.specs.Errors.{Kind, mismatch, invalid_tag, invalid_var
 use Rattle.kmip_ttlv_base.specs.Values.{Value, i32_value, u64_value, date_time_value, big_integer_value, interval_value}
 use Rattle.kmip_ttlv_base.specs.Values.{none_value as none, seq_value, struct_value, newtype_value, unit_variant_value}
 use Rattle.kmip_ttlv_base.specs.Values.{newtype_variant_value, Values, no_values, value}
-use Rattle.kmip_ttlv_ser.specs.declared.held.Held.TheVariants.{Nothing}
+use Rattle.kmip_ttlv_ser.specs.declared.pending.PendingTag.TheVariants.{Nothing}
 use Rattle.kmip_ttlv_ser.specs.WrittenItems.{◌>>=◌, items}
 use Rattle.kmip_ttlv_ser.specs.Faults.{fault, no_tag, tag_unused}
-use Rattle.kmip_ttlv_ser.specs.WriteAnswers.{origin}
+use Rattle.kmip_ttlv_ser.specs.EncodeResults.{origin}
 
 -- the value's items have these bytes
 abbrev pub HasBytes : Value → List ℕ → Type 0
 HasBytes v bytes = (items v Nothing >>= λ ts. Some (bytes_all ts)) ≡ Some bytes
 
 -- the value has no items: its first error and that one's offset
-abbrev pub IsRefusedBy : Value → Kind → ℕ → Type 0
-IsRefusedBy v kind offset =
+abbrev pub FailsBy : Value → Kind → ℕ → Type 0
+FailsBy v kind offset =
     (items v Nothing ≡ None) × (fault v Nothing origin ≡ record { kind = kind; offset = offset })
 
 -- the number 3, of 32 bits
@@ -97,43 +97,43 @@ an_empty_sequence = HasBytes (seq_value no_values) []
 
 -- a field without a tag is an error after the header of its structure
 abbrev pub a_bare_field : Type 0
-a_bare_field = IsRefusedBy (struct_value (codes "0xAABBCC") (value three no_values)) (no_tag true) 8
+a_bare_field = FailsBy (struct_value (codes "0xAABBCC") (value three no_values)) (no_tag true) 8
 
 -- a value without a tag is an error at once
 abbrev pub a_bare_value : Type 0
-a_bare_value = IsRefusedBy three (no_tag false) 0
+a_bare_value = FailsBy three (no_tag false) 0
 
 -- a tag that no item takes is an error after it
 abbrev pub a_wrapper_over_nothing : Type 0
-a_wrapper_over_nothing = IsRefusedBy (newtype_value (codes "Transparent:0xAABBCC") (seq_value no_values)) tag_unused 3
+a_wrapper_over_nothing = FailsBy (newtype_value (codes "Transparent:0xAABBCC") (seq_value no_values)) tag_unused 3
 
 -- the name of a unit variant that is no number is an error after the tag
 abbrev pub a_variant_that_is_no_number : Type 0
 a_variant_that_is_no_number =
-    IsRefusedBy (unit_variant_value (codes "0x42005C") (codes "Create")) (mismatch (invalid_variant (codes "Create")))
+    FailsBy (unit_variant_value (codes "0x42005C") (codes "Create")) (mismatch (invalid_variant (codes "Create")))
     3
 
 -- the outer tag finds no item, because the inner wrapper takes a tag of its own
 abbrev pub a_wrapper_in_a_wrapper : Type 0
 a_wrapper_in_a_wrapper =
-    IsRefusedBy (struct_value (codes "0xAAAAAA") (value (newtype_variant_value (codes "Override:0xBBBBBB")
+    FailsBy (struct_value (codes "0xAAAAAA") (value (newtype_variant_value (codes "Override:0xBBBBBB")
     (codes "Transparent") three) (value (newtype_value (codes "Transparent:0xCCCCCC")
     (newtype_value (codes "Transparent:0xDDDDDD") (i32_value (pos 4)))) no_values))) tag_unused 27
 
 -- the prefix is removed once if the variant is a wrapper
 abbrev pub a_doubled_prefix_of_a_wrapper : Type 0
 a_doubled_prefix_of_a_wrapper =
-    IsRefusedBy (newtype_variant_value (codes "Override:Override:0xAABBCC") (codes "Transparent") three)
+    FailsBy (newtype_variant_value (codes "Override:Override:0xAABBCC") (codes "Transparent") three)
     (mismatch (invalid_tag (codes "Override:0xAABBCC"))) 0
 
 -- `None` has no item, and is an error after the tag
 abbrev pub a_wrapper_over_none : Type 0
 a_wrapper_over_none =
-    IsRefusedBy (newtype_value (codes "Transparent:0xAABBCC") none) (mismatch (unsupported_rust_type (codes "None")))
+    FailsBy (newtype_value (codes "Transparent:0xAABBCC") none) (mismatch (unsupported_rust_type (codes "None")))
     3
 
 -- the prefix is no part of a structure's tag
 abbrev pub a_structure_named_transparent : Type 0
 a_structure_named_transparent =
-    IsRefusedBy (struct_value (codes "Transparent:0xAABBCC") (value (i32_value (pos 1)) no_values))
+    FailsBy (struct_value (codes "Transparent:0xAABBCC") (value (i32_value (pos 1)) no_values))
     (mismatch (invalid_tag (codes "Transparent:0xAABBCC"))) 0

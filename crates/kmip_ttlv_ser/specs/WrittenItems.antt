@@ -14,8 +14,8 @@ use Rattle.kmip_ttlv_base.specs.Values.{u64_value, date_time_value, interval_val
 use Rattle.kmip_ttlv_base.specs.Values.{none_value as none, some_value as some, seq_value, struct_value, newtype_value}
 use Rattle.kmip_ttlv_base.specs.Values.{unit_variant_value, newtype_variant_value, tuple_variant_value}
 use Rattle.kmip_ttlv_base.specs.Values.{unsupported_value, Values, no_values, value}
-use Rattle.kmip_ttlv_ser.specs.declared.held.Held.{Held}
-use Rattle.kmip_ttlv_ser.specs.declared.held.Held.TheVariants.{Nothing, Plain, Overriding}
+use Rattle.kmip_ttlv_ser.specs.declared.pending.PendingTag.{PendingTag}
+use Rattle.kmip_ttlv_ser.specs.declared.pending.PendingTag.TheVariants.{Nothing, Plain, Overriding}
 
 -- what a step gives, if anything, passed to the next one
 infixl 10 ◌>>=◌
@@ -24,27 +24,27 @@ None >>= f = None
 (Some x) >>= f = f x
 
 -- the tag that a name gives when it is taken
-unfoldable pub take_tag : Held → List ℕ → Option ℕ
+unfoldable pub take_tag : PendingTag → List ℕ → Option ℕ
 take_tag Nothing name = tag_of name
 take_tag (Plain t) name = None
 take_tag (Overriding t) name = tag_of name >>= λ _. Some t
 
 -- the tag of a leaf
-abbrev pub held_tag : Held → Option ℕ
-held_tag Nothing = None
-held_tag (Plain t) = Some t
-held_tag (Overriding t) = Some t
+abbrev pub pending_tag : PendingTag → Option ℕ
+pending_tag Nothing = None
+pending_tag (Plain t) = Some t
+pending_tag (Overriding t) = Some t
 
--- one leaf under the held tag
-abbrev pub one_leaf : Held → TtlvType → List ℕ → Option (List Tree)
-one_leaf w typ content = held_tag w >>= λ t. Some (leaf t typ content ∷ [])
+-- one leaf under the pending tag
+abbrev pub one_leaf : PendingTag → TtlvType → List ℕ → Option (List Tree)
+one_leaf w typ content = pending_tag w >>= λ t. Some (leaf t typ content ∷ [])
 
 -- one structure of these items
 abbrev pub one_node : ℕ → Option (List Tree) → Option (List Tree)
 one_node t below = below >>= λ ts. Some (node t (trees_of ts) ∷ [])
 
 -- a structure of these items, under a name's tag
-abbrev pub one_structure : Held → List ℕ → Option (List Tree) → Option (List Tree)
+abbrev pub one_structure : PendingTag → List ℕ → Option (List Tree) → Option (List Tree)
 one_structure w name below = take_tag w name >>= λ t. one_node t below
 
 -- a wrapper's content must give an item
@@ -52,8 +52,8 @@ unfoldable pub some_item : List Tree → Option (List Tree)
 some_item [] = None
 some_item (t ∷ ts) = Some (t ∷ ts)
 
--- what is held after these items
-abbrev pub left_over : Held → List Tree → Held
+-- the pending tag after these items
+abbrev pub left_over : PendingTag → List Tree → PendingTag
 left_over w [] = w
 left_over w (t ∷ ts) = Nothing
 
@@ -61,18 +61,18 @@ left_over w (t ∷ ts) = Nothing
 abbrev pub without_override : List ℕ → List ℕ
 without_override name = elim (override_name name) [ None ↦ name | Some rest ↦ rest ]
 
--- the taken tag overrides if nothing was held before and the prefix was there
-unfoldable pub held_over : Held → List ℕ → ℕ → Held
-held_over Nothing name t = elim (override_name name) [ None ↦ Plain t | Some rest ↦ Overriding t ]
-held_over (Plain s) name t = Plain t
-held_over (Overriding s) name t = Plain t
+-- the taken tag overrides if no tag was pending before and the prefix was there
+unfoldable pub pending_after : PendingTag → List ℕ → ℕ → PendingTag
+pending_after Nothing name t = elim (override_name name) [ None ↦ Plain t | Some rest ↦ Overriding t ]
+pending_after (Plain s) name t = Plain t
+pending_after (Overriding s) name t = Plain t
 
 -- a unit variant's number, under the taken tag
 unfoldable pub enumeration : ℕ → List ℕ → Option (List Tree)
 enumeration t variant = number variant >>= λ n. one_leaf (Plain t) Enumeration (to_be_bytes w32 n)
 
 -- a newtype, by what follows `Transparent:` in its name; `inside` gives the items of its content
-abbrev pub newtype_row : Option (List ℕ) → List ℕ → Held → (Held → Option (List Tree)) → Option (List Tree)
+abbrev pub newtype_row : Option (List ℕ) → List ℕ → PendingTag → (PendingTag → Option (List Tree)) → Option (List Tree)
 newtype_row None name w inside = one_structure w name (inside Nothing)
 newtype_row (Some n) name w inside = take_tag w n >>= λ t. inside (Plain t) >>= some_item
 
@@ -81,13 +81,13 @@ unfoldable pub is_wrapper : List ℕ → Bool
 is_wrapper variant = bytes_eq variant (codes "Transparent")
 
 -- a newtype variant, by whether it is named `Transparent`
-abbrev pub variant_row : Bool → List ℕ → Held → (Held → Option (List Tree)) → Option (List Tree)
-variant_row true name w inside = take_tag w (without_override name) >>= λ t. inside (held_over w name t) >>= some_item
+abbrev pub variant_row : Bool → List ℕ → PendingTag → (PendingTag → Option (List Tree)) → Option (List Tree)
+variant_row true name w inside = take_tag w (without_override name) >>= λ t. inside (pending_after w name t) >>= some_item
 variant_row false name w inside = one_structure w (without_override (without_override name)) (inside Nothing)
 
--- the items of a value under a held tag, if it has any
+-- the items of a value under a pending tag, if it has any
 abbrev mutual
-  pub items : Value → Held → Option (List Tree)
+  pub items : Value → PendingTag → Option (List Tree)
   items (boolean_value b) w = one_leaf w Boolean (to_be_bytes w64 (from_bool b))
   items (i8_value z) w = one_leaf w Integer (to_be_bytes w32 (cast_unsigned w32 z))
   items (i16_value z) w = one_leaf w Integer (to_be_bytes w32 (cast_unsigned w32 z))
@@ -110,7 +110,7 @@ abbrev mutual
   items (tuple_variant_value name vname vs) w = one_structure w (without_override name) (items_in vs Nothing)
   items (unsupported_value name) w = None
 
-  -- values one after the other: the first that gives an item uses the held tag up
-  pub items_in : Values → Held → Option (List Tree)
+  -- values one after the other: the first that gives an item uses the pending tag up
+  pub items_in : Values → PendingTag → Option (List Tree)
   items_in no_values w = Some []
   items_in (value v vs) w = items v w >>= λ first. items_in vs (left_over w first) >>= λ rest. Some (first ++ rest)

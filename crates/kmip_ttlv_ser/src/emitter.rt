@@ -12,12 +12,12 @@ ghost use Rattle.kmip_ttlv_base.specs.Visits.{Knows};
 ghost use Rattle.kmip_ttlv_ser.specs.WrittenItems.{take_tag, one_leaf, items, is_wrapper};
 ghost use Rattle.kmip_ttlv_ser.specs.Sizes.{sizes_all};
 ghost use Rattle.kmip_ttlv_ser.specs.Outputs.{Given};
-ghost use Rattle.kmip_ttlv_ser.specs.declared.held.Held.TheVariants.{Plain as SpecPlain};
-ghost use Rattle.kmip_ttlv_ser.specs.declared.held.Held.TheVariants.{Nothing as SpecNothing};
+ghost use Rattle.kmip_ttlv_ser.specs.declared.pending.PendingTag.TheVariants.{Plain as SpecPlain};
+ghost use Rattle.kmip_ttlv_ser.specs.declared.pending.PendingTag.TheVariants.{Nothing as SpecNothing};
 ghost use Rattle.kmip_ttlv_ser.specs.Emits.{Written, HasWritten, wrote, began, waits, began_newtype};
 ghost use Rattle.kmip_ttlv_ser.specs.Emits.{began_variant, emit_step};
 
-use crate::held::Held;
+use crate::pending::PendingTag;
 use crate::measurer::padding;
 use crate::names::{is_wrapper, number_of, transparent_name, without_override};
 use crate::output::Output;
@@ -32,7 +32,7 @@ use std::alloc::AllocError;
 pub struct Emitter<'a, O: Output> {
     out: O,
     plan: &'a [u32],
-    held: Held,
+    pending: PendingTag,
 }
 
 /// Writes an item's header: its tag, its type and its length (KMIP 1.0, section 9.1.1).
@@ -77,55 +77,55 @@ fn put_filling<O: Output>(out: &mut O, byte: u8, count: usize)
 }
 
 impl<'a, O: Output> Emitter<'a, O> {
-    /// A leaf under the held tag.
+    /// A leaf under the pending tag.
     #[inline(always)]
     fn put_leaf(&mut self, typ: TtlvType, content: &[u8])
         ensures { Knows (HasWritten O.given)
-            (λ s. wrote (one_leaf s.held typ content.now) s) self.old self.new }
+            (λ s. wrote (one_leaf s.pending typ content.now) s) self.old self.new }
     {
-        let Some(tag) = self.held.tag() else {
+        let Some(tag) = self.pending.tag() else {
             return;
         };
         let len = content.len() as u64;
         put_header(&mut self.out, tag, typ, len);
         self.out.give(content);
         put_filling(&mut self.out, 0, padding(len) as usize);
-        self.held = Held::Nothing;
+        self.pending = PendingTag::Nothing;
     }
 
-    /// A leaf of a number of four bytes, under the held tag.
+    /// A leaf of a number of four bytes, under the pending tag.
     #[inline(always)]
     fn put_four(&mut self, typ: TtlvType, number: u32)
         ensures { Knows (HasWritten O.given)
-            (λ s. wrote (one_leaf s.held typ (to_be_bytes w32 number)) s) self.old self.new }
+            (λ s. wrote (one_leaf s.pending typ (to_be_bytes w32 number)) s) self.old self.new }
     {
-        let Some(tag) = self.held.tag() else {
+        let Some(tag) = self.pending.tag() else {
             return;
         };
         put_word(&mut self.out, tag, typ, number);
-        self.held = Held::Nothing;
+        self.pending = PendingTag::Nothing;
     }
 
-    /// A leaf of a number of eight bytes, under the held tag.
+    /// A leaf of a number of eight bytes, under the pending tag.
     #[inline(always)]
     fn put_eight(&mut self, typ: TtlvType, number: u64)
         ensures { Knows (HasWritten O.given)
-            (λ s. wrote (one_leaf s.held typ (to_be_bytes w64 number)) s) self.old self.new }
+            (λ s. wrote (one_leaf s.pending typ (to_be_bytes w64 number)) s) self.old self.new }
     {
-        let Some(tag) = self.held.tag() else {
+        let Some(tag) = self.pending.tag() else {
             return;
         };
         put_long(&mut self.out, tag, typ, number);
-        self.held = Held::Nothing;
+        self.pending = PendingTag::Nothing;
     }
 
-    /// A Big Integer under the held tag, extended by sign bytes to a multiple of eight.
+    /// A Big Integer under the pending tag, extended by sign bytes to a multiple of eight.
     #[inline(always)]
     fn put_big_integer(&mut self, bytes: &[u8])
         ensures { Knows (HasWritten O.given)
-            (λ s. wrote (one_leaf s.held SpecBigInteger (sign_extended bytes.now)) s) self.old self.new }
+            (λ s. wrote (one_leaf s.pending SpecBigInteger (sign_extended bytes.now)) s) self.old self.new }
     {
-        let Some(tag) = self.held.tag() else {
+        let Some(tag) = self.pending.tag() else {
             return;
         };
         let len = bytes.len() as u64;
@@ -133,31 +133,31 @@ impl<'a, O: Output> Emitter<'a, O> {
         put_header(&mut self.out, tag, TtlvType::BigInteger, extending + len);
         put_filling(&mut self.out, sign_of(bytes), extending as usize);
         self.out.give(bytes);
-        self.held = Held::Nothing;
+        self.pending = PendingTag::Nothing;
     }
 
     /// A unit variant: the leaf of its number, under its enum's tag.
     #[inline(always)]
     fn put_unit_variant(&mut self, name: &'static str, variant: &'static str)
         ensures { Knows (HasWritten O.given)
-            (λ s. wrote (items (unit_variant_value name.now variant.now) s.held) s) self.old self.new }
+            (λ s. wrote (items (unit_variant_value name.now variant.now) s.pending) s) self.old self.new }
     {
-        let Some(tag) = self.held.take(name) else {
+        let Some(tag) = self.pending.take(name) else {
             return;
         };
         let Some(value) = number_of(variant) else {
             return;
         };
-        self.held = Held::Plain(tag);
+        self.pending = PendingTag::Plain(tag);
         self.put_four(TtlvType::Enumeration, value);
     }
 
     /// A structure's header. Its length is the next of the plan.
     #[inline(always)]
     fn put_structure(&mut self, name: &'static str)
-        ensures { Knows (HasWritten O.given) (λ s. began (take_tag s.held name.now) s) self.old self.new }
+        ensures { Knows (HasWritten O.given) (λ s. began (take_tag s.pending name.now) s) self.old self.new }
     {
-        let Some(tag) = self.held.take(name) else {
+        let Some(tag) = self.pending.take(name) else {
             return;
         };
         let Some((len, rest)) = self.plan.split_first() else {
@@ -165,17 +165,17 @@ impl<'a, O: Output> Emitter<'a, O> {
         };
         put_header(&mut self.out, tag, TtlvType::Structure, u64::from(*len));
         self.plan = rest;
-        self.held = Held::Nothing;
+        self.pending = PendingTag::Nothing;
     }
 
-    /// The start of a wrapper: its tag is held.
+    /// The start of a wrapper: its tag is pending.
     #[inline(always)]
     fn wait(&mut self, name: &'static str)
         ensures { Knows (HasWritten O.given)
-            (λ s. waits (take_tag s.held name.now) SpecPlain s) self.old self.new }
+            (λ s. waits (take_tag s.pending name.now) SpecPlain s) self.old self.new }
     {
-        if let Some(tag) = self.held.take(name) {
-            self.held = Held::Plain(tag);
+        if let Some(tag) = self.pending.take(name) {
+            self.pending = PendingTag::Plain(tag);
         }
     }
 
@@ -201,8 +201,8 @@ impl<'a, O: Output> Emitter<'a, O> {
         if !is_wrapper(variant) {
             return self.put_structure(without_override(rest));
         }
-        if let Some(tag) = self.held.take(rest) {
-            self.held = self.held.over(name, tag);
+        if let Some(tag) = self.pending.take(rest) {
+            self.pending = self.pending.over(name, tag);
         }
     }
 }
@@ -267,7 +267,7 @@ pub fn emit<T: Serialize, O: Output>(value: &T, plan: &[u32], out: O) -> O
     let mut emitter = Emitter {
         out,
         plan,
-        held: Held::Nothing,
+        pending: PendingTag::Nothing,
     };
     let Ok(()) = value.visit(&mut emitter) else {
         unreachable!();

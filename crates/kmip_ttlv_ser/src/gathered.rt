@@ -1,4 +1,4 @@
-//! A writer behind a buffer, which gathers small pieces. Long ones go to the writer directly.
+//! A writer after a buffer, which gathers small pieces. Long ones go to the writer directly.
 
 ghost use Rattle.std.specs.Prelude.{◌≡◌, ℕ, List, [], None as SpecNone};
 ghost use Rattle.kmip_ttlv_ser.specs.Waiting.{waiting};
@@ -10,7 +10,7 @@ use crate::output::Output;
 use kmip_ttlv_types::stream::Sink;
 use std::io::{Error, Write};
 
-/// A writer behind a buffer. After a write failed, no other is made.
+/// A writer after a buffer. After a write failed, no other is made.
 #[derive(Drop)]
 pub struct Gathered<'w, W: Write> {
     writer: &'w mut W,
@@ -31,7 +31,7 @@ fn send<W: Write>(writer: &mut W, failure: &mut Option<Error>, bytes: &[u8])
 }
 
 impl<'w, W: Write> Gathered<'w, W> {
-    /// A writer behind an empty buffer. The buffer is lent so that it isn't moved.
+    /// A writer after an empty buffer. The buffer is lent so that it isn't moved.
     pub fn new(writer: &'w mut W, buffer: &'w mut Buffer) -> Gathered<'w, W>
         ensures same_reference { result.writer.ghost_name ≡ writer.entry.ghost_name }
         ensures writer { result.writer.now ≡ writer.old }

@@ -2,20 +2,20 @@
 //!
 //! A value calls two visitors. The first (`measurer`) finds the first error and its offset, or the length of
 //! each structure, in document order. The second (`emitter`) writes the bytes in order to an output: memory
-//! with room, or a writer behind a buffer. specs/WrittenItems defines what a value is encoded as,
+//! with room, or a writer after a buffer. specs/WrittenItems defines what a value is encoded as,
 //! specs/Faults its first error, specs/Measures and specs/Emits what the passes do at each event, and
-//! specs/WriteAnswers what the calls return.
+//! specs/EncodeResults what the calls return.
 #![tactic(auto)]
 
 mod buffer;
 mod emitter;
 mod gathered;
-mod held;
+mod pending;
 pub mod laws;
 mod measurer;
 mod names;
 mod output;
-mod refusal;
+mod encode_error;
 mod serializer;
 
 pub use serializer::{TtlvSerializer, to_vec, to_writer};

@@ -5,17 +5,17 @@ ghost use Rattle.kmip_ttlv_types.specs.ItemTypes.{pad_len};
 ghost use Rattle.kmip_ttlv_types.specs.Names.{tag_of, transparent_name};
 ghost use Rattle.kmip_ttlv_base.specs.Values.{unit_variant_value};
 ghost use Rattle.kmip_ttlv_ser.specs.Faults.{name_kind};
-ghost use Rattle.kmip_ttlv_ser.specs.WrittenItems.{take_tag, held_tag, held_over, is_wrapper};
+ghost use Rattle.kmip_ttlv_ser.specs.WrittenItems.{take_tag, pending_tag, pending_after, is_wrapper};
 ghost use Rattle.kmip_ttlv_ser.specs.Passes.{kind_of_cause};
-ghost use Rattle.kmip_ttlv_ser.specs.declared.held.Held.TheVariants.{Plain as SpecPlain};
+ghost use Rattle.kmip_ttlv_ser.specs.declared.pending.PendingTag.TheVariants.{Plain as SpecPlain};
 ghost use Rattle.kmip_ttlv_ser.specs.Measures.{Going, Halt, going, known, halt_before, halt_at, after_leaf};
 ghost use Rattle.kmip_ttlv_ser.specs.Measures.{after_unit, into, wrapped, into_newtype, into_variant, out_of};
 ghost use Rattle.kmip_ttlv_ser.specs.Measures.{unwrapped, out_of_newtype, out_of_variant, measure_step};
 ghost use Rattle.kmip_ttlv_ser.specs.Measures.{Plans};
 
-use crate::held::{Held, Place};
+use crate::pending::{PendingTag, Place};
 use crate::names::{is_wrapper, number_of, transparent_name, without_override};
-use crate::refusal::{Cause, Refusal};
+use crate::encode_error::{Cause, EncodeError};
 use kmip_ttlv_base::error::Result as Answer;
 use kmip_ttlv_base::shape::Serialize;
 use kmip_ttlv_base::visit::{Group, Leaf, Visitor};
@@ -38,41 +38,41 @@ pub struct Open {
     start: u64,
 }
 
-/// Finds the first error: it has the place reached, the held tag, the lengths so far, the open structures, and
+/// Finds the first error: it has the place reached, the pending tag, the lengths so far, the open structures, and
 /// the error, after which nothing is counted.
 #[derive(Drop)]
 pub struct Measurer<A: Allocator> {
     place: Place,
-    held: Held,
+    pending: PendingTag,
     sizes: Vec<u32, A>,
     nest: Vec<Open, A>,
-    refusal: Option<Refusal>,
+    encode_error: Option<EncodeError>,
 }
 
 impl<A: Allocator> Measurer<A> {
-    /// An error at the field that is `more` bytes behind the place reached.
+    /// An error at the field that is `more` bytes after the place reached.
     fn refuse(&mut self, cause: Cause, more: u64)
-        requires { self.old.refusal ≡ SpecNone }
+        requires { self.old.encode_error ≡ SpecNone }
         ensures { known self.new ≡ halt_before (kind_of_cause cause) (self.old.place.offset + more) }
     {
-        self.refusal = match self.place.offset.checked_add(more) {
-            Some(offset) => Some(Refusal::Refused { cause, offset }),
-            None => Some(Refusal::LengthOverflow),
+        self.encode_error = match self.place.offset.checked_add(more) {
+            Some(offset) => Some(EncodeError::Invalid { cause, offset }),
+            None => Some(EncodeError::LengthOverflow),
         };
     }
 
     /// A leaf with content of this length.
     #[inline(always)]
     fn item(&mut self, len: usize)
-        requires { self.old.refusal ≡ SpecNone }
-        ensures { known self.new ≡ after_leaf (held_tag self.old.held) len (going self.old) }
+        requires { self.old.encode_error ≡ SpecNone }
+        ensures { known self.new ≡ after_leaf (pending_tag self.old.pending) len (going self.old) }
     {
-        if self.held.tag().is_none() {
-            let waits = self.held.len();
+        if self.pending.tag().is_none() {
+            let waits = self.pending.len();
             return self.refuse(Cause::NoTag(self.place.opened), waits);
         }
         if len as u64 > 0xFFFF_FFFF {
-            self.refusal = Some(Refusal::LengthOverflow);
+            self.encode_error = Some(EncodeError::LengthOverflow);
             return;
         }
         match self
@@ -85,19 +85,19 @@ impl<A: Allocator> Measurer<A> {
                     offset,
                     opened: false,
                 };
-                self.held = Held::Nothing;
+                self.pending = PendingTag::Nothing;
             }
-            None => self.refusal = Some(Refusal::LengthOverflow),
+            None => self.encode_error = Some(EncodeError::LengthOverflow),
         }
     }
 
-    /// A name that can't be taken: it is no tag, or a plain tag is held.
+    /// A name that can't be taken: it is no tag, or a plain tag is pending.
     fn refuse_name(&mut self, name: &'static str)
-        requires { self.old.refusal ≡ SpecNone }
+        requires { self.old.encode_error ≡ SpecNone }
         ensures { known self.new
-            ≡ halt_at (name_kind (tag_of name.now) name.now) self.old.held (going self.old) }
+            ≡ halt_at (name_kind (tag_of name.now) name.now) self.old.pending (going self.old) }
     {
-        let waits = self.held.len();
+        let waits = self.pending.len();
         if TtlvTag::from_name(name).is_none() {
             return self.refuse(Cause::InvalidTag(name), waits);
         }
@@ -107,14 +107,14 @@ impl<A: Allocator> Measurer<A> {
     /// A unit variant: the leaf of its number, under its enum's tag.
     #[inline(always)]
     fn unit_variant(&mut self, name: &'static str, variant: &'static str)
-        requires { self.old.refusal ≡ SpecNone }
+        requires { self.old.encode_error ≡ SpecNone }
         ensures { known self.new
-            ≡ after_unit (take_tag self.old.held name.now) name.now variant.now (going self.old) }
+            ≡ after_unit (take_tag self.old.pending name.now) name.now variant.now (going self.old) }
     {
-        let Some(tag) = self.held.take(name) else {
+        let Some(tag) = self.pending.take(name) else {
             return self.refuse_name(name);
         };
-        self.held = Held::Plain(tag);
+        self.pending = PendingTag::Plain(tag);
         if number_of(variant).is_none() {
             return self.refuse(Cause::InvalidVariant(variant), 3);
         }
@@ -124,16 +124,16 @@ impl<A: Allocator> Measurer<A> {
     /// Enters a structure. The first one reserves room for several, so that most values allocate once.
     #[inline(always)]
     fn enter(&mut self, name: &'static str) -> Result<(), AllocError>
-        requires { self.old.refusal ≡ SpecNone }
+        requires { self.old.encode_error ≡ SpecNone }
         ensures { OnOk result (known self.new
-            ≡ into (take_tag self.old.held name.now) name.now (going self.old)) }
+            ≡ into (take_tag self.old.pending name.now) name.now (going self.old)) }
     {
-        if self.held.take(name).is_none() {
+        if self.pending.take(name).is_none() {
             self.refuse_name(name);
             return Ok(());
         }
         let Some(start) = self.place.offset.checked_add(8) else {
-            self.refusal = Some(Refusal::LengthOverflow);
+            self.encode_error = Some(EncodeError::LengthOverflow);
             return Ok(());
         };
         let at = self.sizes.len();
@@ -147,19 +147,19 @@ impl<A: Allocator> Measurer<A> {
             offset: start,
             opened: true,
         };
-        self.held = Held::Nothing;
+        self.pending = PendingTag::Nothing;
         Ok(())
     }
 
-    /// Enters a wrapper: its tag is held.
+    /// Enters a wrapper: its tag is pending.
     #[inline(always)]
     fn wrap(&mut self, name: &'static str)
-        requires { self.old.refusal ≡ SpecNone }
+        requires { self.old.encode_error ≡ SpecNone }
         ensures { known self.new
-            ≡ wrapped (take_tag self.old.held name.now) name.now SpecPlain (going self.old) }
+            ≡ wrapped (take_tag self.old.pending name.now) name.now SpecPlain (going self.old) }
     {
-        match self.held.take(name) {
-            Some(tag) => self.held = Held::Plain(tag),
+        match self.pending.take(name) {
+            Some(tag) => self.pending = PendingTag::Plain(tag),
             None => self.refuse_name(name),
         }
     }
@@ -167,7 +167,7 @@ impl<A: Allocator> Measurer<A> {
     /// Enters a newtype: a wrapper if its name begins with `Transparent:`, else a structure.
     #[inline(always)]
     fn enter_newtype(&mut self, name: &'static str) -> Result<(), AllocError>
-        requires { self.old.refusal ≡ SpecNone }
+        requires { self.old.encode_error ≡ SpecNone }
         ensures { OnOk result (known self.new
             ≡ into_newtype (transparent_name name.now) name.now (going self.old)) }
     {
@@ -183,7 +183,7 @@ impl<A: Allocator> Measurer<A> {
     /// Enters a newtype variant: a wrapper if it is named `Transparent`, else a structure.
     #[inline(always)]
     fn enter_variant(&mut self, name: &'static str, variant: &'static str) -> Result<(), AllocError>
-        requires { self.old.refusal ≡ SpecNone }
+        requires { self.old.encode_error ≡ SpecNone }
         ensures { OnOk result (known self.new
             ≡ into_variant (is_wrapper variant.now) name.now (going self.old)) }
     {
@@ -191,8 +191,8 @@ impl<A: Allocator> Measurer<A> {
         if !is_wrapper(variant) {
             return self.enter(without_override(rest));
         }
-        match self.held.take(rest) {
-            Some(tag) => self.held = self.held.over(name, tag),
+        match self.pending.take(rest) {
+            Some(tag) => self.pending = self.pending.over(name, tag),
             None => self.refuse_name(rest),
         }
         Ok(())
@@ -201,20 +201,20 @@ impl<A: Allocator> Measurer<A> {
     /// Leaves a wrapper, whose tag has to be used.
     #[inline(always)]
     fn unwrap(&mut self)
-        requires { self.old.refusal ≡ SpecNone }
-        ensures { known self.new ≡ unwrapped self.old.held (going self.old) }
+        requires { self.old.encode_error ≡ SpecNone }
+        ensures { known self.new ≡ unwrapped self.old.pending (going self.old) }
     {
-        match self.held {
-            Held::Nothing => {}
-            Held::Plain(_) => self.refuse(Cause::TagUnused, 3),
-            Held::Overriding(_) => self.refuse(Cause::TagUnused, 3),
+        match self.pending {
+            PendingTag::Nothing => {}
+            PendingTag::Plain(_) => self.refuse(Cause::TagUnused, 3),
+            PendingTag::Overriding(_) => self.refuse(Cause::TagUnused, 3),
         }
     }
 
     /// Leaves a structure, and notes its length.
     #[inline(always)]
     fn leave(&mut self)
-        requires { self.old.refusal ≡ SpecNone }
+        requires { self.old.encode_error ≡ SpecNone }
         ensures { known self.new ≡ out_of (reverse self.old.nest.items) (going self.old) }
     {
         let Some(Open { at, start }) = self.nest.pop() else {
@@ -225,16 +225,16 @@ impl<A: Allocator> Measurer<A> {
                 if at < self.sizes.len() {
                     self.sizes[at] = len;
                 }
-                self.held = Held::Nothing;
+                self.pending = PendingTag::Nothing;
             }
-            Err(_) => self.refusal = Some(Refusal::LengthOverflow),
+            Err(_) => self.encode_error = Some(EncodeError::LengthOverflow),
         }
     }
 
     /// Leaves a newtype.
     #[inline(always)]
     fn leave_newtype(&mut self, name: &'static str)
-        requires { self.old.refusal ≡ SpecNone }
+        requires { self.old.encode_error ≡ SpecNone }
         ensures { known self.new ≡ out_of_newtype (transparent_name name.now) (going self.old) }
     {
         match transparent_name(name) {
@@ -246,7 +246,7 @@ impl<A: Allocator> Measurer<A> {
     /// Leaves a newtype variant.
     #[inline(always)]
     fn leave_variant(&mut self, variant: &'static str)
-        requires { self.old.refusal ≡ SpecNone }
+        requires { self.old.encode_error ≡ SpecNone }
         ensures { known self.new ≡ out_of_variant (is_wrapper variant.now) (going self.old) }
     {
         if is_wrapper(variant) {
@@ -268,10 +268,10 @@ impl<A: Allocator> Visitor for Measurer<A> {
 
     #[inline(always)]
     fn leaf(&mut self, leaf: Leaf<'_>) -> Result<(), AllocError> {
-        if self.refusal.is_some() {
+        if self.encode_error.is_some() {
             return Ok(());
         }
-        let waits = self.held.len();
+        let waits = self.pending.len();
         match leaf {
             Leaf::Bool(_) => self.item(8),
             Leaf::I8(_) => self.item(4),
@@ -297,7 +297,7 @@ impl<A: Allocator> Visitor for Measurer<A> {
 
     #[inline(always)]
     fn begin(&mut self, group: Group) -> Result<(), AllocError> {
-        if self.refusal.is_some() {
+        if self.encode_error.is_some() {
             return Ok(());
         }
         match group {
@@ -312,7 +312,7 @@ impl<A: Allocator> Visitor for Measurer<A> {
 
     #[inline(always)]
     fn end(&mut self, group: Group) -> Result<(), AllocError> {
-        if self.refusal.is_some() {
+        if self.encode_error.is_some() {
             return Ok(());
         }
         match group {
@@ -345,14 +345,14 @@ pub fn measure<A: Allocator + Copy, T: Serialize>(
 {
     let mut measurer = Measurer {
         place,
-        held: Held::Nothing,
+        pending: PendingTag::Nothing,
         sizes: Vec::new(alloc),
         nest: Vec::new(alloc),
-        refusal: None,
+        encode_error: None,
     };
     value.visit(&mut measurer)?;
-    if let Some(refusal) = measurer.refusal {
-        return Err(refusal.into_error(alloc));
+    if let Some(encode_error) = measurer.encode_error {
+        return Err(encode_error.into_error(alloc));
     }
     Ok(Plan {
         sizes: measurer.sizes,

@@ -42,7 +42,7 @@ impl<S: Sink + Drop> Direct<S> {
 impl<S: Sink + Drop> Output for Direct<S> {
     ghost Start = { Before };
 
-    ghost given = { λ start sent d. IsGiven start sent (S.held d.sink) (S.room d.sink) d.failure };
+    ghost given = { λ start sent d. IsGiven start sent (S.emitted d.sink) (S.room d.sink) d.failure };
 
     #[inline(always)]
     fn give(&mut self, piece: &[u8]) {

@@ -1,13 +1,13 @@
 //! The calls that encode values: `to_vec`, `to_writer` and `TtlvSerializer`.
 
 ghost use Rattle.std.specs.Prelude.{◌≡◌, [], false};
-ghost use Rattle.kmip_ttlv_ser.specs.WriteAnswers.{Writes, WritesTo, progress, Serializes, GivesAll};
-ghost use Rattle.kmip_ttlv_ser.specs.WriteAnswers.{IsClosed, AppendsValue};
+ghost use Rattle.kmip_ttlv_ser.specs.EncodeResults.{Encodes, EncodesTo, progress, Serializes, GivesAll};
+ghost use Rattle.kmip_ttlv_ser.specs.EncodeResults.{IsClosed, AppendsValue};
 
 use crate::buffer::Buffer;
 use crate::emitter::emit;
 use crate::gathered::Gathered;
-use crate::held::Place;
+use crate::pending::Place;
 use crate::measurer::measure;
 use crate::output::Direct;
 use kmip_ttlv_base::error::{Error, ErrorKind, ErrorLocation, MalformedTtlvError, Result};
@@ -36,7 +36,7 @@ use std::mem;
 /// assert!(rt; bytes.as_slice() == b"\x42\0\x20\x02\0\0\0\x04\0\0\0\x08\0\0\0\0".as_slice());
 /// ```
 pub fn to_vec<A: Allocator + Copy, T: Serialize>(alloc: A, value: &T) -> Result<Vec<u8, A>, A>
-    ensures { Writes (T.stated value.now) result }
+    ensures { Encodes (T.stated value.now) result }
 {
     let mut out = Vec::new(alloc);
     append(alloc, value, false, &mut out)?;
@@ -60,7 +60,7 @@ pub fn to_writer<A: Allocator + Copy, T: Serialize, W: Write>(
     value: &T,
     writer: &mut W,
 ) -> Result<(), A>
-    ensures { WritesTo (T.stated value.now) (W.contents writer.old) (W.contents writer.new) result }
+    ensures { EncodesTo (T.stated value.now) (W.contents writer.old) (W.contents writer.new) result }
 {
     let place = Place {
         offset: 0,
@@ -132,7 +132,7 @@ impl<A: Allocator + Copy> TtlvSerializer<A> {
 impl<A: Allocator, B: Allocator> From<&mut TtlvSerializer<B>> for ErrorLocation<A> {
     ghost use Rattle.std.specs.Prelude.{length};
     ghost use Rattle.kmip_ttlv_base.specs.Errors.{view_of_location, only_offset};
-    ghost use Rattle.kmip_ttlv_ser.specs.WriteAnswers.{progress};
+    ghost use Rattle.kmip_ttlv_ser.specs.EncodeResults.{progress};
 
     ghost from_gives = { λ s l. view_of_location l ≡ only_offset (length (progress s.now).bytes) };
 

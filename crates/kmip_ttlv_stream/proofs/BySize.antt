@@ -8,7 +8,7 @@ use Rattle.kmip_ttlv_base.specs.Forms.{Form}
 use Rattle.kmip_ttlv_reader.specs.Steps.{Fault, Outcome, gives, ends_early, fails}
 use Rattle.kmip_ttlv_reader.specs.Outcomes.{root_outcome}
 use Rattle.kmip_ttlv_reader.specs.ReadResults.{IsReadAs, IsError, IsOfBytes, seen}
-use Rattle.kmip_ttlv_stream.specs.StreamMessages.{SliceResult, message_size, LackCause, no_memory, no_bytes, Stops, in_header, of_no_type, over_limit, in_body, untyped_kind, Ends, IsBySize}
+use Rattle.kmip_ttlv_stream.specs.StreamMessages.{SliceResult, message_size, LackCause, no_memory, no_bytes, FailsToArrive, in_header, of_no_type, over_limit, in_body, untyped_kind, Ends, IsBySize}
 
 -- no error by size
 abbrev NotBySize : Kind → Type 0
@@ -41,24 +41,24 @@ lack_other : {A : Type 0} (can_fail : Bool) (old : Option (List ℕ)) (m : ℕ) 
 lack_other can_fail old m e n (no_memory want) is = cc (ap view_of_kind want.kind)
 lack_other can_fail old m e n (no_bytes fault io lacks) is = cc (ap view_of_kind io.kind)
 
-stops_by_size : {A : Type 0} (can_fail : Bool) (limit : Option ℕ) (old new kept : Option (List ℕ)) (e : Error A)
-    → Stops can_fail limit old new kept e → IsBySize limit old new e
-stops_by_size can_fail limit old new kept e (in_header lacks) n is =
+stops_by_size : {A : Type 0} (can_fail : Bool) (limit : Option ℕ) (old new reused : Option (List ℕ)) (e : Error A)
+    → FailsToArrive can_fail limit old new reused e → IsBySize limit old new e
+stops_by_size can_fail limit old new reused e (in_header lacks) n is =
     absurd (lack_other can_fail old 8 e n lacks.cause is)
-stops_by_size can_fail limit old new kept e (of_no_type head comes k) n is =
+stops_by_size can_fail limit old new reused e (of_no_type head comes k) n is =
     absurd (not_by_size (untyped_kind head) n tt (sym comes.untyped.kind ∙ is))
-stops_by_size can_fail limit old new kept e (over_limit head comes k) n is =
+stops_by_size can_fail limit old new reused e (over_limit head comes k) n is =
     let says : view_of_kind (kind_of e) ≡ exceeds_limit (message_size head) =
     ap view_of_kind comes.over.kind in (head, comes, cc)
-stops_by_size can_fail limit old new kept e (in_body head mid m taken long size lacks) n is =
+stops_by_size can_fail limit old new reused e (in_body head mid m taken long size lacks) n is =
     absurd (lack_other can_fail mid m e n lacks.cause is)
 
 -- an error by size is only returned for a message that is larger than the limit
 pub by_size : {T A : Type 0} (s : Form) (is_value : Value → T → Type 0) (can_fail : Bool) (limit : Option ℕ)
-    (old new kept : Option (List ℕ)) (r : Result T (Error A))
-    → Ends (SliceResult s is_value) can_fail limit old new kept r → IfErr r (IsBySize limit old new)
-by_size s is_value can_fail limit old new kept (Ok x) ends = tt
-by_size s is_value can_fail limit old new kept (Err e) (inl came) =
+    (old new reused : Option (List ℕ)) (r : Result T (Error A))
+    → Ends (SliceResult s is_value) can_fail limit old new reused r → IfErr r (IsBySize limit old new)
+by_size s is_value can_fail limit old new reused (Ok x) ends = tt
+by_size s is_value can_fail limit old new reused (Err e) (inl came) =
     λ n is. absurd (answered_other s is_value came.message e n came.answer is)
-by_size s is_value can_fail limit old new kept (Err e) (inr stops) =
-    stops_by_size can_fail limit old new kept e stops
+by_size s is_value can_fail limit old new reused (Err e) (inr stops) =
+    stops_by_size can_fail limit old new reused e stops

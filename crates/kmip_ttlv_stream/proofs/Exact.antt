@@ -14,7 +14,7 @@ use Rattle.kmip_ttlv_base.specs.declared.error.MalformedTtlvError.TheVariants as
 use Rattle.kmip_ttlv_base.specs.Errors.{Kind, Location, unknown, io_error, exceeds_limit, kind_of, view_of_kind, location_of, view_of_location, malformed, IsMemory}
 use Rattle.kmip_ttlv_reader.specs.Steps.{Fault}
 use Rattle.kmip_ttlv_reader.specs.ReadResults.{seen, end_fault}
-use Rattle.kmip_ttlv_stream.specs.StreamMessages.{message_size, size_fault, type_fault, Forbids, HasSize, behind_header, behind_tag, ComesUntyped, IsIoFault, LackCause, no_memory, no_bytes, IsKept, ComesOver, Stops, in_header, of_no_type, over_limit, in_body, Gives, Ends, OrMemory, TakesFirst, Exactly}
+use Rattle.kmip_ttlv_stream.specs.StreamMessages.{message_size, size_fault, type_fault, Forbids, HasSize, behind_header, behind_tag, ArrivesUntyped, IsIoFault, LackCause, no_memory, no_bytes, IsInBuffer, ArrivesOver, FailsToArrive, in_header, of_no_type, over_limit, in_body, Gives, Ends, OrMemory, TakesFirst, Exactly}
 use Rattle.kmip_ttlv_stream.proofs.Fronts.{SameHeader, same_header, SameHeader-sym, HasSize-along, HasSize-least, HasSize-one, HasSize-allowed, HasSize-typed}
 
 -- the bytes that were read, and those that are left
@@ -36,14 +36,14 @@ parts_header : (bytes taken : List ℕ) (new : Option (List ℕ)) → Parts byte
 parts_header bytes taken new p long =
     subst (λ (l : List ℕ). SameHeader l taken) (sym p.parts) (same_header taken p.left long)
 
-takes_first : (bytes taken : List ℕ) (n : ℕ) (new kept : Option (List ℕ)) → Parts bytes taken new → length taken ≡ n
-    → IsKept kept taken → TakesFirst bytes n new kept × (take n bytes ≡ taken)
-takes_first bytes taken n new kept p long k =
+takes_first : (bytes taken : List ℕ) (n : ℕ) (new reused : Option (List ℕ)) → Parts bytes taken new → length taken ≡ n
+    → IsInBuffer reused taken → TakesFirst bytes n new reused × (take n bytes ≡ taken)
+takes_first bytes taken n new reused p long k =
     let front : take n bytes ≡ taken =
     ap (take n) p.parts ∙ take-append-le n taken p.left (omega arith) ∙ take_all n taken (omega arith) in (
       record {
         left = p.is_left ∙ ap Some (sym (ap (drop n) p.parts ∙ drop_at taken p.left n long));
-        is_kept = subst (IsKept kept) (sym front) k;
+        is_in_buffer = subst (IsInBuffer reused) (sym front) k;
       },
       front,
     )
@@ -53,9 +53,9 @@ or_not (Ok x) P h = h
 or_not (Err e) P h = inr h
 
 gives_exact : {T A : Type 0} (answers : List ℕ → Result T (Error A) → Type 0) (limit : Option ℕ) (bytes : List ℕ)
-    (new kept : Option (List ℕ)) (r : Result T (Error A))
-    → Gives answers limit (Some bytes) new kept r → Exactly answers limit bytes new kept r
-gives_exact answers limit bytes new kept r g =
+    (new reused : Option (List ℕ)) (r : Result T (Error A))
+    → Gives answers limit (Some bytes) new reused r → Exactly answers limit bytes new reused r
+gives_exact answers limit bytes new reused r g =
     let p = parts_of bytes g.message new g.comes.consumes in
     let long : length bytes ≡ length g.message + length p.left = parts_length bytes g.message new p in
     let least : 8 ≤ length g.message = HasSize-least limit g.message (length g.message) g.comes.size in
@@ -70,14 +70,14 @@ gives_exact answers limit bytes new kept r g =
           HasSize-one limit bytes _ n size due in absurd (omega arith);
       whole = λ there n due enough.
           let same : length g.message ≡ n = HasSize-one limit bytes _ n size due in
-          let first = takes_first bytes g.message n new kept p same g.is_kept in
+          let first = takes_first bytes g.message n new reused p same g.is_in_buffer in
           or_not r _ (first.0, subst (λ (l : List ℕ). answers l r) (sym first.1) g.answer);
     }
 
 memory_exact : {T A : Type 0} (answers : List ℕ → Result T (Error A) → Type 0) (limit : Option ℕ) (bytes : List ℕ)
-    (new kept : Option (List ℕ)) (e : Error A)
-    → IsMemory e → Exactly answers limit bytes new kept (Err e)
-memory_exact answers limit bytes new kept e want = record {
+    (new reused : Option (List ℕ)) (e : Error A)
+    → IsMemory e → Exactly answers limit bytes new reused (Err e)
+memory_exact answers limit bytes new reused e want = record {
   in_header = λ low. inl want;
   untyped = λ there none. (inl want, inl want);
   over_limit = λ there t is over. (inl want, inl want);
@@ -103,11 +103,11 @@ lack_of a n e (no_bytes fault io (inl fails)) = absurd (cc)
 lack_of a n e (no_bytes fault io (inr short)) = inr (fault, io, short.0, short.1)
 
 header_exact : {T A : Type 0} (answers : List ℕ → Result T (Error A) → Type 0) (limit : Option ℕ) (bytes : List ℕ)
-    (new kept : Option (List ℕ)) (e : Error A)
-    → LackCause false (Some bytes) 8 e → Exactly answers limit bytes new kept (Err e)
-header_exact answers limit bytes new kept e cause =
+    (new reused : Option (List ℕ)) (e : Error A)
+    → LackCause false (Some bytes) 8 e → Exactly answers limit bytes new reused (Err e)
+header_exact answers limit bytes new reused e cause =
     elim (lack_of (Some bytes) 8 e cause) [
-      | inl want ↦ memory_exact answers limit bytes new kept e want
+      | inl want ↦ memory_exact answers limit bytes new reused e want
       | inr w ↦
           let short : length bytes < 8 = w.3 in
           record {
@@ -126,16 +126,16 @@ over_place bytes head u t same one =
     { offset = Some 8; parents = []; tag = Some n; typ = Some t } in l) (sym same.tag)
 
 over_exact : {T A : Type 0} (answers : List ℕ → Result T (Error A) → Type 0) (limit : Option ℕ) (bytes : List ℕ)
-    (new kept : Option (List ℕ)) (head : List ℕ) (e : Error A)
-    → ComesOver limit (Some bytes) new head e → IsKept kept head → Exactly answers limit bytes new kept (Err e)
-over_exact answers limit bytes new kept head e comes k =
+    (new reused : Option (List ℕ)) (head : List ℕ) (e : Error A)
+    → ArrivesOver limit (Some bytes) new head e → IsInBuffer reused head → Exactly answers limit bytes new reused (Err e)
+over_exact answers limit bytes new reused head e comes k =
     let p = parts_of bytes head new comes.consumes in
     let eight : length head ≡ 8 = comes.length_is in
     let long : length bytes ≡ length head + length p.left = parts_length bytes head new p in
     let same = parts_header bytes head new p (omega arith) in
     let typ : type_of (code_at bytes 0) ≡ Some comes.over.typ = ap type_of same.code ∙ comes.over.is_typ in
     let over : Forbids limit (message_size bytes) = subst (Forbids limit) (sym same.size) comes.over.over in
-    let first = takes_first bytes head 8 new kept p eight k in
+    let first = takes_first bytes head 8 new reused p eight k in
     record {
       in_header = λ low. absurd (omega arith);
       untyped = λ there none. absurd (cc);
@@ -153,15 +153,15 @@ untyped_place bytes head same = ap (λ (n : ℕ). let l : Location = record
     { offset = Some 3; parents = []; tag = Some n; typ = None } in l) (sym same.tag)
 
 untyped_exact : {T A : Type 0} (answers : List ℕ → Result T (Error A) → Type 0) (limit : Option ℕ) (bytes : List ℕ)
-    (new kept : Option (List ℕ)) (head : List ℕ) (e : Error A)
-    → ComesUntyped (Some bytes) new head e → IsKept kept head → Exactly answers limit bytes new kept (Err e)
-untyped_exact answers limit bytes new kept head e comes k =
+    (new reused : Option (List ℕ)) (head : List ℕ) (e : Error A)
+    → ArrivesUntyped (Some bytes) new head e → IsInBuffer reused head → Exactly answers limit bytes new reused (Err e)
+untyped_exact answers limit bytes new reused head e comes k =
     let p = parts_of bytes head new comes.consumes in
     let eight : length head ≡ 8 = comes.length_is in
     let long : length bytes ≡ length head + length p.left = parts_length bytes head new p in
     let same = parts_header bytes head new p (omega arith) in
     let none : type_of (code_at bytes 0) ≡ None = ap type_of same.code ∙ comes.untyped.typ in
-    let first = takes_first bytes head 8 new kept p eight k in
+    let first = takes_first bytes head 8 new reused p eight k in
     record {
       in_header = λ low. absurd (omega arith);
       untyped = λ there is. (
@@ -174,16 +174,16 @@ untyped_exact answers limit bytes new kept head e comes k =
     }
 
 body_exact : {T A : Type 0} (answers : List ℕ → Result T (Error A) → Type 0) (limit : Option ℕ) (bytes : List ℕ)
-    (new kept : Option (List ℕ)) (head : List ℕ) (mid : Option (List ℕ)) (n : ℕ) (e : Error A)
+    (new reused : Option (List ℕ)) (head : List ℕ) (mid : Option (List ℕ)) (n : ℕ) (e : Error A)
     → Consumes (Some bytes) mid head → length head ≡ 8 → HasSize limit head (8 + n) → LackCause false mid n e
-    → Exactly answers limit bytes new kept (Err e)
-body_exact answers limit bytes new kept head mid n e taken eight size cause =
+    → Exactly answers limit bytes new reused (Err e)
+body_exact answers limit bytes new reused head mid n e taken eight size cause =
     let p = parts_of bytes head mid taken in
     let long : length bytes ≡ length head + length p.left = parts_length bytes head mid p in
     let same = parts_header bytes head mid p (omega arith) in
     let all : HasSize limit bytes (8 + n) = HasSize-along limit head bytes _ (SameHeader-sym bytes head same) size in
     elim (lack_of mid n e cause) [
-      | inl want ↦ memory_exact answers limit bytes new kept e want
+      | inl want ↦ memory_exact answers limit bytes new reused e want
       | inr w ↦
           let short : length p.left < n = subst (λ (o : Option (List ℕ)). IsShort o n) p.is_left w.3 in
           record {
@@ -197,29 +197,29 @@ body_exact answers limit bytes new kept head mid n e taken eight size cause =
     ]
 
 stops_exact : {T A : Type 0} (answers : List ℕ → Result T (Error A) → Type 0) (limit : Option ℕ) (bytes : List ℕ)
-    (new kept : Option (List ℕ)) (e : Error A)
-    → Stops false limit (Some bytes) new kept e → Exactly answers limit bytes new kept (Err e)
-stops_exact answers limit bytes new kept e (in_header lacks) =
-    header_exact answers limit bytes new kept e lacks.cause
-stops_exact answers limit bytes new kept e (of_no_type head comes k) =
-    untyped_exact answers limit bytes new kept head e comes k
-stops_exact answers limit bytes new kept e (over_limit head comes k) =
-    over_exact answers limit bytes new kept head e comes k
-stops_exact answers limit bytes new kept e (in_body head mid n taken long size lacks) =
-    body_exact answers limit bytes new kept head mid n e taken long size lacks.cause
+    (new reused : Option (List ℕ)) (e : Error A)
+    → FailsToArrive false limit (Some bytes) new reused e → Exactly answers limit bytes new reused (Err e)
+stops_exact answers limit bytes new reused e (in_header lacks) =
+    header_exact answers limit bytes new reused e lacks.cause
+stops_exact answers limit bytes new reused e (of_no_type head comes k) =
+    untyped_exact answers limit bytes new reused head e comes k
+stops_exact answers limit bytes new reused e (over_limit head comes k) =
+    over_exact answers limit bytes new reused head e comes k
+stops_exact answers limit bytes new reused e (in_body head mid n taken long size lacks) =
+    body_exact answers limit bytes new reused head mid n e taken long size lacks.cause
 
 ends_exact : {T A : Type 0} (answers : List ℕ → Result T (Error A) → Type 0) (limit : Option ℕ) (bytes : List ℕ)
-    (new kept : Option (List ℕ)) (r : Result T (Error A))
-    → Ends answers false limit (Some bytes) new kept r → Exactly answers limit bytes new kept r
-ends_exact answers limit bytes new kept (Ok x) gives = gives_exact answers limit bytes new kept (Ok x) gives
-ends_exact answers limit bytes new kept (Err e) (inl gives) = gives_exact answers limit bytes new kept (Err e) gives
-ends_exact answers limit bytes new kept (Err e) (inr stops) = stops_exact answers limit bytes new kept e stops
+    (new reused : Option (List ℕ)) (r : Result T (Error A))
+    → Ends answers false limit (Some bytes) new reused r → Exactly answers limit bytes new reused r
+ends_exact answers limit bytes new reused (Ok x) gives = gives_exact answers limit bytes new reused (Ok x) gives
+ends_exact answers limit bytes new reused (Err e) (inl gives) = gives_exact answers limit bytes new reused (Err e) gives
+ends_exact answers limit bytes new reused (Err e) (inr stops) = stops_exact answers limit bytes new reused e stops
 
 -- what is returned for known bytes of a source that can't fail
 pub exact : {T A : Type 0} (answers : List ℕ → Result T (Error A) → Type 0) (can_fail : Bool) (limit : Option ℕ)
-    (old new kept : Option (List ℕ)) (r : Result T (Error A))
-    → Ends answers can_fail limit old new kept r → can_fail ≡ false → (bytes : List ℕ) → old ≡ Some bytes
-    → Exactly answers limit bytes new kept r
-exact answers can_fail limit old new kept r ends off bytes there =
-    ends_exact answers limit bytes new kept r (subst (λ (o : Option (List ℕ)). Ends answers false limit o new kept r)
-    there (subst (λ (b : Bool). Ends answers b limit old new kept r) off ends))
+    (old new reused : Option (List ℕ)) (r : Result T (Error A))
+    → Ends answers can_fail limit old new reused r → can_fail ≡ false → (bytes : List ℕ) → old ≡ Some bytes
+    → Exactly answers limit bytes new reused r
+exact answers can_fail limit old new reused r ends off bytes there =
+    ends_exact answers limit bytes new reused r (subst (λ (o : Option (List ℕ)). Ends answers false limit o new reused r)
+    there (subst (λ (b : Bool). Ends answers b limit old new reused r) off ends))

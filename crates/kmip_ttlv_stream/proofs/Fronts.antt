@@ -7,7 +7,7 @@ use Rattle.kmip_ttlv_types.specs.declared.typ.TtlvType.{TtlvType}
 use Rattle.kmip_ttlv_types.specs.ItemTypes.{type_of}
 use Rattle.kmip_ttlv_types.specs.Places.{tag_at, code_at, length_at}
 use Rattle.kmip_ttlv_types.specs.Streams.{Behind}
-use Rattle.kmip_ttlv_stream.specs.StreamMessages.{message_size, Allows, Forbids, IsTakenUpTo, HasSize, Comes}
+use Rattle.kmip_ttlv_stream.specs.StreamMessages.{message_size, Allows, Forbids, IsTakenUpTo, HasSize, Arrives}
 
 -- the fields of the header are those of the whole message
 pub record SameHeader (xs ys : List ℕ) : Type 0 where
@@ -87,7 +87,7 @@ HasSize-typed limit xs n is h = taken_typed (type_of (code_at xs 0)) limit (mess
 -- a header, and then the body that it states
 pub comes_whole : (limit : Option ℕ) (a b c : Option (List ℕ)) (head message : List ℕ) (n : ℕ) → Consumes a b head
     → length head ≡ 8 → HasSize limit head n
-    → Behind b c head message (n - 8) → Comes limit a c message
+    → Behind b c head message (n - 8) → Arrives limit a c message
 comes_whole limit a b c head message n taken long size body =
     let least = HasSize-least limit head n size in
     let total : length message ≡ n =

@@ -2,12 +2,12 @@
 use Rattle.std.proofs.Common.{◌≡◌, ℕ, ◌+◌, ◌-◌, ◌≤◌, Bool, List, [], Option, None, Some, Result, Ok, Err, subst, arith, refl, inl, inr}
 use Rattle.kmip_ttlv_types.specs.Streams.{Behind}
 use Rattle.kmip_ttlv_base.specs.declared.error.Error.{Error}
-use Rattle.kmip_ttlv_stream.specs.StreamMessages.{HasSize, IsUntyped, IsOver, StopsAtHeader, LacksBytes, Comes, Stops, in_header, of_no_type, over_limit, in_body, Gives, Ends}
+use Rattle.kmip_ttlv_stream.specs.StreamMessages.{HasSize, IsUntyped, IsOver, FailsAtHeader, LacksBytes, Arrives, FailsToArrive, in_header, of_no_type, over_limit, in_body, Gives, Ends}
 use Rattle.kmip_ttlv_stream.proofs.Fronts.{HasSize-least, header_came, comes_whole}
 
 stops_over : {A : Type 0} (can_fail : Bool) (limit : Option ℕ) (old new : Option (List ℕ))
     (had head seen : List ℕ) (e : Error A) → had ≡ [] → Behind old new had head 8
-    → seen ≡ head → IsOver limit seen e → Stops can_fail limit old new (Some head) e
+    → seen ≡ head → IsOver limit seen e → FailsToArrive can_fail limit old new (Some head) e
 stops_over can_fail limit old new had head seen e none more same over =
     let came = header_came old new had head 8 none more in
     over_limit head record {
@@ -19,7 +19,7 @@ stops_over can_fail limit old new had head seen e none more same over =
 
 stops_untyped : {A : Type 0} (can_fail : Bool) (limit : Option ℕ) (old new : Option (List ℕ))
     (had head seen : List ℕ) (e : Error A) → had ≡ [] → Behind old new had head 8
-    → seen ≡ head → IsUntyped seen e → Stops can_fail limit old new (Some head) e
+    → seen ≡ head → IsUntyped seen e → FailsToArrive can_fail limit old new (Some head) e
 stops_untyped can_fail limit old new had head seen e none more same untyped =
     let came = header_came old new had head 8 none more in
     of_no_type head record {
@@ -32,7 +32,7 @@ stops_untyped can_fail limit old new had head seen e none more same untyped =
 -- the header's code is no type's, or the message is larger than the limit
 pub stops_at_header : {A : Type 0} (can_fail : Bool) (limit : Option ℕ) (old new : Option (List ℕ))
     (had head seen : List ℕ) (e : Error A) → had ≡ [] → Behind old new had head 8
-    → seen ≡ head → StopsAtHeader limit seen e → Stops can_fail limit old new (Some head) e
+    → seen ≡ head → FailsAtHeader limit seen e → FailsToArrive can_fail limit old new (Some head) e
 stops_at_header can_fail limit old new had head seen e none more same (inl untyped) =
     stops_untyped can_fail limit old new had head seen e none more same untyped
 stops_at_header can_fail limit old new had head seen e none more same (inr over) =
@@ -41,18 +41,18 @@ stops_at_header can_fail limit old new had head seen e none more same (inr over)
 -- the message came
 pub message_comes : (limit : Option ℕ) (old mid new : Option (List ℕ)) (had head seen message : List ℕ) (n : ℕ)
     → had ≡ [] → Behind old mid had head 8 → seen ≡ head
-    → HasSize limit seen n → Behind mid new head message (n - 8) → Comes limit old new message
+    → HasSize limit seen n → Behind mid new head message (n - 8) → Arrives limit old new message
 message_comes limit old mid new had head seen message n none more same size body =
     let came = header_came old mid had head 8 none more in
     comes_whole limit old mid new head message n came.0 came.1
     (subst (λ (l : List ℕ). HasSize limit l n) same size) body
 
 -- the body didn't come
-pub stops_in_body : {A : Type 0} (can_fail : Bool) (limit : Option ℕ) (old mid new kept : Option (List ℕ))
+pub stops_in_body : {A : Type 0} (can_fail : Bool) (limit : Option ℕ) (old mid new reused : Option (List ℕ))
     (had head seen : List ℕ) (n : ℕ) (e : Error A) → had ≡ [] → Behind old mid had head 8
     → seen ≡ head → HasSize limit seen n → LacksBytes can_fail mid new (n - 8) e
-    → Stops can_fail limit old new kept e
-stops_in_body can_fail limit old mid new kept had head seen n e none more same size lacks =
+    → FailsToArrive can_fail limit old new reused e
+stops_in_body can_fail limit old mid new reused had head seen n e none more same size lacks =
     let came = header_came old mid had head 8 none more in
     let least : 8 ≤ n = HasSize-least limit seen n size in
     let long : n ≡ 8 + (n - 8) = omega arith in
@@ -62,13 +62,13 @@ stops_in_body can_fail limit old mid new kept had head seen n e none more same s
 -- what is returned for a message that came
 pub ends_with : {T A : Type 0} (answers : List ℕ → Result T (Error A) → Type 0) (can_fail : Bool) (limit : Option ℕ)
     (old new : Option (List ℕ)) (message seen : List ℕ) (r : Result T (Error A))
-    → Comes limit old new message → seen ≡ message → answers seen r
+    → Arrives limit old new message → seen ≡ message → answers seen r
     → Ends answers can_fail limit old new (Some message) r
 ends_with answers can_fail limit old new message seen (Ok x) comes same answer =
     record {
       message = message;
       comes = comes;
-      is_kept = refl;
+      is_in_buffer = refl;
       answer = subst (λ (l : List ℕ). answers l (Ok x)) same
           answer;
     }
@@ -76,31 +76,31 @@ ends_with answers can_fail limit old new message seen (Err e) comes same answer 
     inl record {
       message = message;
       comes = comes;
-      is_kept = refl;
+      is_in_buffer = refl;
       answer = subst (λ (l : List ℕ). answers l (Err e))
           same answer;
     }
 
-not_kept_stops : {A : Type 0} (can_fail : Bool) (limit : Option ℕ) (old new kept : Option (List ℕ)) (e : Error A)
-    → Stops can_fail limit old new kept e → Stops can_fail limit old new None e
-not_kept_stops can_fail limit old new kept e (in_header lacks) = in_header lacks
-not_kept_stops can_fail limit old new kept e (of_no_type head comes k) = of_no_type head comes tt
-not_kept_stops can_fail limit old new kept e (over_limit head comes k) = over_limit head comes tt
-not_kept_stops can_fail limit old new kept e (in_body head mid n taken long size lacks) =
+not_kept_stops : {A : Type 0} (can_fail : Bool) (limit : Option ℕ) (old new reused : Option (List ℕ)) (e : Error A)
+    → FailsToArrive can_fail limit old new reused e → FailsToArrive can_fail limit old new None e
+not_kept_stops can_fail limit old new reused e (in_header lacks) = in_header lacks
+not_kept_stops can_fail limit old new reused e (of_no_type head comes k) = of_no_type head comes tt
+not_kept_stops can_fail limit old new reused e (over_limit head comes k) = over_limit head comes tt
+not_kept_stops can_fail limit old new reused e (in_body head mid n taken long size lacks) =
     in_body head mid n taken long size lacks
 
 not_kept_gives : {T A : Type 0} (answers : List ℕ → Result T (Error A) → Type 0) (limit : Option ℕ)
-    (old new kept : Option (List ℕ)) (r : Result T (Error A)) → Gives answers limit old new kept r
+    (old new reused : Option (List ℕ)) (r : Result T (Error A)) → Gives answers limit old new reused r
     → Gives answers limit old new None r
-not_kept_gives answers limit old new kept r g =
-    record { message = g.message; comes = g.comes; is_kept = tt; answer = g.answer }
+not_kept_gives answers limit old new reused r g =
+    record { message = g.message; comes = g.comes; is_in_buffer = tt; answer = g.answer }
 
 -- no buffer is kept
 pub ends_not_kept : {T A : Type 0} (answers : List ℕ → Result T (Error A) → Type 0) (can_fail : Bool) (limit : Option ℕ)
-    (old new kept : Option (List ℕ)) (r : Result T (Error A))
-    → Ends answers can_fail limit old new kept r → Ends answers can_fail limit old new None r
-ends_not_kept answers can_fail limit old new kept (Ok x) g = not_kept_gives answers limit old new kept (Ok x) g
-ends_not_kept answers can_fail limit old new kept (Err e) (inl g) =
-    inl (not_kept_gives answers limit old new kept (Err e) g)
-ends_not_kept answers can_fail limit old new kept (Err e) (inr s) =
-    inr (not_kept_stops can_fail limit old new kept e s)
+    (old new reused : Option (List ℕ)) (r : Result T (Error A))
+    → Ends answers can_fail limit old new reused r → Ends answers can_fail limit old new None r
+ends_not_kept answers can_fail limit old new reused (Ok x) g = not_kept_gives answers limit old new reused (Ok x) g
+ends_not_kept answers can_fail limit old new reused (Err e) (inl g) =
+    inl (not_kept_gives answers limit old new reused (Err e) g)
+ends_not_kept answers can_fail limit old new reused (Err e) (inr s) =
+    inr (not_kept_stops can_fail limit old new reused e s)

@@ -2,23 +2,23 @@
 use Rattle.std.specs.Prelude.{◌≡◌, ℕ, List, Option, Some, None, is_some}
 use Rattle.kmip_ttlv_stream.specs.declared.config.Config.{Config}
 use Rattle.kmip_ttlv_stream.specs.declared.config.Buffer.{Buffer}
-use Rattle.kmip_ttlv_stream.specs.declared.config.Buffer.TheVariants.{Kept, Unkept}
+use Rattle.kmip_ttlv_stream.specs.declared.config.Buffer.TheVariants.{Reused, Unkept}
 
 -- the limit on the size of messages, and the bytes in the kept buffer, if there is one
 pub record Settings : Type 0 where
   pub limit : Option ℕ
-  pub kept : Option (List ℕ)
+  pub reused : Option (List ℕ)
 
 -- the bytes in a buffer; none if it is an allocator alone
 abbrev pub held_by : {A : Type 0} → Buffer A → Option (List ℕ)
-held_by (Kept bytes) = Some bytes.items
+held_by (Reused bytes) = Some bytes.items
 held_by (Unkept alloc) = None
 
 -- the settings of this configuration
 abbrev pub settings_of : {A : Type 0} → Config A → Settings
-settings_of c = record { limit = c.limit; kept = held_by c.buffer }
+settings_of c = record { limit = c.limit; reused = held_by c.buffer }
 
 -- the limit stays, and there is a buffer if and only if there was one
 pub record KeepsSettings (old new : Settings) : Type 0 where
   pub limit : new.limit ≡ old.limit
-  pub buffer : is_some new.kept ≡ is_some old.kept
+  pub buffer : is_some new.reused ≡ is_some old.reused

@@ -52,11 +52,11 @@ IsTakenUpTo (Some t) limit size n = Allows limit size × (n ≡ size)
 abbrev pub HasSize : Option ℕ → List ℕ → ℕ → Type 0
 HasSize limit bytes n = IsTakenUpTo (type_of (code_at bytes 0)) limit (message_size bytes) n
 
--- the place behind the header, with its tag and type
+-- the place after the header, with its tag and type
 abbrev pub behind_header : List ℕ → TtlvType → Location
 behind_header bytes t = record { offset = Some 8; parents = []; tag = Some (tag_at bytes 0); typ = Some t }
 
--- the place behind the tag, where the type's code is
+-- the place after the tag, where the type's code is
 abbrev pub behind_tag : List ℕ → Location
 behind_tag bytes = record { offset = Some 3; parents = []; tag = Some (tag_at bytes 0); typ = None }
 
@@ -64,7 +64,7 @@ behind_tag bytes = record { offset = Some 3; parents = []; tag = Some (tag_at by
 abbrev pub untyped_kind : List ℕ → Kind
 untyped_kind bytes = malformed (malformeds.InvalidType (code_at bytes 0))
 
--- the header's code is no type's, and this is the error for it, behind the tag
+-- the header's code is no type's, and this is the error for it, after the tag
 pub record IsUntyped {A : Type 0} (bytes : List ℕ) (e : Error A) : Type 0 where
   pub typ : type_of (code_at bytes 0) ≡ None
   pub kind : view_of_kind (kind_of e) ≡ untyped_kind bytes
@@ -97,60 +97,60 @@ pub record LacksBytes {A : Type 0} (can_fail : Bool) (old new : Option (List ℕ
   pub cause : LackCause can_fail old n e
 
 -- why no more than the header is read of the message with this header
-abbrev pub StopsAtHeader : {A : Type 0} → Option ℕ → List ℕ → Error A → Type 0
-StopsAtHeader limit head e = IsUntyped head e ⊎ IsOver limit head e
+abbrev pub FailsAtHeader : {A : Type 0} → Option ℕ → List ℕ → Error A → Type 0
+FailsAtHeader limit head e = IsUntyped head e ⊎ IsOver limit head e
 
 -- the bytes of one message were read
-pub record Comes (limit : Option ℕ) (old new : Option (List ℕ)) (message : List ℕ) : Type 0 where
+pub record Arrives (limit : Option ℕ) (old new : Option (List ℕ)) (message : List ℕ) : Type 0 where
   pub consumes : Consumes old new message
   pub size : HasSize limit message (length message)
 
 -- the kept buffer, if there is one, holds these bytes
-abbrev pub IsKept : Option (List ℕ) → List ℕ → Type 0
-IsKept kept bytes = IfSome kept (λ b. b ≡ bytes)
+abbrev pub IsInBuffer : Option (List ℕ) → List ℕ → Type 0
+IsInBuffer reused bytes = IfSome reused (λ b. b ≡ bytes)
 
 -- a header was read, of a message that is larger than the limit
-pub record ComesOver {A : Type 0} (limit : Option ℕ) (old new : Option (List ℕ)) (head : List ℕ) (e : Error A)
+pub record ArrivesOver {A : Type 0} (limit : Option ℕ) (old new : Option (List ℕ)) (head : List ℕ) (e : Error A)
     : Type 0 where
   pub consumes : Consumes old new head
   pub length_is : length head ≡ 8
   pub over : IsOver limit head e
 
 -- a header was read whose code is no type's
-pub record ComesUntyped {A : Type 0} (old new : Option (List ℕ)) (head : List ℕ) (e : Error A) : Type 0 where
+pub record ArrivesUntyped {A : Type 0} (old new : Option (List ℕ)) (head : List ℕ) (e : Error A) : Type 0 where
   pub consumes : Consumes old new head
   pub length_is : length head ≡ 8
   pub untyped : IsUntyped head e
 
 -- why there is no message: its header didn't come; the header's code is no type's; the message is larger than the
 -- limit; its body didn't come
-pub data Stops {A : Type 0} (can_fail : Bool) (limit : Option ℕ) (old new kept : Option (List ℕ)) (e : Error A)
+pub data FailsToArrive {A : Type 0} (can_fail : Bool) (limit : Option ℕ) (old new reused : Option (List ℕ)) (e : Error A)
     : Type 0 where
-  in_header : LacksBytes can_fail old new 8 e → Stops can_fail limit old new kept e
-  of_no_type : (head : List ℕ) → ComesUntyped old new head e → IsKept kept head → Stops can_fail limit old new kept e
-  over_limit : (head : List ℕ) → ComesOver limit old new head e → IsKept kept head → Stops can_fail limit old new kept e
+  in_header : LacksBytes can_fail old new 8 e → FailsToArrive can_fail limit old new reused e
+  of_no_type : (head : List ℕ) → ArrivesUntyped old new head e → IsInBuffer reused head → FailsToArrive can_fail limit old new reused e
+  over_limit : (head : List ℕ) → ArrivesOver limit old new head e → IsInBuffer reused head → FailsToArrive can_fail limit old new reused e
   in_body : (head : List ℕ) (mid : Option (List ℕ)) (n : ℕ) → Consumes old mid head → length head ≡ 8
-      → HasSize limit head (8 + n) → LacksBytes can_fail mid new n e → Stops can_fail limit old new kept e
+      → HasSize limit head (8 + n) → LacksBytes can_fail mid new n e → FailsToArrive can_fail limit old new reused e
 
 -- a message was read, and is kept if there is a buffer; this is returned for its bytes
 pub record Gives {T A : Type 0} (answers : List ℕ → Result T (Error A) → Type 0) (limit : Option ℕ)
-    (old new kept : Option (List ℕ)) (r : Result T (Error A)) : Type 0 where
+    (old new reused : Option (List ℕ)) (r : Result T (Error A)) : Type 0 where
   pub message : List ℕ
-  pub comes : Comes limit old new message
-  pub is_kept : IsKept kept message
+  pub comes : Arrives limit old new message
+  pub is_in_buffer : IsInBuffer reused message
   pub answer : answers message r
 
 -- a message was read, and this is returned for its bytes; or there is none
 abbrev pub Ends : {T A : Type 0} → (List ℕ → Result T (Error A) → Type 0) → Bool → Option ℕ
-    → (old new kept : Option (List ℕ)) → Result T (Error A) → Type 0
-Ends answers can_fail limit old new kept (Ok x) = Gives answers limit old new kept (Ok x)
-Ends answers can_fail limit old new kept (Err e) =
-    Gives answers limit old new kept (Err e) ⊎ Stops can_fail limit old new kept e
+    → (old new reused : Option (List ℕ)) → Result T (Error A) → Type 0
+Ends answers can_fail limit old new reused (Ok x) = Gives answers limit old new reused (Ok x)
+Ends answers can_fail limit old new reused (Err e) =
+    Gives answers limit old new reused (Err e) ⊎ FailsToArrive can_fail limit old new reused e
 
 -- if this is an error by size, a header was read that states this size, above the limit
 abbrev pub IsBySize : {A : Type 0} → Option ℕ → (old new : Option (List ℕ)) → Error A → Type 0
 IsBySize limit old new e = (n : ℕ) → view_of_kind (kind_of e) ≡ exceeds_limit n
-    → (head : List ℕ) × ComesOver limit old new head e × (n ≡ message_size head)
+    → (head : List ℕ) × ArrivesOver limit old new head e × (n ≡ message_size head)
 
 -- out of memory, or else this
 abbrev pub OrMemory : {T A : Type 0} → Result T (Error A) → Type 0 → Type 0
@@ -158,32 +158,32 @@ OrMemory (Ok x) P = P
 OrMemory (Err e) P = IsMemory e ⊎ P
 
 -- the first n bytes are read and kept
-pub record TakesFirst (bytes : List ℕ) (n : ℕ) (new kept : Option (List ℕ)) : Type 0 where
+pub record TakesFirst (bytes : List ℕ) (n : ℕ) (new reused : Option (List ℕ)) : Type 0 where
   pub left : new ≡ Some (drop n bytes)
-  pub is_kept : IsKept kept (take n bytes)
+  pub is_in_buffer : IsInBuffer reused (take n bytes)
 
--- the error for a size above the limit, behind the header
+-- the error for a size above the limit, after the header
 abbrev pub size_fault : List ℕ → TtlvType → Fault
 size_fault bytes t = record { why = exceeds_limit (message_size bytes); place = behind_header bytes t }
 
--- the error for a code that is no type's, behind the tag
+-- the error for a code that is no type's, after the tag
 abbrev pub type_fault : List ℕ → Fault
 type_fault bytes = record { why = untyped_kind bytes; place = behind_tag bytes }
 
 -- the result of reading a message from these bytes, by what they begin with; in place of each result, memory may
 -- run out
 pub record Exactly {T A : Type 0} (answers : List ℕ → Result T (Error A) → Type 0) (limit : Option ℕ) (bytes : List ℕ)
-    (new kept : Option (List ℕ)) (r : Result T (Error A)) : Type 0 where
+    (new reused : Option (List ℕ)) (r : Result T (Error A)) : Type 0 where
   -- the header is cut
   pub in_header : length bytes < 8 → IsFault end_fault r
   -- the code is no type's, whatever form and limit are
   pub untyped : 8 ≤ length bytes → type_of (code_at bytes 0) ≡ None
-      → IsFault (type_fault bytes) r × OrMemory r (TakesFirst bytes 8 new kept)
+      → IsFault (type_fault bytes) r × OrMemory r (TakesFirst bytes 8 new reused)
   -- the size is above the limit
   pub over_limit : 8 ≤ length bytes → (t : TtlvType) → type_of (code_at bytes 0) ≡ Some t
-      → Forbids limit (message_size bytes) → IsFault (size_fault bytes t) r × OrMemory r (TakesFirst bytes 8 new kept)
+      → Forbids limit (message_size bytes) → IsFault (size_fault bytes t) r × OrMemory r (TakesFirst bytes 8 new reused)
   -- the body is cut
   pub in_body : 8 ≤ length bytes → (n : ℕ) → HasSize limit bytes n → length bytes < n → IsFault end_fault r
   -- the message is there
   pub whole : 8 ≤ length bytes → (n : ℕ) → HasSize limit bytes n → n ≤ length bytes
-      → OrMemory r (TakesFirst bytes n new kept × answers (take n bytes) r)
+      → OrMemory r (TakesFirst bytes n new reused × answers (take n bytes) r)

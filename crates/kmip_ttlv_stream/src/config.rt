@@ -20,14 +20,14 @@ pub struct Config<A: Allocator = Global> {
 // The bytes of the last message; or only the allocator, if they aren't kept.
 #[derive(Drop)]
 pub(crate) enum Buffer<A: Allocator> {
-    Kept(Vec<u8, A>),
+    Reused(Vec<u8, A>),
     Unkept(A),
 }
 
 impl<A: Allocator> Config<A> {
     /// No limit and no buffer. Doesn't allocate.
     pub fn new(alloc: A) -> Config<A>
-        ensures { settings_of result ≡ record { limit = None; kept = None } }
+        ensures { settings_of result ≡ record { limit = None; reused = None } }
     {
         Config {
             limit: None,
@@ -44,24 +44,24 @@ impl<A: Allocator> Config<A> {
 
     /// Whether there is a buffer.
     pub fn has_buf(&self) -> bool
-        ensures { result ≡ is_some (settings_of self.now).kept }
+        ensures { result ≡ is_some (settings_of self.now).reused }
     {
-        matches!(self.buffer, Buffer::Kept(_))
+        matches!(self.buffer, Buffer::Reused(_))
     }
 
     /// The buffer, if there is one: the bytes of the last message.
     pub fn read_buf(&self) -> Option<&Vec<u8, A>>
-        ensures { option_map (λ b. b.now.items) result ≡ (settings_of self.now).kept }
+        ensures { option_map (λ b. b.now.items) result ≡ (settings_of self.now).reused }
     {
         match &self.buffer {
-            Buffer::Kept(bytes) => Some(bytes),
+            Buffer::Reused(bytes) => Some(bytes),
             Buffer::Unkept(_) => None,
         }
     }
 
     /// The same with this limit in bytes: a larger message is an error before its body is read.
     pub fn with_max_bytes(self, max_bytes: u32) -> Config<A>
-        ensures { settings_of result ≡ record { limit = Some max_bytes; kept = (settings_of self).kept } }
+        ensures { settings_of result ≡ record { limit = Some max_bytes; reused = (settings_of self).reused } }
     {
         Config {
             limit: Some(max_bytes),
@@ -71,11 +71,11 @@ impl<A: Allocator> Config<A> {
 
     /// The same with an empty buffer, which is kept from message to message. Doesn't allocate.
     pub fn with_read_buf(self) -> Config<A>
-        ensures { settings_of result ≡ record { limit = (settings_of self).limit; kept = Some [] } }
+        ensures { settings_of result ≡ record { limit = (settings_of self).limit; reused = Some [] } }
     {
         Config {
             limit: self.limit,
-            buffer: Buffer::Kept(emptied(self.buffer)),
+            buffer: Buffer::Reused(emptied(self.buffer)),
         }
     }
 }
@@ -84,12 +84,12 @@ impl<A: Allocator + Copy> Config<A> {
     /// The same limit, and an empty buffer if there is one. Doesn't allocate.
     pub fn clone(&self) -> Config<A>
         ensures { settings_of result
-            ≡ record { limit = (settings_of self.now).limit; kept = option_map (λ _. []) (settings_of self.now).kept } }
+            ≡ record { limit = (settings_of self.now).limit; reused = option_map (λ _. []) (settings_of self.now).reused } }
     {
         Config {
             limit: self.limit,
             buffer: match &self.buffer {
-                Buffer::Kept(bytes) => Buffer::Kept(Vec::new(*bytes.allocator())),
+                Buffer::Reused(bytes) => Buffer::Reused(Vec::new(*bytes.allocator())),
                 Buffer::Unkept(alloc) => Buffer::Unkept(*alloc),
             },
         }
@@ -101,7 +101,7 @@ fn emptied<A: Allocator>(buffer: Buffer<A>) -> Vec<u8, A>
     ensures { result.items ≡ [] }
 {
     match buffer {
-        Buffer::Kept(mut bytes) => {
+        Buffer::Reused(mut bytes) => {
             bytes.clear();
             bytes
         }

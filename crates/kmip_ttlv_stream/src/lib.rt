@@ -46,18 +46,18 @@ pub fn from_reader<T: Decode<A>, S: Source, A: Allocator + Copy>(
 ) -> Result<T, A>
     // Which bytes are read from the stream, and what is returned.
     ensures ends { Ends (SliceResult T.form T.is_value) S.can_fail (settings_of config.old).limit
-        (S.left reader.old) (S.left reader.new) (settings_of config.new).kept result }
+        (S.left reader.old) (S.left reader.new) (settings_of config.new).reused result }
     // An error by size is only returned for a message that is larger than the limit.
     ensures limit { IfErr result (IsBySize (settings_of config.old).limit (S.left reader.old) (S.left reader.new)) }
     // The same by cases, if the stream's bytes are known and reading them can't fail.
     ensures exact { S.can_fail ≡ false → (bytes : List ℕ) → S.left reader.old ≡ Some bytes
         → Exactly (SliceResult T.form T.is_value) (settings_of config.old).limit bytes
-        (S.left reader.new) (settings_of config.new).kept result }
+        (S.left reader.new) (settings_of config.new).reused result }
     // The limit stays, and afterwards there is a buffer if and only if there was one.
     ensures config { KeepsSettings (settings_of config.old) (settings_of config.new) }
 {
     match &mut config.buffer {
-        Buffer::Kept(bytes) => read_message(alloc, reader, config.limit, bytes),
+        Buffer::Reused(bytes) => read_message(alloc, reader, config.limit, bytes),
         Buffer::Unkept(_) => {
             let mut bytes = Vec::new(alloc);
             read_message(alloc, reader, config.limit, &mut bytes)

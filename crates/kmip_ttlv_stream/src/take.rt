@@ -4,8 +4,8 @@ ghost use Rattle.std.specs.Prelude.{◌≡◌, ◌≤◌, [], length, Some, IfOk
 ghost use Rattle.kmip_ttlv_types.specs.Streams.{Behind};
 ghost use Rattle.kmip_ttlv_base.specs.Errors.{kind_of, view_of_kind, location_of, view_of_location};
 ghost use Rattle.kmip_ttlv_base.specs.declared.error.ErrorKind.TheVariants.{ResponseSizeExceedsLimit as TooLargeKind};
-ghost use Rattle.kmip_ttlv_stream.specs.StreamMessages.{HasSize, StopsAtHeader, behind_header, behind_tag};
-ghost use Rattle.kmip_ttlv_stream.specs.StreamMessages.{untyped_kind, IsIoFault, LacksBytes, Comes, Stops};
+ghost use Rattle.kmip_ttlv_stream.specs.StreamMessages.{HasSize, FailsAtHeader, behind_header, behind_tag};
+ghost use Rattle.kmip_ttlv_stream.specs.StreamMessages.{untyped_kind, IsIoFault, LacksBytes, Arrives, FailsToArrive};
 
 use kmip_ttlv_base::error::{Error, ErrorKind, ErrorLocation, MalformedTtlvError, Result};
 use kmip_ttlv_base::types;
@@ -25,8 +25,8 @@ pub fn take_message<S: Source, A: Allocator>(
     limit: Option<u32>,
     bytes: &mut Vec<u8, A>,
 ) -> Result<(), A>
-    ensures ok { OnOk result (Comes limit (S.left reader.old) (S.left reader.new) bytes.new.items) }
-    ensures err { IfErr result (Stops S.can_fail limit (S.left reader.old) (S.left reader.new) (Some bytes.new.items)) }
+    ensures ok { OnOk result (Arrives limit (S.left reader.old) (S.left reader.new) bytes.new.items) }
+    ensures err { IfErr result (FailsToArrive S.can_fail limit (S.left reader.old) (S.left reader.new) (Some bytes.new.items)) }
 {
     empty(bytes)?;
     take_more(reader, bytes, 8)?;
@@ -46,7 +46,7 @@ fn empty<A: Allocator>(bytes: &mut Vec<u8, A>) -> std::result::Result<(), AllocE
 fn size_of<A: Allocator>(head: &[u8], limit: Option<u32>) -> Result<usize, A>
     requires { 8 ≤ length head.now }
     ensures ok { IfOk result (HasSize limit head.now) }
-    ensures err { IfErr result (StopsAtHeader limit head.now) }
+    ensures err { IfErr result (FailsAtHeader limit head.now) }
 {
     let Some(typ) = type_at(head, 0) else {
         return Err(no_type(head));
@@ -70,7 +70,7 @@ fn no_type<A: Allocator>(head: &[u8]) -> Error<A>
     )
 }
 
-// The error for a message of this size, behind its header.
+// The error for a message of this size, after its header.
 fn too_large<A: Allocator>(head: &[u8], typ: TtlvType, size: usize) -> Error<A>
     requires { 8 ≤ length head.now }
     ensures kind { kind_of result ≡ TooLargeKind size }

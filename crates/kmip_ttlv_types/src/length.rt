@@ -65,7 +65,7 @@ impl TtlvLength {
     /// ```
     pub fn write<S: Sink>(&self, dst: &mut S) -> Result<(), Error>
         ensures { Writes (to_be_bytes w32 self.now)
-            (S.held dst.old) (S.held dst.new) (S.room dst.old) (S.room dst.new) result }
+            (S.emitted dst.old) (S.emitted dst.new) (S.room dst.old) (S.room dst.new) result }
     {
         dst.send(&self.0.to_be_bytes())?;
         Ok(())

@@ -79,7 +79,7 @@ pub trait SerializableTtlvType: HasTtlvType + Sized + Drop {
     fn write_length_and_value<S: Sink>(&self, dst: &mut S) -> Result<u32>
         ensures writes { let content = content_of Self.TTLV_TYPE (value_bytes self.now) in
             WritesLong (length content) (length_and_content content)
-            (S.held dst.old) (S.held dst.new) (S.room dst.old) (S.room dst.new) result }
+            (S.emitted dst.old) (S.emitted dst.new) (S.room dst.old) (S.room dst.new) result }
         ensures length { IfOk result (λ n. n ≡ length (content_of Self.TTLV_TYPE (value_bytes self.now))) };
 
     // The bytes of a value are valid content of its type.
@@ -132,7 +132,7 @@ pub trait SerializableTtlvType: HasTtlvType + Sized + Drop {
     /// ```
     final fn write_pad_bytes<S: Sink>(dst: &mut S, value_len: u32) -> Result<()>
         ensures { Writes (replicate (pad_len value_len) 0)
-            (S.held dst.old) (S.held dst.new) (S.room dst.old) (S.room dst.new) result }
+            (S.emitted dst.old) (S.emitted dst.new) (S.room dst.old) (S.room dst.new) result }
     {
         let zeros = [0u8; 8];
         let count = Self::calc_pad_bytes(value_len) as usize;
@@ -173,7 +173,7 @@ pub trait SerializableTtlvType: HasTtlvType + Sized + Drop {
     final fn write<S: Sink>(&self, dst: &mut S) -> Result<()>
         ensures { let content = content_of Self.TTLV_TYPE (value_bytes self.now) in
             WritesLong (length content) (leaf_rest Self.TTLV_TYPE content)
-            (S.held dst.old) (S.held dst.new) (S.room dst.old) (S.room dst.new) result }
+            (S.emitted dst.old) (S.emitted dst.new) (S.room dst.old) (S.room dst.new) result }
     {
         self.value_length()?;
         self.ttlv_type().write(dst)?;
@@ -185,7 +185,7 @@ pub trait SerializableTtlvType: HasTtlvType + Sized + Drop {
 // Writes two slices, one after the other.
 pub fn send_both<S: Sink>(dst: &mut S, first: &[u8], second: &[u8]) -> Result<()>
     ensures { Writes (first.now ++ second.now)
-        (S.held dst.old) (S.held dst.new) (S.room dst.old) (S.room dst.new) result }
+        (S.emitted dst.old) (S.emitted dst.new) (S.room dst.old) (S.room dst.new) result }
 {
     dst.send(first)?;
     dst.send(second)?;
@@ -197,7 +197,7 @@ pub fn send_both<S: Sink>(dst: &mut S, first: &[u8], second: &[u8]) -> Result<()
 pub fn write_slice<S: Sink>(dst: &mut S, length: u32, content: &[u8]) -> Result<()>
     requires { length ≡ length' content.now }
     ensures { Writes (length_and_content content.now)
-        (S.held dst.old) (S.held dst.new) (S.room dst.old) (S.room dst.new) result }
+        (S.emitted dst.old) (S.emitted dst.new) (S.room dst.old) (S.room dst.new) result }
 {
     send_both(dst, &length.to_be_bytes(), content)
 }

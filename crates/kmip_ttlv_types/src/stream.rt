@@ -45,7 +45,7 @@ pub trait Source {
 /// What bytes are written to: any writer, or memory.
 pub trait Sink {
     // The bytes that it received, if they are known.
-    ghost held: { Self → Option (List ℕ) };
+    ghost emitted: { Self → Option (List ℕ) };
 
     // How many more bytes it has room for, if that is known.
     ghost room: { Self → Option ℕ };
@@ -54,8 +54,8 @@ pub trait Sink {
     ///
     /// A writer that takes no byte is an error of kind `WriteZero`.
     fn send(&mut self, bytes: &[u8]) -> io::Result<()>
-        ensures ok { OnOk result (Appends (held self.old) (held self.new) bytes.now) }
-        ensures err { OnErr result (AppendsFront (held self.old) (held self.new) bytes.now) }
+        ensures ok { OnOk result (Appends (emitted self.old) (emitted self.new) bytes.now) }
+        ensures err { OnErr result (AppendsFront (emitted self.old) (emitted self.new) bytes.now) }
         ensures room { OnOk result (UsesRoom (room self.old) (room self.new) (length bytes.now)) }
         ensures tight { OnErr result (IsTight (room self.old) (length bytes.now)) };
 }
@@ -71,7 +71,7 @@ impl<R: Read> Source for R {
 }
 
 impl<W: Write> Sink for W {
-    ghost held = { λ w. W.contents w };
+    ghost emitted = { λ w. W.contents w };
 
     ghost room = { λ _. None };
 
@@ -119,7 +119,7 @@ impl Source for MemorySource<'_> {
 pub struct MemorySink<A: Allocator = Global>(pub Vec<u8, A>);
 
 impl<A: Allocator> Sink for MemorySink<A> {
-    ghost held = { λ s. Some s.0.items };
+    ghost emitted = { λ s. Some s.0.items };
 
     ghost room = { λ s. Some (vec_capacity s.0 - vec_len s.0) };
 
@@ -160,7 +160,7 @@ impl<T: AsBytes> Source for MemoryCursor<T> {
 }
 
 impl Sink for MemoryCursor<&mut [u8]> {
-    ghost held = { λ c. Some (take (cursor_position c.0) (cursor_inner c.0).now) };
+    ghost emitted = { λ c. Some (take (cursor_position c.0) (cursor_inner c.0).now) };
 
     ghost room = { λ c. Some (length (cursor_inner c.0).now - cursor_position c.0) };
 

@@ -209,7 +209,7 @@ fn extended_length(bytes: &[u8]) -> usize
 fn write_extended<S: Sink>(dst: &mut S, count: u32, bytes: &[u8]) -> Result<()>
     requires { count ≡ length (sign_extended bytes.now) }
     ensures { Writes (length_and_content (sign_extended bytes.now))
-        (S.held dst.old) (S.held dst.new) (S.room dst.old) (S.room dst.new) result }
+        (S.emitted dst.old) (S.emitted dst.new) (S.room dst.old) (S.room dst.new) result }
 {
     TtlvLength::new(count).write(dst)?;
     let signs = [sign_of(bytes); 8];

@@ -137,7 +137,7 @@ impl TtlvTag {
     /// ```
     pub fn write<S: Sink>(&self, dst: &mut S) -> Result<(), Error>
         ensures { Writes (bytes_high_first 3 self.now)
-            (S.held dst.old) (S.held dst.new) (S.room dst.old) (S.room dst.new) result }
+            (S.emitted dst.old) (S.emitted dst.new) (S.room dst.old) (S.room dst.new) result }
     {
         let bytes: [u8; 3] = self.into();
         dst.send(&bytes)?;

@@ -105,7 +105,7 @@ impl TtlvType {
     /// ```
     pub fn write<S: Sink>(&self, dst: &mut S) -> Result<(), Error>
         ensures { Writes (code self.now ∷ [])
-            (S.held dst.old) (S.held dst.new) (S.room dst.old) (S.room dst.new) result }
+            (S.emitted dst.old) (S.emitted dst.new) (S.room dst.old) (S.room dst.new) result }
     {
         dst.send(&[self.code()])?;
         Ok(())

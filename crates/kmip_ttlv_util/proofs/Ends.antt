@@ -8,7 +8,7 @@ use Rattle.kmip_ttlv_types.specs.declared.typ.TtlvType.TheVariants.{Structure, I
 use Rattle.kmip_ttlv_util.specs.Letters.{letter, is_hex}
 use Rattle.kmip_ttlv_util.specs.Undiag.{Step, reads_on, stops_with, step}
 use Rattle.kmip_ttlv_util.specs.ReadBack.{close_part, item_part}
-use Rattle.kmip_ttlv_util.specs.ReadBack.{Part, StandsBehind, Stands, StandAll, depth_behind, part_line, part_lines, unfinished, EndsAt}
+use Rattle.kmip_ttlv_util.specs.ReadBack.{Part, IsPartTail, IsPartAt, StandAll, depth_behind, part_line, part_lines, unfinished, EndsAt}
 use Rattle.kmip_ttlv_util.proofs.Longest.{Tells, tells}
 use Rattle.kmip_ttlv_util.proofs.Reading.{Reads}
 
@@ -26,7 +26,7 @@ module _ (beginning : ℕ → ℕ → List ℕ) (prefix : List ℕ) where
   standing_start s = record { parts = []; front = []; stand = (refl, refl); lines = refl; split = refl }
 
   -- what follows a letter ends where the rest begins
-  behind_front : (typ : TtlvType) (after shown rest : List ℕ) → StandsBehind typ after shown rest → (f : List ℕ) × (after ≡ f ++ rest)
+  behind_front : (typ : TtlvType) (after shown rest : List ℕ) → IsPartTail typ after shown rest → (f : List ℕ) × (after ≡ f ++ rest)
   behind_front Structure after shown rest h = ([], sym h.1)
   behind_front Integer after shown rest h = ([], sym h.1)
   behind_front LongInteger after shown rest h = ([], sym h.1)
@@ -39,7 +39,7 @@ module _ (beginning : ℕ → ℕ → List ℕ) (prefix : List ℕ) where
   behind_front Interval after shown rest h = ([], sym h.1)
 
   -- so does a part
-  part_front : (depth : ℕ) (s : List ℕ) (p : Part) (rest : List ℕ) → Stands prefix depth s p rest → (f : List ℕ) × (s ≡ f ++ rest)
+  part_front : (depth : ℕ) (s : List ℕ) (p : Part) (rest : List ℕ) → IsPartAt prefix depth s p rest → (f : List ℕ) × (s ≡ f ++ rest)
   part_front depth s close_part rest h = (93 ∷ [], h.1)
   part_front depth s (item_part tag typ shown) rest h =
       let n = prefix_len is_hex s in
@@ -47,10 +47,10 @@ module _ (beginning : ℕ → ℕ → List ℕ) (prefix : List ℕ) where
       (take n s ++ (letter typ ∷ f.0), sym (take-append-drop n s) ∙ ap (λ (t : List ℕ). take n s ++ t) (h.2 ∙ ap (λ (t : List ℕ). letter typ ∷ t) f.1) ∙ sym (append_assoc (take n s) (letter typ ∷ f.0) rest))
 
   -- one more part after others
-  all_more : (ps : List Part) (depth : ℕ) (s : List ℕ) (deep : ℕ) (rest : List ℕ) → StandAll prefix depth s ps deep rest → (p : Part) (r : List ℕ) → Stands prefix deep rest p r → StandAll prefix depth s (ps ++ (p ∷ [])) (depth_behind deep p) r
+  all_more : (ps : List Part) (depth : ℕ) (s : List ℕ) (deep : ℕ) (rest : List ℕ) → StandAll prefix depth s ps deep rest → (p : Part) (r : List ℕ) → IsPartAt prefix deep rest p r → StandAll prefix depth s (ps ++ (p ∷ [])) (depth_behind deep p) r
   all_more [] depth s deep rest h p r here =
-      let one = subst (λ (d : ℕ). Stands prefix d rest p r) h.0 here in
-      (r, subst (λ (t : List ℕ). Stands prefix depth t p r) h.1 one, (ap (λ (d : ℕ). depth_behind d p) h.0, refl))
+      let one = subst (λ (d : ℕ). IsPartAt prefix d rest p r) h.0 here in
+      (r, subst (λ (t : List ℕ). IsPartAt prefix depth t p r) h.1 one, (ap (λ (d : ℕ). depth_behind d p) h.0, refl))
   all_more (q ∷ qs) depth s deep rest h p r here = (h.0, h.1, all_more qs (depth_behind depth q) h.0 deep rest h.2 p r here)
 
   -- and its line after theirs
@@ -89,7 +89,7 @@ module _ (beginning : ℕ → ℕ → List ℕ) (prefix : List ℕ) where
         parts = k.parts;
         within = omega (arith, count);
         stand = subst (λ (q : List ℕ). StandAll prefix 0 s k.parts depth q) (sym at) k.stand;
-        no_more = subst (λ (q : List ℕ). (p : Part) (more : List ℕ) → Stands prefix depth q p more → ⊥) (sym at) t.0;
+        no_more = subst (λ (q : List ℕ). (p : Part) (more : List ℕ) → IsPartAt prefix depth q p more → ⊥) (sym at) t.0;
         written = text;
       }
 

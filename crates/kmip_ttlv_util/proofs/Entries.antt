@@ -8,7 +8,7 @@ use Rattle.kmip_ttlv_types.specs.declared.typ.TtlvType.TheVariants.{Structure, I
 use Rattle.kmip_ttlv_types.specs.Leaves.{is_valid}
 use Rattle.kmip_ttlv_types.specs.Places.{tag_at, code_at, length_at, size}
 use Rattle.kmip_ttlv_types.specs.ItemTypes.{type_of}
-use Rattle.kmip_ttlv_util.specs.Entries.{Detail, detail_of, detail_at, entry_at, is_fine, extent, type_if, type_read, kept}
+use Rattle.kmip_ttlv_util.specs.Entries.{Detail, detail_of, detail_at, entry_at, is_fine, extent, type_if, type_read, detail_value}
 use Rattle.kmip_ttlv_util.specs.Walks.{IsItem}
 
 module _ (w : List ℕ) (p : ℕ) where
@@ -70,7 +70,7 @@ fine_is DateTime n content ne len = ap (λ (m : ℕ). eqb m 8) (sym len)
 fine_is Interval n content ne len = ap (λ (m : ℕ). eqb m 4) (sym len)
 
 -- a value is kept only of an enumeration
-pub kept_none : (t : TtlvType) (d : Detail) → t ≢ Enumeration → kept t d ≡ None
+pub kept_none : (t : TtlvType) (d : Detail) → t ≢ Enumeration → detail_value t d ≡ None
 kept_none Structure d ne = refl
 kept_none Integer d ne = refl
 kept_none LongInteger d ne = refl
@@ -83,7 +83,7 @@ kept_none DateTime d ne = refl
 kept_none Interval d ne = refl
 
 -- a valid enumeration's value is kept
-pub kept_enumeration : (content : List ℕ) → is_valid Enumeration content ≡ true → kept Enumeration (detail_of Enumeration content) ≡ Some (from_be_bytes w32 content)
+pub kept_enumeration : (content : List ℕ) → is_valid Enumeration content ≡ true → detail_value Enumeration (detail_of Enumeration content) ≡ Some (from_be_bytes w32 content)
 kept_enumeration content valid = rw valid refl
 
 -- a type is read if its bytes are there and its content is valid
@@ -166,14 +166,14 @@ module _ (w : List ℕ) (p : ℕ) where
   }
 
   -- the item of a leaf, with the value of an enumeration
-  pub item_leaf : (tag n next : ℕ) (t : TtlvType) (b : Bor (List ℕ)) (v : Option ℕ) → type_of (code_at w p) ≡ Some t → t ≢ Structure → tag ≡ tag_at w p → n ≡ length_at w p → b.now ≡ take n (drop (p + 8) w) → next ≡ p + size t n → next ≤ length w → is_valid t b.now ≡ true → v ≡ kept t (detail_of t b.now) → IsItem w p record { tag = tag; typ = t; length = n; value = v; content = b; next = next }
-  item_leaf tag n next t b v code-is ne tag-is len content-is next-is within good kept-is =
+  pub item_leaf : (tag n next : ℕ) (t : TtlvType) (b : Bor (List ℕ)) (v : Option ℕ) → type_of (code_at w p) ≡ Some t → t ≢ Structure → tag ≡ tag_at w p → n ≡ length_at w p → b.now ≡ take n (drop (p + 8) w) → next ≡ p + size t n → next ≤ length w → is_valid t b.now ≡ true → v ≡ detail_value t (detail_of t b.now) → IsItem w p record { tag = tag; typ = t; length = n; value = v; content = b; next = next }
+  item_leaf tag n next t b v code-is ne tag-is len content-is next-is within good detail_value-is =
       let le : p + size t n ≤ length w = omega arith in
       record {
         typ = read_leaf t n code-is ne len le (ap (is_valid t) (sym content-is) ∙ good);
         tag = tag-is ∙ sym (entry_tag w p);
         len = len ∙ sym (entry_length w p);
-        value = kept-is ∙ ap (λ (c : List ℕ). kept t (detail_of t c)) content-is ∙ ap (kept t) (sym (detail_here t n code-is len le));
+        value = detail_value-is ∙ ap (λ (c : List ℕ). detail_value t (detail_of t c)) content-is ∙ ap (detail_value t) (sym (detail_here t n code-is len le));
         next = next-is ∙ ap (λ (m : ℕ). p + m) (sym (extent_leaf t n ne));
         within = within;
         content = λ _. content-is;

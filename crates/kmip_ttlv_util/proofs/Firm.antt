@@ -52,9 +52,9 @@ keeps q more e utf8 =
     let front : IsUtf8 e.front = front_utf8 e.front c fed e.visible.below in
     let spelt : chars q ≡ chars e.front ++ (c ∷ []) = ap chars e.is ∙ chars-append e.front (c ∷ []) front ∙ ap (λ (s : List ℕ). chars e.front ++ s) (chars-IsAscii (c ∷ []) (ascii_one c e.visible.below)) in
     let all : chars (q ++ more) ≡ chars e.front ++ (c ∷ ys) = chars-append q more utf8 ∙ ap (λ (s : List ℕ). s ++ ys) spelt ∙ append_assoc (chars e.front) (c ∷ []) ys in
-    let kept : chars e.front ++ (c ∷ drop_trailing_whitespace ys) ≡ chars q ++ drop_trailing_whitespace ys = sym (append_assoc (chars e.front) (c ∷ []) (drop_trailing_whitespace ys)) ∙ ap (λ (s : List ℕ). s ++ drop_trailing_whitespace ys) (sym spelt) in
+    let detail_value : chars e.front ++ (c ∷ drop_trailing_whitespace ys) ≡ chars q ++ drop_trailing_whitespace ys = sym (append_assoc (chars e.front) (c ∷ []) (drop_trailing_whitespace ys)) ∙ ap (λ (s : List ℕ). s ++ drop_trailing_whitespace ys) (sym spelt) in
     ap (λ (s : List ℕ). encode_utf8_all (drop_trailing_whitespace s)) all
-    ∙ ap encode_utf8_all (drop_keeps (chars e.front) c ys e.visible ∙ kept)
+    ∙ ap encode_utf8_all (drop_keeps (chars e.front) c ys e.visible ∙ detail_value)
     ∙ encodes-append (chars q) (drop_trailing_whitespace ys)
     ∙ ap (λ (s : List ℕ). s ++ encode_utf8_all (drop_trailing_whitespace ys)) (encodes-chars q utf8)
 

@@ -28,24 +28,24 @@ stop_by : (t : Step) (before now w : List ℕ) → t ≡ stops_with w → now �
 stop_by t before now w is n = subst (λ (u : Step). Reads u before now None) (sym is) n
 
 -- what a text begins with
-record Begins (front text : List ℕ) : Type 0 where
+record HasPrefix (front text : List ℕ) : Type 0 where
   more : List ℕ
   is : text ≡ front ++ more
 
 module _ (beginning : ℕ → ℕ → List ℕ) (depth tag : ℕ) where
-  line_begins : (typ : TtlvType) (shown : List ℕ) → Begins (typ_part beginning depth tag typ) (line beginning depth tag typ shown)
+  line_begins : (typ : TtlvType) (shown : List ℕ) → HasPrefix (typ_part beginning depth tag typ) (line beginning depth tag typ shown)
   unfolding line
   line_begins typ shown = record { more = codes ", Data: " ++ (shown ++ (10 ∷ [])); is = refl }
 
-  begins_same : (front : List ℕ) → Begins front front
+  begins_same : (front : List ℕ) → HasPrefix front front
   begins_same front = record { more = []; is = sym (append-nil front) }
 
-  value_begins : (b : Bool) (x y : List ℕ) → Begins (typ_part beginning depth tag Enumeration) (text_of (cond b (reads_on (line beginning depth tag Enumeration x) depth y) (stops_with (typ_part beginning depth tag Enumeration))))
+  value_begins : (b : Bool) (x y : List ℕ) → HasPrefix (typ_part beginning depth tag Enumeration) (text_of (cond b (reads_on (line beginning depth tag Enumeration x) depth y) (stops_with (typ_part beginning depth tag Enumeration))))
   value_begins true x y = line_begins Enumeration x
   value_begins false x y = begins_same (typ_part beginning depth tag Enumeration)
 
   -- what is written for an item begins with its tag and type
-  data_begins : (typ : TtlvType) (s : List ℕ) → Begins (typ_part beginning depth tag typ) (text_of (data_step beginning depth tag typ s))
+  data_begins : (typ : TtlvType) (s : List ℕ) → HasPrefix (typ_part beginning depth tag typ) (text_of (data_step beginning depth tag typ s))
   data_begins typ [] = begins_same (typ_part beginning depth tag typ)
   data_begins Structure (c ∷ s) = line_begins Structure []
   data_begins Integer (c ∷ s) = line_begins Integer hidden
@@ -58,13 +58,13 @@ module _ (beginning : ℕ → ℕ → List ℕ) (depth tag : ℕ) where
   data_begins DateTime (c ∷ s) = line_begins DateTime hidden
   data_begins Interval (c ∷ s) = line_begins Interval hidden
 
-  type_begins : (s : List ℕ) (o : Option TtlvType) → Begins (beginning depth tag) (text_of (type_step beginning depth tag s o))
+  type_begins : (s : List ℕ) (o : Option TtlvType) → HasPrefix (beginning depth tag) (text_of (type_step beginning depth tag s o))
   type_begins s None = begins_same (beginning depth tag)
   type_begins s (Some typ) =
       let k = data_begins typ s in
       record { more = (codes ", Type: " ++ type_text typ) ++ k.more; is = k.is ∙ append_assoc (beginning depth tag) (codes ", Type: " ++ type_text typ) k.more }
 
-  letter_begins : (s : List ℕ) → Begins (beginning depth tag) (text_of (letter_step beginning depth tag s))
+  letter_begins : (s : List ℕ) → HasPrefix (beginning depth tag) (text_of (letter_step beginning depth tag s))
   letter_begins [] = begins_same (beginning depth tag)
   letter_begins (c ∷ s) = type_begins s (type_of_letter c)
 
@@ -162,7 +162,7 @@ module _ (beginning : ℕ → ℕ → List ℕ) (prefix s : List ℕ) where
       leads p shown pending depth rest (step beginning prefix depth rest) g refl p _ (append_assoc p (pending_text pending shown) (text_of (step beginning prefix depth rest))) g.firm
 
   -- a front of what it gives was written
-  leads_by : (p shown b : List ℕ) (pending : Bool) (depth : ℕ) (rest : List ℕ) (t : Step) → Going p pending shown depth rest → step beginning prefix depth rest ≡ t → Begins b (text_of t) → Solid b → Front ((p ++ pending_text pending shown) ++ b)
+  leads_by : (p shown b : List ℕ) (pending : Bool) (depth : ℕ) (rest : List ℕ) (t : Step) → Going p pending shown depth rest → step beginning prefix depth rest ≡ t → HasPrefix b (text_of t) → Solid b → Front ((p ++ pending_text pending shown) ++ b)
   leads_by p shown b pending depth rest t g is k solid =
       let before = p ++ pending_text pending shown in
       leads p shown pending depth rest t g is (before ++ b) k.more (ap (λ (w : List ℕ). before ++ w) k.is ∙ sym (append_assoc before b k.more)) (begun_firm p shown b pending g.firm g.utf8 solid)

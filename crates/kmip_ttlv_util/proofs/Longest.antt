@@ -14,7 +14,7 @@ use Rattle.kmip_ttlv_util.specs.Letters.{is_hex, type_of_letter}
 use Rattle.kmip_ttlv_util.specs.Lines.{line, hidden}
 use Rattle.kmip_ttlv_util.specs.Undiag.{Step, reads_on, stops_with, close_step, value_step, data_step, type_step, letter_step, tag_step, digits_step, step, undiag_from, undiag_lines, undiag}
 use Rattle.kmip_ttlv_util.specs.ReadBack.{close_part, item_part}
-use Rattle.kmip_ttlv_util.specs.ReadBack.{Part, NoColon, StandsBehind, tag_in_front, typ_in_front, Stands, depth_behind, part_line, part_lines, unfinished, Longest, ReadsLongest}
+use Rattle.kmip_ttlv_util.specs.ReadBack.{Part, NoColon, IsPartTail, tag_in_front, typ_in_front, IsPartAt, depth_behind, part_line, part_lines, unfinished, Longest, ReadsLongest}
 use Rattle.kmip_ttlv_util.proofs.Reading.{Shorter, step_shorter, lines_of}
 use Rattle.kmip_ttlv_util.proofs.ReadBack.{letter_back}
 use Rattle.kmip_ttlv_util.proofs.Letters.{letter_type}
@@ -56,8 +56,8 @@ span (d ∷ ds) s all = let k = span ds s all.1 in rw (ne_eqb d 58 all.0) (omega
 module _ (beginning : ℕ → ℕ → List ℕ) (prefix : List ℕ) where
   -- what a step shows of the next part
   abbrev pub Tells : ℕ → List ℕ → Step → Type 0
-  Tells depth s (reads_on w d r) = (p : Part) × Stands prefix depth s p r × (d ≡ depth_behind depth p) × (w ≡ part_line beginning depth p)
-  Tells depth s (stops_with w) = ((p : Part) (more : List ℕ) → Stands prefix depth s p more → ⊥) × (w ≡ unfinished beginning prefix depth s)
+  Tells depth s (reads_on w d r) = (p : Part) × IsPartAt prefix depth s p r × (d ≡ depth_behind depth p) × (w ≡ part_line beginning depth p)
+  Tells depth s (stops_with w) = ((p : Part) (more : List ℕ) → IsPartAt prefix depth s p more → ⊥) × (w ≡ unfinished beginning prefix depth s)
 
   -- of a text that doesn't begin with `]`
   module _ (depth : ℕ) (s : List ℕ) (open_ : (r : List ℕ) → s ≡ 93 ∷ r → ⊥) where
@@ -67,23 +67,23 @@ module _ (beginning : ℕ → ℕ → List ℕ) (prefix : List ℕ) where
     no_tag : tag_in_front prefix s ≡ None → Tells depth s (stops_with [])
     no_tag none = (by, rw none refl)
       where
-        by : (p : Part) (more : List ℕ) → Stands prefix depth s p more → ⊥
+        by : (p : Part) (more : List ℕ) → IsPartAt prefix depth s p more → ⊥
         by close_part more h = open_ more h.1
         by (item_part tag typ shown) more h = let k = h.1 in absurd cc
 
     no_letter : (tag : ℕ) → tag_in_front prefix s ≡ Some tag → typ_in_front (drop digits_end s) ≡ None → Tells depth s (stops_with (beginning depth tag))
     no_letter tag some none = (by, rw (some, none) refl)
       where
-        by : (p : Part) (more : List ℕ) → Stands prefix depth s p more → ⊥
+        by : (p : Part) (more : List ℕ) → IsPartAt prefix depth s p more → ⊥
         by close_part more h = open_ more h.1
         by (item_part t typ shown) more h =
             let k : typ_in_front (drop digits_end s) ≡ Some typ = ap typ_in_front h.2 ∙ letter_back beginning typ in
             absurd cc
 
-    no_data : (tag : ℕ) (typ : TtlvType) (c : ℕ) (r : List ℕ) → tag_in_front prefix s ≡ Some tag → drop digits_end s ≡ c ∷ r → type_of_letter c ≡ Some typ → ((shown more : List ℕ) → StandsBehind typ r shown more → ⊥) → Tells depth s (stops_with (typ_part beginning depth tag typ))
+    no_data : (tag : ℕ) (typ : TtlvType) (c : ℕ) (r : List ℕ) → tag_in_front prefix s ≡ Some tag → drop digits_end s ≡ c ∷ r → type_of_letter c ≡ Some typ → ((shown more : List ℕ) → IsPartTail typ r shown more → ⊥) → Tells depth s (stops_with (typ_part beginning depth tag typ))
     no_data tag typ c r some at is never = (by, rw (some, at, is) refl)
       where
-        by : (p : Part) (more : List ℕ) → Stands prefix depth s p more → ⊥
+        by : (p : Part) (more : List ℕ) → IsPartAt prefix depth s p more → ⊥
         by close_part more h = open_ more h.1
         by (item_part t u shown) more h =
             let both : c ∷ r ≡ letter u ∷ h.0 = sym at ∙ h.2 in
@@ -91,13 +91,13 @@ module _ (beginning : ℕ → ℕ → List ℕ) (prefix : List ℕ) where
             let left : h.0 ≡ r = cc in
             let known : type_of_letter c ≡ Some u = ap type_of_letter first ∙ letter_back beginning u in
             let same : u ≡ typ = cc in
-            never shown more (subst (λ (v : TtlvType). StandsBehind v r shown more) same (subst (λ (a : List ℕ). StandsBehind u a shown more) left h.3))
+            never shown more (subst (λ (v : TtlvType). IsPartTail v r shown more) same (subst (λ (a : List ℕ). IsPartTail u a shown more) left h.3))
 
-    whole : (tag : ℕ) (typ : TtlvType) (c : ℕ) (r shown more : List ℕ) (d : ℕ) → tag_in_front prefix s ≡ Some tag → drop digits_end s ≡ c ∷ r → type_of_letter c ≡ Some typ → StandsBehind typ r shown more → d ≡ depth_behind depth (item_part tag typ shown) → Tells depth s (reads_on (line beginning depth tag typ shown) d more)
+    whole : (tag : ℕ) (typ : TtlvType) (c : ℕ) (r shown more : List ℕ) (d : ℕ) → tag_in_front prefix s ≡ Some tag → drop digits_end s ≡ c ∷ r → type_of_letter c ≡ Some typ → IsPartTail typ r shown more → d ≡ depth_behind depth (item_part tag typ shown) → Tells depth s (reads_on (line beginning depth tag typ shown) d more)
     whole tag typ c r shown more d some at is behind deep = (item_part tag typ shown, (r, some, at ∙ ap (λ (x : ℕ). x ∷ r) (letter_type c typ is), behind), deep, refl)
 
     -- at the end of the text nothing follows a letter
-    none_behind : (typ : TtlvType) (shown more : List ℕ) → StandsBehind typ [] shown more → ⊥
+    none_behind : (typ : TtlvType) (shown more : List ℕ) → IsPartTail typ [] shown more → ⊥
     none_behind Structure shown more h = omega (arith, ap length h.1, h.2)
     none_behind Enumeration shown more h = omega (arith, ap length h.2, length-append shown (58 ∷ more))
     none_behind Integer shown more h = omega (arith, ap length h.1, h.2)
@@ -110,7 +110,7 @@ module _ (beginning : ℕ → ℕ → List ℕ) (prefix : List ℕ) where
     none_behind Interval shown more h = omega (arith, ap length h.1, h.2)
 
     -- no value of an enumeration
-    no_value : (r : List ℕ) → (ltb 0 (prefix_len other r) && ltb (prefix_len other r) (length r)) ≡ false → (shown more : List ℕ) → StandsBehind Enumeration r shown more → ⊥
+    no_value : (r : List ℕ) → (ltb 0 (prefix_len other r) && ltb (prefix_len other r) (length r)) ≡ false → (shown more : List ℕ) → IsPartTail Enumeration r shown more → ⊥
     no_value r off shown more h =
         let n-is : prefix_len other r ≡ length shown = ap (prefix_len other) h.2 ∙ span shown more h.1 in
         let a : ltb 0 (prefix_len other r) ≡ true = lt-ltb 0 (prefix_len other r) (omega (arith, h.0)) in
@@ -118,7 +118,7 @@ module _ (beginning : ℕ → ℕ → List ℕ) (prefix : List ℕ) where
         let both : (ltb 0 (prefix_len other r) && ltb (prefix_len other r) (length r)) ≡ true = rw (a, b) refl in
         absurd cc
 
-    some_value : (r : List ℕ) → 0 < prefix_len other r → prefix_len other r < length r → StandsBehind Enumeration r (take (prefix_len other r) r) (drop (prefix_len other r + 1) r)
+    some_value : (r : List ℕ) → 0 < prefix_len other r → prefix_len other r < length r → IsPartTail Enumeration r (take (prefix_len other r) r) (drop (prefix_len other r + 1) r)
     some_value r some lt =
         let split : r ≡ take (prefix_len other r) r ++ (58 ∷ drop (prefix_len other r + 1) r) = sym (take-append-drop (prefix_len other r) r) ∙ ap (λ (t : List ℕ). take (prefix_len other r) r ++ t) (at_colon r lt) in
         (omega (arith, length-take-le (prefix_len other r) r (omega arith)), no_colon r, split)
@@ -170,7 +170,7 @@ module _ (beginning : ℕ → ℕ → List ℕ) (prefix : List ℕ) where
     tag_tells (Some tag) rest is at = letter_tells tag rest is at
 
   -- there is no part at the end of a text
-  no_end : (depth : ℕ) (p : Part) (more : List ℕ) → Stands prefix depth [] p more → ⊥
+  no_end : (depth : ℕ) (p : Part) (more : List ℕ) → IsPartAt prefix depth [] p more → ⊥
   no_end depth close_part more h = let k = h.1 in absurd cc
   no_end depth (item_part tag typ shown) more h = let k = h.1 in absurd cc
 
@@ -179,7 +179,7 @@ module _ (beginning : ℕ → ℕ → List ℕ) (prefix : List ℕ) where
   shut_none c s e = rw e refl
 
   -- a surplus `]` is no part
-  no_shut : (c : ℕ) (s : List ℕ) → eqb c 93 ≡ true → (p : Part) (more : List ℕ) → Stands prefix zero (c ∷ s) p more → ⊥
+  no_shut : (c : ℕ) (s : List ℕ) → eqb c 93 ≡ true → (p : Part) (more : List ℕ) → IsPartAt prefix zero (c ∷ s) p more → ⊥
   no_shut c s e close_part more h = omega (arith, h.0)
   no_shut c s e (item_part tag typ shown) more h = let k = h.1 in let l = shut_none c s e in absurd cc
 

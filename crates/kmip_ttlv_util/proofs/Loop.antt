@@ -6,7 +6,7 @@ use Rattle.kmip_ttlv_types.specs.declared.typ.TtlvType.{TtlvType}
 use Rattle.kmip_ttlv_types.specs.declared.typ.TtlvType.TheVariants.{Structure, Integer, LongInteger, BigInteger, Enumeration, Boolean, TextString, ByteString, DateTime, Interval}
 use Rattle.kmip_ttlv_util.specs.declared.item.Item.{Item}
 use Rattle.kmip_ttlv_types.specs.Places.{length_at}
-use Rattle.kmip_ttlv_util.specs.Traces.{trace, Style, told}
+use Rattle.kmip_ttlv_util.specs.Traces.{trace, Style, printed_text}
 use Rattle.kmip_ttlv_util.specs.WalkPlaces.{Place, start, left_at, has_end, opened, after}
 use Rattle.kmip_ttlv_util.specs.Entries.{entry_at, type_read, extent}
 use Rattle.kmip_ttlv_util.specs.Walks.{IsItem, Ready, Closed, Passed}
@@ -16,7 +16,7 @@ use Rattle.kmip_ttlv_util.proofs.Stack.{deeper}
 
 -- what is written and what is left to write are the whole text; likewise for the count
 pub record Walking (style : Style) (closed : Bool) (bytes out : List ℕ) (count : ℕ) (s : Place) : Type 0 where
-  pub text : out ++ text_from style closed bytes (suc (length bytes) - count) s ≡ told style closed (length bytes) (trace closed bytes)
+  pub text : out ++ text_from style closed bytes (suc (length bytes) - count) s ≡ printed_text style closed (length bytes) (trace closed bytes)
   pub counts : count + count_from style closed bytes (suc (length bytes) - count) s ≡ length (trace closed bytes)
   pub eighths : 8 * count ≤ s.pos
   pub within : s.pos ≤ length bytes
@@ -24,7 +24,7 @@ pub record Walking (style : Style) (closed : Bool) (bytes out : List ℕ) (count
 
 -- the result
 pub record Written (style : Style) (closed : Bool) (bytes out : List ℕ) (count : ℕ) : Type 0 where
-  pub text : out ≡ told style closed (length bytes) (trace closed bytes)
+  pub text : out ≡ printed_text style closed (length bytes) (trace closed bytes)
   pub counts : count ≡ length (trace closed bytes)
   pub bounded : count ≤ length bytes / 8 + 1
 

@@ -11,12 +11,12 @@ use Rattle.kmip_ttlv_types.specs.declared.typ.TtlvType.TheVariants.{Structure, I
 use Rattle.kmip_ttlv_types.specs.Items.{Raw, IsTextOf}
 use Rattle.kmip_ttlv_types.specs.Leaves.{is_valid}
 use Rattle.kmip_ttlv_types.specs.Trees.{Tree, Trees, leaf, node, no_trees, tree, IsTreeText, AreTreeTexts, HasNoEmpty, IsStructure}
-use Rattle.kmip_ttlv_util.specs.Outlines.{IsKept, IsOutline, AreOutlines, value_of, outline_of, outlines_of, mark, diag, diag_all}
+use Rattle.kmip_ttlv_util.specs.Outlines.{IsShown, IsOutline, AreOutlines, value_of, outline_of, outlines_of, mark, diag, diag_all}
 use Rattle.kmip_ttlv_util.specs.Traces.{trace}
-use Rattle.kmip_ttlv_util.specs.Entries.{entry_at, kept, detail_of}
+use Rattle.kmip_ttlv_util.specs.Entries.{entry_at, detail_value, detail_of}
 use Rattle.kmip_ttlv_util.specs.Diagnostics.{diag_style, hostile}
 use Rattle.kmip_ttlv_util.specs.declared.item.Item.{Item}
-use Rattle.kmip_ttlv_util.specs.PrintAnswers.{IsExact}
+use Rattle.kmip_ttlv_util.specs.PrintResults.{IsExact}
 use Rattle.kmip_ttlv_util.specs.Walks.{IsItem}
 use Rattle.kmip_ttlv_util.proofs.Unique.{diag_one}
 use Rattle.kmip_ttlv_types.proofs.PlaceLemmas.{raw_with, header_of}
@@ -24,7 +24,7 @@ use Rattle.kmip_ttlv_util.proofs.Entries.{kept_enumeration}
 use Rattle.kmip_ttlv_util.proofs.Walked.{Drawing, Draws, drawn, drawn_all, message_told, leaf_not}
 
 -- what is kept of a leaf is its value in the outline
-kept_is : (typ : TtlvType) (content : List ℕ) → is_valid typ content ≡ true → kept typ (detail_of typ content) ≡ value_of typ content
+kept_is : (typ : TtlvType) (content : List ℕ) → is_valid typ content ≡ true → detail_value typ (detail_of typ content) ≡ value_of typ content
 kept_is Structure content valid = refl
 kept_is Integer content valid = refl
 kept_is LongInteger content valid = refl
@@ -50,7 +50,7 @@ diag_drawing prefix = record { of_leaf = λ depth tag typ content. mark prefix t
 diag_draws : (prefix : List ℕ) (closed : Bool) (w : List ℕ) → Draws (diag_style prefix) (diag_drawing prefix) closed w
 unfolding diag_drawing
 diag_draws prefix closed w = record {
-  leafs = λ depth p tag typ content h. let value-is : kept typ (entry_at w p).detail ≡ value_of typ content = ap (kept typ) h.detail_is ∙ kept_is typ content h.valid in rw (h.tag_is, value-is) refl;
+  leafs = λ depth p tag typ content h. let value-is : detail_value typ (entry_at w p).detail ≡ value_of typ content = ap (detail_value typ) h.detail_is ∙ kept_is typ content h.valid in rw (h.tag_is, value-is) refl;
   nodes = λ depth p tag h. rw h.tag_is refl;
 }
 
@@ -102,7 +102,7 @@ value_small : (content : List ℕ) → AreBytes content → from_be_bytes w32 co
 value_small content all = omega (arith, all 0, all 1, all 2, all 3)
 
 -- what is kept of a leaf fits an outline
-kept_fits : (typ : TtlvType) (content : List ℕ) → is_valid typ content ≡ true → AreBytes content → IsKept typ (value_of typ content)
+kept_fits : (typ : TtlvType) (content : List ℕ) → is_valid typ content ≡ true → AreBytes content → IsShown typ (value_of typ content)
 kept_fits Structure content valid all = leaf_not Structure content valid refl
 kept_fits Integer content valid all = tt
 kept_fits LongInteger content valid all = tt

@@ -13,13 +13,13 @@ use Rattle.kmip_ttlv_types.specs.declared.typ.TtlvType.{TtlvType}
 use Rattle.kmip_ttlv_types.specs.declared.typ.TtlvType.TheVariants.{Structure, Integer, LongInteger, BigInteger, Enumeration, Boolean, TextString, ByteString, DateTime, Interval}
 use Rattle.kmip_ttlv_types.specs.Names.{tag_of, number, numeral, without_0x, all_digits, below_tag_limit}
 use Rattle.kmip_ttlv_types.specs.Digits.{six_digits}
-use Rattle.kmip_ttlv_util.specs.Outlines.{Outline, Outlines, leaf_outline, node_outline, no_outlines, outline, IsKept, IsOutline, AreOutlines, hex_upper, stripped, value_text, mark, diag, diag_all}
+use Rattle.kmip_ttlv_util.specs.Outlines.{Outline, Outlines, leaf_outline, node_outline, no_outlines, outline, IsShown, IsOutline, AreOutlines, hex_upper, stripped, value_text, mark, diag, diag_all}
 use Rattle.kmip_ttlv_util.specs.Letters.{letter}
 use Rattle.kmip_ttlv_util.specs.Letters.{is_hex, type_of_letter}
 use Rattle.kmip_ttlv_util.specs.Undiag.{reads_on, value_step, data_step, tag_step, digits_step, step, undiag_from, undiag_lines}
 use Rattle.kmip_ttlv_util.specs.ReadBack.{lines_all}
 use Rattle.kmip_ttlv_util.specs.Lines.{line}
-use Rattle.kmip_ttlv_util.specs.ReadBack.{shown, lines, Begins, AllBegin, AllsBegin}
+use Rattle.kmip_ttlv_util.specs.ReadBack.{shown, lines, HasPrefix, AllBegin, AllsBegin}
 use Rattle.kmip_ttlv_util.proofs.Texts.{stripped_some}
 use Rattle.kmip_ttlv_util.proofs.Unique.{AllDigits, hex_digits, glyph_digit, step_1, step_2, step_3, step_4, step_5, step_6}
 
@@ -166,7 +166,7 @@ module _ (beginning : ℕ → ℕ → List ℕ) where
     pub cut : stripped prefix (six_digits tag) ≡ rest
 
   -- what is left of the six digits
-  starts : (prefix : List ℕ) (tag : ℕ) → Begins prefix (six_digits tag) → Starts prefix tag
+  starts : (prefix : List ℕ) (tag : ℕ) → HasPrefix prefix (six_digits tag) → Starts prefix tag
   starts prefix tag b =
       let back : drop (length prefix) (six_digits tag) ≡ b.0 = ap (drop (length prefix)) b.1 ∙ drop_at prefix b.0 (length prefix) refl in
       let whole : six_digits tag ≡ prefix ++ drop (length prefix) (six_digits tag) = b.1 ∙ ap (λ (r : List ℕ). prefix ++ r) (sym back) in
@@ -224,7 +224,7 @@ module _ (beginning : ℕ → ℕ → List ℕ) where
     parts_all (outline o os) f = parts o (parts_all os f)
 
   -- a step over a leaf
-  leaf_data : (depth tag : ℕ) (typ : TtlvType) (v : Option ℕ) (c : ℕ) (s : List ℕ) → IsKept typ v → data_step beginning depth tag typ (value_text v ++ (c ∷ s)) ≡ reads_on (line beginning depth tag typ (shown typ v)) depth (c ∷ s)
+  leaf_data : (depth tag : ℕ) (typ : TtlvType) (v : Option ℕ) (c : ℕ) (s : List ℕ) → IsShown typ v → data_step beginning depth tag typ (value_text v ++ (c ∷ s)) ≡ reads_on (line beginning depth tag typ (shown typ v)) depth (c ∷ s)
   leaf_data depth tag Structure v c s k = absurd k
   leaf_data depth tag Enumeration None c s k = absurd k
   leaf_data depth tag Enumeration (Some n) c s k = value_back depth tag (hex_upper n) (c ∷ s) (hex_some n k) (hex_digits n)
@@ -261,7 +261,7 @@ module _ (beginning : ℕ → ℕ → List ℕ) where
   open_goes prefix depth tag (c ∷ s) some small st = mark_step prefix depth tag Structure None (c ∷ s) small st
 
   -- a leaf stays on its level
-  leaf_goes : (prefix : List ℕ) (depth tag : ℕ) (typ : TtlvType) (v : Option ℕ) (s : List ℕ) → 0 < length s → tag < 2 ^ 24 → Starts prefix tag → IsKept typ v → step beginning prefix depth (mark prefix tag typ v ++ s) ≡ reads_on (line beginning depth tag typ (shown typ v)) depth s
+  leaf_goes : (prefix : List ℕ) (depth tag : ℕ) (typ : TtlvType) (v : Option ℕ) (s : List ℕ) → 0 < length s → tag < 2 ^ 24 → Starts prefix tag → IsShown typ v → step beginning prefix depth (mark prefix tag typ v ++ s) ≡ reads_on (line beginning depth tag typ (shown typ v)) depth s
   leaf_goes prefix depth tag typ v [] some small st k = absurd (omega arith)
   leaf_goes prefix depth tag typ v (c ∷ s) some small st k = mark_step prefix depth tag typ v (c ∷ s) small st ∙ leaf_data depth tag typ v c s k
 

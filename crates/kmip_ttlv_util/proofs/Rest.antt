@@ -4,7 +4,7 @@ use Rattle.std.proofs.lemmas.Bool.{eq-eqb, ne_eqb, lt-ltb, le-ltb}
 use Rattle.kmip_ttlv_types.specs.declared.typ.TtlvType.{TtlvType}
 use Rattle.kmip_ttlv_types.specs.Places.{length_at}
 use Rattle.kmip_ttlv_util.specs.Walks.{Ready}
-use Rattle.kmip_ttlv_util.specs.Traces.{closes, entries_by, entries_from, trace, Style, end_text, told_from, told}
+use Rattle.kmip_ttlv_util.specs.Traces.{closes, entries_by, entries_from, trace, Style, end_text, printed_from, printed_text}
 use Rattle.kmip_ttlv_util.specs.WalkPlaces.{Place, left_at, Turn, turn_left, all_closed, end_passed, entry_follows, turn, after, start}
 use Rattle.kmip_ttlv_util.specs.Entries.{Entry, entry_at, type_read}
 
@@ -59,15 +59,15 @@ ready_closes shut p (e ∷ es) h = by (eqb e p) h (shorter p es)
 module _ (style : Style) (closed : Bool) (bytes : List ℕ) where
   -- what is left to write
   pub text_from : ℕ → Place → List ℕ
-  text_from f s = told_from style closed (length bytes) s (entries_from f closed bytes s)
+  text_from f s = printed_from style closed (length bytes) s (entries_from f closed bytes s)
 
   -- how many entries are left
   pub count_from : ℕ → Place → ℕ
   count_from f s = length (entries_from f closed bytes s)
 
   -- at the first byte the whole text is left to write
-  pub text_start : text_from (suc (length bytes)) start ≡ told style closed (length bytes) (trace closed bytes)
-  unfolding text_from told trace
+  pub text_start : text_from (suc (length bytes)) start ≡ printed_text style closed (length bytes) (trace closed bytes)
+  unfolding text_from printed_text trace
   text_start = refl
 
   -- and all entries are left
@@ -93,12 +93,12 @@ module _ (style : Style) (closed : Bool) (bytes : List ℕ) where
   -- what is written for an entry and for the others
   pub text_reads : (f : ℕ) (s : Place) (t : TtlvType) → Ready s → type_read (length bytes) s.pos (entry_at bytes s.pos) ≡ Some t
       → text_from (suc f) s ≡ style.item (s.endless + length s.ends) s.pos (entry_at bytes s.pos) t ++ text_from f (after closed s t (length_at (entry_at bytes s.pos).header 0))
-  unfolding text_from told_from
+  unfolding text_from printed_from
   text_reads f s t ready is = rw (reads_entries f s (Some t) ready.turns is) (rw (ready_closes style.close s.pos s.ends ready.left, is, ready.left) refl)
 
   -- for an unreadable one
   pub text_unreadable : (f : ℕ) (s : Place) → Ready s → type_read (length bytes) s.pos (entry_at bytes s.pos) ≡ None → text_from (suc f) s ≡ style.unreadable
-  unfolding text_from told_from
+  unfolding text_from printed_from
   text_unreadable f s ready is = rw (reads_entries f s None ready.turns is) (rw (ready_closes style.close s.pos s.ends ready.left, is) refl)
 
   -- ---- an end is reached
@@ -125,15 +125,15 @@ module _ (style : Style) (closed : Bool) (bytes : List ℕ) where
   same_entries (suc f) p e es k z = rw (same_turn p e es k z, same_left p (e ∷ es)) refl
 
   -- what is written has one more close
-  same_told : (p e : ℕ) (es : List ℕ) (k : ℕ) (z : Bool) (xs : List Entry) → told_from style closed (length bytes) (place p (p ∷ e ∷ es) k z) xs ≡ style.close ++ told_from style closed (length bytes) (place p (e ∷ es) k z) xs
-  unfolding told_from after
+  same_told : (p e : ℕ) (es : List ℕ) (k : ℕ) (z : Bool) (xs : List Entry) → printed_from style closed (length bytes) (place p (p ∷ e ∷ es) k z) xs ≡ style.close ++ printed_from style closed (length bytes) (place p (e ∷ es) k z) xs
+  unfolding printed_from after
   same_told p e es k z [] = rw (same_turn p e es k z, more_closes p (e ∷ es)) (append_assoc style.close (closes style.close p (e ∷ es)) (end_text style (turn (place p (e ∷ es) k z))))
   same_told p e es k z (x ∷ xs) = rw (more_closes p (e ∷ es), same_left p (e ∷ es)) (append_assoc style.close (closes style.close p (e ∷ es)) _)
 
   -- so it has when a structure closes
   pub text_closes : (f p e : ℕ) (es : List ℕ) (k : ℕ) (z : Bool) → text_from f (place p (p ∷ e ∷ es) k z) ≡ style.close ++ text_from f (place p (e ∷ es) k z)
   unfolding text_from
-  text_closes f p e es k z = ap (told_from style closed (length bytes) (place p (p ∷ e ∷ es) k z)) (same_entries f p e es k z) ∙ same_told p e es k z (entries_from f closed bytes (place p (e ∷ es) k z))
+  text_closes f p e es k z = ap (printed_from style closed (length bytes) (place p (p ∷ e ∷ es) k z)) (same_entries f p e es k z) ∙ same_told p e es k z (entries_from f closed bytes (place p (e ∷ es) k z))
 
   -- the count is unchanged
   pub count_closes : (f p e : ℕ) (es : List ℕ) (k : ℕ) (z : Bool) → count_from f (place p (p ∷ e ∷ es) k z) ≡ count_from f (place p (e ∷ es) k z)
@@ -160,7 +160,7 @@ module _ (style : Style) (closed : Bool) (bytes : List ℕ) where
 
   -- the last close
   pub text_over : (f p k : ℕ) (z : Bool) → text_from f (place p (p ∷ []) k z) ≡ style.close
-  unfolding text_from told_from closes
+  unfolding text_from printed_from closes
   text_over f p k z = rw (no_entries f (place p (p ∷ []) k z) (λ h. let m = last_turn p k z in cc)) (rw (last_turn p k z, eq-eqb p p refl) (append-nil (style.close ++ []) ∙ append-nil style.close))
 
   -- no more entries
@@ -175,7 +175,7 @@ module _ (style : Style) (closed : Bool) (bytes : List ℕ) where
 
   -- what is written then
   pub text_past : (f p e : ℕ) (es : List ℕ) (k : ℕ) → e < p → text_from f (place p (e ∷ es) k false) ≡ style.passed
-  unfolding text_from told_from closes
+  unfolding text_from printed_from closes
   text_past f p e es k lt =
       let ne : e ≢ p = omega arith in
       rw (no_entries f (place p (e ∷ es) k false) (λ h. let m = past_turn p e es k lt in cc)) (rw (past_turn p e es k lt, ne_eqb e p ne) refl)

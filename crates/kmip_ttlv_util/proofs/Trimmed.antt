@@ -11,7 +11,7 @@ use Rattle.std.proofs.lemmas.Bool.{ne_eqb, lt-ltb, le-ltb}
 use Rattle.std.proofs.lemmas.List.{take_at, get_or-append_right}
 use Rattle.kmip_ttlv_types.specs.declared.typ.TtlvType.{TtlvType}
 use Rattle.kmip_ttlv_types.specs.declared.typ.TtlvType.TheVariants.{Structure, Integer, LongInteger, BigInteger, Enumeration, Boolean, TextString, ByteString, DateTime, Interval}
-use Rattle.kmip_ttlv_util.specs.Outlines.{Outline, Outlines, leaf_outline, node_outline, no_outlines, outline, IsKept, IsOutline, AreOutlines, diag, hex_upper}
+use Rattle.kmip_ttlv_util.specs.Outlines.{Outline, Outlines, leaf_outline, node_outline, no_outlines, outline, IsShown, IsOutline, AreOutlines, diag, hex_upper}
 use Rattle.kmip_ttlv_util.specs.Lines.{tag_part, typ_part}
 use Rattle.kmip_ttlv_util.specs.Lines.{line, hidden}
 use Rattle.kmip_ttlv_util.specs.ReadBack.{shown, lines, AllBegin, IsNode, NoneEmpty, AllNoneEmpty, IsReadBack}
@@ -69,9 +69,9 @@ unfolding trim_end
 trim_line xs c utf8 v =
     let front = front_utf8 xs c utf8 v.below in
     let spelt : chars (xs ++ (c ∷ 10 ∷ [])) ≡ chars xs ++ (c ∷ 10 ∷ []) = chars-append xs (c ∷ 10 ∷ []) front ∙ ap (λ (s : List ℕ). chars xs ++ s) (chars-IsAscii (c ∷ 10 ∷ []) (ascii_two c v.below)) in
-    let kept : chars xs ++ (c ∷ []) ≡ chars (xs ++ (c ∷ [])) = ap (λ (s : List ℕ). chars xs ++ s) (sym (chars-IsAscii (c ∷ []) (ascii_one c v.below))) ∙ sym (chars-append xs (c ∷ []) front) in
+    let detail_value : chars xs ++ (c ∷ []) ≡ chars (xs ++ (c ∷ [])) = ap (λ (s : List ℕ). chars xs ++ s) (sym (chars-IsAscii (c ∷ []) (ascii_one c v.below))) ∙ sym (chars-append xs (c ∷ []) front) in
     ap (λ (s : List ℕ). encode_utf8_all (drop_trailing_whitespace s)) spelt
-    ∙ ap encode_utf8_all (drop_end (chars xs) c v ∙ kept)
+    ∙ ap encode_utf8_all (drop_end (chars xs) c v ∙ detail_value)
     ∙ encodes-chars (xs ++ (c ∷ [])) (IsUtf8-append xs (c ∷ []) front (IsUtf8-from_ascii (c ∷ []) (ascii_one c v.below)))
 
 -- ---- how lines end
@@ -130,7 +130,7 @@ hidden_ends : Ends hidden
 hidden_ends = record { front = codes "<redacted"; last = 62; is = refl; visible = record { above = omega arith; below = omega arith } }
 
 -- what a line shows
-shown_ends : (typ : TtlvType) (v : Option ℕ) → IsKept typ v → Ends (shown typ v)
+shown_ends : (typ : TtlvType) (v : Option ℕ) → IsShown typ v → Ends (shown typ v)
 shown_ends Structure v k = absurd k
 shown_ends Enumeration None k = absurd k
 shown_ends Enumeration (Some n) k = some_visible (hex_upper n) (hex_some n k) (hex_visible n)

@@ -13,7 +13,7 @@ use Rattle.std.proofs.lemmas.Bool.Decides.{Decides-eqb}
 use Rattle.kmip_ttlv_types.specs.declared.typ.TtlvType.{TtlvType}
 use Rattle.kmip_ttlv_types.specs.declared.typ.TtlvType.TheVariants.{Structure, Integer, LongInteger, BigInteger, Enumeration, Boolean, TextString, ByteString, DateTime, Interval}
 use Rattle.kmip_ttlv_types.specs.Digits.{six_digits}
-use Rattle.kmip_ttlv_util.specs.Outlines.{Outline, Outlines, leaf_outline, node_outline, no_outlines, outline, IsKept, IsOutline, AreOutlines, hex_upper, stripped, value_text, mark, diag, diag_all}
+use Rattle.kmip_ttlv_util.specs.Outlines.{Outline, Outlines, leaf_outline, node_outline, no_outlines, outline, IsShown, IsOutline, AreOutlines, hex_upper, stripped, value_text, mark, diag, diag_all}
 use Rattle.kmip_ttlv_util.specs.Letters.{letter}
 
 -- a digit of upper case hexadecimal: no letter, no bracket and no colon
@@ -246,7 +246,7 @@ record SameValue (v w : Option ℕ) (r s : List ℕ) : Type 0 where
 colon_none : IsDigit 58 → ⊥
 colon_none h = h.1 refl
 
-value_one : (t : TtlvType) (v w : Option ℕ) (r s : List ℕ) → IsKept t v → IsKept t w → value_text v ++ r ≡ value_text w ++ s → SameValue v w r s
+value_one : (t : TtlvType) (v w : Option ℕ) (r s : List ℕ) → IsShown t v → IsShown t w → value_text v ++ r ≡ value_text w ++ s → SameValue v w r s
 value_one Structure v w r s p q e = absurd p
 value_one Enumeration None w r s p q e = absurd p
 value_one Enumeration (Some m) None r s p q e = absurd q
@@ -288,7 +288,7 @@ record SameFronts (os ps : Outlines) (r s : List ℕ) : Type 0 where
   same : os ≡ ps
   rest : r ≡ s
 
-not_structure : (v : Option ℕ) → IsKept Structure v → ⊥
+not_structure : (v : Option ℕ) → IsShown Structure v → ⊥
 not_structure v h = h
 
 never_first : (prefix : List ℕ) (o : Outline) (r s : List ℕ) → diag prefix o ++ r ≡ 93 ∷ s → ⊥
@@ -299,15 +299,15 @@ mutual
   diag_front : (prefix : List ℕ) (o p : Outline) (r s : List ℕ) → IsOutline o → IsOutline p → diag prefix o ++ r ≡ diag prefix p ++ s → SameFront o p r s
   diag_front prefix (leaf_outline m t v) (leaf_outline n u w) r s io ip e =
       let f = mark_front prefix m n t u v w r s io.0 ip.0 e in
-      let g = value_one t v w r s io.1 (subst (λ (x : TtlvType). IsKept x w) (sym f.typ) ip.1) f.rest in
+      let g = value_one t v w r s io.1 (subst (λ (x : TtlvType). IsShown x w) (sym f.typ) ip.1) f.rest in
       let a = f.tag in let b = f.typ in let c = g.value in
       record { same = cc; rest = g.rest }
   diag_front prefix (leaf_outline m t v) (node_outline n below) r s io ip e =
       let f = mark_front prefix m n t Structure v None r ((diag_all prefix below ++ (93 ∷ [])) ++ s) io.0 ip.0 (e ∙ append_assoc (mark prefix n Structure None) (diag_all prefix below ++ (93 ∷ [])) s) in
-      absurd (not_structure v (subst (λ (x : TtlvType). IsKept x v) f.typ io.1))
+      absurd (not_structure v (subst (λ (x : TtlvType). IsShown x v) f.typ io.1))
   diag_front prefix (node_outline m above) (leaf_outline n u w) r s io ip e =
       let f = mark_front prefix n m u Structure w None s ((diag_all prefix above ++ (93 ∷ [])) ++ r) ip.0 io.0 (sym e ∙ append_assoc (mark prefix m Structure None) (diag_all prefix above ++ (93 ∷ [])) r) in
-      absurd (not_structure w (subst (λ (x : TtlvType). IsKept x w) f.typ ip.1))
+      absurd (not_structure w (subst (λ (x : TtlvType). IsShown x w) f.typ ip.1))
   diag_front prefix (node_outline m above) (node_outline n below) r s io ip e =
       let f = mark_front prefix m n Structure Structure None None ((diag_all prefix above ++ (93 ∷ [])) ++ r) ((diag_all prefix below ++ (93 ∷ [])) ++ s) io.0 ip.0 (sym (append_assoc (mark prefix m Structure None) (diag_all prefix above ++ (93 ∷ [])) r) ∙ e ∙ append_assoc (mark prefix n Structure None) (diag_all prefix below ++ (93 ∷ [])) s) in
       let g = diag_fronts prefix above below r s io.1 ip.1 (sym (append_assoc (diag_all prefix above) (93 ∷ []) r) ∙ f.rest ∙ append_assoc (diag_all prefix below) (93 ∷ []) s) in

@@ -9,7 +9,7 @@ use Rattle.kmip_ttlv_types.specs.ItemTypes.{type_of}
 use Rattle.kmip_ttlv_types.specs.Leaves.{is_valid}
 use Rattle.kmip_ttlv_types.specs.Places.{tag_at, length_at, size}
 use Rattle.kmip_ttlv_types.specs.Trees.{Tree, Trees, leaf, node, no_trees, tree, IsTreeText, AreTreeTexts, HasNoEmpty, HaveNoEmpty, IsStructure}
-use Rattle.kmip_ttlv_util.specs.Traces.{trace, Style, told}
+use Rattle.kmip_ttlv_util.specs.Traces.{trace, Style, printed_text}
 use Rattle.kmip_ttlv_util.specs.WalkPlaces.{start, has_end, after}
 use Rattle.kmip_ttlv_util.specs.Entries.{Entry, entry_at, detail_of, extent}
 use Rattle.kmip_ttlv_util.specs.Walks.{Ready}
@@ -215,7 +215,7 @@ module _ (style : Style) (d : Drawing) (closed : Bool) (w : List ℕ) (draws : D
         ∙ sym (append_assoc one others (text_from style closed w f (place (p + length text) (e ∷ es) k z)))
 
   -- a whole message
-  pub message_told : (t : Tree) → IsTreeText t w → IsStructure t → (closed ≡ false → HasNoEmpty t) → told style closed (length w) (trace closed w) ≡ drawn d style.close 0 t
+  pub message_told : (t : Tree) → IsTreeText t w → IsStructure t → (closed ≡ false → HasNoEmpty t) → printed_text style closed (length w) (trace closed w) ≡ drawn d style.close 0 t
   message_told (leaf tag typ content) h root none = absurd root
   message_told (node tag ts) h root none =
       let t = turns (node tag ts) w (suc (length w)) h (omega arith) in

@@ -2,8 +2,8 @@
 use Rattle.std.specs.Prelude.{ℕ, Bool, List, codes}
 use Rattle.kmip_ttlv_types.specs.Places.{tag_at}
 use Rattle.kmip_ttlv_util.specs.Outlines.{mark}
-use Rattle.kmip_ttlv_util.specs.Traces.{Style, told}
-use Rattle.kmip_ttlv_util.specs.Entries.{Entry, kept}
+use Rattle.kmip_ttlv_util.specs.Traces.{Style, printed_text}
+use Rattle.kmip_ttlv_util.specs.Entries.{Entry, detail_value}
 
 -- what is written if a structure's content exceeds its length
 unfoldable pub exceeded : List ℕ
@@ -12,7 +12,7 @@ exceeded = codes "\nERROR: TTLV structure content exceeds the structure length."
 -- marks of entries, `]` for the end of a structure, and `ERR` for an entry that can't be read
 abbrev pub diag_style : List ℕ → Style
 diag_style prefix = record {
-  item = λ depth p x t. mark prefix (tag_at x.header 0) t (kept t x.detail);
+  item = λ depth p x t. mark prefix (tag_at x.header 0) t (detail_value t x.detail);
   close = codes "]";
   passed = exceeded;
   unreadable = codes "ERR";
@@ -20,4 +20,4 @@ diag_style prefix = record {
 
 -- the diagnostic of bytes, from how many there are and from their trace
 unfoldable pub hostile : List ℕ → Bool → ℕ → List Entry → List ℕ
-hostile prefix closed count xs = told (diag_style prefix) closed count xs
+hostile prefix closed count xs = printed_text (diag_style prefix) closed count xs

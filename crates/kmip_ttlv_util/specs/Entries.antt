@@ -14,8 +14,8 @@ use Rattle.kmip_ttlv_types.specs.Places.{code_at, length_at, size}
 -- what is kept of content that is there: an enumeration's value, and whether a Boolean or a text is valid
 pub data Detail : Type 0 where
   no_detail : Detail
-  kept_value : ℕ → Detail
-  kept_validity : Bool → Detail
+  number_detail : ℕ → Detail
+  validity_detail : Bool → Detail
 
 -- an entry: the header bytes that are there, and what is kept of the content
 pub record Entry : Type 0 where
@@ -24,9 +24,9 @@ pub record Entry : Type 0 where
 
 -- what is kept of content of a type
 abbrev pub detail_of : TtlvType → List ℕ → Detail
-detail_of Enumeration content = if length content == 4 then kept_value (from_be_bytes w32 content) else no_detail
-detail_of Boolean content = kept_validity (is_valid Boolean content)
-detail_of TextString content = kept_validity (is_valid TextString content)
+detail_of Enumeration content = if length content == 4 then number_detail (from_be_bytes w32 content) else no_detail
+detail_of Boolean content = validity_detail (is_valid Boolean content)
+detail_of TextString content = validity_detail (is_valid TextString content)
 detail_of _ content = no_detail
 
 -- what is kept of the content at an offset, if all of it is there
@@ -48,9 +48,9 @@ is_fine LongInteger n d = n == 8
 is_fine Enumeration n d = n == 4
 is_fine DateTime n d = n == 8
 is_fine Interval n d = n == 4
-is_fine Boolean n (kept_validity b) = b
+is_fine Boolean n (validity_detail b) = b
 is_fine Boolean n d = false
-is_fine TextString n (kept_validity b) = b
+is_fine TextString n (validity_detail b) = b
 is_fine TextString n d = false
 is_fine _ n d = true
 
@@ -72,6 +72,6 @@ unfoldable pub type_read : ℕ → ℕ → Entry → Option TtlvType
 type_read count p x = type_if count p x (type_of (code_at x.header 0))
 
 -- an enumeration's value
-abbrev pub kept : TtlvType → Detail → Option ℕ
-kept Enumeration (kept_value n) = Some n
-kept _ d = None
+abbrev pub detail_value : TtlvType → Detail → Option ℕ
+detail_value Enumeration (number_detail n) = Some n
+detail_value _ d = None

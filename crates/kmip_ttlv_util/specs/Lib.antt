@@ -4,7 +4,7 @@ pub mod Entries
 pub mod WalkPlaces
 pub mod Traces
 pub mod Diagnostics
-pub mod PrintAnswers
+pub mod PrintResults
 pub mod Walks
 pub mod Lending
 pub mod LastDigits

@@ -22,17 +22,17 @@ mutual
     outline : Outline → Outlines → Outlines
 
 -- an enumeration has a value, any other leaf none
-abbrev pub IsKept : TtlvType → Option ℕ → Type 0
-IsKept Structure v = ⊥
-IsKept Enumeration (Some n) = n < 2 ^ 32
-IsKept Enumeration None = ⊥
-IsKept typ (Some n) = ⊥
-IsKept typ None = Unit {0}
+abbrev pub IsShown : TtlvType → Option ℕ → Type 0
+IsShown Structure v = ⊥
+IsShown Enumeration (Some n) = n < 2 ^ 32
+IsShown Enumeration None = ⊥
+IsShown typ (Some n) = ⊥
+IsShown typ None = Unit {0}
 
 -- tags have three bytes, values four
 abbrev mutual
   pub IsOutline : Outline → Type 0
-  IsOutline (leaf_outline tag typ value) = (tag < 2 ^ 24) × IsKept typ value
+  IsOutline (leaf_outline tag typ value) = (tag < 2 ^ 24) × IsShown typ value
   IsOutline (node_outline tag below) = (tag < 2 ^ 24) × AreOutlines below
 
   pub AreOutlines : Outlines → Type 0

@@ -5,7 +5,7 @@ use Rattle.std.specs.Io.KnownBytes.{Appends}
 use Rattle.kmip_ttlv_types.specs.Streams.{AppendsFront}
 use Rattle.kmip_ttlv_util.specs.Traces.{trace}
 use Rattle.kmip_ttlv_util.specs.Diagnostics.{hostile}
-use Rattle.kmip_ttlv_util.specs.PrintAnswers.{IsExact}
+use Rattle.kmip_ttlv_util.specs.PrintResults.{IsExact}
 use Rattle.kmip_ttlv_util.specs.Pretty.{IsPrinted, IsPretty}
 
 -- some text of this kind, with this property

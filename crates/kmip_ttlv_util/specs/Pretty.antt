@@ -11,7 +11,7 @@ use Rattle.kmip_ttlv_types.specs.declared.typ.TtlvType.TheVariants.{DateTime, In
 use Rattle.kmip_ttlv_types.specs.Places.{tag_at, length_at}
 use Rattle.kmip_ttlv_types.specs.Trees.{Tree, Trees, leaf, node, no_trees, tree, IsTreeText, IsStructure, HasNoEmpty}
 use Rattle.kmip_ttlv_util.specs.Lines.{hex_padded, tag_part, typ_part}
-use Rattle.kmip_ttlv_util.specs.Traces.{Style, trace, told}
+use Rattle.kmip_ttlv_util.specs.Traces.{Style, trace, printed_text}
 use Rattle.kmip_ttlv_util.specs.WalkPlaces.{has_end}
 use Rattle.kmip_ttlv_util.specs.Diagnostics.{exceeded}
 
@@ -86,7 +86,7 @@ pretty_style names closed bytes wording = record {
 abbrev pub IsPrinted : (ℕ → Option (List ℕ)) → Bool → List ℕ → List ℕ → Type 0
 IsPrinted names closed bytes text =
     (wording : List ℕ)
-    × (text ≡ told (pretty_style names closed bytes wording) closed (length bytes) (trace closed bytes))
+    × (text ≡ printed_text (pretty_style names closed bytes wording) closed (length bytes) (trace closed bytes))
 
 -- the lines of a well-formed message, which has no empty structure unless these are closed
 abbrev pub IsPretty : (ℕ → Option (List ℕ)) → Bool → List ℕ → List ℕ → Type 0

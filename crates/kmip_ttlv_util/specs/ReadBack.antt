@@ -23,10 +23,10 @@ abbrev pub NoColon : List ℕ → Type 0
 NoColon cs = AllByRecursion (λ c. c ≢ 58) cs
 
 -- what follows a letter: an enumeration's value and a colon; otherwise at least one character
-abbrev pub StandsBehind : TtlvType → List ℕ → List ℕ → List ℕ → Type 0
-StandsBehind Structure after shown rest = (shown ≡ []) × (rest ≡ after) × (0 < length rest)
-StandsBehind Enumeration after shown rest = (0 < length shown) × NoColon shown × (after ≡ shown ++ (58 ∷ rest))
-StandsBehind typ after shown rest = (shown ≡ hidden) × (rest ≡ after) × (0 < length rest)
+abbrev pub IsPartTail : TtlvType → List ℕ → List ℕ → List ℕ → Type 0
+IsPartTail Structure after shown rest = (shown ≡ []) × (rest ≡ after) × (0 < length rest)
+IsPartTail Enumeration after shown rest = (0 < length shown) × NoColon shown × (after ≡ shown ++ (58 ∷ rest))
+IsPartTail typ after shown rest = (shown ≡ hidden) × (rest ≡ after) × (0 < length rest)
 
 -- the tag that a text begins with: all its leading digits, after `0x` and the prefix
 abbrev pub tag_in_front : List ℕ → List ℕ → Option ℕ
@@ -40,13 +40,13 @@ typ_in_front [] = None
 typ_in_front (c ∷ s) = type_of_letter c
 
 -- a text at a depth begins with a part, and this is the rest
-abbrev pub Stands : List ℕ → ℕ → List ℕ → Part → List ℕ → Type 0
-Stands prefix depth s close_part rest = (0 < depth) × (s ≡ 93 ∷ rest)
-Stands prefix depth s (item_part tag typ shown) rest =
+abbrev pub IsPartAt : List ℕ → ℕ → List ℕ → Part → List ℕ → Type 0
+IsPartAt prefix depth s close_part rest = (0 < depth) × (s ≡ 93 ∷ rest)
+IsPartAt prefix depth s (item_part tag typ shown) rest =
     (after : List ℕ)
     × (tag_in_front prefix s ≡ Some tag)
     × (drop (prefix_len is_hex s) s ≡ letter typ ∷ after)
-    × StandsBehind typ after shown rest
+    × IsPartTail typ after shown rest
 
 -- the depth after a part
 abbrev pub depth_behind : ℕ → Part → ℕ
@@ -58,7 +58,7 @@ depth_behind depth (item_part tag typ shown) = depth
 abbrev pub StandAll : List ℕ → ℕ → List ℕ → List Part → ℕ → List ℕ → Type 0
 StandAll prefix depth s [] deep rest = (deep ≡ depth) × (rest ≡ s)
 StandAll prefix depth s (p ∷ ps) deep rest =
-    (more : List ℕ) × Stands prefix depth s p more × StandAll prefix (depth_behind depth p) more ps deep rest
+    (more : List ℕ) × IsPartAt prefix depth s p more × StandAll prefix (depth_behind depth p) more ps deep rest
 
 -- the line of a part
 abbrev pub part_line : (ℕ → ℕ → List ℕ) → ℕ → Part → List ℕ
@@ -87,7 +87,7 @@ pub record Longest (beginning : ℕ → ℕ → List ℕ) (prefix : List ℕ) (d
   pub deep : ℕ
   pub rest : List ℕ
   pub stand : StandAll prefix depth s parts deep rest
-  pub no_more : (p : Part) (more : List ℕ) → Stands prefix deep rest p more → ⊥
+  pub no_more : (p : Part) (more : List ℕ) → IsPartAt prefix deep rest p more → ⊥
   pub written : text ≡ part_lines beginning depth parts ++ unfinished beginning prefix deep rest
 
 -- the result has the lines of the longest list of parts, then what is written of an unfinished part, trimmed at the end
@@ -102,7 +102,7 @@ pub record EndsAt
   pub parts : List Part
   pub within : place ≤ length s
   pub stand : StandAll prefix 0 s parts deep (drop place s)
-  pub no_more : (p : Part) (more : List ℕ) → Stands prefix deep (drop place s) p more → ⊥
+  pub no_more : (p : Part) (more : List ℕ) → IsPartAt prefix deep (drop place s) p more → ⊥
   pub written : text ≡ part_lines beginning 0 parts ++ unfinished beginning prefix deep (drop place s)
 
 -- what an outline's line shows
@@ -122,14 +122,14 @@ abbrev mutual
   lines_all beginning depth (outline o os) = lines beginning depth o ++ lines_all beginning depth os
 
 -- a text begins with the prefix
-abbrev pub Begins : List ℕ → List ℕ → Type 0
-Begins prefix text = (rest : List ℕ) × (text ≡ prefix ++ rest)
+abbrev pub HasPrefix : List ℕ → List ℕ → Type 0
+HasPrefix prefix text = (rest : List ℕ) × (text ≡ prefix ++ rest)
 
 -- every tag's six digits begin with the prefix
 abbrev mutual
   pub AllBegin : List ℕ → Outline → Type 0
-  AllBegin prefix (leaf_outline tag typ value) = Begins prefix (six_digits tag)
-  AllBegin prefix (node_outline tag below) = Begins prefix (six_digits tag) × AllsBegin prefix below
+  AllBegin prefix (leaf_outline tag typ value) = HasPrefix prefix (six_digits tag)
+  AllBegin prefix (node_outline tag below) = HasPrefix prefix (six_digits tag) × AllsBegin prefix below
 
   pub AllsBegin : List ℕ → Outlines → Type 0
   AllsBegin prefix no_outlines = Unit {0}

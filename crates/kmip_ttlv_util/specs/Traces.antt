@@ -48,14 +48,14 @@ text_by style None more = style.unreadable
 text_by style (Some t) more = more t
 
 -- what is written for the entries from a place on, of an input of this length
-unfoldable pub told_from : Style → Bool → ℕ → Place → List Entry → List ℕ
-told_from style closed count s [] = closes style.close s.pos s.ends ++ end_text style (turn s)
-told_from style closed count s (x ∷ xs) =
+unfoldable pub printed_from : Style → Bool → ℕ → Place → List Entry → List ℕ
+printed_from style closed count s [] = closes style.close s.pos s.ends ++ end_text style (turn s)
+printed_from style closed count s (x ∷ xs) =
     closes style.close s.pos s.ends
     ++ text_by style (type_read count s.pos x) (λ t.
     style.item (depth_at s) s.pos x t
-    ++ told_from style closed count (after closed s t (length_at x.header 0)) xs)
+    ++ printed_from style closed count (after closed s t (length_at x.header 0)) xs)
 
 -- what is written for a trace
-unfoldable pub told : Style → Bool → ℕ → List Entry → List ℕ
-told style closed count xs = told_from style closed count start xs
+unfoldable pub printed_text : Style → Bool → ℕ → List Entry → List ℕ
+printed_text style closed count xs = printed_from style closed count start xs

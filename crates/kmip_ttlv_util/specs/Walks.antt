@@ -8,14 +8,14 @@ use Rattle.kmip_ttlv_util.specs.declared.walk.Walk.{Walk}
 use Rattle.kmip_ttlv_util.specs.declared.walk.Next.{Next}
 use Rattle.kmip_ttlv_util.specs.declared.walk.Next.TheVariants.{Closes, Over, Past, Reads}
 use Rattle.kmip_ttlv_util.specs.WalkPlaces.{Place, left_at, turn, entry_follows}
-use Rattle.kmip_ttlv_util.specs.Entries.{entry_at, type_read, kept, extent}
+use Rattle.kmip_ttlv_util.specs.Entries.{entry_at, type_read, detail_value, extent}
 
 -- this item is read at an offset
 pub record IsItem (bytes : List ℕ) (p : ℕ) (i : Item) : Type 0 where
   pub typ : type_read (length bytes) p (entry_at bytes p) ≡ Some i.typ
   pub tag : i.tag ≡ tag_at (entry_at bytes p).header 0
   pub len : i.length ≡ length_at (entry_at bytes p).header 0
-  pub value : i.value ≡ kept i.typ (entry_at bytes p).detail
+  pub value : i.value ≡ detail_value i.typ (entry_at bytes p).detail
   pub next : i.next ≡ p + extent i.typ i.length
   pub within : i.next ≤ length bytes
   pub content : i.typ ≢ Structure → i.content.now ≡ take i.length (drop (p + 8) bytes)
@@ -46,8 +46,8 @@ pub record Passed (old : Place) : Type 0 where
   pub passed : next < old.pos
 
 -- what comes next
-abbrev pub Comes : Place → Place → Next → Type 0
-Comes old new Closes = Closed old new
-Comes old new Over = old.ends ≡ old.pos ∷ []
-Comes old new Past = Passed old
-Comes old new Reads = (new ≡ old) × Ready old
+abbrev pub Advances : Place → Place → Next → Type 0
+Advances old new Closes = Closed old new
+Advances old new Over = old.ends ≡ old.pos ∷ []
+Advances old new Past = Passed old
+Advances old new Reads = (new ≡ old) × Ready old

@@ -3,7 +3,7 @@
 
 ghost use Rattle.std.specs.Prelude.{◌≡◌, ◌≤◌, true, length, None, IfSome, IfNone};
 ghost use Rattle.kmip_ttlv_types.specs.Leaves.{is_valid};
-ghost use Rattle.kmip_ttlv_util.specs.Entries.{detail_of, entry_at, kept, type_read};
+ghost use Rattle.kmip_ttlv_util.specs.Entries.{detail_of, entry_at, detail_value, type_read};
 ghost use Rattle.kmip_ttlv_util.specs.Walks.{IsItem};
 
 use kmip_ttlv_types::numbers::number_of_four;
@@ -31,7 +31,7 @@ pub struct Item<'b> {
 #[inline(always)]
 fn value_of(typ: TtlvType, content: &[u8]) -> Option<u32>
     requires { is_valid typ content.now ≡ true }
-    ensures { result ≡ kept typ (detail_of typ content.now) }
+    ensures { result ≡ detail_value typ (detail_of typ content.now) }
 {
     if typ != TtlvType::Enumeration {
         return None;

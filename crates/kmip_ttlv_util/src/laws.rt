@@ -1,7 +1,7 @@
 //! Laws of the definitions that the printers' contracts cite: each is the contract of a function without a body.
 
 ghost use Rattle.kmip_ttlv_util.specs.Letters.{LettersTellTypes};
-ghost use Rattle.kmip_ttlv_util.specs.PrintAnswers.{TellsOutlines, HasOneOutline};
+ghost use Rattle.kmip_ttlv_util.specs.PrintResults.{TellsOutlines, HasOneOutline};
 
 /// Two well-formed messages, without empty structures unless these are closed, have equal
 /// diagnostics if and only if their outlines are equal: tags, types, nesting and enumeration values.

@@ -9,7 +9,7 @@ ghost use Rattle.kmip_ttlv_util.specs.Lines.{indented};
 ghost use Rattle.kmip_ttlv_util.specs.Undiag.{undiag, undiag_lines};
 ghost use Rattle.kmip_ttlv_util.specs.Traces.{trace};
 ghost use Rattle.kmip_ttlv_util.specs.Diagnostics.{hostile};
-ghost use Rattle.kmip_ttlv_util.specs.PrintAnswers.{IsExact};
+ghost use Rattle.kmip_ttlv_util.specs.PrintResults.{IsExact};
 ghost use Rattle.kmip_ttlv_util.specs.ReadBack.{ReadsLongest, IsReadBack, EndsAt};
 
 use crate::diagnostic::diagnose_to;

@@ -4,7 +4,7 @@ ghost use Rattle.std.specs.Prelude.{◌≡◌, ℕ, ◌+◌, ◌/◌, ◌≤◌,
 ghost use Rattle.std.specs.Borrow.{sem};
 ghost use Rattle.kmip_ttlv_util.specs.Traces.{trace};
 ghost use Rattle.kmip_ttlv_util.specs.Diagnostics.{hostile};
-ghost use Rattle.kmip_ttlv_util.specs.PrintAnswers.{IsExact};
+ghost use Rattle.kmip_ttlv_util.specs.PrintResults.{IsExact};
 ghost use Rattle.kmip_ttlv_util.specs.Pieces.{WritesText, IsReadable, IsDiagnostic};
 ghost use Rattle.kmip_ttlv_util.specs.Pretty.{IsPrinted, IsPretty};
 ghost use Rattle.kmip_ttlv_util.specs.Printers.{prefix_of, names_of, closes_empty};

@@ -5,7 +5,7 @@ ghost use Rattle.std.specs.Prelude.{◌≡◌, ℕ, ◌+◌, ◌<◌, ◌≤◌,
 ghost use Rattle.kmip_ttlv_util.specs.declared.walk.Next.TheVariants.{Closes as Closing};
 ghost use Rattle.kmip_ttlv_util.specs.WalkPlaces.{after, has_end, start};
 ghost use Rattle.kmip_ttlv_util.specs.Entries.{extent};
-ghost use Rattle.kmip_ttlv_util.specs.Walks.{place_of, Ready, Comes};
+ghost use Rattle.kmip_ttlv_util.specs.Walks.{place_of, Ready, Advances};
 
 use kmip_ttlv_types::TtlvType;
 use std::alloc::{AllocError, Allocator};
@@ -68,7 +68,7 @@ impl<A: Allocator> Walk<A> {
     /// Returns what comes next, and removes an end that is reached.
     #[inline(always)]
     pub fn next(&mut self) -> Next
-        ensures comes { Comes (place_of self.old) (place_of self.new) result }
+        ensures advances { Advances (place_of self.old) (place_of self.new) result }
         ensures pos { self.new.pos ≡ self.old.pos }
         ensures shorter { result ≡ Closing → length self.new.ends.items < length self.old.ends.items }
     {

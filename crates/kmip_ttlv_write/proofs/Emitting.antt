@@ -57,24 +57,24 @@ module _ (lent : List ℕ) (xs : List GivenItem) (k : ℕ) (b : List ℕ) (p : P
 
   -- and was written
   pub standing_more : (c : List ℕ) (q : Place) → length c ≡ length b → take (k + 1) xs ≡ take k xs ++ x ∷ [] → Holds (entered lent x s.opened) c q → Standing lent xs (k + 1) c q
-  standing_more c q len more held = record {
+  standing_more c q len more emitted = record {
     opened = entered lent x s.opened;
     reach = after s.reach x;
     stand = subst (λ (ys : List GivenItem). Stand lent ys (entered lent x s.opened) (after s.reach x)) (sym more) (stand_step lent (take k xs) s.opened s.reach s.stand x fits.0);
-    holds = held;
+    holds = emitted;
     fit = fits.1;
     room = sized ∙ sym len;
   }
 
 -- all are written
 pub standing_all : (lent : List ℕ) (xs : List GivenItem) (k : ℕ) (b c : List ℕ) (p q : Place) → length xs ≤ k → length c ≡ length b → (s : Standing lent xs k b p) → Holds (leave 0 s.opened) c q → IsWritten xs lent c
-standing_all lent xs k b c p q le len s held =
+standing_all lent xs k b c p q le len s emitted =
     let o = s.opened in
     let none : drop k xs ≡ [] = drop_all k xs le in
     let all : take k xs ≡ xs = take_all k xs le in
     let size : s.reach.size ≡ length b = ap (λ (ys : List GivenItem). (after_all s.reach ys).size) (sym none) ∙ s.room in
-    let n : q.at ≡ length c = omega (arith, held_len (leave 0 o) c q held, (closes_by (depth_of o - 0) o).long, s.stand.size, size, len) in
-    let text : spine (leave 0 o) ≡ c = sym held.front ∙ take_all q.at c (omega (arith, n)) in
+    let n : q.at ≡ length c = omega (arith, held_len (leave 0 o) c q emitted, (closes_by (depth_of o - 0) o).long, s.stand.size, size, len) in
+    let text : spine (leave 0 o) ≡ c = sym emitted.front ∙ take_all q.at c (omega (arith, n)) in
     subst (λ (ys : List GivenItem). IsWritten ys lent c) all (subst (IsWritten (take k xs) lent) text (stand_written lent (take k xs) o s.reach s.stand))
 
 -- an item of a list, in its form
@@ -105,13 +105,13 @@ leaf_size lent typ i ne v =
 
 -- what follows the structures that ended
 pub can_take : (lent : List ℕ) (i : GivenItem) (b c : List ℕ) (p q : Place) (typ : TtlvType) → (h : CanPut lent i b p) → h.typ ≡ typ → length c ≡ length b → Holds (leave i.depth h.opened) c q → CanTake (taken typ i.length) c q
-can_take lent i b c p q typ h is len held =
+can_take lent i b c p q typ h is len emitted =
     subst (λ (t : TtlvType). CanTake (taken t i.length) c q) is
     record {
       opened = leave i.depth h.opened;
-      holds = held;
+      holds = emitted;
       small = h.small;
-      room = omega (arith, h.room, len, held_len h.opened b p h.holds, held_len (leave i.depth h.opened) c q held, (closes_by (depth_of h.opened - i.depth) h.opened).long);
+      room = omega (arith, h.room, len, held_len h.opened b p h.holds, held_len (leave i.depth h.opened) c q emitted, (closes_by (depth_of h.opened - i.depth) h.opened).long);
     }
 
 -- what is added, by the type

@@ -149,16 +149,16 @@ leave_held d o lt = leave_more d o lt
 -- some structures have ended, and others still have to
 pub record Left (d : ℕ) (o : Opened) (b : List ℕ) (p : Place) : Type 0 where
   pub now : Opened
-  pub held : Holds now b p
+  pub emitted : Holds now b p
   pub same : leave d now ≡ leave d o
 
 -- one more has ended
 pub left_more : (d : ℕ) (o : Opened) (b c : List ℕ) (p q : Place) → d < p.depth → ((x : Opened) → Holds x b p → Holds (close_one x) c q) → Left d o b p → Left d o c q
-left_more d o b c p q lt closes h = record { now = close_one h.now; held = closes h.now h.held; same = leave_more d h.now (omega (arith, h.held.depth, lt)) ∙ h.same }
+left_more d o b c p q lt closes h = record { now = close_one h.now; emitted = closes h.now h.emitted; same = leave_more d h.now (omega (arith, h.emitted.depth, lt)) ∙ h.same }
 
 -- no more have to
 pub left_all : (d : ℕ) (o : Opened) (b : List ℕ) (p : Place) → p.depth ≤ d → Left d o b p → Holds (leave d o) b p
-left_all d o b p le h = subst (λ (x : Opened). Holds x b p) (sym (leave_none d h.now (omega (arith, h.held.depth, le))) ∙ h.same) h.held
+left_all d o b p le h = subst (λ (x : Opened). Holds x b p) (sym (leave_none d h.now (omega (arith, h.emitted.depth, le))) ∙ h.same) h.emitted
 
 -- each open structure took eight bytes
 pub deep_spine : (o : Opened) → 8 * depth_of o ≤ length (spine o)

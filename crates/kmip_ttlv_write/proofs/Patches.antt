@@ -19,9 +19,9 @@ header_parts tag typ n = refl
 number_read : (a b c d n : ℕ) → n < 2 ^ 32 → a ≡ get_or (to_be_bytes w32 n) 0 0 → b ≡ get_or (to_be_bytes w32 n) 1 0 → c ≡ get_or (to_be_bytes w32 n) 2 0 → d ≡ get_or (to_be_bytes w32 n) 3 0 → from_be_bytes w32 (a ∷ b ∷ c ∷ d ∷ []) ≡ n
 number_read a b c d n lt ea eb ec ed = rw (ea, eb, ec, ed) (from_be_bytes-to_be_bytes_4 n lt)
 
-module _ (out s h l d : List ℕ) (top at : ℕ) (s-is : length s ≡ top) (h-is : length h ≡ 4) (l-is : length l ≡ 4) (at-is : at ≡ top + 8 + length d) (held : take at out ≡ s ++ ((h ++ l) ++ d)) where
+module _ (out s h l d : List ℕ) (top at : ℕ) (s-is : length s ≡ top) (h-is : length h ≡ 4) (l-is : length l ≡ 4) (at-is : at ≡ top + 8 + length d) (emitted : take at out ≡ s ++ ((h ++ l) ++ d)) where
   all : out ≡ (s ++ ((h ++ l) ++ d)) ++ drop at out
-  all = sym (take-append-drop at out) ∙ ap (λ (x : List ℕ). x ++ drop at out) held
+  all = sym (take-append-drop at out) ∙ ap (λ (x : List ℕ). x ++ drop at out) emitted
 
   front : take (top + 4) out ≡ s ++ h
   front =

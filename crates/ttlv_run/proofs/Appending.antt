@@ -2,13 +2,13 @@
 use Rattle.std.proofs.Common.{ℕ, List, Option, Result, Ok, Err, OnOk, OnErr, Bool, true, false, length, sym, subst, take_all, le_refl}
 use Rattle.std.specs.Io.KnownBytes.{Appends}
 use Rattle.kmip_ttlv_types.specs.Streams.{AppendsFront}
-use Rattle.ttlv_run.specs.Reasons.{Tells}
+use Rattle.ttlv_run.specs.Reasons.{Reports}
 
 -- a text that was written to its end is a beginning of itself
 pub all_front : (old new : Option (List ℕ)) (text : List ℕ) → Appends old new text → AppendsFront old new text
 all_front old new text all = record { count = length text; within = le_refl _; appends = subst (Appends old new) (sym (take_all (length text) text (le_refl _))) all }
 
-pub told_front : (goes : Bool) (old new : Option (List ℕ)) (text : List ℕ) → Tells goes old new text → AppendsFront old new text
+pub told_front : (writable : Bool) (old new : Option (List ℕ)) (text : List ℕ) → Reports writable old new text → AppendsFront old new text
 told_front true old new text h = all_front old new text h
 told_front false old new text h = h
 

@@ -9,7 +9,7 @@ use Rattle.kmip_ttlv_types.specs.declared.typ.TtlvType.TheVariants.{Structure, I
 use Rattle.kmip_ttlv_util.specs.Letters.{letter, is_hex}
 use Rattle.kmip_ttlv_util.specs.Undiag.{Step, reads_on, stops_with, step}
 use Rattle.kmip_ttlv_util.specs.ReadBack.{close_part, item_part}
-use Rattle.kmip_ttlv_util.specs.ReadBack.{Part, StandsBehind, Stands, StandAll}
+use Rattle.kmip_ttlv_util.specs.ReadBack.{Part, IsPartTail, IsPartAt, StandAll}
 use Rattle.kmip_ttlv_util.proofs.Longest.{Tells, tells}
 use Rattle.kmip_ttlv_util.proofs.Reading.{Shorter, step_shorter}
 use Rattle.ttlv_run.specs.declared.back.BackFault.{BackFault}
@@ -26,10 +26,10 @@ module _ (prefix : List ℕ) where
     rest : List ℕ
     stand : StandAll prefix depth s parts deep rest
     split : s ≡ front ++ rest
-    no_more : (p : Part) (more : List ℕ) → Stands prefix deep rest p more → ⊥
+    no_more : (p : Part) (more : List ℕ) → IsPartAt prefix deep rest p more → ⊥
 
   -- what stands behind a letter ends where the rest begins
-  behind_front : (typ : TtlvType) (after shown rest : List ℕ) → StandsBehind typ after shown rest → (f : List ℕ) × (after ≡ f ++ rest)
+  behind_front : (typ : TtlvType) (after shown rest : List ℕ) → IsPartTail typ after shown rest → (f : List ℕ) × (after ≡ f ++ rest)
   behind_front Structure after shown rest h = ([], sym h.1)
   behind_front Integer after shown rest h = ([], sym h.1)
   behind_front LongInteger after shown rest h = ([], sym h.1)
@@ -42,7 +42,7 @@ module _ (prefix : List ℕ) where
   behind_front Interval after shown rest h = ([], sym h.1)
 
   -- so does a part
-  part_front : (depth : ℕ) (s : List ℕ) (p : Part) (rest : List ℕ) → Stands prefix depth s p rest → (f : List ℕ) × (s ≡ f ++ rest)
+  part_front : (depth : ℕ) (s : List ℕ) (p : Part) (rest : List ℕ) → IsPartAt prefix depth s p rest → (f : List ℕ) × (s ≡ f ++ rest)
   part_front depth s close_part rest h = (93 ∷ [], h.1)
   part_front depth s (item_part tag typ shown) rest h =
       let n = prefix_len is_hex s in
@@ -85,7 +85,7 @@ module _ (prefix : List ℕ) where
           deep = k.deep;
           within = omega (arith, ap length k.split, length-append k.front k.rest);
           stand = subst (λ (q : List ℕ). StandAll prefix 0 (trim_end line) k.parts k.deep q) left k.stand;
-          no_more = subst (λ (q : List ℕ). (p : Part) (more : List ℕ) → Stands prefix k.deep q p more → ⊥) left k.no_more;
+          no_more = subst (λ (q : List ℕ). (p : Part) (more : List ℕ) → IsPartAt prefix k.deep q p more → ⊥) left k.no_more;
           wrong = subst (λ (q : List ℕ). IsWrong kind k.deep (length q)) left wrong;
         };
         offset = refl;

@@ -15,7 +15,7 @@ use Rattle.ttlv_run.specs.declared.job.Look.{Look}
 use Rattle.ttlv_run.specs.declared.lines.Reach.{Reach}
 use Rattle.ttlv_run.specs.declared.messages.Place.{Place}
 use Rattle.ttlv_run.specs.declared.messages.Wrong.TheVariants.{Malformed, NotKmip}
-use Rattle.ttlv_run.specs.Messages.{first_size, message_at, Whole, whole_more, tag_there, is_taken, IsWrong, malformed, not_taken, Breaks, Prints, GoesOn}
+use Rattle.ttlv_run.specs.Messages.{first_size, message_at, Whole, whole_more, tag_there, is_taken, IsWrong, malformed, not_taken, Breaks, Prints, Continues}
 use Rattle.ttlv_run.specs.Texts.{Names, reach_after, no_reach, item_text, lines_from, message_text, IsMessageText}
 
 -- a message is some of the bytes that are left
@@ -80,22 +80,22 @@ module _ (names : Names) (look : Look) (at : ℕ) (bytes : List ℕ) where
 
 module _ (names : Names) (task : Task) (bytes : List ℕ) where
   -- behind a beginning too
-  back : (front more : List ℕ) → GoesOn names task bytes (front ++ more) → GoesOn names task bytes front
+  back : (front more : List ℕ) → Continues names task bytes (front ++ more) → Continues names task bytes front
   back front more h = record { more = more ++ h.more; place = h.place; prints = subst (λ (s : List ℕ). Prints names task bytes s h.place) (append_assoc front more h.more) h.prints }
 
   -- a message is whole, and the next one is due; or it has a fault
-  here : (p : ℕ) (front : List ℕ) → Whole names task bytes p front → p < length bytes → (told : List ℕ) (fault : Option Fault) → IsMessageText names task p (message_at bytes p) told fault
-      → (Whole names task bytes (p + length (message_at bytes p)) (front ++ told) → GoesOn names task bytes (front ++ told)) → GoesOn names task bytes (front ++ told)
-  here p front whole lt told fault tells further = by fault tells (is_taken task (message_at bytes p)) refl
+  here : (p : ℕ) (front : List ℕ) → Whole names task bytes p front → p < length bytes → (reported : List ℕ) (fault : Option Fault) → IsMessageText names task p (message_at bytes p) reported fault
+      → (Whole names task bytes (p + length (message_at bytes p)) (front ++ reported) → Continues names task bytes (front ++ reported)) → Continues names task bytes (front ++ reported)
+  here p front whole lt reported fault tells further = by fault tells (is_taken task (message_at bytes p)) refl
     where
       -- it ends here
-      breaks : (f : Option Fault) → IsMessageText names task p (message_at bytes p) told f → (place : Place) → IsWrong task (message_at bytes p) p place f → GoesOn names task bytes (front ++ told)
+      breaks : (f : Option Fault) → IsMessageText names task p (message_at bytes p) reported f → (place : Place) → IsWrong task (message_at bytes p) p place f → Continues names task bytes (front ++ reported)
       breaks f tells place wrong =
-          let text = front ++ told in
+          let text = front ++ reported in
           let breaks : Breaks names task bytes text place = record {
             at = p;
             front = front;
-            told = told;
+            reported = reported;
             fault = f;
             whole = whole;
             left = lt;
@@ -105,26 +105,26 @@ module _ (names : Names) (task : Task) (bytes : List ℕ) where
           } in
           record { more = []; place = Some place; prints = subst (λ (s : List ℕ). Breaks names task bytes s place) (sym (append-nil text)) breaks }
 
-      by : (f : Option Fault) → IsMessageText names task p (message_at bytes p) told f → (b : Bool) → is_taken task (message_at bytes p) ≡ b → GoesOn names task bytes (front ++ told)
-      by None tells true taken = further (whole_more p (p + length (message_at bytes p)) front (front ++ told) told whole lt tells taken refl refl)
+      by : (f : Option Fault) → IsMessageText names task p (message_at bytes p) reported f → (b : Bool) → is_taken task (message_at bytes p) ≡ b → Continues names task bytes (front ++ reported)
+      by None tells true taken = further (whole_more p (p + length (message_at bytes p)) front (front ++ reported) reported whole lt tells taken refl refl)
       by None tells false other = breaks None tells (record { offset = p; tag = tag_there (message_at bytes p) 0; wrong = NotKmip }) (not_taken other refl refl refl)
       by (Some f) tells b taken = breaks (Some f) tells (record { offset = p + f.offset; tag = tag_there (message_at bytes p) f.offset; wrong = Malformed f.kind }) (malformed f refl refl refl)
 
   module _ (plain : (k : ℕ) → get_or bytes k 0 < 256) where
     -- all messages are whole
-    all_whole : (p : ℕ) (front : List ℕ) → p ≡ length bytes → Whole names task bytes p front → GoesOn names task bytes front
+    all_whole : (p : ℕ) (front : List ℕ) → p ≡ length bytes → Whole names task bytes p front → Continues names task bytes front
     all_whole p front at whole = record { more = []; place = None; prints = subst (λ (s : List ℕ). Whole names task bytes (length bytes) s) (sym (append-nil front)) (subst (λ (q : ℕ). Whole names task bytes q front) at whole) }
 
     -- one message more
-    one_whole : (p : ℕ) (front : List ℕ) → p < length bytes → Whole names task bytes p front → ((text : List ℕ) → Whole names task bytes (p + length (message_at bytes p)) text → GoesOn names task bytes text) → GoesOn names task bytes front
+    one_whole : (p : ℕ) (front : List ℕ) → p < length bytes → Whole names task bytes p front → ((text : List ℕ) → Whole names task bytes (p + length (message_at bytes p)) text → Continues names task bytes text) → Continues names task bytes front
     one_whole p front lt whole further =
         let message = message_at bytes p in
         let end : Ends message [] = ends message (message_plain bytes p lt plain) 0 [] [] (at_first refl refl refl) in
-        let told = message_text names task p message end.more end.fault end.ended in
-        back front told (here p front whole lt told end.fault (record { found = end.more; ended = end.ended; is = refl }) (further (front ++ told)))
+        let reported = message_text names task p message end.more end.fault end.ended in
+        back front reported (here p front whole lt reported end.fault (record { found = end.more; ended = end.ended; is = refl }) (further (front ++ reported)))
 
     -- by how many bytes are left
-    whole_by : (n p : ℕ) (front : List ℕ) → length bytes - p ≤ n → p ≤ length bytes → Whole names task bytes p front → GoesOn names task bytes front
+    whole_by : (n p : ℕ) (front : List ℕ) → length bytes - p ≤ n → p ≤ length bytes → Whole names task bytes p front → Continues names task bytes front
     whole_by zero p front few le whole = all_whole p front (omega (arith, few, le)) whole
     whole_by (suc n) p front few le whole =
         elim (cases_lt p (length bytes)) [
@@ -133,23 +133,23 @@ module _ (names : Names) (task : Task) (bytes : List ℕ) where
         ]
 
     -- behind whole messages
-    pub whole_goes : (p : ℕ) (front : List ℕ) → p ≤ length bytes → Whole names task bytes p front → GoesOn names task bytes front
+    pub whole_goes : (p : ℕ) (front : List ℕ) → p ≤ length bytes → Whole names task bytes p front → Continues names task bytes front
     whole_goes p front le whole = whole_by (length bytes - p) p front (omega arith) le whole
 
     -- behind a message, of which this is printed
-    pub goes_behind : (p : ℕ) (front : List ℕ) → p < length bytes → Whole names task bytes p front → (t : List ℕ) (fault : Option Fault) → IsMessageText names task p (message_at bytes p) t fault → GoesOn names task bytes (front ++ t)
+    pub goes_behind : (p : ℕ) (front : List ℕ) → p < length bytes → Whole names task bytes p front → (t : List ℕ) (fault : Option Fault) → IsMessageText names task p (message_at bytes p) t fault → Continues names task bytes (front ++ t)
     goes_behind p front lt whole t fault tells = here p front whole lt t fault tells (λ next. whole_goes (p + length (message_at bytes p)) (front ++ t) (message_within bytes p lt) next)
 
 module _ (names : Names) (look : Look) (bytes : List ℕ) (plain : (k : ℕ) → get_or bytes k 0 < 256) where
   -- behind the lines of the items that were met of a message
   pub items_go : (p : ℕ) (front : List ℕ) → p < length bytes → Whole names (Show look) bytes p front → (q : ℕ) (es : List ℕ) (xs : List FoundItem) → Meets (message_at bytes p) q es xs
-      → GoesOn names (Show look) bytes (front ++ lines_from names look p (message_at bytes p) no_reach xs)
+      → Continues names (Show look) bytes (front ++ lines_from names look p (message_at bytes p) no_reach xs)
   items_go p front lt whole q es xs met =
       let message = message_at bytes p in
       let end : Ends message xs = ends message (message_plain bytes p lt plain) q es xs met in
       let first = lines_from names look p message no_reach xs in
       let rest = lines_from names look p message (reach_all names look no_reach xs) end.more in
-      let told = lines_from names look p message no_reach (xs ++ end.more) in
-      let is : (front ++ first) ++ rest ≡ front ++ told = append_assoc front first rest ∙ ap (λ (s : List ℕ). front ++ s) (sym (lines-append names look p message no_reach xs end.more)) in
-      let all : GoesOn names (Show look) bytes (front ++ told) = goes_behind names (Show look) bytes plain p front lt whole told end.fault (record { found = xs ++ end.more; ended = end.ended; is = refl }) in
-      back names (Show look) bytes (front ++ first) rest (subst (GoesOn names (Show look) bytes) (sym is) all)
+      let reported = lines_from names look p message no_reach (xs ++ end.more) in
+      let is : (front ++ first) ++ rest ≡ front ++ reported = append_assoc front first rest ∙ ap (λ (s : List ℕ). front ++ s) (sym (lines-append names look p message no_reach xs end.more)) in
+      let all : Continues names (Show look) bytes (front ++ reported) = goes_behind names (Show look) bytes plain p front lt whole reported end.fault (record { found = xs ++ end.more; ended = end.ended; is = refl }) in
+      back names (Show look) bytes (front ++ first) rest (subst (Continues names (Show look) bytes) (sym is) all)

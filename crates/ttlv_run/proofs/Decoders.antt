@@ -9,7 +9,7 @@ use Rattle.base64.specs.GeneralPurpose.{IsBytes}
 use Rattle.ttlv_run.specs.declared.form.Form.{Form}
 use Rattle.ttlv_run.specs.declared.form.LinePart.{LinePart}
 use Rattle.ttlv_run.specs.declared.form.Step.TheVariants.{Counts, Skips}
-use Rattle.ttlv_run.specs.declared.refusal.Refusal.{Refusal}
+use Rattle.ttlv_run.specs.declared.run_error.RunError.{RunError}
 use Rattle.ttlv_run.specs.Columns.{first_part, step, Reads, begins, counts, skips}
 use Rattle.ttlv_run.specs.declared.coding.Undecoded.{Undecoded}
 use Rattle.ttlv_run.specs.declared.decoder.Decoder.{Decoder}
@@ -17,7 +17,7 @@ use Rattle.ttlv_run.specs.declared.decoder.Made.{Made}
 use Rattle.ttlv_run.specs.declared.decoder.Made.TheVariants.{Nothing, Bytes, Failed}
 use Rattle.ttlv_run.specs.declared.decoder.Phase.{Phase}
 use Rattle.ttlv_run.specs.declared.decoder.Phase.TheVariants.{Groups, Padded, Spoilt}
-use Rattle.ttlv_run.specs.Decoding.{one_or_none, bytes_in, begun, GoesOn, IsOpen, IsPadded, IsSpoilt, Knows, Comes, Ends, Holds, Takes, Reading, Stuck, Pushes, AllBytes, Finishes, Grows, Puts, DecodesPiece, DecodesMore}
+use Rattle.ttlv_run.specs.Decoding.{one_or_none, bytes_in, begun, Continues, IsOpen, IsPadded, IsSpoilt, Knows, Yields, Ends, Holds, Takes, Reading, Stuck, Pushes, AllBytes, Finishes, Grows, Puts, DecodesPiece, DecodesMore}
 use Rattle.ttlv_run.specs.Fronts.{ReadsBytes}
 use Rattle.ttlv_run.specs.Inputs.{decode_form, width, Makes}
 use Rattle.ttlv_run.proofs.Groups.{behind, group_of, behind_group, group_known, no_group, group_then, nothing, least_group, more_whole, some_width}
@@ -31,13 +31,13 @@ prepended front x (Some rest) = ap Some (sym (append_assoc front x rest))
 none_prepended : (front : List ℕ) (o : Option (List ℕ)) → o ≡ None → prepend_known front o ≡ None
 none_prepended front o is = ap (prepend_known front) is
 
-module _ (form : Form) (front bytes : List ℕ) (goes : GoesOn form front bytes) where
+module _ (form : Form) (front bytes : List ℕ) (writable : Continues form front bytes) where
   -- digits that are bytes
   on_some : (rest x : List ℕ) → decode_form form rest ≡ Some x → decode_form form (front ++ rest) ≡ Some (bytes ++ x)
-  on_some rest x is = goes.on rest ∙ ap (prepend_known bytes) is
+  on_some rest x is = writable.on rest ∙ ap (prepend_known bytes) is
 
   on_none : (rest : List ℕ) → decode_form form rest ≡ None → decode_form form (front ++ rest) ≡ None
-  on_none rest is = goes.on rest ∙ none_prepended bytes (decode_form form rest) is
+  on_none rest is = writable.on rest ∙ none_prepended bytes (decode_form form rest) is
 
   -- whole groups are bytes by themselves
   goes_made : decode_form form front ≡ Some bytes
@@ -45,13 +45,13 @@ module _ (form : Form) (front bytes : List ℕ) (goes : GoesOn form front bytes)
 
   module _ (g : List ℕ) (long : length g ≡ width form) (plain : IsBytes g) where
     more_groups : length (front ++ g) % width form ≡ 0
-    more_groups = subst (λ (n : ℕ). n % width form ≡ 0) (omega (arith, long, length-append front g)) (more_whole form (length front) goes.whole)
+    more_groups = subst (λ (n : ℕ). n % width form ≡ 0) (omega (arith, long, length-append front g)) (more_whole form (length front) writable.whole)
 
     -- a group more
-    goes_further : (x : List ℕ) → group_of form g ≡ Some x → GoesOn form (front ++ g) (bytes ++ x)
+    goes_further : (x : List ℕ) → group_of form g ≡ Some x → Continues form (front ++ g) (bytes ++ x)
     goes_further x is = record {
       whole = more_groups;
-      on = λ rest. ap (decode_form form) (append_assoc front g rest) ∙ goes.on (g ++ rest) ∙ ap (prepend_known bytes) (group_then form g x long plain is rest)
+      on = λ rest. ap (decode_form form) (append_assoc front g rest) ∙ writable.on (g ++ rest) ∙ ap (prepend_known bytes) (group_then form g x long plain is rest)
           ∙ prepended bytes x (decode_form form rest);
     }
 
@@ -78,7 +78,7 @@ module _ (form : Form) (front bytes : List ℕ) (goes : GoesOn form front bytes)
       bad = g;
       more = [];
       are = ap (λ (t : List ℕ). front ++ t) (sym (append-nil g));
-      whole = goes.whole;
+      whole = writable.whole;
       made = goes_made;
       few = omega (arith, long);
       none = none;
@@ -98,7 +98,7 @@ module _ (form : Form) (digits left bytes : List ℕ) (o : IsOpen form digits le
     front = o.front;
     are = all_digits ∙ ap (λ (t : List ℕ). o.front ++ t) (sym is);
     few = omega (arith, ap (λ (t : List ℕ). length t) is, length-append left (b ∷ []), few);
-    goes = o.goes;
+    writable = o.writable;
   }
 
   -- or of one that is
@@ -107,21 +107,21 @@ module _ (form : Form) (digits left bytes : List ℕ) (o : IsOpen form digits le
     same = ap (λ (t : List ℕ). o.front ++ t) is ∙ sym all_digits
 
     pub open_made : (x : List ℕ) → decode_form form g ≡ Some x → decode_form form (digits ++ b ∷ []) ≡ Some (bytes ++ x)
-    open_made x some = ap (decode_form form) (sym same) ∙ on_some form o.front bytes o.goes g x some
+    open_made x some = ap (decode_form form) (sym same) ∙ on_some form o.front bytes o.writable g x some
 
     pub open_whole : (x : List ℕ) → decode_form form g ≡ Some x → IsBytes x → width form ≤ length x + 1 → IsOpen form (digits ++ b ∷ []) [] (bytes ++ x)
     open_whole x some are least = record {
       front = o.front ++ g;
       are = sym same ∙ sym (append-nil (o.front ++ g));
       few = some_width form;
-      goes = goes_further form o.front bytes o.goes g long plain x (group_known form g x long plain are least some);
+      writable = goes_further form o.front bytes o.writable g long plain x (group_known form g x long plain are least some);
     }
 
     pub open_padded : (x : List ℕ) → decode_form form g ≡ Some x → length x + 1 < width form → IsPadded form (digits ++ b ∷ []) (bytes ++ x)
-    open_padded x some few = subst (λ (t : List ℕ). IsPadded form t (bytes ++ x)) same (group_padded form o.front bytes o.goes g long plain x some few)
+    open_padded x some few = subst (λ (t : List ℕ). IsPadded form t (bytes ++ x)) same (group_padded form o.front bytes o.writable g long plain x some few)
 
     pub open_spoilt : decode_form form g ≡ None → IsSpoilt form (digits ++ b ∷ []) bytes
-    open_spoilt none = subst (λ (t : List ℕ). IsSpoilt form t bytes) same (group_spoilt form o.front bytes o.goes g long plain none)
+    open_spoilt none = subst (λ (t : List ℕ). IsSpoilt form t bytes) same (group_spoilt form o.front bytes o.writable g long plain none)
 
 -- a digit put behind those of a group makes it whole
 pub filled : (ds : List ℕ) (count w b : ℕ) → w ≡ count + 1 → w ≤ length ds → (take w (slice_set ds count b) ≡ take count ds ++ b ∷ []) × (length (take w (slice_set ds count b)) ≡ w)
@@ -165,8 +165,8 @@ knows_makes Groups form digits left bytes o = record {
   front = o.front;
   left = left;
   are = o.are;
-  whole = o.goes.whole;
-  made = goes_made form o.front bytes o.goes;
+  whole = o.writable.whole;
+  made = goes_made form o.front bytes o.writable;
   most = λ groups more is some whole. absurd (omega (arith, least_group form (length groups) some whole, o.few, ap (λ (t : List ℕ). length t) is, length-append groups more));
 }
 knows_makes Padded form digits left bytes p = record {
@@ -190,11 +190,11 @@ knows_makes Spoilt form digits left bytes p = record {
 
 -- the digits of a text that ended are bytes
 pub open_ends : (form : Form) (digits left bytes x : List ℕ) → IsOpen form digits left bytes → decode_form form left ≡ Some x → decode_form form digits ≡ Some (bytes ++ x)
-open_ends form digits left bytes x o is = ap (decode_form form) o.are ∙ on_some form o.front bytes o.goes left x is
+open_ends form digits left bytes x o is = ap (decode_form form) o.are ∙ on_some form o.front bytes o.writable left x is
 
 -- or none
 pub open_fails : (form : Form) (digits left bytes : List ℕ) → IsOpen form digits left bytes → decode_form form left ≡ None → decode_form form digits ≡ None
-open_fails form digits left bytes o is = ap (decode_form form) o.are ∙ on_none form o.front bytes o.goes left is
+open_fails form digits left bytes o is = ap (decode_form form) o.are ∙ on_none form o.front bytes o.writable left is
 
 pub spoilt_fails : (form : Form) (digits bytes : List ℕ) → IsSpoilt form digits bytes → decode_form form digits ≡ None
 spoilt_fails form digits bytes p = ap (decode_form form) p.are ∙ p.none p.more
@@ -206,17 +206,17 @@ pub counted_takes :
     (old new : Decoder) (s bytes : List ℕ) (b : ℕ) (rest : List ℕ) (then_ : LinePart) (made : Made)
     → (h : Holds old s bytes (b ∷ rest))
     → step old.form old.part b (slice_index rest 0) ≡ Counts then_
-    → ((digits all : List ℕ) → Knows old.phase old.form digits (begun old) all → Comes new (digits ++ b ∷ []) all made)
+    → ((digits all : List ℕ) → Knows old.phase old.form digits (begun old) all → Yields new (digits ++ b ∷ []) all made)
     → new.form ≡ old.form
     → new.part ≡ then_
     → Takes old new s bytes b rest made
-counted_takes old new s bytes b rest then_ made h is comes form part = by made (comes h.digits bytes h.knows)
+counted_takes old new s bytes b rest then_ made h is yields form part = by made (yields h.digits bytes h.knows)
   where
     reads : Reads new.form (first_part new.form) s (h.digits ++ b ∷ []) new.part rest
     reads = subst (λ (f : Form). Reads f (first_part f) s (h.digits ++ b ∷ []) new.part rest) (sym form)
         (subst (λ (p : LinePart). Reads old.form (first_part old.form) s (h.digits ++ b ∷ []) p rest) (sym part) (counts h.digits (h.digits ++ b ∷ []) old.part then_ b rest h.reads is refl))
 
-    by : (m : Made) → Comes new (h.digits ++ b ∷ []) bytes m → Takes old new s bytes b rest m
+    by : (m : Made) → Yields new (h.digits ++ b ∷ []) bytes m → Takes old new s bytes b rest m
     by Nothing c = record { digits = h.digits ++ b ∷ []; reads = reads; knows = c }
     by (Bytes g) c = (record { digits = h.digits ++ b ∷ []; reads = reads; knows = c.0 }, c.1)
     by (Failed why) c = absurd c
@@ -264,7 +264,7 @@ no_digits form = record {
   front = [];
   are = refl;
   few = some_width form;
-  goes = record { whole = by_zero; on = λ rest. none_in_front (decode_form form rest) };
+  writable = record { whole = by_zero; on = λ rest. none_in_front (decode_form form rest) };
 }
   where
     by_zero : 0 % width form ≡ 0
@@ -423,7 +423,7 @@ module _
         }
 
     -- or memory ran out
-    pub piece_fails : (d : Decoder) (why : Refusal) → Puts h1 h2 made (Err why) → Grows h0 h2 (λ came. (mark : ℕ) (s all : List ℕ) → Reading d0 mark s all → DecodesPiece d mark s piece (all ++ came) (Err why))
+    pub piece_fails : (d : Decoder) (why : RunError) → Puts h1 h2 made (Err why) → Grows h0 h2 (λ came. (mark : ℕ) (s all : List ℕ) → Reading d0 mark s all → DecodesPiece d mark s piece (all ++ came) (Err why))
     piece_fails d why h = by made h
       where
         by : (m : Made) → Puts h1 h2 m (Err why) → Grows h0 h2 (λ came. (mark : ℕ) (s all : List ℕ) → Reading d0 mark s all → DecodesPiece d mark s piece (all ++ came) (Err why))
@@ -432,7 +432,7 @@ module _
         by (Failed other) put = record { came = g.came; are = put.1 ∙ g.are; holds = λ mark s all r. put.0 }
 
 -- what came of all characters, up to the end
-abbrev Ended : Decoder → Decoder → List ℕ → List ℕ → List ℕ → Result (Option Undecoded) Refusal → Type 0
+abbrev Ended : Decoder → Decoder → List ℕ → List ℕ → List ℕ → Result (Option Undecoded) RunError → Type 0
 Ended d0 d2 h0 h2 piece r = Grows h0 h2 (λ came. (mark : ℕ) (s all : List ℕ) → Reading d0 mark s all → DecodesMore d2 mark s piece true (all ++ came) r)
 
 module _
@@ -445,7 +445,7 @@ module _
 
     -- the text ended behind characters that were read
     pub more_ended :
-        (made : Made) (r : Result (Option Undecoded) Refusal)
+        (made : Made) (r : Result (Option Undecoded) RunError)
         → ((mark : ℕ) (s bytes : List ℕ) → Reading d1 mark s bytes → Finishes d1.form mark s bytes made)
         → Puts h1 h2 made r
         → Ended d0 d2 h0 h2 piece r

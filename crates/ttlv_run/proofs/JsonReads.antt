@@ -9,14 +9,14 @@ use Rattle.std.proofs.lemmas.Str.{IsUtf8-append, IsUtf8-nil}
 use Rattle.kmip_ttlv_names.specs.NameTables.{lines_of}
 use Rattle.kmip_ttlv_json.specs.declared.failure.JsonError.{JsonError}
 use Rattle.ttlv_run.specs.declared.job.JsonJob.{JsonJob}
-use Rattle.ttlv_run.specs.declared.refusal.Refusal.{Refusal}
-use Rattle.ttlv_run.specs.declared.refusal.Refusal.TheVariants.{UnopenedInput, UnreadableInput, MisreadInput, NotUtf8, UnwritableOutput, ClosedPipe, RefusedMemory}
+use Rattle.ttlv_run.specs.declared.run_error.RunError.{RunError}
+use Rattle.ttlv_run.specs.declared.run_error.RunError.TheVariants.{UnopenedInput, UnreadableInput, MisreadInput, NotUtf8, UnwritableOutput, ClosedPipe, NoMemory}
 use Rattle.ttlv_run.specs.Backs.{IsOneLine, IsLineAt}
 use Rattle.ttlv_run.specs.Inputs.{IsUnread}
-use Rattle.ttlv_run.specs.JsonLines.{Gives, Spoils, PrintsBytes, FailsAt, no_line, one_more, GivesLines, NextLine, PrintedJson, FaultsJson, NoTextJson, UnwrittenJson, FailsJson, RespondsJson, fault_at}
+use Rattle.ttlv_run.specs.JsonLines.{GivesLine, Spoils, PrintsBytes, FailsAt, no_line, one_more, GivesLines, NextLine, PrintedJson, FaultsJson, NoTextJson, UnwrittenJson, FailsJson, RespondsJson, fault_at}
 use Rattle.ttlv_run.specs.Reasons.{IsOfPrinting}
 use Rattle.ttlv_run.specs.Runs.{Streams}
-use Rattle.ttlv_run.specs.Streaming.{Comes}
+use Rattle.ttlv_run.specs.Streaming.{Yields}
 use Rattle.ttlv_run.proofs.Appending.{all_front}
 use Rattle.ttlv_run.proofs.BackLines.{with_feed, first_of_lines, only_line, line_text, through_line, behind_line, within_line}
 use Rattle.ttlv_run.proofs.Told.{front_more}
@@ -50,7 +50,7 @@ module _ (raw : Bool) (bytes : List ℕ) (place : ℕ) (text : List ℕ) (g : Gi
 
   -- the next one, with its line feed
   module _ (line : List ℕ) (l : IsLineAt bytes place line) where
-    gives_line : (part : List ℕ) → IsUtf8 line → Gives raw line part → GivesLines raw bytes (place + (length line + 1)) (text ++ part)
+    gives_line : (part : List ℕ) → IsUtf8 line → GivesLine raw line part → GivesLines raw bytes (place + (length line + 1)) (text ++ part)
     gives_line part u gives =
         let whole = through_line bytes place line l in
         record {
@@ -118,20 +118,20 @@ module _ (job : JsonJob) (known output : Option (List ℕ)) where
 
       -- a line more
       pub json_line : (line : List ℕ) → IsLineAt bytes at line → PrintsBytes job.raw line mid new None → JsonReading job known now output new base (at + (length line + 1)) bytes
-      json_line line l told =
+      json_line line l reported =
           let here : base + at + (length line + 1) ≡ base + (at + (length line + 1)) = omega arith in
           record {
             taken = p.taken;
-            text = p.text ++ told.1.0;
+            text = p.text ++ reported.1.0;
             consumed = p.consumed;
             are = p.are;
-            gives = subst (λ (n : ℕ). GivesLines job.raw p.taken n (p.text ++ told.1.0)) here (gives_line job.raw p.taken (base + at) p.text p.gives line (line_here line l) told.1.0 told.0 told.1.1);
-            appended = Appends-trans output mid new p.text told.1.0 p.appended told.1.2;
+            gives = subst (λ (n : ℕ). GivesLines job.raw p.taken n (p.text ++ reported.1.0)) here (gives_line job.raw p.taken (base + at) p.text p.gives line (line_here line l) reported.1.0 reported.0 reported.1.1);
+            appended = Appends-trans output mid new p.text reported.1.0 p.appended reported.1.2;
           }
 
       -- that is the last
       pub json_printed : IsAtEnd now → (line : List ℕ) → line ≡ drop at bytes → IsOneLine (drop at bytes) → PrintsBytes job.raw line mid new None → PrintedJson job streams
-      json_printed end line is one told =
+      json_printed end line is one reported =
           let rest : line ≡ drop (base + at) p.taken = is ∙ sym place_is in
           let one_rest : IsOneLine (drop (base + at) p.taken) = subst IsOneLine (sym place_is) one in
           let all : lines_of p.taken ≡ p.gives.lines ++ line ∷ [] =
@@ -139,12 +139,12 @@ module _ (job : JsonJob) (known output : Option (List ℕ)) where
           ∙ ap (λ (ls : List (List ℕ)). p.gives.lines ++ ls) (only_line (drop (base + at) p.taken) one_rest) ∙ ap (λ (t : List ℕ). p.gives.lines ++ t ∷ []) (sym rest) in
           record {
             input = p.taken;
-            text = p.text ++ told.1.0;
+            text = p.text ++ reported.1.0;
             place = base + at + length line + 1;
             taken = record { taken = p.consumed; ended = end };
-            is_text = subst IsUtf8 (take-append-drop (base + at) p.taken) (IsUtf8-append (take (base + at) p.taken) (drop (base + at) p.taken) p.gives.is_text (subst IsUtf8 rest told.0));
-            give = one_more p.gives.lines (lines_of p.taken) line p.text told.1.0 (p.text ++ told.1.0) (base + at) (base + at + length line + 1) p.gives.give told.1.1 all refl refl;
-            appended = Appends-trans output mid new p.text told.1.0 p.appended told.1.2;
+            is_text = subst IsUtf8 (take-append-drop (base + at) p.taken) (IsUtf8-append (take (base + at) p.taken) (drop (base + at) p.taken) p.gives.is_text (subst IsUtf8 rest reported.0));
+            give = one_more p.gives.lines (lines_of p.taken) line p.text reported.1.0 (p.text ++ reported.1.0) (base + at) (base + at + length line + 1) p.gives.give reported.1.1 all refl refl;
+            appended = Appends-trans output mid new p.text reported.1.0 p.appended reported.1.2;
           }
 
       same_text : Appends mid new [] → Appends output new p.text
@@ -153,20 +153,20 @@ module _ (job : JsonJob) (known output : Option (List ℕ)) where
       -- or that is bad, or no text, or fails
       module _ (last : Bool) (l : Left now last) (line : List ℕ) (next : NextLine (p.taken ++ l.left) (base + at) line) where
         pub json_bad : (error : JsonError) → PrintsBytes job.raw line mid new (Some error) → FaultsJson job streams (record { offset = base + at; error = error })
-        json_bad error told = record {
+        json_bad error reported = record {
           input = p.taken ++ l.left;
           text = p.text;
           line = line;
           taken = record { front = p.taken; left = l.left; are = refl; taken = p.consumed; rest = l.are };
           gives = gives_longer job.raw p.taken (base + at) p.text p.gives l.left;
           next = next;
-          is_text = told.0;
-          bad = told.1.0;
-          appended = same_text told.1.1;
+          is_text = reported.0;
+          bad = reported.1.0;
+          appended = same_text reported.1.1;
         }
 
         no_text : FailsAt job.raw line mid new NotUtf8 → NoTextJson job streams
-        no_text told = record {
+        no_text reported = record {
           input = p.taken ++ l.left;
           place = base + at;
           text = p.text;
@@ -174,8 +174,8 @@ module _ (job : JsonJob) (known output : Option (List ℕ)) where
           taken = record { front = p.taken; left = l.left; are = refl; taken = p.consumed; rest = l.are };
           gives = gives_longer job.raw p.taken (base + at) p.text p.gives l.left;
           next = next;
-          no_text = told.0;
-          appended = same_text told.1;
+          no_text = reported.0;
+          appended = same_text reported.1;
         }
 
         whole : lines_of (p.taken ++ l.left) ≡ p.gives.lines ++ line ∷ next.others
@@ -205,24 +205,24 @@ module _ (job : JsonJob) (known output : Option (List ℕ)) where
           appended = all_front output new p.text (same_text none);
         }
 
-        pub json_fails : (why : Refusal) → FailsAt job.raw line mid new why → FailsJson job streams why
-        json_fails NotUtf8 told = no_text told
-        json_fails UnwritableOutput told = spoiled told.1
-        json_fails ClosedPipe told = spoiled told.1
-        json_fails RefusedMemory told = spoiled told.1
-        json_fails UnreadableInput told = absurd (none_such told.0)
+        pub json_fails : (why : RunError) → FailsAt job.raw line mid new why → FailsJson job streams why
+        json_fails NotUtf8 reported = no_text reported
+        json_fails UnwritableOutput reported = spoiled reported.1
+        json_fails ClosedPipe reported = spoiled reported.1
+        json_fails NoMemory reported = spoiled reported.1
+        json_fails UnreadableInput reported = absurd (none_such reported.0)
           where
             none_such : IsOfPrinting UnreadableInput → ⊥
             none_such (inl e) = cc e
             none_such (inr (inl e)) = cc e
             none_such (inr (inr e)) = cc e
-        json_fails UnopenedInput told = absurd (none_such told.0)
+        json_fails UnopenedInput reported = absurd (none_such reported.0)
           where
             none_such : IsOfPrinting UnopenedInput → ⊥
             none_such (inl e) = cc e
             none_such (inr (inl e)) = cc e
             none_such (inr (inr e)) = cc e
-        json_fails (MisreadInput m) told = absurd (none_such told.0)
+        json_fails (MisreadInput m) reported = absurd (none_such reported.0)
           where
             none_such : IsOfPrinting (MisreadInput m) → ⊥
             none_such (inl e) = cc e
@@ -244,21 +244,21 @@ module _ (job : JsonJob) (known output : Option (List ℕ)) where
         → IsOneLine (drop at bytes)
         → PrintsBytes job.raw line mid new error
         → RespondsJson job (record { input = known; input_left = now; output = output; output_now = new }) (Ok (fault_at (base + at) error))
-    json_ended new end line None is one told = json_printed new end line is one told
-    json_ended new end line (Some error) is one told =
+    json_ended new end line None is one reported = json_printed new end line is one reported
+    json_ended new end line (Some error) is one reported =
         let l = left_of now true (λ _. end) in
-        json_bad new true l line (json_rest line is one l.left (l.none refl)) error told
+        json_bad new true l line (json_rest line is one l.left (l.none refl)) error reported
 
     -- more bytes came
-    pub json_came : (next : Option (List ℕ)) (after : List ℕ) → Comes now next (drop at bytes) after → JsonReading job known next output mid (base + at) 0 after
-    json_came next after comes =
+    pub json_came : (next : Option (List ℕ)) (after : List ℕ) → Yields now next (drop at bytes) after → JsonReading job known next output mid (base + at) 0 after
+    json_came next after yields =
         let here : base + at ≡ base + at + 0 = omega arith in
         record {
-          taken = p.taken ++ comes.came;
+          taken = p.taken ++ yields.came;
           text = p.text;
-          consumed = Consumes-trans known now next p.taken comes.came p.consumed comes.consumed;
-          are = rest_behind job.raw p.taken (base + at) p.text p.gives comes.came ∙ ap (λ (t : List ℕ). t ++ comes.came) place_is ∙ sym comes.are;
-          gives = subst (λ (n : ℕ). GivesLines job.raw (p.taken ++ comes.came) n p.text) here (gives_longer job.raw p.taken (base + at) p.text p.gives comes.came);
+          consumed = Consumes-trans known now next p.taken yields.came p.consumed yields.consumed;
+          are = rest_behind job.raw p.taken (base + at) p.text p.gives yields.came ∙ ap (λ (t : List ℕ). t ++ yields.came) place_is ∙ sym yields.are;
+          gives = subst (λ (n : ℕ). GivesLines job.raw (p.taken ++ yields.came) n p.text) here (gives_longer job.raw p.taken (base + at) p.text p.gives yields.came);
           appended = p.appended;
         }
 
@@ -279,9 +279,9 @@ module _ (job : JsonJob) (known output : Option (List ℕ)) where
         }
 
     -- reading failed, or memory ran out for it
-    pub json_read_fails : IsOneLine (drop at bytes) → (why : Refusal) → IsUnread why → FailsJson job (record { input = known; input_left = now; output = output; output_now = mid }) why
+    pub json_read_fails : IsOneLine (drop at bytes) → (why : RunError) → IsUnread why → FailsJson job (record { input = known; input_left = now; output = output; output_now = mid }) why
     json_read_fails one UnreadableInput h = record { bytes = p.taken; place = base + at; text = p.text; taken = p.consumed; gives = p.gives; one_line = subst IsOneLine (sym place_is) one; appended = p.appended }
-    json_read_fails one RefusedMemory h = json_no_memory
+    json_read_fails one NoMemory h = json_no_memory
     json_read_fails one UnopenedInput h = absurd h
     json_read_fails one (MisreadInput m) h = absurd h
     json_read_fails one NotUtf8 h = absurd h

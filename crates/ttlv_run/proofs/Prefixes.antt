@@ -13,7 +13,7 @@ use Rattle.ttlv_run.specs.declared.messages.Place.{Place as FaultPlace}
 use Rattle.ttlv_run.specs.Columns.{first_part, step, body, Reads, begins, counts, skips}
 use Rattle.ttlv_run.specs.Fronts.{DecodesTo, StandsFrontIn, StandsFront, StandsUpTo}
 use Rattle.ttlv_run.specs.Inputs.{Decodes, decode_form, form_of, encoding_of, StandsIn, Stands}
-use Rattle.ttlv_run.specs.Messages.{Breaks, GoesOn}
+use Rattle.ttlv_run.specs.Messages.{Breaks, Continues}
 use Rattle.ttlv_run.specs.Runs.{Streams, HasText, Faults, Unwritten}
 use Rattle.ttlv_run.specs.Texts.{Names}
 use Rattle.base64.specs.GeneralPurpose.{IsBytes}
@@ -159,8 +159,8 @@ module _ (names : Names) (job : Job) (s : Streams) (all : List ℕ) where
       record { bytes = all; stands = stands; prints = subst (λ (b : List ℕ). Breaks names job.task b f.text place) (sym h.are) (f.prints h.more h.none) }
 
   -- and a beginning is one of what is printed of all bytes
-  pub beginning_of_all : (u : Unwritten names job s) → AreBytes all → Stands job.encoding u.input all → GoesOn names job.task all u.text
+  pub beginning_of_all : (u : Unwritten names job s) → AreBytes all → Stands job.encoding u.input all → Continues names job.task all u.text
   beginning_of_all u plain stands =
       let h = further_of job.encoding u.input u.bytes all u.last u.stands stands in
       let others : AreBytes h.more = subst AreBytes (ap (drop (length u.bytes)) h.are ∙ drop-append_seam u.bytes h.more) (bytes_drop (length u.bytes) all plain) in
-      subst (λ (b : List ℕ). GoesOn names job.task b u.text) (sym h.are) (u.goes h.more h.none others)
+      subst (λ (b : List ℕ). Continues names job.task b u.text) (sym h.are) (u.writable h.more h.none others)

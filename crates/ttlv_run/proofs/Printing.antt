@@ -42,14 +42,14 @@ json_told names at bytes hiding task is t fault h = record {
 module _ (names : Names) (at : ℕ) (bytes : List ℕ) (plain : (k : ℕ) → get_or bytes k 0 < 256) where
   pub record Rest (look : Look) (xs : List FoundItem) : Type 0 where
     pub more : List ℕ
-    pub told : Told names (Show look) at bytes (lines_from names look at bytes no_reach xs ++ more)
+    pub reported : Told names (Show look) at bytes (lines_from names look at bytes no_reach xs ++ more)
 
   pub lines_rest : (look : Look) (w : List ℕ) (q : ℕ) (es : List ℕ) (xs : List FoundItem) → w ≡ bytes → Meets w q es xs → Rest look xs
   lines_rest look w q es xs is met =
       let end : Ends bytes xs = ends bytes plain q es xs (subst (λ (s : List ℕ). Meets s q es xs) is met) in
       record {
         more = lines_from names look at bytes (reach_all names look no_reach xs) end.more;
-        told = (end.fault, record { found = xs ++ end.more; ended = end.ended; is = sym (lines-append names look at bytes no_reach xs end.more) });
+        reported = (end.fault, record { found = xs ++ end.more; ended = end.ended; is = sym (lines-append names look at bytes no_reach xs end.more) });
       }
 
   -- whatever a task prints of it
@@ -64,7 +64,7 @@ module _ {X : Type 0} (adds breaks : X → List ℕ → X → Type 0) (first : (
   pub broken_lines : (names : Names) (at : ℕ) (bytes : List ℕ) (plain : (k : ℕ) → get_or bytes k 0 < 256) (look : Look) (xs : List FoundItem) (a b : X) → Rest names at bytes plain look xs → breaks a (lines_from names look at bytes no_reach xs) b → SomeText (Told names (Show look) at bytes) (λ t. breaks a t b)
   broken_lines names at bytes plain look xs a b rest h = record {
     text = lines_from names look at bytes no_reach xs ++ rest.more;
-    is = rest.told;
+    is = rest.reported;
     holds = first a b (lines_from names look at bytes no_reach xs) rest.more h;
   }
 

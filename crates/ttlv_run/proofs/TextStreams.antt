@@ -17,15 +17,15 @@ use Rattle.ttlv_run.specs.declared.messages.Reached.TheVariants.{Behind}
 use Rattle.ttlv_run.specs.declared.misread.Misread.{Misread}
 use Rattle.ttlv_run.specs.declared.misread.MisreadKind.{MisreadKind}
 use Rattle.ttlv_run.specs.declared.misread.MisreadKind.TheVariants.{NoDigit, WrongCount}
-use Rattle.ttlv_run.specs.declared.refusal.Refusal.{Refusal}
-use Rattle.ttlv_run.specs.declared.refusal.Refusal.TheVariants.{UnopenedInput, UnreadableInput, MisreadInput, NotUtf8, UnwritableOutput, ClosedPipe, RefusedMemory}
+use Rattle.ttlv_run.specs.declared.run_error.RunError.{RunError}
+use Rattle.ttlv_run.specs.declared.run_error.RunError.TheVariants.{UnopenedInput, UnreadableInput, MisreadInput, NotUtf8, UnwritableOutput, ClosedPipe, NoMemory}
 use Rattle.ttlv_run.specs.Columns.{first_part, mark_length, body, Reads, begins, counts, skips}
 use Rattle.ttlv_run.specs.Decoding.{one_or_none, Reading, StuckBy, Stuck, AllBytes, Grows, DecodesLast, DecodesMore, is_last}
 use Rattle.ttlv_run.specs.Fronts.{front_size, taken_as, ReadsBytes, DecodesTo, StandsFrontIn, StandsFront}
 use Rattle.ttlv_run.specs.Inputs.{TakesSome, IsUnread, IsMisread, form_of, is_detected, encoding_of, StandsIn, Stands}
 use Rattle.ttlv_run.specs.Messages.{is_there}
 use Rattle.ttlv_run.specs.Runs.{Streams, Printed, Undecoded as IsUndecodedInput, FrontsIn, FrontsIf, Fails}
-use Rattle.ttlv_run.specs.Streaming.{PrintsOn, Comes}
+use Rattle.ttlv_run.specs.Streaming.{PrintsOn, Yields}
 use Rattle.ttlv_run.specs.Texts.{Names}
 use Rattle.ttlv_run.proofs.Decoders.{holds_bytes}
 use Rattle.ttlv_run.proofs.FrontsTold.{Told, told_on, four_least, body_on, taken_is}
@@ -54,7 +54,7 @@ pub record TextInput (e : Encoding) (form : Form) (known now : Option (List ℕ)
   pub consumed : Consumes known now (m ++ s)
   pub at_end : ended ≡ true → IsAtEnd now
   pub enough : ended ≡ false → front_size e (m ++ s) ≤ length (m ++ s)
-  pub told : form_of (encoding_of e (m ++ s)) ≡ Some form
+  pub reported : form_of (encoding_of e (m ++ s)) ≡ Some form
   pub body_is : body (m ++ s) ≡ s
 
 module _ (e : Encoding) (form : Form) (known now : Option (List ℕ)) (m s : List ℕ) (ended : Bool) (i : TextInput e form known now m s ended) where
@@ -80,7 +80,7 @@ module _ (e : Encoding) (form : Form) (known now : Option (List ℕ)) (m s : Lis
     still = told_on e (m ++ s) more long
 
     pub told_still : form_of (encoding_of e (m ++ (s ++ more))) ≡ Some form
-    told_still = ap (λ (t : List ℕ). form_of (encoding_of e t)) (sym same) ∙ ap form_of still.encoding ∙ i.told
+    told_still = ap (λ (t : List ℕ). form_of (encoding_of e t)) (sym same) ∙ ap form_of still.encoding ∙ i.reported
 
     pub body_still : body (m ++ (s ++ more)) ≡ s ++ more
     body_still = ap body (sym same) ∙ body_on (m ++ s) more four ∙ ap (λ (t : List ℕ). t ++ more) i.body_is
@@ -105,7 +105,7 @@ module _ (e : Encoding) (form : Form) (known now : Option (List ℕ)) (m s : Lis
         consumed = subst (Consumes known next) (append_assoc m s others) (Consumes-trans known now next (m ++ s) others i.consumed consumed);
         at_end = at_end;
         enough = λ _. omega (arith, i.enough unended, (still others none).size, ap (front_size e) (same others none), length-append m (s ++ others), length-append m s, length-append s others);
-        told = told_still others none;
+        reported = told_still others none;
         body_is = body_still others none;
       }
 
@@ -187,13 +187,13 @@ pub text_starts :
     → (ended ≡ false → front_size e t ≤ length t)
     → (ended ≡ true → IsAtEnd now)
     → TextInput e form known now (take mark t) piece ended
-text_starts e form known now t piece mark ended mark_is piece_is consumed told enough at_end =
+text_starts e form known now t piece mark ended mark_is piece_is consumed reported enough at_end =
     let same : take mark t ++ piece ≡ t = ap (λ (p : List ℕ). take mark t ++ p) piece_is ∙ take-append-drop mark t in
     record {
       consumed = subst (Consumes known now) (sym same) consumed;
       at_end = at_end;
       enough = λ end. subst (λ (p : List ℕ). front_size e p ≤ length p) (sym same) (enough end);
-      told = ap (λ (p : List ℕ). form_of (encoding_of e p)) same ∙ told;
+      reported = ap (λ (p : List ℕ). form_of (encoding_of e p)) same ∙ reported;
       body_is = ap body same ∙ ap (λ (n : ℕ). drop n t) (sym mark_is) ∙ sym piece_is;
     }
 
@@ -222,7 +222,7 @@ pub record TextReady (names : Names) (job : Job) (form : Form) (known now output
 
 module _ (names : Names) (job : Job) (form : Form) (known now output mid : Option (List ℕ)) (base : ℕ) (d : Decoder) (mark : ℕ) (piece bytes : List ℕ) (ended : Bool) (p : TextPrinting names job form known now output mid base d mark piece bytes ended) where
   -- memory ran out for their bytes
-  pub memory_before : Fails names job (record { input = known; input_left = now; output = output; output_now = mid }) RefusedMemory
+  pub memory_before : Fails names job (record { input = known; input_left = now; output = output; output_now = mid }) NoMemory
   memory_before =
       let left = left_here job.encoding form known now p.m (p.s ++ piece) ended p.input in
       let reads = reads_on d form mark p.s p.all p.form_is p.reading (piece ++ left.left) in
@@ -291,7 +291,7 @@ module _ (names : Names) (job : Job) (form : Form) (known now output mid : Optio
         subst (IsUndecodedInput names job streams) (sym m_is) undecoded
 
     -- reading failed, or memory ran out for it
-    pub text_read_fails : (next : Option (List ℕ)) (why : Refusal) → AreBytes rest → wrong ≡ None → ended ≡ false → IsUnread why → is_there rest ≡ false → Keeps now next → Fails names job (record { input = known; input_left = next; output = output; output_now = new }) why
+    pub text_read_fails : (next : Option (List ℕ)) (why : RunError) → AreBytes rest → wrong ≡ None → ended ≡ false → IsUnread why → is_there rest ≡ false → Keeps now next → Fails names job (record { input = known; input_left = next; output = output; output_now = new }) why
     text_read_fails next why plain is unended h none keeps = by why h
       where
         reading : Reading d mark r.s r.all
@@ -305,7 +305,7 @@ module _ (names : Names) (job : Job) (form : Form) (known now output mid : Optio
           consumed = Consumes-kept known now next chars r.input.consumed keeps;
           at_end = λ end. absurd (true_is_false (sym end));
           enough = λ _. r.input.enough unended;
-          told = r.input.told;
+          reported = r.input.reported;
           body_is = r.input.body_is;
         }
 
@@ -327,14 +327,14 @@ module _ (names : Names) (job : Job) (form : Form) (known now output mid : Optio
           },
         )
 
-        by : (why : Refusal) → IsUnread why → Fails names job (record { input = known; input_left = next; output = output; output_now = new }) why
+        by : (why : RunError) → IsUnread why → Fails names job (record { input = known; input_left = next; output = output; output_now = new }) why
         by UnreadableInput u = record {
           bytes = chars;
           taken = kept.consumed;
           fronts = subst (λ (b : Bool). FrontsIf b names job chars output new) (sym (le-ltb (length chars) (front_size job.encoding chars) (r.input.enough unended)))
-              (subst (λ (f : Option Form). FrontsIn f names job.task chars output new) (sym r.input.told) all_but_one);
+              (subst (λ (f : Option Form). FrontsIn f names job.task chars output new) (sym r.input.reported) all_but_one);
         }
-        by RefusedMemory u =
+        by NoMemory u =
             let l = left_here job.encoding form known next r.m r.s false kept in
             inr (no_memory names job output new count r.all rest false shown plain known next
             (front_standing job.encoding form known next r.m r.s false kept r.all (waiting ++ l.left) (reads_on d form mark r.s r.all r.form_is reading l.left)))
@@ -345,32 +345,32 @@ module _ (names : Names) (job : Job) (form : Form) (known now output mid : Optio
         by ClosedPipe u = absurd u
 
     -- more characters came
-    pub more_characters : (next : Option (List ℕ)) (piece : List ℕ) (then_ : Bool) → AreBytes rest → wrong ≡ None → ended ≡ false → Comes now next [] piece → (then_ ≡ true → IsAtEnd next) → TextPrinting names job form known next output new count d mark piece rest then_
-    more_characters next piece then_ plain is unended comes at_end = record {
+    pub more_characters : (next : Option (List ℕ)) (piece : List ℕ) (then_ : Bool) → AreBytes rest → wrong ≡ None → ended ≡ false → Yields now next [] piece → (then_ ≡ true → IsAtEnd next) → TextPrinting names job form known next output new count d mark piece rest then_
+    more_characters next piece then_ plain is unended yields at_end = record {
       m = r.m;
       s = r.s;
       all = r.all;
       long = r.long;
       form_is = r.form_is;
       reading = subst (λ (b : Bool). DecodesLast d mark r.s b r.all) unended (subst (State d mark r.s ended r.all) is r.state);
-      input = subst (λ (t : List ℕ). TextInput job.encoding form known next r.m (r.s ++ t) then_) (sym comes.are) (more_text job.encoding form known now r.m r.s ended r.input next comes.came then_ comes.consumed unended at_end);
+      input = subst (λ (t : List ℕ). TextInput job.encoding form known next r.m (r.s ++ t) then_) (sym yields.are) (more_text job.encoding form known now r.m r.s ended r.input next yields.came then_ yields.consumed unended at_end);
       plain = plain;
       shown = shown;
     }
 
   -- all is printed
   pub text_printed : (new : Option (List ℕ)) (count : ℕ) → wrong ≡ None → ended ≡ true → count ≡ length bytes → SomeText (PrintsOn names job.task base bytes (is_last ended wrong) (Behind count)) (Appends mid new) → Printed names job (record { input = known; input_left = now; output = output; output_now = new })
-  text_printed new count is end at told =
+  text_printed new count is end at reported =
       let all : AllBytes form r.s r.all = subst (λ (f : Form). AllBytes f r.s r.all) r.form_is (subst (λ (b : Bool). DecodesLast d mark r.s b r.all) end (subst (State d mark r.s ended r.all) is r.state)) in
       let stands = stands_all job.encoding form known now r.m r.s ended r.input [] (λ _. refl) r.all (subst (λ (t : List ℕ). AllBytes form t r.all) (sym (append-nil r.s)) all) in
       record {
         input = r.m ++ r.s;
-        text = r.shown.text ++ told.text;
+        text = r.shown.text ++ reported.text;
         taken = record { taken = r.input.consumed; ended = r.input.at_end end };
         has = record {
           bytes = r.all;
           stands = subst (λ (t : List ℕ). Stands job.encoding (r.m ++ t) r.all) (append-nil r.s) stands;
-          prints = whole_shown names job output mid base r.all bytes (is_last ended wrong) r.shown new count at told;
+          prints = whole_shown names job output mid base r.all bytes (is_last ended wrong) r.shown new count at reported;
         };
-        appended = Appends-trans output mid new r.shown.text told.text r.shown.appended told.holds;
+        appended = Appends-trans output mid new r.shown.text reported.text r.shown.appended reported.holds;
       }

@@ -4,12 +4,12 @@ use Rattle.std.proofs.KnownBytes.{Appends-trans}
 use Rattle.std.specs.Io.KnownBytes.{Appends}
 use Rattle.kmip_ttlv_types.specs.Streams.{AppendsFront}
 use Rattle.ttlv_run.specs.declared.job.Job.{Job}
-use Rattle.ttlv_run.specs.declared.refusal.Refusal.{Refusal}
+use Rattle.ttlv_run.specs.declared.run_error.RunError.{RunError}
 use Rattle.ttlv_run.specs.declared.job.BackJob.{BackJob}
 use Rattle.std.specs.Fmt.{decimal}
 use Rattle.ttlv_run.specs.declared.misread.Misread.{Misread}
 use Rattle.ttlv_run.specs.Misreadings.{encoding_words, with_kind, line_end, misread_line}
-use Rattle.ttlv_run.specs.Reasons.{IsOfPrinting, Tells}
+use Rattle.ttlv_run.specs.Reasons.{IsOfPrinting, Reports}
 use Rattle.ttlv_run.specs.Runs.{Streams, Unwritten, Fails, UnwrittenBack, FailsBack}
 use Rattle.ttlv_run.specs.Texts.{Names}
 
@@ -27,21 +27,21 @@ front_more a b c front text all more = record {
   appends = subst (Appends a c) (sym (take_more front text more.count)) (Appends-trans a b c front (take more.count text) all more.appends);
 }
 
-pub tells_more : {T E : Type 0} (r : Result T E) (goes said : Bool) (known mid new : Option (List ℕ)) (front text : List ℕ) → goes ≡ true → said ≡ is_ok r → OnOk r (Appends mid new text) → OnErr r (AppendsFront mid new text) → Tells goes known mid front → Tells said known new (front ++ text)
-tells_more (Ok x) goes said known mid new front text is says all some h =
-    let before = subst (λ b. Tells b known mid front) is h in
-    subst (λ b. Tells b known new (front ++ text)) (sym says) (Appends-trans known mid new front text before all)
-tells_more (Err e) goes said known mid new front text is says all some h =
-    let before = subst (λ b. Tells b known mid front) is h in
-    subst (λ b. Tells b known new (front ++ text)) (sym says) (front_more known mid new front text before some)
+pub tells_more : {T E : Type 0} (r : Result T E) (writable said : Bool) (known mid new : Option (List ℕ)) (front text : List ℕ) → writable ≡ true → said ≡ is_ok r → OnOk r (Appends mid new text) → OnErr r (AppendsFront mid new text) → Reports writable known mid front → Reports said known new (front ++ text)
+tells_more (Ok x) writable said known mid new front text is says all some h =
+    let before = subst (λ b. Reports b known mid front) is h in
+    subst (λ b. Reports b known new (front ++ text)) (sym says) (Appends-trans known mid new front text before all)
+tells_more (Err e) writable said known mid new front text is says all some h =
+    let before = subst (λ b. Reports b known mid front) is h in
+    subst (λ b. Reports b known new (front ++ text)) (sym says) (front_more known mid new front text before some)
 
 -- printing failed behind a beginning of the text
-pub unwritten : (names : Names) (job : Job) (s : Streams) (why : Refusal) → IsOfPrinting why → Unwritten names job s → Fails names job s why
+pub unwritten : (names : Names) (job : Job) (s : Streams) (why : RunError) → IsOfPrinting why → Unwritten names job s → Fails names job s why
 unwritten names job s why (inl is) h = subst (Fails names job s) (sym is) h
 unwritten names job s why (inr (inl is)) h = subst (Fails names job s) (sym is) h
 unwritten names job s why (inr (inr is)) h = subst (Fails names job s) (sym is) (inr h)
 
-pub unwritten_back : (names : Names) (job : BackJob) (s : Streams) (why : Refusal) → IsOfPrinting why → UnwrittenBack names job s → FailsBack names job s why
+pub unwritten_back : (names : Names) (job : BackJob) (s : Streams) (why : RunError) → IsOfPrinting why → UnwrittenBack names job s → FailsBack names job s why
 unwritten_back names job s why (inl is) h = subst (FailsBack names job s) (sym is) h
 unwritten_back names job s why (inr (inl is)) h = subst (FailsBack names job s) (sym is) h
 unwritten_back names job s why (inr (inr is)) h = subst (FailsBack names job s) (sym is) h

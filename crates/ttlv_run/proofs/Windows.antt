@@ -19,13 +19,13 @@ use Rattle.ttlv_run.specs.declared.job.Task.{Task}
 use Rattle.ttlv_run.specs.declared.messages.Place.{Place}
 use Rattle.ttlv_run.specs.declared.messages.Reached.{Reached}
 use Rattle.ttlv_run.specs.declared.messages.Reached.TheVariants.{Behind, Fault as AtFault}
-use Rattle.ttlv_run.specs.declared.refusal.Refusal.{Refusal}
-use Rattle.ttlv_run.specs.declared.refusal.Refusal.TheVariants.{UnopenedInput, UnreadableInput, MisreadInput, NotUtf8, UnwritableOutput, ClosedPipe, RefusedMemory}
+use Rattle.ttlv_run.specs.declared.run_error.RunError.{RunError}
+use Rattle.ttlv_run.specs.declared.run_error.RunError.TheVariants.{UnopenedInput, UnreadableInput, MisreadInput, NotUtf8, UnwritableOutput, ClosedPipe, NoMemory}
 use Rattle.ttlv_run.specs.Fronts.{front_size, StandsFrontIn, StandsUpTo}
 use Rattle.ttlv_run.specs.Inputs.{TakesSome, IsUnread, form_of, encoding_of, StandsIn, Stands}
-use Rattle.ttlv_run.specs.Messages.{is_there, first_size, message_at, is_taken, Whole, whole_none, whole_more, IsWrong, Breaks, GoesOn}
+use Rattle.ttlv_run.specs.Messages.{is_there, first_size, message_at, is_taken, Whole, whole_none, whole_more, IsWrong, Breaks, Continues}
 use Rattle.ttlv_run.specs.Runs.{Streams, Printed, Faults, Unwritten, Fronts, FrontsIn, FrontsIf, Fails}
-use Rattle.ttlv_run.specs.Streaming.{is_due, StandsAt, EndsAt, PrintsOn, GoesOnBehind, Comes, ComesBy}
+use Rattle.ttlv_run.specs.Streaming.{is_due, StandsAt, EndsAt, PrintsOn, ContinuesBehind, Yields, YieldsBy}
 use Rattle.ttlv_run.specs.Texts.{Names, IsMessageText}
 use Rattle.ttlv_run.proofs.Appending.{all_front}
 use Rattle.ttlv_run.proofs.Completion.{whole_goes, goes_behind}
@@ -120,7 +120,7 @@ up_to_none names task base bytes last all front stands whole =
     subst (λ (t : List ℕ). Whole names task all (base + 0) t) (sym (append-nil front)) (subst (λ (p : ℕ). Whole names task all p front) here whole)
 
 -- the message that is due at a place
-module _ (names : Names) (task : Task) (base : ℕ) (bytes : List ℕ) (last : Bool) (at : ℕ) (m t told : List ℕ) (is : m ≡ message_at bytes at) (due : is_due bytes at last ≡ true) (up : UpTo names task base bytes last at t) where
+module _ (names : Names) (task : Task) (base : ℕ) (bytes : List ℕ) (last : Bool) (at : ℕ) (m t reported : List ℕ) (is : m ≡ message_at bytes at) (due : is_due bytes at last ≡ true) (up : UpTo names task base bytes last at t) where
   inside : at < length bytes
   inside = (due_parts bytes at last due).0
 
@@ -130,39 +130,39 @@ module _ (names : Names) (task : Task) (base : ℕ) (bytes : List ℕ) (last : B
   left : (all : List ℕ) → StandsAt all base bytes last → base + at < length all
   left all stands = stands_before all base bytes last stands at inside
 
-  tells_all : (all : List ℕ) → StandsAt all base bytes last → (f : Option Fault) → IsMessageText names task (base + at) m told f → IsMessageText names task (base + at) (message_at all (base + at)) told f
-  tells_all all stands f tells = subst (λ (s : List ℕ). IsMessageText names task (base + at) s told f) (same all stands) tells
+  tells_all : (all : List ℕ) → StandsAt all base bytes last → (f : Option Fault) → IsMessageText names task (base + at) m reported f → IsMessageText names task (base + at) (message_at all (base + at)) reported f
+  tells_all all stands f tells = subst (λ (s : List ℕ). IsMessageText names task (base + at) s reported f) (same all stands) tells
 
   -- is whole
-  pub one_more : IsMessageText names task (base + at) m told None → is_taken task m ≡ true → UpTo names task base bytes last (at + length m) (t ++ told)
+  pub one_more : IsMessageText names task (base + at) m reported None → is_taken task m ≡ true → UpTo names task base bytes last (at + length m) (t ++ reported)
   one_more tells taken all front stands whole =
-      whole_more (base + at) (base + (at + length m)) (front ++ t) (front ++ (t ++ told)) told (up all front stands whole) (left all stands) (tells_all all stands None tells)
-      (ap (is_taken task) (sym (same all stands)) ∙ taken) (sym (append_assoc front t told)) (omega (arith, ap (λ (s : List ℕ). length s) (same all stands)))
+      whole_more (base + at) (base + (at + length m)) (front ++ t) (front ++ (t ++ reported)) reported (up all front stands whole) (left all stands) (tells_all all stands None tells)
+      (ap (is_taken task) (sym (same all stands)) ∙ taken) (sym (append_assoc front t reported)) (omega (arith, ap (λ (s : List ℕ). length s) (same all stands)))
 
-  wrong_here : (all front : List ℕ) → StandsAt all base bytes last → Whole names task all base front → (place : Place) (f : Option Fault) → IsMessageText names task (base + at) m told f → IsWrong task m (base + at) place f → Breaks names task all (front ++ (t ++ told)) place
+  wrong_here : (all front : List ℕ) → StandsAt all base bytes last → Whole names task all base front → (place : Place) (f : Option Fault) → IsMessageText names task (base + at) m reported f → IsWrong task m (base + at) place f → Breaks names task all (front ++ (t ++ reported)) place
   wrong_here all front stands whole place f tells wrong = record {
     at = base + at;
     front = front ++ t;
-    told = told;
+    reported = reported;
     fault = f;
     whole = up all front stands whole;
     left = left all stands;
     tells = tells_all all stands f tells;
     wrong = subst (λ (s : List ℕ). IsWrong task s (base + at) place f) (same all stands) wrong;
-    is = sym (append_assoc front t told);
+    is = sym (append_assoc front t reported);
   }
 
   -- has a fault, or a root that the task doesn't take
-  pub one_wrong : (place : Place) (f : Option Fault) → IsMessageText names task (base + at) m told f → IsWrong task m (base + at) place f → PrintsOn names task base bytes last (AtFault place) (t ++ told)
+  pub one_wrong : (place : Place) (f : Option Fault) → IsMessageText names task (base + at) m reported f → IsWrong task m (base + at) place f → PrintsOn names task base bytes last (AtFault place) (t ++ reported)
   one_wrong place f tells wrong all front stands whole = wrong_here all front stands whole place f tells wrong
 
   -- is printed up to where that fails
-  pub one_broken : (f : Option Fault) → IsMessageText names task (base + at) m told f → GoesOnBehind names task base bytes last (t ++ told)
+  pub one_broken : (f : Option Fault) → IsMessageText names task (base + at) m reported f → ContinuesBehind names task base bytes last (t ++ reported)
   one_broken f tells all front stands plain whole =
-      subst (GoesOn names task all) (append_assoc front t told) (goes_behind names task all (plain_bytes all plain) (base + at) (front ++ t) (left all stands) (up all front stands whole) told f (tells_all all stands f tells))
+      subst (Continues names task all) (append_assoc front t reported) (goes_behind names task all (plain_bytes all plain) (base + at) (front ++ t) (left all stands) (up all front stands whole) reported f (tells_all all stands f tells))
 
 -- what is printed up to where printing ended goes on
-pub goes_on : (names : Names) (task : Task) (base : ℕ) (bytes : List ℕ) (last : Bool) (reached : Reached) (t : List ℕ) → EndsAt bytes last reached → PrintsOn names task base bytes last reached t → GoesOnBehind names task base bytes last t
+pub goes_on : (names : Names) (task : Task) (base : ℕ) (bytes : List ℕ) (last : Bool) (reached : Reached) (t : List ℕ) → EndsAt bytes last reached → PrintsOn names task base bytes last reached t → ContinuesBehind names task base bytes last t
 goes_on names task base bytes last (AtFault place) t end prints all front stands plain whole =
     record { more = []; place = Some place; prints = subst (λ (s : List ℕ). Breaks names task all s place) (sym (append-nil (front ++ t))) (prints all front stands whole) }
 goes_on names task base bytes last (Behind count) t end prints all front stands plain whole =
@@ -207,15 +207,15 @@ left_of None ended end = record { left = []; are = tt; none = λ _. refl }
 left_of (Some s) ended end = record { left = s; are = refl; none = end }
 
 -- what was read behind the bytes that were there
-pub came_behind : (a b : Option (List ℕ)) (buf all before : List ℕ) (k n : ℕ) → all ≡ buf → take k buf ≡ before → k + n ≤ length buf → Consumes a b (take n (drop k buf)) → (n ≡ 0 → IsAtEnd b) → ComesBy a b before (take (k + n) all) n
+pub came_behind : (a b : Option (List ℕ)) (buf all before : List ℕ) (k n : ℕ) → all ≡ buf → take k buf ≡ before → k + n ≤ length buf → Consumes a b (take n (drop k buf)) → (n ≡ 0 → IsAtEnd b) → YieldsBy a b before (take (k + n) all) n
 came_behind a b buf all before k n same front within consumed ended = record {
-  comes = record { came = take n (drop k buf); consumed = consumed; are = ap (take (k + n)) same ∙ take-add k n buf ∙ ap (λ (s : List ℕ). s ++ take n (drop k buf)) front };
+  yields = record { came = take n (drop k buf); consumed = consumed; are = ap (take (k + n)) same ∙ take-add k n buf ∙ ap (λ (s : List ℕ). s ++ take n (drop k buf)) front };
   as_many = ap (λ (s : List ℕ). length (take (k + n) s)) same ∙ length-take-le (k + n) buf within ∙ ap (λ (m : ℕ). m + n) (sym (length-take-le k buf (omega (arith, within))) ∙ ap (λ (s : List ℕ). length s) front);
   ended = ended;
 }
 
 -- more bytes came behind those that came before
-pub comes_more : (a b c : Option (List ℕ)) (before mid after : List ℕ) → Comes a b before mid → Comes b c mid after → Comes a c before after
+pub comes_more : (a b c : Option (List ℕ)) (before mid after : List ℕ) → Yields a b before mid → Yields b c mid after → Yields a c before after
 comes_more a b c before mid after p q = record {
   came = p.came ++ q.came;
   consumed = Consumes-trans a b c p.came q.came p.consumed q.consumed;
@@ -290,21 +290,21 @@ module _ (names : Names) (job : Job) (output mid : Option (List ℕ)) (base : �
 
   module _ (now : Option (List ℕ)) where
     -- whole messages, and all is printed
-    pub whole_shown : (count : ℕ) → count ≡ length bytes → (told : SomeText (PrintsOn names job.task base bytes last (Behind count)) (Appends mid now)) → Whole names job.task came (length came) (p.text ++ told.text)
-    whole_shown count is told =
-        let here = told.is (came ++ []) p.text (stands [] (λ _. refl)) (p.whole []) in
+    pub whole_shown : (count : ℕ) → count ≡ length bytes → (reported : SomeText (PrintsOn names job.task base bytes last (Behind count)) (Appends mid now)) → Whole names job.task came (length came) (p.text ++ reported.text)
+    whole_shown count is reported =
+        let here = reported.is (came ++ []) p.text (stands [] (λ _. refl)) (p.whole []) in
         let end : base + count ≡ length came = omega (arith, is, p.within, ap (λ (s : List ℕ). length s) p.are, length-drop base came) in
-        subst (λ (s : List ℕ). Whole names job.task s (length came) (p.text ++ told.text)) (append-nil came) (subst (λ (n : ℕ). Whole names job.task (came ++ []) n (p.text ++ told.text)) end here)
+        subst (λ (s : List ℕ). Whole names job.task s (length came) (p.text ++ reported.text)) (append-nil came) (subst (λ (n : ℕ). Whole names job.task (came ++ []) n (p.text ++ reported.text)) end here)
 
     -- whole messages, which are let go of
     pub goes_further : AreBytes bytes → (count : ℕ) → last ≡ false → count ≤ length bytes → SomeText (PrintsOn names job.task base bytes last (Behind count)) (Appends mid now) → Shown names job.task output now (base + count) came (drop count bytes)
-    goes_further plain count unended le told = record {
-      text = p.text ++ told.text;
+    goes_further plain count unended le reported = record {
+      text = p.text ++ reported.text;
       plain = subst AreBytes (ap (λ (s : List ℕ). take base came ++ take count s) (sym p.are) ∙ sym (take-add base count came)) (bytes_append (take base came) (take count bytes) p.plain (bytes_take count bytes le plain));
       within = omega (arith, le, p.within, ap (λ (s : List ℕ). length s) p.are, length-drop base came);
       are = sym (drop-drop count base came) ∙ ap (drop count) p.are;
-      whole = λ more. told.is (came ++ more) p.text (stands more (λ end. absurd (true_is_false (sym end ∙ unended)))) (p.whole more);
-      appended = Appends-trans output mid now p.text told.text p.appended told.holds;
+      whole = λ more. reported.is (came ++ more) p.text (stands more (λ end. absurd (true_is_false (sym end ∙ unended)))) (p.whole more);
+      appended = Appends-trans output mid now p.text reported.text p.appended reported.holds;
     }
 
     module _ (known left : Option (List ℕ)) (k : Standing job.encoding known left came last) where
@@ -314,28 +314,28 @@ module _ (names : Names) (job : Job) (output mid : Option (List ℕ)) (base : �
 
       -- a fault
       pub faults : (place : Place) → SomeText (PrintsOn names job.task base bytes last (AtFault place)) (Appends mid now) → Faults names job now_at place
-      faults place told = record {
+      faults place reported = record {
         input = k.input;
         bytes = came;
         last = last;
-        text = p.text ++ told.text;
+        text = p.text ++ reported.text;
         taken = k.taken;
         stands = k.stands;
-        prints = λ more none. told.is (came ++ more) p.text (stands more none) (p.whole more);
-        appended = Appends-trans output mid now p.text told.text p.appended told.holds;
+        prints = λ more none. reported.is (came ++ more) p.text (stands more none) (p.whole more);
+        appended = Appends-trans output mid now p.text reported.text p.appended reported.holds;
       }
 
       -- printing failed
-      pub fails_in : AreBytes bytes → SomeText (GoesOnBehind names job.task base bytes last) (AppendsFront mid now) → Unwritten names job now_at
-      fails_in plain told = record {
+      pub fails_in : AreBytes bytes → SomeText (ContinuesBehind names job.task base bytes last) (AppendsFront mid now) → Unwritten names job now_at
+      fails_in plain reported = record {
         input = k.input;
         bytes = came;
         last = last;
-        text = p.text ++ told.text;
+        text = p.text ++ reported.text;
         taken = k.taken;
         stands = k.stands;
-        goes = λ more none others. told.is (came ++ more) p.text (stands more none) (bytes_append came more (plain_all plain) others) (p.whole more);
-        appended = AppendsFront-second output mid now p.text told.text p.appended told.holds;
+        writable = λ more none others. reported.is (came ++ more) p.text (stands more none) (bytes_append came more (plain_all plain) others) (p.whole more);
+        appended = AppendsFront-second output mid now p.text reported.text p.appended reported.holds;
       }
 
   -- memory ran out behind whole messages
@@ -347,7 +347,7 @@ module _ (names : Names) (job : Job) (output mid : Option (List ℕ)) (base : �
     text = p.text;
     taken = k.taken;
     stands = k.stands;
-    goes = λ more none others. whole_goes names job.task (came ++ more) (plain_bytes (came ++ more) (bytes_append came more (plain_all plain) others)) base p.text (omega (arith, p.within, length-append came more)) (p.whole more);
+    writable = λ more none others. whole_goes names job.task (came ++ more) (plain_bytes (came ++ more) (bytes_append came more (plain_all plain) others)) base p.text (omega (arith, p.within, length-append came more)) (p.whole more);
     appended = all_front output mid p.text p.appended;
   }
 
@@ -406,25 +406,25 @@ module _ (names : Names) (job : Job) (known now output mid : Option (List ℕ)) 
 
   -- whole messages, and all is printed
   pub printed : (output_now : Option (List ℕ)) (count : ℕ) → ended ≡ true → count ≡ length bytes → SomeText (PrintsOn names job.task base bytes ended (Behind count)) (Appends mid output_now) → Printed names job (record { input = known; input_left = now; output = output; output_now = output_now })
-  printed output_now count end is told =
+  printed output_now count end is reported =
       record {
         input = p.came;
-        text = p.shown.text ++ told.text;
+        text = p.shown.text ++ reported.text;
         taken = record { taken = p.input.consumed; ended = p.input.at_end end };
-        has = record { bytes = p.came; stands = raw_stands job.encoding p.came p.input.raw; prints = whole_shown names job output mid base p.came bytes ended p.shown output_now count is told };
-        appended = Appends-trans output mid output_now p.shown.text told.text p.shown.appended told.holds;
+        has = record { bytes = p.came; stands = raw_stands job.encoding p.came p.input.raw; prints = whole_shown names job output mid base p.came bytes ended p.shown output_now count is reported };
+        appended = Appends-trans output mid output_now p.shown.text reported.text p.shown.appended reported.holds;
       }
 
   -- more bytes came
-  pub more_came : (next : Option (List ℕ)) (after : List ℕ) (then_ : Bool) → Comes now next bytes after → ended ≡ false → (then_ ≡ true → IsAtEnd next) → Printing names job known next output mid base after then_
-  more_came next after then_ comes unended at_end = record {
-    came = p.came ++ comes.came;
-    shown = subst (Shown names job.task output mid base (p.came ++ comes.came)) (sym comes.are) (more_shown names job output mid base p.came bytes ended p.shown comes.came);
-    input = more_raw job.encoding known now p.came ended p.input next comes.came then_ comes.consumed unended at_end;
+  pub more_came : (next : Option (List ℕ)) (after : List ℕ) (then_ : Bool) → Yields now next bytes after → ended ≡ false → (then_ ≡ true → IsAtEnd next) → Printing names job known next output mid base after then_
+  more_came next after then_ yields unended at_end = record {
+    came = p.came ++ yields.came;
+    shown = subst (Shown names job.task output mid base (p.came ++ yields.came)) (sym yields.are) (more_shown names job output mid base p.came bytes ended p.shown yields.came);
+    input = more_raw job.encoding known now p.came ended p.input next yields.came then_ yields.consumed unended at_end;
   }
 
   -- reading failed, or memory ran out for it, in front of a message that isn't there as a whole
-  pub read_fails : AreBytes bytes → (next : Option (List ℕ)) (why : Refusal) → IsUnread why → is_there bytes ≡ false → Keeps now next → ended ≡ false → Fails names job (record { input = known; input_left = next; output = output; output_now = mid }) why
+  pub read_fails : AreBytes bytes → (next : Option (List ℕ)) (why : RunError) → IsUnread why → is_there bytes ≡ false → Keeps now next → ended ≡ false → Fails names job (record { input = known; input_left = next; output = output; output_now = mid }) why
   read_fails plain next UnreadableInput h none keeps unended =
       record {
         bytes = p.came;
@@ -432,7 +432,7 @@ module _ (names : Names) (job : Job) (known now output mid : Option (List ℕ)) 
         fronts = subst (λ (b : Bool). FrontsIf b names job p.came output mid) (sym (le-ltb (length p.came) (front_size job.encoding p.came) (p.input.enough unended)))
             (subst (λ (f : Option Form). FrontsIn f names job.task p.came output mid) (sym p.input.raw) (fronts names job output mid base p.came bytes ended p.shown none));
       }
-  read_fails plain next RefusedMemory h none keeps unended =
+  read_fails plain next NoMemory h none keeps unended =
       let still : RawInput job.encoding known next p.came false = record {
         consumed = Consumes-kept known now next p.came p.input.consumed keeps;
         raw = p.input.raw;

@@ -4,7 +4,7 @@ use Rattle.std.specs.Prelude.{Some, None, slice_index, codes}
 use Rattle.std.specs.Fmt.{decimal}
 use Rattle.std.specs.Str.{trim_end, IsUtf8}
 use Rattle.kmip_ttlv_names.specs.NameTables.{lines_of}
-use Rattle.kmip_ttlv_util.specs.ReadBack.{Part, Stands, StandAll}
+use Rattle.kmip_ttlv_util.specs.ReadBack.{Part, IsPartAt, StandAll}
 use Rattle.ttlv_run.specs.declared.back.BackFault.{BackFault}
 use Rattle.ttlv_run.specs.declared.back.BackFaultKind.{BackFaultKind}
 use Rattle.ttlv_run.specs.declared.back.BackFaultKind.TheVariants.{NoPart, LeftOpen}
@@ -33,7 +33,7 @@ pub record Stops (prefix line : List ℕ) (place : ℕ) (kind : BackFaultKind) :
   pub deep : ℕ
   pub within : place ≤ length (trim_end line)
   pub stand : StandAll prefix 0 (trim_end line) parts deep (drop place (trim_end line))
-  pub no_more : (p : Part) (more : List ℕ) → Stands prefix deep (drop place (trim_end line)) p more → ⊥
+  pub no_more : (p : Part) (more : List ℕ) → IsPartAt prefix deep (drop place (trim_end line)) p more → ⊥
   pub wrong : IsWrong kind deep (length (drop place (trim_end line)))
 
 -- the line that begins at an offset is not whole, and this is where and why

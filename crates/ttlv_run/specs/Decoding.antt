@@ -13,8 +13,8 @@ use Rattle.ttlv_run.specs.declared.form.LinePart.{LinePart}
 use Rattle.ttlv_run.specs.declared.form.Step.TheVariants.{Wrong}
 use Rattle.ttlv_run.specs.declared.misread.MisreadKind.{MisreadKind}
 use Rattle.ttlv_run.specs.declared.misread.MisreadKind.TheVariants.{NoDigit, WrongCount}
-use Rattle.ttlv_run.specs.declared.refusal.Refusal.{Refusal}
-use Rattle.ttlv_run.specs.declared.refusal.Refusal.TheVariants.{RefusedMemory}
+use Rattle.ttlv_run.specs.declared.run_error.RunError.{RunError}
+use Rattle.ttlv_run.specs.declared.run_error.RunError.TheVariants.{NoMemory}
 use Rattle.ttlv_run.specs.Columns.{first_part, step, Reads}
 use Rattle.ttlv_run.specs.Fronts.{ReadsBytes}
 use Rattle.ttlv_run.specs.Inputs.{decode_form, width}
@@ -33,7 +33,7 @@ abbrev pub begun : Decoder → List ℕ
 begun d = take d.count d.digits
 
 -- digits of whole groups are these bytes, and so they are with more digits behind them
-pub record GoesOn (form : Form) (front bytes : List ℕ) : Type 0 where
+pub record Continues (form : Form) (front bytes : List ℕ) : Type 0 where
   pub whole : length front % width form ≡ 0
   pub on : (rest : List ℕ) → decode_form form (front ++ rest) ≡ prepend_known bytes (decode_form form rest)
 
@@ -42,7 +42,7 @@ pub record IsOpen (form : Form) (digits left bytes : List ℕ) : Type 0 where
   pub front : List ℕ
   pub are : digits ≡ front ++ left
   pub few : length left < width form
-  pub goes : GoesOn form front bytes
+  pub writable : Continues form front bytes
 
 -- digits are bytes, and with one more they are none, whatever follows
 pub record IsPadded (form : Form) (digits bytes : List ℕ) : Type 0 where
@@ -68,11 +68,11 @@ Knows Padded form digits left bytes = IsPadded form digits bytes
 Knows Spoilt form digits left bytes = IsSpoilt form digits bytes
 
 -- a digit came
-abbrev pub Comes : Decoder → List ℕ → List ℕ → Made → Type 0
-Comes new digits bytes Nothing = Knows new.phase new.form digits (begun new) bytes
-Comes new digits bytes (Bytes g) =
+abbrev pub Yields : Decoder → List ℕ → List ℕ → Made → Type 0
+Yields new digits bytes Nothing = Knows new.phase new.form digits (begun new) bytes
+Yields new digits bytes (Bytes g) =
     Knows new.phase new.form digits (begun new) (bytes ++ bytes_in g) × (decode_form new.form digits ≡ Some (bytes ++ bytes_in g))
-Comes new digits bytes (Failed why) = ⊥
+Yields new digits bytes (Failed why) = ⊥
 
 -- a text ended behind digits: they are bytes, or none
 abbrev pub Ends : Decoder → List ℕ → List ℕ → Made → Type 0
@@ -147,8 +147,8 @@ Finishes form mark s bytes (Bytes g) = AllBytes form s (bytes ++ bytes_in g)
 Finishes form mark s bytes (Failed why) = Stuck form mark s bytes why
 
 -- what a character came to was put behind bytes, unless memory ran out
-abbrev pub Puts : List ℕ → List ℕ → Made → Result (Option Undecoded) Refusal → Type 0
-Puts old new made (Err why) = (why ≡ RefusedMemory) × (new ≡ old)
+abbrev pub Puts : List ℕ → List ℕ → Made → Result (Option Undecoded) RunError → Type 0
+Puts old new made (Err why) = (why ≡ NoMemory) × (new ≡ old)
 Puts old new Nothing (Ok wrong) = (wrong ≡ None) × (new ≡ old)
 Puts old new (Bytes g) (Ok wrong) = (wrong ≡ None) × (new ≡ old ++ bytes_in g)
 Puts old new (Failed why) (Ok wrong) = (wrong ≡ Some why) × (new ≡ old)
@@ -160,21 +160,21 @@ pub record Grows (old new : List ℕ) (P : List ℕ → Type 0) : Type 0 where
   pub holds : P came
 
 -- more characters came, behind those that a decoder has read: it has read these too, up to the first error
-abbrev pub DecodesPiece : Decoder → ℕ → List ℕ → List ℕ → List ℕ → Result (Option Undecoded) Refusal → Type 0
+abbrev pub DecodesPiece : Decoder → ℕ → List ℕ → List ℕ → List ℕ → Result (Option Undecoded) RunError → Type 0
 DecodesPiece new mark s piece bytes (Ok None) = Reading new mark (s ++ piece) bytes
 DecodesPiece new mark s piece bytes (Ok (Some why)) = (more : List ℕ) → Stuck new.form mark ((s ++ piece) ++ more) bytes why
-DecodesPiece new mark s piece bytes (Err why) = why ≡ RefusedMemory
+DecodesPiece new mark s piece bytes (Err why) = why ≡ NoMemory
 
 -- and where they are the last, the text ended
 abbrev pub DecodesLast : Decoder → ℕ → List ℕ → Bool → List ℕ → Type 0
 DecodesLast new mark s true bytes = AllBytes new.form s bytes
 DecodesLast new mark s false bytes = Reading new mark s bytes
 
-abbrev pub DecodesMore : Decoder → ℕ → List ℕ → List ℕ → Bool → List ℕ → Result (Option Undecoded) Refusal → Type 0
+abbrev pub DecodesMore : Decoder → ℕ → List ℕ → List ℕ → Bool → List ℕ → Result (Option Undecoded) RunError → Type 0
 DecodesMore new mark s piece ended bytes (Ok None) = DecodesLast new mark (s ++ piece) ended bytes
 DecodesMore new mark s piece ended bytes (Ok (Some why)) =
     (more : List ℕ) → (ended ≡ true → more ≡ []) → Stuck new.form mark ((s ++ piece) ++ more) bytes why
-DecodesMore new mark s piece ended bytes (Err why) = why ≡ RefusedMemory
+DecodesMore new mark s piece ended bytes (Err why) = why ≡ NoMemory
 
 -- the bytes that came are the last: the text ended, and there was no error
 abbrev pub is_last : Bool → Option Undecoded → Bool

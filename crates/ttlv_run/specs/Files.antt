@@ -9,9 +9,9 @@ use Rattle.ttlv_run.specs.declared.job.Asked.TheVariants.{Print, ReadBack, FromJ
 use Rattle.ttlv_run.specs.declared.job.BackJob.{BackJob}
 use Rattle.ttlv_run.specs.declared.job.Job.{Job}
 use Rattle.ttlv_run.specs.declared.job.JsonJob.{JsonJob}
-use Rattle.ttlv_run.specs.declared.refusal.Refusal.TheVariants.{UnopenedInput}
+use Rattle.ttlv_run.specs.declared.run_error.RunError.TheVariants.{UnopenedInput}
 use Rattle.ttlv_run.specs.JsonLines.{PrintedJson, MalformedJson, RefusedJson}
-use Rattle.ttlv_run.specs.Reasons.{refusal_line}
+use Rattle.ttlv_run.specs.Reasons.{error_line}
 use Rattle.ttlv_run.specs.Runs.{Streams, Printed, Malformed, Refused, PrintedBack, MalformedBack, RefusedBack}
 use Rattle.ttlv_run.specs.Texts.{Names}
 
@@ -77,7 +77,7 @@ pub data FileDone
       how.opens old.opener name.now None new.opener
       → status ≡ 2
       → Keeps old.output new.output
-      → AppendsFront old.errors new.errors (refusal_line name.now UnopenedInput)
+      → AppendsFront old.errors new.errors (error_line name.now UnopenedInput)
       → FileDone how names asked name old new status
 
 -- the greater of two statuses

@@ -9,7 +9,7 @@ use Rattle.ttlv_run.specs.declared.job.Encoding.TheVariants.{Hexadecimal, Base64
 use Rattle.ttlv_run.specs.Columns.{first_part, body, Reads}
 use Rattle.ttlv_run.specs.Guesses.{front_length, long_front, looks_raw, front_of}
 use Rattle.ttlv_run.specs.Inputs.{Makes, form_of, is_detected, encoding_of, Stands}
-use Rattle.ttlv_run.specs.Streaming.{Comes}
+use Rattle.ttlv_run.specs.Streaming.{Yields}
 
 -- something is there
 abbrev pub is_some : {A : Type 0} → Option A → Bool
@@ -26,13 +26,13 @@ front_size e s =
 
 -- bytes came behind those that were there, and now as many are there as tell the encoding, or all
 pub record Begins (e : Encoding) (old new : Option (List ℕ)) (before after : List ℕ) (ended : Bool) : Type 0 where
-  pub comes : Comes old new before after
+  pub yields : Yields old new before after
   pub enough : ended ≡ false → front_size e after ≤ length after
   pub at_end : ended ≡ true → IsAtEnd new
 
 -- or fewer came, and reading failed
 pub record BeginFails (e : Encoding) (old new : Option (List ℕ)) (before after : List ℕ) : Type 0 where
-  pub comes : Comes old new before after
+  pub yields : Yields old new before after
   pub few : length after < front_size e after
 
 -- the encoding of a text

@@ -15,8 +15,8 @@ use Rattle.ttlv_run.specs.declared.form.LinePart.{LinePart}
 use Rattle.ttlv_run.specs.declared.misread.Misread.{Misread}
 use Rattle.ttlv_run.specs.declared.misread.MisreadKind.{MisreadKind}
 use Rattle.ttlv_run.specs.declared.misread.MisreadKind.TheVariants.{NoDigit, WrongCount}
-use Rattle.ttlv_run.specs.declared.refusal.Refusal.{Refusal}
-use Rattle.ttlv_run.specs.declared.refusal.Refusal.TheVariants.{UnreadableInput, RefusedMemory}
+use Rattle.ttlv_run.specs.declared.run_error.RunError.{RunError}
+use Rattle.ttlv_run.specs.declared.run_error.RunError.TheVariants.{UnreadableInput, NoMemory}
 use Rattle.ttlv_run.specs.Columns.{ReadsText, Stops}
 use Rattle.ttlv_run.specs.Guesses.{encoding_found}
 
@@ -34,9 +34,9 @@ pub record TakesSome (old new : Option (List ℕ)) (bytes : List ℕ) : Type 0 w
   pub rest : IfSome new (λ known. known ≡ left)
 
 -- why an input was not taken
-abbrev pub IsUnread : Refusal → Type 0
+abbrev pub IsUnread : RunError → Type 0
 IsUnread UnreadableInput = Unit {0}
-IsUnread RefusedMemory = Unit {0}
+IsUnread NoMemory = Unit {0}
 IsUnread _ = ⊥
 
 -- the digits of a text

@@ -11,12 +11,12 @@ use Rattle.kmip_ttlv_json.specs.Readings.{IsReadAs, FailsToRead, error_words}
 use Rattle.kmip_ttlv_names.specs.NameTables.{lines_of}
 use Rattle.ttlv_run.specs.declared.job.JsonJob.{JsonJob}
 use Rattle.ttlv_run.specs.declared.from_json.LineFault.{LineFault}
-use Rattle.ttlv_run.specs.declared.refusal.Refusal.{Refusal}
-use Rattle.ttlv_run.specs.declared.refusal.Refusal.TheVariants.{UnreadableInput, NotUtf8}
-use Rattle.ttlv_run.specs.declared.refusal.Refusal.TheVariants.{UnwritableOutput, ClosedPipe, RefusedMemory}
+use Rattle.ttlv_run.specs.declared.run_error.RunError.{RunError}
+use Rattle.ttlv_run.specs.declared.run_error.RunError.TheVariants.{UnreadableInput, NotUtf8}
+use Rattle.ttlv_run.specs.declared.run_error.RunError.TheVariants.{UnwritableOutput, ClosedPipe, NoMemory}
 use Rattle.ttlv_run.specs.Backs.{IsOneLine}
 use Rattle.ttlv_run.specs.Inputs.{TakesAll, TakesSome}
-use Rattle.ttlv_run.specs.Reasons.{IsOfPrinting, place_told, status_of, refusal_line}
+use Rattle.ttlv_run.specs.Reasons.{IsOfPrinting, place_report, status_of, error_line}
 use Rattle.ttlv_run.specs.Runs.{Streams}
 
 -- what is printed of a message: its bytes, or these in hexadecimal and a line feed
@@ -25,8 +25,8 @@ shown true message = message
 shown false message = encode_upper message ++ 10 ∷ []
 
 -- a line, but for white space at its end, is the JSON of a message, and this is printed of it; of an empty line nothing
-abbrev pub Gives : Bool → List ℕ → List ℕ → Type 0
-Gives raw line text =
+abbrev pub GivesLine : Bool → List ℕ → List ℕ → Type 0
+GivesLine raw line text =
     ((trim_end line ≡ []) × (text ≡ []))
     ⊎ ((message : List ℕ) × IsReadAs (trim_end line) message × (text ≡ shown raw message))
 
@@ -34,17 +34,17 @@ Gives raw line text =
 pub record IsBad (line : List ℕ) (error : JsonError) : Type 0 where
   pub some : trim_end line ≢ []
   pub fails : FailsToRead (trim_end line) error
-  pub told : error ≢ OutOfMemory
+  pub reported : error ≢ OutOfMemory
 
 -- what was appended to the output of a line, or why it is bad
 abbrev pub Prints : Bool → List ℕ → Option (List ℕ) → Option (List ℕ) → Option JsonError → Type 0
-Prints raw line old new None = (text : List ℕ) × Gives raw line text × Appends old new text
+Prints raw line old new None = (text : List ℕ) × GivesLine raw line text × Appends old new text
 Prints raw line old new (Some error) = IsBad line error × Appends old new []
 
 -- what was appended of a line by a call that failed: a beginning of what is printed of it, or nothing
 abbrev pub Spoils : Bool → List ℕ → Option (List ℕ) → Option (List ℕ) → Type 0
 Spoils raw line old new =
-    ((text : List ℕ) × Gives raw line text × AppendsFront old new text) ⊎ Appends old new []
+    ((text : List ℕ) × GivesLine raw line text × AppendsFront old new text) ⊎ Appends old new []
 
 -- what is printed of some lines, none of which is bad, and where the next line begins
 pub data AllGive (raw : Bool) : List (List ℕ) → List ℕ → ℕ → Type 0 where
@@ -52,7 +52,7 @@ pub data AllGive (raw : Bool) : List (List ℕ) → List ℕ → ℕ → Type 0 
   one_more :
       (lines more : List (List ℕ)) (line text part all : List ℕ) (at next : ℕ)
       → AllGive raw lines text at
-      → Gives raw line part
+      → GivesLine raw line part
       → more ≡ lines ++ (line ∷ [])
       → all ≡ text ++ part
       → next ≡ at + length line + 1
@@ -63,7 +63,7 @@ abbrev pub PrintsBytes : Bool → List ℕ → Option (List ℕ) → Option (Lis
 PrintsBytes raw line old new error = IsUtf8 line × Prints raw line old new error
 
 -- or they aren't, or printing failed
-abbrev pub FailsAt : Bool → List ℕ → Option (List ℕ) → Option (List ℕ) → Refusal → Type 0
+abbrev pub FailsAt : Bool → List ℕ → Option (List ℕ) → Option (List ℕ) → RunError → Type 0
 FailsAt raw line old new NotUtf8 = (IsUtf8 line → ⊥) × Appends old new []
 FailsAt raw line old new why = IsOfPrinting why × Spoils raw line old new
 
@@ -86,14 +86,14 @@ pub record NextLine (bytes : List ℕ) (place : ℕ) (line : List ℕ) : Type 0 
   pub first : lines_of (drop place bytes) ≡ line ∷ others
 
 -- where the parser stopped
-abbrev pub column_told : JsonError → List ℕ
-column_told (NotJson line column) = codes ", column " ++ decimal column
-column_told error = []
+abbrev pub column_report : JsonError → List ℕ
+column_report (NotJson line column) = codes ", column " ++ decimal column
+column_report error = []
 
 -- the line on standard error: what the input is called, the offset of the line in it and what is wrong
 abbrev pub bad_line : List ℕ → LineFault → List ℕ
 bad_line name fault =
-    place_told name (Some fault.offset) ++ codes ": " ++ error_words fault.error ++ column_told fault.error ++ codes "\n"
+    place_report name (Some fault.offset) ++ codes ": " ++ error_words fault.error ++ column_report fault.error ++ codes "\n"
 
 -- the whole input was taken, each of its lines is the JSON of a message or empty, and exactly what is printed of them was appended
 -- to the output
@@ -122,7 +122,7 @@ pub record FaultsJson (job : JsonJob) (s : Streams) (fault : LineFault) : Type 0
 pub record MalformedJson (job : JsonJob) (s : Streams) (errors errors_now : Option (List ℕ)) : Type 0 where
   pub fault : LineFault
   pub faults : FaultsJson job s fault
-  pub told : AppendsFront errors errors_now (bad_line job.name.now fault)
+  pub reported : AppendsFront errors errors_now (bad_line job.name.now fault)
 
 -- exactly what is printed of the lines that came before reading failed was appended
 pub record UnreadJson (job : JsonJob) (s : Streams) : Type 0 where
@@ -159,15 +159,15 @@ pub record UnwrittenJson (job : JsonJob) (s : Streams) : Type 0 where
   pub appended : AppendsFront s.output s.output_now text
 
 -- why not all lines were printed, and what was done by then
-abbrev pub FailsJson : JsonJob → Streams → Refusal → Type 0
+abbrev pub FailsJson : JsonJob → Streams → RunError → Type 0
 FailsJson job s UnreadableInput = UnreadJson job s
 FailsJson job s NotUtf8 = NoTextJson job s
 FailsJson job s UnwritableOutput = UnwrittenJson job s
 FailsJson job s ClosedPipe = UnwrittenJson job s
-FailsJson job s RefusedMemory = UnwrittenJson job s
+FailsJson job s NoMemory = UnwrittenJson job s
 FailsJson job s _ = ⊥
 
-abbrev pub RespondsJson : JsonJob → Streams → Result (Option LineFault) Refusal → Type 0
+abbrev pub RespondsJson : JsonJob → Streams → Result (Option LineFault) RunError → Type 0
 RespondsJson job s (Ok None) = PrintedJson job s
 RespondsJson job s (Ok (Some fault)) = FaultsJson job s fault
 RespondsJson job s (Err why) = FailsJson job s why
@@ -175,7 +175,7 @@ RespondsJson job s (Err why) = FailsJson job s why
 -- there is a reason for the status, and a beginning of its line was appended to the errors
 pub record RefusedJson
     (job : JsonJob) (s : Streams) (status : ℕ) (errors errors_now : Option (List ℕ)) : Type 0 where
-  pub why : Refusal
+  pub why : RunError
   pub fails : FailsJson job s why
   pub status_is : status ≡ status_of why
-  pub told : AppendsFront errors errors_now (refusal_line job.name.now why)
+  pub reported : AppendsFront errors errors_now (error_line job.name.now why)

@@ -49,12 +49,12 @@ is_taken task message = true
 pub data Whole (names : Names) (task : Task) (bytes : List ℕ) : ℕ → List ℕ → Type 0 where
   whole_none : Whole names task bytes 0 []
   whole_more :
-      (p q : ℕ) (old new told : List ℕ)
+      (p q : ℕ) (old new reported : List ℕ)
       → Whole names task bytes p old
       → p < length bytes
-      → IsMessageText names task p (message_at bytes p) told None
+      → IsMessageText names task p (message_at bytes p) reported None
       → is_taken task (message_at bytes p) ≡ true
-      → new ≡ old ++ told
+      → new ≡ old ++ reported
       → q ≡ p + length (message_at bytes p)
       → Whole names task bytes q new
 
@@ -78,13 +78,13 @@ pub data IsWrong (task : Task) (message : List ℕ) (at : ℕ) (place : Place) :
 pub record Breaks (names : Names) (task : Task) (bytes text : List ℕ) (place : Place) : Type 0 where
   pub at : ℕ
   pub front : List ℕ
-  pub told : List ℕ
+  pub reported : List ℕ
   pub fault : Option Fault
   pub whole : Whole names task bytes at front
   pub left : at < length bytes
-  pub tells : IsMessageText names task at (message_at bytes at) told fault
+  pub tells : IsMessageText names task at (message_at bytes at) reported fault
   pub wrong : IsWrong task (message_at bytes at) at place fault
-  pub is : text ≡ front ++ told
+  pub is : text ≡ front ++ reported
 
 -- what is printed of all messages, or of those up to the first fault
 abbrev pub Prints : Names → Task → List ℕ → List ℕ → Option Place → Type 0
@@ -92,7 +92,7 @@ Prints names task bytes text None = Whole names task bytes (length bytes) text
 Prints names task bytes text (Some place) = Breaks names task bytes text place
 
 -- a text that goes on behind this one is printed of an input, whatever that holds
-pub record GoesOn (names : Names) (task : Task) (bytes front : List ℕ) : Type 0 where
+pub record Continues (names : Names) (task : Task) (bytes front : List ℕ) : Type 0 where
   pub more : List ℕ
   pub place : Option Place
   pub prints : Prints names task bytes (front ++ more) place
@@ -114,13 +114,13 @@ wrong_words (Malformed kind) = fault_words kind
 wrong_words NotKmip = codes "neither a Request Message nor a Response Message"
 
 -- a tag with its name, where there is one
-abbrev pub tag_told : Names → Option ℕ → List ℕ
-tag_told names None = codes "no tag"
-tag_told names (Some tag) = tag_named (names.tags tag) tag
+abbrev pub tag_report : Names → Option ℕ → List ℕ
+tag_report names None = codes "no tag"
+tag_report names (Some tag) = tag_named (names.tags tag) tag
 
 -- the line on standard error: what the input is called, the offset among its messages' bytes, the tag there and
 -- what is wrong
 unfoldable pub fault_line : Names → List ℕ → Place → List ℕ
 fault_line names name place =
-    name ++ codes ": byte " ++ decimal place.offset ++ codes ": " ++ tag_told names place.tag ++ codes ": "
+    name ++ codes ": byte " ++ decimal place.offset ++ codes ": " ++ tag_report names place.tag ++ codes ": "
     ++ wrong_words place.wrong ++ codes "\n"

@@ -10,16 +10,16 @@ use Rattle.ttlv_run.specs.declared.job.BackJob.{BackJob}
 use Rattle.ttlv_run.specs.declared.job.Task.{Task}
 use Rattle.ttlv_run.specs.declared.messages.Place.{Place}
 use Rattle.ttlv_run.specs.declared.misread.Misread.{Misread}
-use Rattle.ttlv_run.specs.declared.refusal.Refusal.{Refusal}
-use Rattle.ttlv_run.specs.declared.refusal.Refusal.TheVariants.{UnopenedInput, UnreadableInput, MisreadInput, NotUtf8}
-use Rattle.ttlv_run.specs.declared.refusal.Refusal.TheVariants.{UnwritableOutput, ClosedPipe, RefusedMemory}
+use Rattle.ttlv_run.specs.declared.run_error.RunError.{RunError}
+use Rattle.ttlv_run.specs.declared.run_error.RunError.TheVariants.{UnopenedInput, UnreadableInput, MisreadInput, NotUtf8}
+use Rattle.ttlv_run.specs.declared.run_error.RunError.TheVariants.{UnwritableOutput, ClosedPipe, NoMemory}
 use Rattle.kmip_ttlv_names.specs.NameTables.{lines_of}
 use Rattle.ttlv_run.specs.declared.back.BackFault.{BackFault}
 use Rattle.ttlv_run.specs.Backs.{FirstBreak, IsOneLine, AreLines, ReadsLines, back_line}
 use Rattle.ttlv_run.specs.Fronts.{front_size, DecodesTo, StandsUpTo}
 use Rattle.ttlv_run.specs.Inputs.{TakesAll, TakesSome, form_of, encoding_of, Stands, Misreads}
-use Rattle.ttlv_run.specs.Messages.{is_there, Whole, Prints, GoesOn, Breaks as MessageBreaks, fault_line}
-use Rattle.ttlv_run.specs.Reasons.{status_of, refusal_line}
+use Rattle.ttlv_run.specs.Messages.{is_there, Whole, Prints, Continues, Breaks as MessageBreaks, fault_line}
+use Rattle.ttlv_run.specs.Reasons.{status_of, error_line}
 use Rattle.ttlv_run.specs.Texts.{Names, text_back}
 
 -- what the input has and what the output holds, before and after a run, as far as that is known
@@ -70,7 +70,7 @@ pub record Unwritten (names : Names) (job : Job) (s : Streams) : Type 0 where
   pub text : List ℕ
   pub taken : TakesSome s.input s.input_left input
   pub stands : StandsUpTo job.encoding input bytes last
-  pub goes : (more : List ℕ) → (last ≡ true → more ≡ []) → AreBytes more → GoesOn names job.task (bytes ++ more) text
+  pub writable : (more : List ℕ) → (last ≡ true → more ≡ []) → AreBytes more → Continues names job.task (bytes ++ more) text
   pub appended : AppendsFront s.output s.output_now text
 
 -- exactly what is printed of the messages that are whole among bytes was appended to the output
@@ -116,23 +116,23 @@ pub record Unread (names : Names) (job : Job) (s : Streams) : Type 0 where
   pub fronts : FrontsIf (nat_lt (length bytes) (front_size job.encoding bytes)) names job bytes s.output s.output_now
 
 -- why a run ends with status 2 or 3, and what it did by then
-abbrev pub Fails : Names → Job → Streams → Refusal → Type 0
+abbrev pub Fails : Names → Job → Streams → RunError → Type 0
 Fails names job s UnreadableInput = Unread names job s
 Fails names job s UnwritableOutput = Unwritten names job s
 Fails names job s ClosedPipe = Unwritten names job s
-Fails names job s RefusedMemory = Keeps s.output s.output_now ⊎ Unwritten names job s
+Fails names job s NoMemory = Keeps s.output s.output_now ⊎ Unwritten names job s
 Fails names job s (MisreadInput m) = Undecoded names job s m
 Fails names job s UnopenedInput = ⊥
 Fails names job s NotUtf8 = ⊥
 
 -- what is printed for a job, up to the first fault
-abbrev pub Places : Names → Job → Streams → Result (Option Place) Refusal → Type 0
+abbrev pub Places : Names → Job → Streams → Result (Option Place) RunError → Type 0
 Places names job s (Ok None) = Printed names job s
 Places names job s (Ok (Some place)) = Faults names job s place
 Places names job s (Err why) = Fails names job s why
 
 -- what is done for a job
-abbrev pub Responds : {T : Type 0} → (T → List ℕ) → Names → Job → Streams → Result (Option T) Refusal → Type 0
+abbrev pub Responds : {T : Type 0} → (T → List ℕ) → Names → Job → Streams → Result (Option T) RunError → Type 0
 Responds text names job s (Ok None) = Printed names job s
 Responds text names job s (Ok (Some line)) = Breaks names job s (text line)
 Responds text names job s (Err why) = Fails names job s why
@@ -141,15 +141,15 @@ Responds text names job s (Err why) = Fails names job s why
 pub record Malformed (names : Names) (job : Job) (s : Streams) (errors errors_now : Option (List ℕ)) : Type 0 where
   pub line : List ℕ
   pub breaks : Breaks names job s line
-  pub told : AppendsFront errors errors_now line
+  pub reported : AppendsFront errors errors_now line
 
 -- there is a reason for the status, and a beginning of its line was appended to the errors
 pub record Refused
     (names : Names) (job : Job) (s : Streams) (status : ℕ) (errors errors_now : Option (List ℕ)) : Type 0 where
-  pub why : Refusal
+  pub why : RunError
   pub fails : Fails names job s why
   pub status_is : status ≡ status_of why
-  pub told : AppendsFront errors errors_now (refusal_line job.name.now why)
+  pub reported : AppendsFront errors errors_now (error_line job.name.now why)
 
 -- the whole input was taken, and this text is what its diagnostics are read back as; and the first line that is not
 -- whole stops being a diagnostic here, or all lines are whole
@@ -172,7 +172,7 @@ pub record MalformedBack
     (names : Names) (job : BackJob) (s : Streams) (errors errors_now : Option (List ℕ)) : Type 0 where
   pub fault : BackFault
   pub printed : PrintedBack names job s (Some fault)
-  pub told : AppendsFront errors errors_now (back_line job.name.now fault)
+  pub reported : AppendsFront errors errors_now (back_line job.name.now fault)
 
 -- exactly what the whole lines among the bytes that came before reading failed are read back as was appended
 pub record UnreadBack (names : Names) (job : BackJob) (s : Streams) : Type 0 where
@@ -214,22 +214,22 @@ pub record UnwrittenBack (names : Names) (job : BackJob) (s : Streams) : Type 0 
   pub appended : AppendsFront s.output s.output_now (text_back names.tags job.prefix.now front)
 
 -- why reading back ended early, and what was printed by then
-abbrev pub FailsBack : Names → BackJob → Streams → Refusal → Type 0
+abbrev pub FailsBack : Names → BackJob → Streams → RunError → Type 0
 FailsBack names job s UnreadableInput = UnreadBack names job s
 FailsBack names job s NotUtf8 = NoTextBack names job s
 FailsBack names job s UnwritableOutput = UnwrittenBack names job s
 FailsBack names job s ClosedPipe = UnwrittenBack names job s
-FailsBack names job s RefusedMemory = UnwrittenBack names job s
+FailsBack names job s NoMemory = UnwrittenBack names job s
 FailsBack names job s _ = ⊥
 
-abbrev pub RespondsBack : Names → BackJob → Streams → Result (Option BackFault) Refusal → Type 0
+abbrev pub RespondsBack : Names → BackJob → Streams → Result (Option BackFault) RunError → Type 0
 RespondsBack names job s (Ok fault) = PrintedBack names job s fault
 RespondsBack names job s (Err why) = FailsBack names job s why
 
 -- there is a reason for the status, and a beginning of its line was appended to the errors
 pub record RefusedBack
     (names : Names) (job : BackJob) (s : Streams) (status : ℕ) (errors errors_now : Option (List ℕ)) : Type 0 where
-  pub why : Refusal
+  pub why : RunError
   pub fails : FailsBack names job s why
   pub status_is : status ≡ status_of why
-  pub told : AppendsFront errors errors_now (refusal_line job.name.now why)
+  pub reported : AppendsFront errors errors_now (error_line job.name.now why)

@@ -7,12 +7,12 @@ use Rattle.ttlv_run.specs.declared.messages.Reached.{Reached}
 use Rattle.ttlv_run.specs.declared.messages.Reached.TheVariants.{Behind, Fault}
 use Rattle.ttlv_run.specs.declared.window.Window.{Window}
 use Rattle.ttlv_run.specs.Backs.{IsOneLine}
-use Rattle.ttlv_run.specs.Messages.{is_there, Whole, Breaks, GoesOn}
+use Rattle.ttlv_run.specs.Messages.{is_there, Whole, Breaks, Continues}
 use Rattle.ttlv_run.specs.Texts.{Names}
 
 -- the bytes that were read, in front of room for more
-abbrev pub held : {A : Type 0} → Window A → List ℕ
-held w = take w.count w.bytes.items
+abbrev pub buffered : {A : Type 0} → Window A → List ℕ
+buffered w = take w.count w.bytes.items
 
 -- these bytes stand at a place among those of all messages, and more behind them, if they aren't the last
 pub record StandsAt (all : List ℕ) (place : ℕ) (bytes : List ℕ) (last : Bool) : Type 0 where
@@ -44,30 +44,30 @@ PrintsOn names task place bytes last reached text =
     → PrintsUpTo names task all place (front ++ text) reached
 
 -- a text that goes on behind this one is printed of all messages
-abbrev pub GoesOnBehind : Names → Task → ℕ → List ℕ → Bool → List ℕ → Type 0
-GoesOnBehind names task place bytes last text =
+abbrev pub ContinuesBehind : Names → Task → ℕ → List ℕ → Bool → List ℕ → Type 0
+ContinuesBehind names task place bytes last text =
     (all front : List ℕ) → StandsAt all place bytes last → AreBytes all → Whole names task all place front
-    → GoesOn names task all (front ++ text)
+    → Continues names task all (front ++ text)
 
 -- bytes came behind those that were there
-pub record Comes (old new : Option (List ℕ)) (before after : List ℕ) : Type 0 where
+pub record Yields (old new : Option (List ℕ)) (before after : List ℕ) : Type 0 where
   pub came : List ℕ
   pub consumed : Consumes old new came
   pub are : after ≡ before ++ came
 
 -- so many, and none at the input's end
-pub record ComesBy (old new : Option (List ℕ)) (before after : List ℕ) (count : ℕ) : Type 0 where
-  pub comes : Comes old new before after
+pub record YieldsBy (old new : Option (List ℕ)) (before after : List ℕ) (count : ℕ) : Type 0 where
+  pub yields : Yields old new before after
   pub as_many : length after ≡ length before + count
   pub ended : count ≡ 0 → IsAtEnd new
 
 -- so did all of a line and more, or what was left of the input
-pub record ComesLines (old new : Option (List ℕ)) (before after : List ℕ) (ended : Bool) : Type 0 where
-  pub comes : Comes old new before after
+pub record YieldsLines (old new : Option (List ℕ)) (before after : List ℕ) (ended : Bool) : Type 0 where
+  pub yields : Yields old new before after
   pub some : ended ≡ false → length before < length after
   pub at_end : ended ≡ true → IsAtEnd new
 
 -- some came, and reading failed before a line feed came
 pub record LinesFail (old new : Option (List ℕ)) (before after : List ℕ) : Type 0 where
-  pub comes : Comes old new before after
+  pub yields : Yields old new before after
   pub one_line : IsOneLine before → IsOneLine after

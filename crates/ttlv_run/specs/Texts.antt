@@ -41,11 +41,11 @@ pub record Names : Type 0 where
 
 -- those that a program holds; a user's own names of values come before the others
 abbrev pub names_of : {A : Type 0} → NamesHeld A → Names
-names_of held = record {
-  tags = name_in held.tags;
-  values = λ tag value. value_named (name_in held.own) (name_in held.values tag) tag value;
-  masks = λ tag mask. mask_names (value_named (name_in held.own) (name_in held.masks tag) tag) mask;
-  secrets = has_line held.secrets;
+names_of buffered = record {
+  tags = name_in buffered.tags;
+  values = λ tag value. value_named (name_in buffered.own) (name_in buffered.values tag) tag value;
+  masks = λ tag mask. mask_names (value_named (name_in buffered.own) (name_in buffered.masks tag) tag) mask;
+  secrets = has_line buffered.secrets;
 }
 
 -- a name behind a space
@@ -152,8 +152,8 @@ abbrev pub no_reach : Reach
 no_reach = record { secret = 0; asked = 0 }
 
 -- what is said of a value: nothing of one in a secret item, if those are hidden
-abbrev pub values_told : Look → Reach → FoundItem → Values
-values_told look r i = if look.secrets_hidden && nat_lt i.offset r.secret then Hidden else look.values
+abbrev pub values_shown : Look → Reach → FoundItem → Values
+values_shown look r i = if look.secrets_hidden && nat_lt i.offset r.secret then Hidden else look.values
 
 -- an item is passed over: one tag is asked for, and it is in no item of that tag
 abbrev pub is_passed : Option ℕ → Reach → FoundItem → Bool
@@ -163,7 +163,7 @@ is_passed (Some only) r i = nat_le r.asked i.offset
 -- the line of an item, if it is asked for
 unfoldable pub item_text : Names → Look → Reach → ℕ → List ℕ → FoundItem → List ℕ
 item_text names look r at bytes i =
-    if is_passed look.only r i then [] else item_line names look (values_told look r i) at bytes i
+    if is_passed look.only r i then [] else item_line names look (values_shown look r i) at bytes i
 
 -- the lines of items that a walk met one after the other, where those before them reach so far
 abbrev pub lines_from : Names → Look → ℕ → List ℕ → Reach → List FoundItem → List ℕ

@@ -2,7 +2,7 @@
 
 ghost use Rattle.std.specs.Prelude.{◌≡◌, ◌<◌, ◌≤◌, ◌+◌, ℕ, List, length, take, Some, None, IfOk, IfErr, IfSome, IfNone};
 ghost use Rattle.base64.specs.GeneralPurpose.{IsBytes};
-ghost use Rattle.ttlv_run.specs.declared.refusal.Refusal.TheVariants.{MisreadInput as AMisread};
+ghost use Rattle.ttlv_run.specs.declared.run_error.RunError.TheVariants.{MisreadInput as AMisread};
 ghost use Rattle.ttlv_run.specs.Fronts.{front_size, taken_as};
 ghost use Rattle.ttlv_run.specs.Inputs.{TakesAll, IsUnread, has_padding, url_alphabet, alphabet_of, width, decode_form, form_of, encoding_of, is_detected};
 
@@ -10,7 +10,7 @@ use crate::form::Form;
 use crate::guess::{FRONT, LONG_FRONT, encoding_found, front_of, looks_raw};
 use crate::job::Encoding;
 use crate::misread::{Misread, MisreadKind};
-use crate::refusal::Refusal;
+use crate::run_error::RunError;
 use base64::engine::general_purpose::{STANDARD, URL_SAFE, URL_SAFE_NO_PAD};
 use std::alloc::Allocator;
 use std::io::{ErrorKind, Read};
@@ -25,15 +25,15 @@ pub enum Alphabet {
 }
 
 /// All bytes of a reader.
-pub fn read_all<A: Allocator, R: Read>(alloc: A, input: &mut R) -> Result<Vec<u8, A>, Refusal>
+pub fn read_all<A: Allocator, R: Read>(alloc: A, input: &mut R) -> Result<Vec<u8, A>, RunError>
     ensures ok { IfOk result (λ all. TakesAll (R.remaining input.old) (R.remaining input.new) all.items) }
     ensures err { IfErr result IsUnread }
 {
     let mut bytes = Vec::new(alloc);
     match input.read_to_end(&mut bytes) {
         Ok(_) => Ok(bytes),
-        Err(e) if e.kind() == ErrorKind::OutOfMemory => Err(Refusal::RefusedMemory),
-        Err(_) => Err(Refusal::UnreadableInput),
+        Err(e) if e.kind() == ErrorKind::OutOfMemory => Err(RunError::NoMemory),
+        Err(_) => Err(RunError::UnreadableInput),
     }
 }
 
@@ -158,7 +158,7 @@ pub fn front_size(encoding: Encoding, input: &[u8]) -> usize
 }
 
 /// The error of an input that was taken as an encoding and stands for no bytes.
-pub fn misread(encoding: Encoding, taken: Encoding, why: Undecoded) -> Refusal
+pub fn misread(encoding: Encoding, taken: Encoding, why: Undecoded) -> RunError
     ensures { result ≡ AMisread (record {
       taken = taken;
       guessed = is_detected encoding;
@@ -166,7 +166,7 @@ pub fn misread(encoding: Encoding, taken: Encoding, why: Undecoded) -> Refusal
       kind = why.kind;
     }) }
 {
-    Refusal::MisreadInput(Misread {
+    RunError::MisreadInput(Misread {
         taken,
         guessed: is_detected(encoding),
         offset: why.offset,

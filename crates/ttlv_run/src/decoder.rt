@@ -84,7 +84,7 @@ pub struct Decoder {
 impl Decoder {
     ghost use Rattle.ttlv_run.specs.declared.decoder.Made.TheVariants.{Failed as AnError};
     ghost use Rattle.ttlv_run.specs.declared.decoder.Phase.TheVariants.{Groups};
-    ghost use Rattle.ttlv_run.specs.Decoding.{begun, characters, IsOpen, Knows, Holds, Comes, Takes, Reading, Pushes, Finishes, Ends};
+    ghost use Rattle.ttlv_run.specs.Decoding.{begun, characters, IsOpen, Knows, Holds, Yields, Takes, Reading, Pushes, Finishes, Ends};
 
     /// A decoder in front of a text behind its mark, which has so many bytes.
     pub fn new(form: Form, mark: usize) -> Decoder
@@ -113,7 +113,7 @@ impl Decoder {
     fn put(&mut self, b: u8) -> Made
         requires { self.old.phase ≡ Groups }
         ensures made { (digits bytes : List ℕ) → IsOpen self.old.form digits (begun self.old) bytes
-            → Comes self.new (digits ++ b ∷ []) bytes result }
+            → Yields self.new (digits ++ b ∷ []) bytes result }
         ensures form { self.new.form ≡ self.old.form }
         ensures part { self.new.part ≡ self.old.part }
         ensures waiting { self.new.waiting ≡ self.old.waiting }
@@ -139,7 +139,7 @@ impl Decoder {
     // Counts a digit.
     fn count(&mut self, b: u8) -> Made
         ensures made { (digits bytes : List ℕ) → Knows self.old.phase self.old.form digits (begun self.old) bytes
-            → Comes self.new (digits ++ b ∷ []) bytes result }
+            → Yields self.new (digits ++ b ∷ []) bytes result }
         ensures form { self.new.form ≡ self.old.form }
         ensures part { self.new.part ≡ self.old.part }
         ensures waiting { self.new.waiting ≡ self.old.waiting }

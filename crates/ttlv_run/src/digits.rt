@@ -6,7 +6,7 @@ ghost use Rattle.ttlv_run.specs.Decoding.{characters, Reading, Grows, Puts, Deco
 ghost use Rattle.ttlv_run.specs.Fronts.{front_size};
 ghost use Rattle.ttlv_run.specs.Inputs.{form_of, encoding_of};
 ghost use Rattle.ttlv_run.specs.Runs.{Places};
-ghost use Rattle.ttlv_run.specs.Streaming.{held};
+ghost use Rattle.ttlv_run.specs.Streaming.{buffered};
 ghost use Rattle.ttlv_run.specs.Texts.{names_of};
 
 use crate::coding::{Undecoded, misread, taken_as};
@@ -16,15 +16,15 @@ use crate::guess::mark_length;
 use crate::job::{Job, Names};
 use crate::memory::Memory;
 use crate::messages::{Place, Reached};
-use crate::refusal::Refusal;
 use crate::run::print_messages;
+use crate::run_error::RunError;
 use crate::window::Window;
 use std::alloc::Allocator;
 use std::io::{Read, Write};
 
 // Puts what a character came to behind bytes; gives the error, if it is one.
-fn put<A: Allocator>(made: Made, bytes: &mut Window<A>) -> Result<Option<Undecoded>, Refusal>
-    ensures { Puts (held bytes.old) (held bytes.new) made result }
+fn put<A: Allocator>(made: Made, bytes: &mut Window<A>) -> Result<Option<Undecoded>, RunError>
+    ensures { Puts (buffered bytes.old) (buffered bytes.new) made result }
 {
     match made {
         Made::Nothing => Ok(None),
@@ -41,9 +41,9 @@ fn decode_piece<A: Allocator>(
     decoder: &mut Decoder,
     piece: &[u8],
     bytes: &mut Window<A>,
-) -> Result<Option<Undecoded>, Refusal>
+) -> Result<Option<Undecoded>, RunError>
     requires { decoder.old.offset + length piece.now < 2 ^ 64 - 1 }
-    ensures made { Grows (held bytes.old) (held bytes.new) (λ came. (mark : ℕ) (s all : List ℕ) → Reading decoder.old mark s all
+    ensures made { Grows (buffered bytes.old) (buffered bytes.new) (λ came. (mark : ℕ) (s all : List ℕ) → Reading decoder.old mark s all
         → DecodesPiece decoder.new mark s piece.now (all ++ came) result) }
     ensures offset { decoder.new.offset ≤ decoder.old.offset + length piece.now }
     ensures count { result ≡ Ok None → characters decoder.new ≡ characters decoder.old + length piece.now }
@@ -63,24 +63,24 @@ fn decode_more<A: Allocator>(
     text: &mut Window<A>,
     ended: bool,
     bytes: &mut Window<A>,
-) -> Result<Option<Undecoded>, Refusal>
-    ensures made { Grows (held bytes.old) (held bytes.new) (λ came. (mark : ℕ) (s all : List ℕ) → Reading decoder.old mark s all
-        → DecodesMore decoder.new mark s (held text.old) ended (all ++ came) result) }
+) -> Result<Option<Undecoded>, RunError>
+    ensures made { Grows (buffered bytes.old) (buffered bytes.new) (λ came. (mark : ℕ) (s all : List ℕ) → Reading decoder.old mark s all
+        → DecodesMore decoder.new mark s (buffered text.old) ended (all ++ came) result) }
     ensures form { decoder.new.form ≡ decoder.old.form }
-    ensures left { OnOk result (held text.new ≡ []) }
+    ensures left { OnOk result (buffered text.new ≡ []) }
     ensures count { result ≡ Ok None → ended ≡ false
-        → (characters decoder.new ≡ characters decoder.old + length (held text.old)) × (characters decoder.new < 2 ^ 64) }
+        → (characters decoder.new ≡ characters decoder.old + length (buffered text.old)) × (characters decoder.new < 2 ^ 64) }
 {
-    let piece = text.held();
+    let piece = text.buffered();
     let count = piece.len();
     if usize::MAX - decoder.offset() <= count {
-        return Err(Refusal::RefusedMemory);
+        return Err(RunError::NoMemory);
     }
     if let Some(why) = decode_piece(decoder, piece, bytes)? {
-        text.let_go(count);
+        text.discard(count);
         return Ok(Some(why));
     }
-    text.let_go(count);
+    text.discard(count);
     if ended {
         return put(decoder.finish(), bytes);
     }
@@ -108,11 +108,11 @@ pub fn print_digits<A: Allocator + Copy, B: Allocator + Copy, R: Read, W: Write>
     mut ended: bool,
     input: &mut R,
     output: &mut W,
-) -> Result<Option<Place>, Refusal>
-    requires form { form_of (encoding_of job.now.encoding (held text)) ≡ Some form }
-    requires front { ended ≡ false → front_size job.now.encoding (held text) ≤ length (held text) }
+) -> Result<Option<Place>, RunError>
+    requires form { form_of (encoding_of job.now.encoding (buffered text)) ≡ Some form }
+    requires front { ended ≡ false → front_size job.now.encoding (buffered text) ≤ length (buffered text) }
     requires at_end { ended ≡ true → IsAtEnd (R.remaining input.old) }
-    ensures { (known : Option (List ℕ)) → Consumes known (R.remaining input.old) (held text)
+    ensures { (known : Option (List ℕ)) → Consumes known (R.remaining input.old) (buffered text)
         → Places (names_of names.now) job.now
         (record {
           input = known;
@@ -121,22 +121,22 @@ pub fn print_digits<A: Allocator + Copy, B: Allocator + Copy, R: Read, W: Write>
           output_now = W.contents output.new;
         }) result }
 {
-    let mark = mark_length(text.held());
-    text.let_go(mark);
+    let mark = mark_length(text.buffered());
+    text.discard(mark);
     let mut decoder = Decoder::new(form, mark);
     let mut bytes = Window::new(memory.input);
     let mut base = 0;
     'pieces: loop {
         let wrong = decode_more(&mut decoder, &mut text, ended, &mut bytes)?;
-        let held = bytes.held();
-        if usize::MAX - base < held.len() {
-            return Err(Refusal::RefusedMemory);
+        let buffered = bytes.buffered();
+        if usize::MAX - base < buffered.len() {
+            return Err(RunError::NoMemory);
         }
         let last = is_last(ended, wrong);
-        match print_messages(memory.rest, names, job.task, base, held, last, output)? {
+        match print_messages(memory.rest, names, job.task, base, buffered, last, output)? {
             Reached::Behind(count) => {
                 base += count;
-                bytes.let_go(count);
+                bytes.discard(count);
             }
             Reached::Fault(place) => return Ok(Some(place)),
         }

@@ -7,8 +7,8 @@ ghost use Rattle.ttlv_run.specs.Texts.{names_of};
 use crate::from_json::read_json;
 use crate::job::{Asked, BackJob, Job, JsonJob, Names};
 use crate::memory::Memory;
-use crate::refusal::Refusal;
-use crate::run::{read_back, run, tell_refusal};
+use crate::run::{read_back, report_error, run};
+use crate::run_error::RunError;
 use std::alloc::{Allocator, Global};
 use std::io::{Read, Write};
 
@@ -82,7 +82,7 @@ fn run_file<B: Allocator + Copy, O: Opener, W: Write, E: Write>(
     match opener.open(name) {
         Some(mut input) => run_asked(memory, asked, name, names, &mut input, output, errors),
         None => {
-            tell_refusal(errors, name, Refusal::UnopenedInput);
+            report_error(errors, name, RunError::UnopenedInput);
             2
         }
     }

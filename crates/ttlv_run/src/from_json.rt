@@ -3,13 +3,13 @@
 ghost use Rattle.std.specs.Prelude.{◌≡◌, ◌≤◌, ◌++◌, ◌⊎◌, ℕ, List, Option, None, IfOk, IfErr, OnOk, OnErr, codes};
 ghost use Rattle.std.specs.Io.KnownBytes.{Appends, Keeps};
 ghost use Rattle.kmip_ttlv_types.specs.Streams.{AppendsFront};
-ghost use Rattle.ttlv_run.specs.Reasons.{IsOfPrinting, Tells};
-ghost use Rattle.ttlv_run.specs.JsonLines.{shown, Prints, Spoils, PrintsBytes, FailsAt, fault_at, bad_line, column_told, RespondsJson, PrintedJson, MalformedJson, RefusedJson};
+ghost use Rattle.ttlv_run.specs.Reasons.{IsOfPrinting, Reports};
+ghost use Rattle.ttlv_run.specs.JsonLines.{shown, Prints, Spoils, PrintsBytes, FailsAt, fault_at, bad_line, column_report, RespondsJson, PrintedJson, MalformedJson, RefusedJson};
 
 use crate::back::{behind, line_at};
 use crate::job::JsonJob;
-use crate::refusal::Refusal;
-use crate::run::{refusal_of, tell, tell_place, tell_refusal};
+use crate::run::{report, report_error, report_place, run_error_of};
+use crate::run_error::RunError;
 use crate::window::Window;
 use itoa::Buffer;
 use kmip_ttlv_json::{JsonError, from_json};
@@ -28,14 +28,14 @@ pub struct LineFault {
 }
 
 // Writes bytes to the output.
-fn send<W: Write>(output: &mut W, bytes: &[u8]) -> Result<(), Refusal>
+fn send<W: Write>(output: &mut W, bytes: &[u8]) -> Result<(), RunError>
     ensures ok { OnOk result (Appends (W.contents output.old) (W.contents output.new) bytes.now) }
     ensures why { IfErr result IsOfPrinting }
     ensures err { OnErr result (AppendsFront (W.contents output.old) (W.contents output.new) bytes.now) }
 {
     match output.send(bytes) {
         Ok(()) => Ok(()),
-        Err(e) => Err(refusal_of(&e)),
+        Err(e) => Err(run_error_of(&e)),
     }
 }
 
@@ -45,7 +45,7 @@ fn print_message<W: Write>(
     raw: bool,
     message: &[u8],
     output: &mut W,
-) -> Result<(), Refusal>
+) -> Result<(), RunError>
     ensures ok { OnOk result (Appends (W.contents output.old) (W.contents output.new) (shown raw message.now)) }
     ensures why { IfErr result IsOfPrinting }
     ensures err { OnErr result (AppendsFront (W.contents output.old) (W.contents output.new) (shown raw message.now)) }
@@ -64,7 +64,7 @@ fn print_line<W: Write>(
     raw: bool,
     line: &str,
     output: &mut W,
-) -> Result<Option<JsonError>, Refusal>
+) -> Result<Option<JsonError>, RunError>
     ensures ok { IfOk result (Prints raw line.now (W.contents output.old) (W.contents output.new)) }
     ensures why { IfErr result IsOfPrinting }
     ensures err { OnErr result (Spoils raw line.now (W.contents output.old) (W.contents output.new)) }
@@ -78,7 +78,7 @@ fn print_line<W: Write>(
             print_message(heap, raw, message.as_slice(), output)?;
             Ok(None)
         }
-        Err(JsonError::OutOfMemory) => Err(Refusal::RefusedMemory),
+        Err(JsonError::OutOfMemory) => Err(RunError::NoMemory),
         Err(error) => Ok(Some(error)),
     }
 }
@@ -89,12 +89,12 @@ fn print_bytes<W: Write>(
     raw: bool,
     line: &[u8],
     output: &mut W,
-) -> Result<Option<JsonError>, Refusal>
+) -> Result<Option<JsonError>, RunError>
     ensures ok { IfOk result (PrintsBytes raw line.now (W.contents output.old) (W.contents output.new)) }
     ensures err { IfErr result (FailsAt raw line.now (W.contents output.old) (W.contents output.new)) }
 {
     let Ok(text) = str::from_utf8(line) else {
-        return Err(Refusal::NotUtf8);
+        return Err(RunError::NotUtf8);
     };
     print_line(heap, raw, text, output)
 }
@@ -115,7 +115,7 @@ fn respond<R: Read, W: Write>(
     job: &JsonJob<'_>,
     input: &mut R,
     output: &mut W,
-) -> Result<Option<LineFault>, Refusal>
+) -> Result<Option<LineFault>, RunError>
     ensures { RespondsJson job.now
         (record {
           input = R.remaining input.old;
@@ -129,11 +129,11 @@ fn respond<R: Read, W: Write>(
     let mut at = 0;
     let mut ended = false;
     'lines: loop {
-        let held = window.held();
-        if usize::MAX - base < held.len() {
-            return Err(Refusal::RefusedMemory);
+        let buffered = window.buffered();
+        if usize::MAX - base < buffered.len() {
+            return Err(RunError::NoMemory);
         }
-        if let Some(line) = line_at(held, at) {
+        if let Some(line) = line_at(buffered, at) {
             if let Some(error) = print_bytes(heap, job.raw, line, output)? {
                 return Ok(Some(LineFault {
                     offset: base + at,
@@ -144,10 +144,10 @@ fn respond<R: Read, W: Write>(
             continue;
         }
         if ended {
-            let error = print_bytes(heap, job.raw, behind(held, at), output)?;
+            let error = print_bytes(heap, job.raw, behind(buffered, at), output)?;
             return Ok(fault_at(base + at, error));
         }
-        window.let_go(at);
+        window.discard(at);
         base += at;
         at = 0;
         ended = window.read_lines(input)?;
@@ -155,28 +155,28 @@ fn respond<R: Read, W: Write>(
 }
 
 // Writes where the parser stopped, if the line isn't JSON.
-fn tell_column<E: Write>(errors: &mut E, goes: bool, error: JsonError) -> bool
-    ensures { (known : Option (List ℕ)) (front : List ℕ) → Tells goes known (E.contents errors.old) front
-        → Tells result known (E.contents errors.new) (front ++ column_told error) }
+fn report_column<E: Write>(errors: &mut E, writable: bool, error: JsonError) -> bool
+    ensures { (known : Option (List ℕ)) (front : List ℕ) → Reports writable known (E.contents errors.old) front
+        → Reports result known (E.contents errors.new) (front ++ column_report error) }
 {
     match error {
         JsonError::NotJson { column, .. } => {
-            let goes = tell(errors, goes, ", column ");
-            tell(errors, goes, Buffer::new().format(column))
+            let writable = report(errors, writable, ", column ");
+            report(errors, writable, Buffer::new().format(column))
         }
-        _ => goes,
+        _ => writable,
     }
 }
 
 // Writes the line that says which line is no message and why, as far as it can be written. It takes no memory.
-fn tell_fault<E: Write>(errors: &mut E, name: &str, fault: LineFault)
+fn report_fault<E: Write>(errors: &mut E, name: &str, fault: LineFault)
     ensures { AppendsFront (E.contents errors.old) (E.contents errors.new) (bad_line name.now fault) }
 {
-    let goes = tell_place(errors, name, Some(fault.offset));
-    let goes = tell(errors, goes, ": ");
-    let goes = tell(errors, goes, fault.error.words());
-    let goes = tell_column(errors, goes, fault.error);
-    tell(errors, goes, "\n");
+    let writable = report_place(errors, name, Some(fault.offset));
+    let writable = report(errors, writable, ": ");
+    let writable = report(errors, writable, fault.error.words());
+    let writable = report_column(errors, writable, fault.error);
+    report(errors, writable, "\n");
 }
 
 /// Reads `input` and prints to `output` the messages that its lines are the JSON of, in hexadecimal, each in a line of its own, or
@@ -227,12 +227,12 @@ pub fn read_json<R: Read, W: Write, E: Write>(
     match respond(heap, job, input, output) {
         Ok(None) => 0,
         Ok(Some(fault)) => {
-            tell_fault(errors, job.name, fault);
+            report_fault(errors, job.name, fault);
             1
         }
-        Err(refusal) => {
-            tell_refusal(errors, job.name, refusal);
-            refusal.status()
+        Err(run_error) => {
+            report_error(errors, job.name, run_error);
+            run_error.status()
         }
     }
 }

@@ -13,21 +13,21 @@ ghost use Rattle.ttlv_run.specs.declared.job.Job.{Job as AJob};
 ghost use Rattle.ttlv_run.specs.declared.messages.Place.{Place as APlace};
 ghost use Rattle.ttlv_run.specs.Fronts.{StandsFront};
 ghost use Rattle.ttlv_run.specs.Inputs.{Stands};
-ghost use Rattle.ttlv_run.specs.Messages.{Whole, message_at, GoesOn};
+ghost use Rattle.ttlv_run.specs.Messages.{Whole, message_at, Continues};
 ghost use Rattle.ttlv_run.specs.Runs.{Streams as TheStreams, HasText, Faults, Unwritten};
 ghost use Rattle.ttlv_run.specs.Texts.{Names as TheNames, lines_from, no_reach};
 
 /// What is printed of an input exists, whatever its bytes are; and it goes on behind what is printed of
 /// whole messages in front, and behind the lines of the items that were met of the next one.
 pub fn each_input_is_printed()
-    ensures any { (names : TheNames) (task : ATask) (bytes : List ℕ) → AreBytes bytes → GoesOn names task bytes [] }
+    ensures any { (names : TheNames) (task : ATask) (bytes : List ℕ) → AreBytes bytes → Continues names task bytes [] }
     ensures messages { (names : TheNames) (task : ATask) (bytes : List ℕ) (p : ℕ) (front : List ℕ)
-        → AreBytes bytes → p ≤ length bytes → Whole names task bytes p front → GoesOn names task bytes front }
+        → AreBytes bytes → p ≤ length bytes → Whole names task bytes p front → Continues names task bytes front }
     ensures items { (names : TheNames) (look : TheLook) (bytes : List ℕ) (p : ℕ) (front : List ℕ)
         (q : ℕ) (es : List ℕ) (xs : List AnItem)
         → AreBytes bytes → p < length bytes → Whole names (ToShow look) bytes p front
         → Meets (message_at bytes p) q es xs
-        → GoesOn names (ToShow look) bytes
+        → Continues names (ToShow look) bytes
         (front ++ lines_from names look p (message_at bytes p) no_reach xs) }
 {}
 
@@ -46,5 +46,5 @@ pub fn a_front_stands_for_a_front()
     ensures fault { (names : TheNames) (job : AJob) (s : TheStreams) (all : List ℕ) (place : APlace) (f : Faults names job s place)
         → Stands job.encoding f.input all → HasText names job f.input f.text (Some place) }
     ensures beginning { (names : TheNames) (job : AJob) (s : TheStreams) (all : List ℕ) (u : Unwritten names job s)
-        → AreBytes all → Stands job.encoding u.input all → GoesOn names job.task all u.text }
+        → AreBytes all → Stands job.encoding u.input all → Continues names job.task all u.text }
 {}

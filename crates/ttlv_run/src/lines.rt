@@ -6,7 +6,7 @@ ghost use Rattle.ttlv_run.specs.declared.job.Task.TheVariants.{Show as ToShow};
 ghost use Rattle.kmip_ttlv_items.specs.declared.found.Fault.{Fault as AFault};
 ghost use Rattle.kmip_ttlv_util.specs.Pieces.{SomeText};
 ghost use Rattle.ttlv_run.specs.Items.{IsGood};
-ghost use Rattle.ttlv_run.specs.Texts.{names_of, offset_part, tag_part, value_part, item_line, values_told, is_passed, item_text, is_asked, reached, reach_after, IsMessageText};
+ghost use Rattle.ttlv_run.specs.Texts.{names_of, offset_part, tag_part, value_part, item_line, values_shown, is_passed, item_text, is_asked, reached, reach_after, IsMessageText};
 
 use crate::colors::{NONE, TAG, VALUE, push_color};
 use crate::job::{Look, Names, Values};
@@ -148,8 +148,8 @@ fn push_line<S: TextSink, A: Allocator>(
 }
 
 // What is said of an item's value, where secret items reach so far.
-fn values_told(look: &Look, reach: Reach, item: &FoundItem) -> Values
-    ensures { result ≡ values_told look.now reach item.now }
+fn values_shown(look: &Look, reach: Reach, item: &FoundItem) -> Values
+    ensures { result ≡ values_shown look.now reach item.now }
 {
     if look.secrets_hidden && (item.offset as u128) < reach.secret {
         Values::Hidden
@@ -187,7 +187,7 @@ fn push_item<S: TextSink, A: Allocator>(
     if is_passed(look, reach, item) {
         return Ok(());
     }
-    let values = values_told(look, reach, item);
+    let values = values_shown(look, reach, item);
     push_line(out, names, look, values, at, bytes, item)
 }
 

@@ -3,8 +3,8 @@
 ghost use Rattle.std.specs.Prelude.{◌≡◌, ◌<◌, ◌≤◌, ◌+◌, ◌^◌, length, ◌++◌, Option, IfOk, OnOk, OnErr, string_bytes};
 ghost use Rattle.kmip_ttlv_types.specs.Places.{length_at};
 ghost use Rattle.kmip_ttlv_util.specs.Pieces.{SomeText};
-ghost use Rattle.ttlv_run.specs.Messages.{size_stated, is_there, first_size, message_at, tag_there, is_kmip, is_taken, fault_words, wrong_words, fault_line, tag_told};
-ghost use Rattle.ttlv_run.specs.Streaming.{is_due, EndsAt, PrintsOn, GoesOnBehind};
+ghost use Rattle.ttlv_run.specs.Messages.{size_stated, is_there, first_size, message_at, tag_there, is_kmip, is_taken, fault_words, wrong_words, fault_line, tag_report};
+ghost use Rattle.ttlv_run.specs.Streaming.{is_due, EndsAt, PrintsOn, ContinuesBehind};
 ghost use Rattle.ttlv_run.specs.Texts.{names_of};
 
 use crate::job::{Names, Task};
@@ -156,7 +156,7 @@ pub fn print_all<S: TextSink, A: Allocator + Copy>(
     ensures end { IfOk result (EndsAt bytes.now last) }
     ensures ok { IfOk result (λ reached. SomeText (PrintsOn (names_of names.now) task.entry base bytes.now last reached)
         (λ t. S.adds out.old t out.new)) }
-    ensures err { OnErr result (SomeText (GoesOnBehind (names_of names.now) task.entry base bytes.now last)
+    ensures err { OnErr result (SomeText (ContinuesBehind (names_of names.now) task.entry base bytes.now last)
         (λ t. S.breaks out.old t out.new)) }
 {
     let mut at = 0;
@@ -209,12 +209,12 @@ fn fault_words(kind: FaultKind) -> &'static str
 }
 
 // A tag with its name, or that there is none.
-fn push_told<A: Allocator>(
+fn push_report<A: Allocator>(
     out: &mut String<A>,
     names: &Names<'_, A>,
     tag: Option<TtlvTag>,
 ) -> Result<(), AllocError>
-    ensures { OnOk result (string_bytes out.new ≡ string_bytes out.old ++ tag_told (names_of names.now) tag) }
+    ensures { OnOk result (string_bytes out.new ≡ string_bytes out.old ++ tag_report (names_of names.now) tag) }
 {
     match tag {
         Some(tag) => push_tag(out, &names.tags, tag),
@@ -238,7 +238,7 @@ pub fn fault_line<A: Allocator + Copy>(
     line.push_str(": byte ")?;
     line.push_str(Buffer::new().format(place.offset))?;
     line.push_str(": ")?;
-    push_told(&mut line, names, place.tag)?;
+    push_report(&mut line, names, place.tag)?;
     line.push_str(": ")?;
     line.push_str(wrong_words(place.wrong))?;
     line.push_str("\n")?;

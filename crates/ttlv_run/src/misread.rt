@@ -3,11 +3,11 @@
 ghost use Rattle.std.specs.Prelude.{◌≡◌, ◌++◌, ◌<◌, true, ℕ, List, Option};
 ghost use Rattle.kmip_ttlv_types.specs.Streams.{AppendsFront};
 ghost use Rattle.std.specs.Fmt.{digit_glyph};
-ghost use Rattle.ttlv_run.specs.Reasons.{Tells};
+ghost use Rattle.ttlv_run.specs.Reasons.{Reports};
 ghost use Rattle.ttlv_run.specs.Misreadings.{is_printable, byte_shown, with_kind, line_end, misread_line};
 
 use crate::job::Encoding;
-use crate::run::{tell, tell_place};
+use crate::run::{report, report_place};
 use itoa::Buffer;
 use kmip_ttlv_types::stream::Sink;
 use std::io::Write;
@@ -41,11 +41,11 @@ fn is_printable(b: u8) -> bool
 }
 
 // Writes bytes behind others, where those were written to their end; returns whether these were too.
-fn tell_bytes<E: Write>(errors: &mut E, goes: bool, bytes: &[u8]) -> bool
-    ensures { (known : Option (List ℕ)) (front : List ℕ) → Tells goes known (E.contents errors.old) front
-        → Tells result known (E.contents errors.new) (front ++ bytes.now) }
+fn report_bytes<E: Write>(errors: &mut E, writable: bool, bytes: &[u8]) -> bool
+    ensures { (known : Option (List ℕ)) (front : List ℕ) → Reports writable known (E.contents errors.old) front
+        → Reports result known (E.contents errors.new) (front ++ bytes.now) }
 {
-    goes && errors.send(bytes).is_ok()
+    writable && errors.send(bytes).is_ok()
 }
 
 // A hexadecimal digit.
@@ -60,30 +60,30 @@ fn digit(n: u8) -> u8
 }
 
 // Writes a byte as a character in quotes, or in hexadecimal where it isn't printable.
-fn tell_byte<E: Write>(errors: &mut E, goes: bool, b: u8) -> bool
-    ensures { (known : Option (List ℕ)) (front : List ℕ) → Tells goes known (E.contents errors.old) front
-        → Tells result known (E.contents errors.new) (front ++ byte_shown b) }
+fn report_byte<E: Write>(errors: &mut E, writable: bool, b: u8) -> bool
+    ensures { (known : Option (List ℕ)) (front : List ℕ) → Reports writable known (E.contents errors.old) front
+        → Reports result known (E.contents errors.new) (front ++ byte_shown b) }
 {
     if is_printable(b) {
-        return tell_bytes(errors, goes, &[39, b, 39]);
+        return report_bytes(errors, writable, &[39, b, 39]);
     }
-    tell_bytes(errors, goes, &[48, 120, digit(b / 16), digit(b % 16)])
+    report_bytes(errors, writable, &[48, 120, digit(b / 16), digit(b % 16)])
 }
 
 // Writes what is wrong at an offset.
-fn tell_kind<E: Write>(errors: &mut E, goes: bool, kind: MisreadKind) -> bool
-    ensures { (known : Option (List ℕ)) (front : List ℕ) → Tells goes known (E.contents errors.old) front
-        → Tells result known (E.contents errors.new) (with_kind front kind) }
+fn report_kind<E: Write>(errors: &mut E, writable: bool, kind: MisreadKind) -> bool
+    ensures { (known : Option (List ℕ)) (front : List ℕ) → Reports writable known (E.contents errors.old) front
+        → Reports result known (E.contents errors.new) (with_kind front kind) }
 {
     match kind {
         MisreadKind::NoDigit(b) => {
-            let goes = tell(errors, goes, ", ");
-            let goes = tell_byte(errors, goes, b);
-            tell(errors, goes, ", is no digit")
+            let writable = report(errors, writable, ", ");
+            let writable = report_byte(errors, writable, b);
+            report(errors, writable, ", is no digit")
         }
-        MisreadKind::WrongCount => tell(
+        MisreadKind::WrongCount => report(
             errors,
-            goes,
+            writable,
             ": digits are missing at the end, or too many are there",
         ),
     }
@@ -100,14 +100,14 @@ fn line_end(guessed: bool) -> &'static str
 }
 
 /// Writes the line of an input that stands for no bytes, as far as it can be written. It takes no memory.
-pub fn tell_misread<E: Write>(errors: &mut E, name: &str, misread: Misread)
+pub fn report_misread<E: Write>(errors: &mut E, name: &str, misread: Misread)
     ensures { AppendsFront (E.contents errors.old) (E.contents errors.new) (misread_line name.now misread) }
 {
-    let goes = tell_place(errors, name, None);
-    let goes = tell(errors, goes, ": taken as ");
-    let goes = tell(errors, goes, misread.taken.words());
-    let goes = tell(errors, goes, ": byte ");
-    let goes = tell(errors, goes, Buffer::new().format(misread.offset));
-    let goes = tell_kind(errors, goes, misread.kind);
-    tell(errors, goes, line_end(misread.guessed));
+    let writable = report_place(errors, name, None);
+    let writable = report(errors, writable, ": taken as ");
+    let writable = report(errors, writable, misread.taken.words());
+    let writable = report(errors, writable, ": byte ");
+    let writable = report(errors, writable, Buffer::new().format(misread.offset));
+    let writable = report_kind(errors, writable, misread.kind);
+    report(errors, writable, line_end(misread.guessed));
 }

@@ -21,7 +21,7 @@ pub struct Progress<R, E> {
     errors: E,
     total: Option<u64>,
     read: u64,
-    told: u64,
+    reported: u64,
     shown: bool,
 }
 
@@ -34,7 +34,7 @@ impl<R, E> Progress<R, E> {
             errors,
             total,
             read: 0,
-            told: 0,
+            reported: 0,
             shown,
         }
     }
@@ -42,10 +42,12 @@ impl<R, E> Progress<R, E> {
 
 impl<R: Read, E: Write> Progress<R, E> {
     // Tells how many mebibytes were read.
-    fn tell(&mut self)
+    fn report(&mut self)
         ensures { self.new.input ≡ self.old.input }
     {
-        let _ = self.errors.send(Buffer::new().format(self.told).as_bytes());
+        let _ = self
+            .errors
+            .send(Buffer::new().format(self.reported).as_bytes());
         if let Some(total) = self.total {
             let _ = self.errors.send(b" of ");
             let _ = self
@@ -61,9 +63,9 @@ impl<R: Read, E: Write> Progress<R, E> {
     {
         self.read = self.read.saturating_add(bytes);
         let whole = self.read / MEBIBYTE;
-        if self.shown && self.told < whole {
-            self.told = whole;
-            self.tell();
+        if self.shown && self.reported < whole {
+            self.reported = whole;
+            self.report();
         }
     }
 
@@ -71,9 +73,9 @@ impl<R: Read, E: Write> Progress<R, E> {
     fn clear(&mut self)
         ensures { self.new.input ≡ self.old.input }
     {
-        if self.told > 0 {
+        if self.reported > 0 {
             let _ = self.errors.send(b"\x1b[K");
-            self.told = 0;
+            self.reported = 0;
         }
     }
 }

@@ -5,10 +5,10 @@ ghost use Rattle.std.specs.Io.KnownBytes.{Appends, Consumes, IsAtEnd, Keeps};
 ghost use Rattle.kmip_ttlv_types.specs.Streams.{AppendsFront};
 ghost use Rattle.kmip_ttlv_util.specs.Pieces.{SomeText};
 ghost use Rattle.ttlv_run.specs.Backs.{ReadsBack, ReadsFront, back_line};
-ghost use Rattle.ttlv_run.specs.Reasons.{IsOfPrinting, Tells, place_told, refusal_line};
+ghost use Rattle.ttlv_run.specs.Reasons.{IsOfPrinting, Reports, place_report, error_line};
 ghost use Rattle.ttlv_run.specs.Fronts.{front_size, Begins, BeginFails};
 ghost use Rattle.ttlv_run.specs.Inputs.{IsUnread, form_of, encoding_of};
-ghost use Rattle.ttlv_run.specs.Streaming.{held, EndsAt, PrintsOn, GoesOnBehind};
+ghost use Rattle.ttlv_run.specs.Streaming.{buffered, EndsAt, PrintsOn, ContinuesBehind};
 ghost use Rattle.ttlv_run.specs.Runs.{Places, Responds, Printed, Malformed, Refused, RespondsBack, PrintedBack, MalformedBack, RefusedBack};
 ghost use Rattle.ttlv_run.specs.Texts.{names_of};
 
@@ -18,8 +18,8 @@ use crate::digits::print_digits;
 use crate::job::{BackJob, Encoding, Job, Names, Task};
 use crate::memory::Memory;
 use crate::messages::{Place, Reached, fault_line, print_all};
-use crate::misread::tell_misread;
-use crate::refusal::Refusal;
+use crate::misread::report_misread;
+use crate::run_error::RunError;
 use crate::window::Window;
 use itoa::Buffer;
 use kmip_ttlv_types::stream::Sink;
@@ -28,13 +28,13 @@ use std::alloc::Allocator;
 use std::io::{Error, ErrorKind, Read, Write};
 
 /// Why printing failed: the output, or out of memory.
-pub(crate) fn refusal_of(error: &Error) -> Refusal
+pub(crate) fn run_error_of(error: &Error) -> RunError
     ensures { IsOfPrinting result }
 {
     match error.kind() {
-        ErrorKind::BrokenPipe => Refusal::ClosedPipe,
-        ErrorKind::OutOfMemory => Refusal::RefusedMemory,
-        _ => Refusal::UnwritableOutput,
+        ErrorKind::BrokenPipe => RunError::ClosedPipe,
+        ErrorKind::OutOfMemory => RunError::NoMemory,
+        _ => RunError::UnwritableOutput,
     }
 }
 
@@ -48,22 +48,22 @@ pub(crate) fn print_messages<A: Allocator + Copy, W: Write>(
     bytes: &[u8],
     last: bool,
     output: &mut W,
-) -> Result<Reached, Refusal>
+) -> Result<Reached, RunError>
     requires { base + length bytes.now < 2 ^ 64 }
     ensures end { IfOk result (EndsAt bytes.now last) }
     ensures ok { IfOk result (λ reached. SomeText (PrintsOn (names_of names.now) task.entry base bytes.now last reached)
         (Appends (W.contents output.old) (W.contents output.new))) }
     ensures why { IfErr result IsOfPrinting }
-    ensures err { OnErr result (SomeText (GoesOnBehind (names_of names.now) task.entry base bytes.now last)
+    ensures err { OnErr result (SomeText (ContinuesBehind (names_of names.now) task.entry base bytes.now last)
         (AppendsFront (W.contents output.old) (W.contents output.new))) }
 {
     let mut pieces = Pieces::new(output);
     match print_all(alloc, &mut pieces, names, task, base, bytes, last) {
         Ok(reached) => match pieces.finish() {
             Ok(()) => Ok(reached),
-            Err(e) => Err(refusal_of(&e)),
+            Err(e) => Err(run_error_of(&e)),
         },
-        Err(e) => Err(refusal_of(&e)),
+        Err(e) => Err(run_error_of(&e)),
     }
 }
 
@@ -76,11 +76,11 @@ fn print_raw<A: Allocator, B: Allocator + Copy, R: Read, W: Write>(
     mut ended: bool,
     input: &mut R,
     output: &mut W,
-) -> Result<Option<Place>, Refusal>
-    requires raw { form_of (encoding_of job.now.encoding (held window)) ≡ None }
-    requires front { ended ≡ false → front_size job.now.encoding (held window) ≤ length (held window) }
+) -> Result<Option<Place>, RunError>
+    requires raw { form_of (encoding_of job.now.encoding (buffered window)) ≡ None }
+    requires front { ended ≡ false → front_size job.now.encoding (buffered window) ≤ length (buffered window) }
     requires at_end { ended ≡ true → IsAtEnd (R.remaining input.old) }
-    ensures { (known : Option (List ℕ)) → Consumes known (R.remaining input.old) (held window)
+    ensures { (known : Option (List ℕ)) → Consumes known (R.remaining input.old) (buffered window)
         → Places (names_of names.now) job.now
         (record {
           input = known;
@@ -91,14 +91,14 @@ fn print_raw<A: Allocator, B: Allocator + Copy, R: Read, W: Write>(
 {
     let mut base = 0;
     'pieces: loop {
-        let held = window.held();
-        if usize::MAX - base < held.len() {
-            return Err(Refusal::RefusedMemory);
+        let buffered = window.buffered();
+        if usize::MAX - base < buffered.len() {
+            return Err(RunError::NoMemory);
         }
-        match print_messages(alloc, names, job.task, base, held, ended, output)? {
+        match print_messages(alloc, names, job.task, base, buffered, ended, output)? {
             Reached::Behind(count) => {
                 base += count;
-                window.let_go(count);
+                window.discard(count);
             }
             Reached::Fault(place) => return Ok(Some(place)),
         }
@@ -114,12 +114,12 @@ fn read_front<A: Allocator, R: Read>(
     encoding: Encoding,
     window: &mut Window<A>,
     input: &mut R,
-) -> Result<bool, Refusal>
-    ensures ok { IfOk result (Begins encoding (R.remaining input.old) (R.remaining input.new) (held window.old) (held window.new)) }
+) -> Result<bool, RunError>
+    ensures ok { IfOk result (Begins encoding (R.remaining input.old) (R.remaining input.new) (buffered window.old) (buffered window.new)) }
     ensures why { IfErr result IsUnread }
-    ensures err { OnErr result (BeginFails encoding (R.remaining input.old) (R.remaining input.new) (held window.old) (held window.new)) }
+    ensures err { OnErr result (BeginFails encoding (R.remaining input.old) (R.remaining input.new) (buffered window.old) (buffered window.new)) }
 {
-    'pieces: while window.held().len() < front_size(encoding, window.held()) {
+    'pieces: while window.buffered().len() < front_size(encoding, window.buffered()) {
         if window.read_more(input)? == 0 {
             return Ok(true);
         }
@@ -134,7 +134,7 @@ fn print_input<A: Allocator + Copy, B: Allocator + Copy, R: Read, W: Write>(
     names: &Names<'_, B>,
     input: &mut R,
     output: &mut W,
-) -> Result<Option<Place>, Refusal>
+) -> Result<Option<Place>, RunError>
     ensures { Places (names_of names.now) job.now
         (record {
           input = R.remaining input.old;
@@ -145,7 +145,7 @@ fn print_input<A: Allocator + Copy, B: Allocator + Copy, R: Read, W: Write>(
 {
     let mut window = Window::new(memory.input);
     let ended = read_front(job.encoding, &mut window, input)?;
-    match form_of(encoding_of(job.encoding, window.held())) {
+    match form_of(encoding_of(job.encoding, window.buffered())) {
         Some(form) => print_digits(memory, job, names, form, window, ended, input, output),
         None => print_raw(memory.rest, job, names, window, ended, input, output),
     }
@@ -158,7 +158,7 @@ fn respond<A: Allocator + Copy, B: Allocator + Copy, R: Read, W: Write>(
     names: &Names<'_, B>,
     input: &mut R,
     output: &mut W,
-) -> Result<Option<String<B>>, Refusal>
+) -> Result<Option<String<B>>, RunError>
     ensures { Responds string_bytes (names_of names.now) job.now
         (record {
           input = R.remaining input.old;
@@ -183,7 +183,7 @@ fn print_lines<A: Allocator + Copy, W: Write>(
     bytes: &[u8],
     last: bool,
     output: &mut W,
-) -> Result<BackReached, Refusal>
+) -> Result<BackReached, RunError>
     requires { base + length bytes.now < 2 ^ 64 }
     ensures ok { IfOk result (λ reached. SomeText (ReadsBack (names_of names.now).tags prefix.now base bytes.now last reached)
         (Appends (W.contents output.old) (W.contents output.new))) }
@@ -195,9 +195,9 @@ fn print_lines<A: Allocator + Copy, W: Write>(
     match print_back(alloc, &mut pieces, &names.tags, prefix, base, bytes, last) {
         Ok(reached) => match pieces.finish() {
             Ok(()) => Ok(reached),
-            Err(e) => Err(refusal_of(&e)),
+            Err(e) => Err(run_error_of(&e)),
         },
-        Err(e) => Err(refusal_of(&e)),
+        Err(e) => Err(run_error_of(&e)),
     }
 }
 
@@ -209,7 +209,7 @@ fn respond_back<A: Allocator + Copy, B: Allocator + Copy, R: Read, W: Write>(
     names: &Names<'_, B>,
     input: &mut R,
     output: &mut W,
-) -> Result<Option<BackFault>, Refusal>
+) -> Result<Option<BackFault>, RunError>
     ensures { RespondsBack (names_of names.now) job.now
         (record {
           input = R.remaining input.old;
@@ -223,18 +223,26 @@ fn respond_back<A: Allocator + Copy, B: Allocator + Copy, R: Read, W: Write>(
     let mut first = None;
     let mut ended = false;
     'pieces: loop {
-        let held = window.held();
-        if usize::MAX - base < held.len() {
-            return Err(Refusal::RefusedMemory);
+        let buffered = window.buffered();
+        if usize::MAX - base < buffered.len() {
+            return Err(RunError::NoMemory);
         }
-        let reached = print_lines(memory.rest, names, job.prefix, base, held, ended, output)?;
+        let reached = print_lines(
+            memory.rest,
+            names,
+            job.prefix,
+            base,
+            buffered,
+            ended,
+            output,
+        )?;
         match reached {
             BackReached::Behind { count, found } => {
                 base += count;
                 first = first.or(found);
-                window.let_go(count);
+                window.discard(count);
             }
-            BackReached::NoText => return Err(Refusal::NotUtf8),
+            BackReached::NoText => return Err(RunError::NotUtf8),
         }
         if ended {
             return Ok(first);
@@ -244,59 +252,59 @@ fn respond_back<A: Allocator + Copy, B: Allocator + Copy, R: Read, W: Write>(
 }
 
 /// Writes a text behind another, where that was written to its end; answers whether this was too.
-pub(crate) fn tell<E: Write>(errors: &mut E, goes: bool, text: &str) -> bool
-    ensures { (known : Option (List ℕ)) (front : List ℕ) → Tells goes known (E.contents errors.old) front
-        → Tells result known (E.contents errors.new) (front ++ text.now) }
+pub(crate) fn report<E: Write>(errors: &mut E, writable: bool, text: &str) -> bool
+    ensures { (known : Option (List ℕ)) (front : List ℕ) → Reports writable known (E.contents errors.old) front
+        → Reports result known (E.contents errors.new) (front ++ text.now) }
 {
-    goes && errors.send(text.as_bytes()).is_ok()
+    writable && errors.send(text.as_bytes()).is_ok()
 }
 
 /// Writes what the input is called, and the offset in it, if one is told.
-pub(crate) fn tell_place<E: Write>(errors: &mut E, name: &str, offset: Option<usize>) -> bool
-    ensures { Tells result (E.contents errors.old) (E.contents errors.new) (place_told name.now offset) }
+pub(crate) fn report_place<E: Write>(errors: &mut E, name: &str, offset: Option<usize>) -> bool
+    ensures { Reports result (E.contents errors.old) (E.contents errors.new) (place_report name.now offset) }
 {
-    let goes = errors.send(name.as_bytes()).is_ok();
+    let writable = errors.send(name.as_bytes()).is_ok();
     let Some(at) = offset else {
-        return goes;
+        return writable;
     };
-    let goes = tell(errors, goes, ": byte ");
-    tell(errors, goes, Buffer::new().format(at))
+    let writable = report(errors, writable, ": byte ");
+    report(errors, writable, Buffer::new().format(at))
 }
 
 // Writes the line that says something of an input, as far as it can be written.
-fn tell_words<E: Write>(errors: &mut E, name: &str, words: &str)
+fn report_words<E: Write>(errors: &mut E, name: &str, words: &str)
     ensures { AppendsFront (E.contents errors.old) (E.contents errors.new)
         (name.now ++ codes ": " ++ words.now ++ codes "\n") }
 {
-    let goes = tell_place(errors, name, None);
-    let goes = tell(errors, goes, ": ");
-    let goes = tell(errors, goes, words);
-    tell(errors, goes, "\n");
+    let writable = report_place(errors, name, None);
+    let writable = report(errors, writable, ": ");
+    let writable = report(errors, writable, words);
+    report(errors, writable, "\n");
 }
 
 /// Writes the line of a refusal, as far as it can be written. It takes no memory.
-pub(crate) fn tell_refusal<E: Write>(errors: &mut E, name: &str, refusal: Refusal)
-    ensures { AppendsFront (E.contents errors.old) (E.contents errors.new) (refusal_line name.now refusal) }
+pub(crate) fn report_error<E: Write>(errors: &mut E, name: &str, run_error: RunError)
+    ensures { AppendsFront (E.contents errors.old) (E.contents errors.new) (error_line name.now run_error) }
 {
-    match refusal {
-        Refusal::ClosedPipe => (),
-        Refusal::MisreadInput(misread) => tell_misread(errors, name, misread),
-        Refusal::UnopenedInput
-        | Refusal::UnreadableInput
-        | Refusal::NotUtf8
-        | Refusal::UnwritableOutput
-        | Refusal::RefusedMemory => tell_words(errors, name, refusal.words()),
+    match run_error {
+        RunError::ClosedPipe => (),
+        RunError::MisreadInput(misread) => report_misread(errors, name, misread),
+        RunError::UnopenedInput
+        | RunError::UnreadableInput
+        | RunError::NotUtf8
+        | RunError::UnwritableOutput
+        | RunError::NoMemory => report_words(errors, name, run_error.words()),
     }
 }
 
 // Writes the line of a text that stops being a diagnostic, as far as it can be written. It takes no memory.
-fn tell_back_fault<E: Write>(errors: &mut E, name: &str, fault: BackFault)
+fn report_back_fault<E: Write>(errors: &mut E, name: &str, fault: BackFault)
     ensures { AppendsFront (E.contents errors.old) (E.contents errors.new) (back_line name.now fault) }
 {
-    let goes = tell_place(errors, name, Some(fault.offset));
-    let goes = tell(errors, goes, ": ");
-    let goes = tell(errors, goes, fault.kind.words());
-    tell(errors, goes, "\n");
+    let writable = report_place(errors, name, Some(fault.offset));
+    let writable = report(errors, writable, ": ");
+    let writable = report(errors, writable, fault.kind.words());
+    report(errors, writable, "\n");
 }
 
 /// Reads `input`, prints what the job asks for to `output`, and returns the exit status: 0 if all messages are
@@ -355,9 +363,9 @@ pub fn run<A: Allocator + Copy, B: Allocator + Copy, R: Read, W: Write, E: Write
             let _ = errors.send(line.as_bytes());
             1
         }
-        Err(refusal) => {
-            tell_refusal(errors, job.name, refusal);
-            refusal.status()
+        Err(run_error) => {
+            report_error(errors, job.name, run_error);
+            run_error.status()
         }
     }
 }
@@ -412,12 +420,12 @@ pub fn read_back<A: Allocator + Copy, B: Allocator + Copy, R: Read, W: Write, E:
     match respond_back(memory, job, names, input, output) {
         Ok(None) => 0,
         Ok(Some(fault)) => {
-            tell_back_fault(errors, job.name, fault);
+            report_back_fault(errors, job.name, fault);
             1
         }
-        Err(refusal) => {
-            tell_refusal(errors, job.name, refusal);
-            refusal.status()
+        Err(run_error) => {
+            report_error(errors, job.name, run_error);
+            run_error.status()
         }
     }
 }

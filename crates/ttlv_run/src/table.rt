@@ -4,8 +4,8 @@ ghost use Rattle.std.specs.Prelude.{◌≡◌, ◌⊎◌, ◌++◌, IfOk, IfErr,
 ghost use Rattle.ttlv_run.specs.Tables.{IsJoined};
 
 use crate::coding::read_all;
-use crate::refusal::Refusal;
-use crate::run::tell_refusal;
+use crate::run::report_error;
+use crate::run_error::RunError;
 use itoa::Buffer;
 use kmip_ttlv_names::{TableError, own_names};
 use kmip_ttlv_types::stream::Sink;
@@ -23,7 +23,7 @@ fn joined<A: Allocator>(alloc: A, front: &str, table: &str) -> Result<String<A>,
 }
 
 // Tells that a line of a table names no tag.
-fn tell_line<E: Write>(errors: &mut E, name: &str, line: usize) {
+fn report_line<E: Write>(errors: &mut E, name: &str, line: usize) {
     let _ = errors.send(name.as_bytes());
     let _ = errors.send(b": line ");
     let _ = errors.send(Buffer::new().format(line).as_bytes());
@@ -31,11 +31,11 @@ fn tell_line<E: Write>(errors: &mut E, name: &str, line: usize) {
 }
 
 // Tells why a table is none, and answers the exit status.
-fn refuse<E: Write>(errors: &mut E, name: &str, refusal: Refusal) -> u8
+fn refuse<E: Write>(errors: &mut E, name: &str, run_error: RunError) -> u8
     ensures { (result ≡ 2) ⊎ (result ≡ 3) }
 {
-    tell_refusal(errors, name, refusal);
-    refusal.status()
+    report_error(errors, name, run_error);
+    run_error.status()
 }
 
 /// The standard's table and behind it that which `input` has to its end. It is called `name` in the line on
@@ -56,21 +56,21 @@ pub fn own_table<A: Allocator + Copy, R: Read, E: Write>(
 {
     let bytes = match read_all(alloc, input) {
         Ok(bytes) => bytes,
-        Err(refusal) => return Err(refuse(errors, name, refusal)),
+        Err(run_error) => return Err(refuse(errors, name, run_error)),
     };
     let Ok(table) = str::from_utf8(bytes.as_slice()) else {
-        return Err(refuse(errors, name, Refusal::NotUtf8));
+        return Err(refuse(errors, name, RunError::NotUtf8));
     };
     match own_names(alloc, table) {
         Ok(_) => {}
         Err(TableError::BadLine(line)) => {
-            tell_line(errors, name, line);
+            report_line(errors, name, line);
             return Err(2);
         }
-        Err(TableError::OutOfMemory) => return Err(refuse(errors, name, Refusal::RefusedMemory)),
+        Err(TableError::OutOfMemory) => return Err(refuse(errors, name, RunError::NoMemory)),
     }
     match joined(alloc, standard, table) {
         Ok(all) => Ok(all),
-        Err(_) => Err(refuse(errors, name, Refusal::RefusedMemory)),
+        Err(_) => Err(refuse(errors, name, RunError::NoMemory)),
     }
 }

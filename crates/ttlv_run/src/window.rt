@@ -8,7 +8,7 @@ ghost use Rattle.ttlv_run.specs.Backs.{IsOneLine};
 
 use crate::back::line_end;
 use crate::messages::size_stated;
-use crate::refusal::Refusal;
+use crate::run_error::RunError;
 use kmip_ttlv_types::stream::{PIECE, read_some};
 use std::alloc::{AllocError, Allocator};
 use std::io;
@@ -71,11 +71,11 @@ pub struct Window<A: Allocator> {
 }
 
 impl<A: Allocator> Window<A> {
-    ghost use Rattle.ttlv_run.specs.Streaming.{held, ComesBy, ComesLines, LinesFail};
+    ghost use Rattle.ttlv_run.specs.Streaming.{buffered, YieldsBy, YieldsLines, LinesFail};
 
     /// No bytes. Takes no memory.
     pub fn new(alloc: A) -> Window<A>
-        ensures { held result ≡ [] }
+        ensures { buffered result ≡ [] }
     {
         Window {
             bytes: Vec::new(alloc),
@@ -84,8 +84,8 @@ impl<A: Allocator> Window<A> {
     }
 
     /// The bytes.
-    pub fn held(&self) -> &[u8]
-        ensures are { result.now ≡ held self.now }
+    pub fn buffered(&self) -> &[u8]
+        ensures are { result.now ≡ buffered self.now }
         ensures bytes { AreBytes result.now }
     {
         front(self.bytes.as_slice(), self.count)
@@ -95,7 +95,7 @@ impl<A: Allocator> Window<A> {
     fn room_to_ask(&self) -> usize
         ensures { 3 ≤ result }
     {
-        let due = match size_stated(self.held()) {
+        let due = match size_stated(self.buffered()) {
             Some(stated) => stated.saturating_sub(self.count),
             None => 0,
         };
@@ -105,7 +105,7 @@ impl<A: Allocator> Window<A> {
     // Makes room for so many bytes where there is none for a few.
     fn make_room(&mut self, few: usize, more: usize) -> Result<(), AllocError>
         requires { few ≤ more }
-        ensures held { held self.new ≡ held self.old }
+        ensures buffered { buffered self.new ≡ buffered self.old }
         ensures count { self.new.count ≡ self.old.count }
         ensures room { OnOk result (self.new.count + few ≤ vec_len self.new.bytes) }
     {
@@ -116,12 +116,12 @@ impl<A: Allocator> Window<A> {
     }
 
     // Reads once, behind the bytes that are there, into room for so many if there is none.
-    fn read_behind<R: Read>(&mut self, input: &mut R, room: usize) -> Result<usize, Refusal>
+    fn read_behind<R: Read>(&mut self, input: &mut R, room: usize) -> Result<usize, RunError>
         requires { 0 < room }
-        ensures ok { IfOk result (ComesBy (R.remaining input.old) (R.remaining input.new) (held self.old) (held self.new)) }
+        ensures ok { IfOk result (YieldsBy (R.remaining input.old) (R.remaining input.new) (buffered self.old) (buffered self.new)) }
         ensures why { IfErr result IsUnread }
         ensures err { OnErr result (Keeps (R.remaining input.old) (R.remaining input.new)) }
-        ensures same { OnErr result (held self.new ≡ held self.old) }
+        ensures same { OnErr result (buffered self.new ≡ buffered self.old) }
     {
         self.make_room(1, room)?;
         match read_at(input, self.bytes.as_mut_slice(), self.count) {
@@ -129,16 +129,16 @@ impl<A: Allocator> Window<A> {
                 self.count += n;
                 Ok(n)
             }
-            Err(_) => Err(Refusal::UnreadableInput),
+            Err(_) => Err(RunError::UnreadableInput),
         }
     }
 
     /// Reads once, behind the bytes that are there; gives how many came: none at the input's end.
-    pub fn read_more<R: Read>(&mut self, input: &mut R) -> Result<usize, Refusal>
-        ensures ok { IfOk result (ComesBy (R.remaining input.old) (R.remaining input.new) (held self.old) (held self.new)) }
+    pub fn read_more<R: Read>(&mut self, input: &mut R) -> Result<usize, RunError>
+        ensures ok { IfOk result (YieldsBy (R.remaining input.old) (R.remaining input.new) (buffered self.old) (buffered self.new)) }
         ensures why { IfErr result IsUnread }
         ensures err { OnErr result (Keeps (R.remaining input.old) (R.remaining input.new)) }
-        ensures same { OnErr result (held self.new ≡ held self.old) }
+        ensures same { OnErr result (buffered self.new ≡ buffered self.old) }
     {
         let room = self.room_to_ask();
         self.read_behind(input, room)
@@ -146,17 +146,17 @@ impl<A: Allocator> Window<A> {
 
     /// Reads until a line feed came or the input ended; returns whether it did. How long a line gets isn't known, so room
     /// for it grows by a piece at a time.
-    pub fn read_lines<R: Read>(&mut self, input: &mut R) -> Result<bool, Refusal>
-        ensures ok { IfOk result (ComesLines (R.remaining input.old) (R.remaining input.new) (held self.old) (held self.new)) }
+    pub fn read_lines<R: Read>(&mut self, input: &mut R) -> Result<bool, RunError>
+        ensures ok { IfOk result (YieldsLines (R.remaining input.old) (R.remaining input.new) (buffered self.old) (buffered self.new)) }
         ensures why { IfErr result IsUnread }
-        ensures err { OnErr result (LinesFail (R.remaining input.old) (R.remaining input.new) (held self.old) (held self.new)) }
+        ensures err { OnErr result (LinesFail (R.remaining input.old) (R.remaining input.new) (buffered self.old) (buffered self.new)) }
     {
         'pieces: loop {
-            let before = self.held().len();
+            let before = self.buffered().len();
             if self.read_behind(input, PIECE)? == 0 {
                 return Ok(true);
             }
-            if has_line_feed(self.held(), before) {
+            if has_line_feed(self.buffered(), before) {
                 return Ok(false);
             }
         }
@@ -165,8 +165,8 @@ impl<A: Allocator> Window<A> {
     /// Adds a few bytes behind those that are there.
     pub fn add(&mut self, bytes: &[u8]) -> Result<(), AllocError>
         requires { length bytes.now ≤ 3 }
-        ensures ok { OnOk result (held self.new ≡ held self.old ++ bytes.now) }
-        ensures err { OnErr result (held self.new ≡ held self.old) }
+        ensures ok { OnOk result (buffered self.new ≡ buffered self.old ++ bytes.now) }
+        ensures err { OnErr result (buffered self.new ≡ buffered self.old) }
     {
         let room = self.room_to_ask();
         self.make_room(bytes.len(), room)?;
@@ -176,9 +176,9 @@ impl<A: Allocator> Window<A> {
     }
 
     /// Lets go of so many bytes in front.
-    pub fn let_go(&mut self, count: usize)
-        requires { count ≤ length (held self.old) }
-        ensures { held self.new ≡ drop count (held self.old) }
+    pub fn discard(&mut self, count: usize)
+        requires { count ≤ length (buffered self.old) }
+        ensures { buffered self.new ≡ drop count (buffered self.old) }
     {
         if count == 0 {
             return;

@@ -7,7 +7,7 @@ use Rattle.kmip_ttlv.specs.Returns.{as_text}
 use Rattle.kmip_ttlv.specs.Rules.{at_least, equal, in_brackets, member, rule, sides}
 use Rattle.kmip_ttlv.specs.Values.{big_integer_value, boolean_value, bytes_value, interval_value, newtype_value}
 use Rattle.kmip_ttlv.specs.Values.{text_value}
-use Rattle.kmip_ttlv.specs.WrittenItems.{held_over, is_wrapper, take_tag}
+use Rattle.kmip_ttlv.specs.WrittenItems.{is_wrapper, pending_after, take_tag}
 use Rattle.kmip_ttlv_laws.proofs.MessageParts.{IsUnit, PartAgrees, a_structure, all_agree, any_then, as_whole}
 use Rattle.kmip_ttlv_laws.proofs.MessageParts.{enumeration_part, every_agrees, first_of, head_or, if_present, leaf_part}
 use Rattle.kmip_ttlv_laws.proofs.MessageParts.{leaf_then, message, neither_named, nothing_left, optional_then}
@@ -184,7 +184,7 @@ pub said_agrees : {A : Type 0} (x : Said A) → IsSaid x
     → PartAgrees said_form
     (written_said x) record { tag = 0x540071; typ = said_typ x }
     (read_said x)
-unfolding take_tag tag_of number transparent_name override_name held_over is_wrapper rule sides equal at_least member in_brackets trim_end chars trim_start encode said_content written_said read_said
+unfolding take_tag tag_of number transparent_name override_name pending_after is_wrapper rule sides equal at_least member in_brackets trim_end chars trim_start encode said_content written_said read_said
 said_agrees (said.Line x) is =
     chosen_by_type first_variant (λ k. refl) (overridden_leaf (variant_wraps refl refl) refl refl (as_text (text_is_utf8 x.text)))
 said_agrees (said.Count x) is =
@@ -204,7 +204,7 @@ pub named_agrees : {A : Type 0} (said : List ℕ) (x : Named A) → ChoosesNamed
     → PartAfter 0x540070 said named_form
     (written_named x) record { tag = 0x540072; typ = named_typ x }
     (read_named x)
-unfolding take_tag tag_of number transparent_name override_name held_over is_wrapper rule sides equal at_least member in_brackets trim_end chars trim_start encode named_content written_named read_named
+unfolding take_tag tag_of number transparent_name override_name pending_after is_wrapper rule sides equal at_least member in_brackets trim_end chars trim_start encode named_content written_named read_named
 named_agrees said (named.Line x) (inl chosen) is =
     chosen_after first_variant (λ k found. rw (found ∙ ap Some chosen) refl) (overridden_leaf (variant_wraps refl refl) refl refl (as_text (text_is_utf8 x.text)))
 named_agrees said (named.Line x) (inr chosen) is =
@@ -237,7 +237,7 @@ pub place_agrees : {A : Type 0} (said : List ℕ) (x : Place A) → ChoosesPlace
     → PartAfter 0x540070 said place_form
     (written_place x) record { tag = 0x540073; typ = types.TextString }
     (read_place x)
-unfolding take_tag tag_of number transparent_name override_name held_over is_wrapper rule sides equal at_least member in_brackets trim_end chars trim_start encode written_place read_place
+unfolding take_tag tag_of number transparent_name override_name pending_after is_wrapper rule sides equal at_least member in_brackets trim_end chars trim_start encode written_place read_place
 place_agrees said (place.Label x) chosen =
     chosen_after first_variant (λ k found. rw (found ∙ ap Some chosen) refl) (label_agrees x)
 place_agrees said (place.Address x) chosen =

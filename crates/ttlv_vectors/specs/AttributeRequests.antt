@@ -1,7 +1,7 @@
 -- What a request for attributes is written as.
 use Rattle.std.specs.Prelude.{ℕ, List, Option, codes}
 use Rattle.kmip_ttlv.specs.Values.{Value, text_value, struct_value, newtype_value, values_of}
-use Rattle.kmip_ttlv.specs.Visits.{optional, joined}
+use Rattle.kmip_ttlv.specs.Visits.{optional_field, joined}
 
 -- what names an object
 abbrev pub identifier_value : List ℕ → Value
@@ -13,4 +13,4 @@ attribute_name_value text = newtype_value (codes "Transparent:0x42000A") (text_v
 
 -- the attributes of these names, of the object of this name where there is one
 abbrev pub asked_value : Option Value → List Value → Value
-asked_value identifier names = struct_value (codes "0x420079") (joined (optional identifier) (values_of names))
+asked_value identifier names = struct_value (codes "0x420079") (joined (optional_field identifier) (values_of names))

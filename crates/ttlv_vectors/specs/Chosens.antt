@@ -7,7 +7,7 @@ use Rattle.kmip_ttlv.specs.Values.{Value, i32_value, newtype_value, newtype_vari
 use Rattle.kmip_ttlv.specs.Values.{text_value, value}
 use Rattle.kmip_ttlv.specs.Visits.{joined}
 use Rattle.std.specs.Prelude.{List, codes, false, option_map, string_bytes, ℕ, ◌≡◌, ◌⊎◌}
-use Rattle.kmip_ttlv.specs.Visits as told
+use Rattle.kmip_ttlv.specs.Visits as visits
 use Rattle.ttlv_vectors.specs.declared.chosen.Word.{Word}
 use Rattle.ttlv_vectors.specs.declared.chosen.Line.{Line}
 use Rattle.ttlv_vectors.specs.declared.chosen.Count.{Count}
@@ -178,8 +178,8 @@ written_chosen x =
     struct_value (codes "0x540074") (
     value (word_value x.word) (
     value (written_said x.said) (
-    joined (told.optional (option_map written_named x.named)) (
-    joined (told.optional (option_map written_said x.more)) (
+    joined (visits.optional_field (option_map written_named x.named)) (
+    joined (visits.optional_field (option_map written_said x.more)) (
     value (sequence written_place x.places.items) no_values)))))
 
 -- what is read of a `Chosen`

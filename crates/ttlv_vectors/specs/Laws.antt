@@ -2,7 +2,7 @@
 -- What the bytes of messages are read back as.
 use Rattle.std.specs.Prelude.{◌≡◌, ◌↔◌, List, ℕ}
 use Rattle.kmip_ttlv.specs.Values.{Value}
-use Rattle.kmip_ttlv.specs.WriteAnswers.{IsWrittenAs}
+use Rattle.kmip_ttlv.specs.EncodeResults.{IsWrittenAs}
 use Rattle.kmip_ttlv.specs.Reads.{Begins}
 use Rattle.ttlv_vectors.specs.Chosens.{chosen_form, written_chosen, read_chosen}
 use Rattle.ttlv_vectors.specs.Soundness.{IsChosen}

@@ -8,7 +8,7 @@ use Rattle.kmip_ttlv.specs.Values.{i64_value, interval_value, newtype_value, no_
 use Rattle.kmip_ttlv.specs.Values.{unit_variant_value, value}
 use Rattle.kmip_ttlv.specs.Visits.{joined}
 use Rattle.std.specs.Prelude.{List, codes, false, option_map, string_bytes, ℕ}
-use Rattle.kmip_ttlv.specs.Visits as told
+use Rattle.kmip_ttlv.specs.Visits as visits
 use Rattle.ttlv_vectors.specs.declared.leaves.Numbers.{Numbers}
 use Rattle.ttlv_vectors.specs.declared.leaves.Moments.{Moments}
 use Rattle.ttlv_vectors.specs.declared.leaves.Contents.{Contents}
@@ -76,15 +76,15 @@ optional_contents_form =
 unfoldable pub written_optional_contents : {A : Type 0} → OptionalContents A → Value
 written_optional_contents x =
     struct_value (codes "0x540030") (
-    joined (told.optional (option_map
+    joined (visits.optional_field (option_map
     (λ y. newtype_value (codes "Transparent:0x540005") (boolean_value y)) x.truth)) (
-    joined (told.optional (option_map
+    joined (visits.optional_field (option_map
     (λ y. newtype_value (codes "Transparent:0x540006") (interval_value y)) x.seconds)) (
-    joined (told.optional (option_map
+    joined (visits.optional_field (option_map
     (λ y. newtype_value (codes "Transparent:0x540021") (text_value (string_bytes y))) x.text)) (
-    joined (told.optional (option_map
+    joined (visits.optional_field (option_map
     (λ y. newtype_value (codes "Transparent:0x540022") (bytes_value y.items)) x.bytes)) (
-    joined (told.optional (option_map
+    joined (visits.optional_field (option_map
     (λ y. newtype_value (codes "Transparent:0x540023") (big_integer_value y.items)) x.big)) no_values)))))
 
 -- what is read of a `OptionalContents`

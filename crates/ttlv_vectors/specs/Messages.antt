@@ -5,7 +5,7 @@ use Rattle.kmip_ttlv.specs.MessageParts.{optional, sequence}
 use Rattle.kmip_ttlv.specs.Values.{Value, no_values, struct_value, unit_variant_value, value}
 use Rattle.kmip_ttlv.specs.Visits.{joined}
 use Rattle.std.specs.Prelude.{codes, false, option_map}
-use Rattle.kmip_ttlv.specs.Visits as told
+use Rattle.kmip_ttlv.specs.Visits as visits
 use Rattle.ttlv_vectors.specs.declared.message.Every.{Every}
 use Rattle.ttlv_vectors.specs.Leaves.{numbers_form, numbers_value}
 use Rattle.ttlv_vectors.specs.Leaves.{moments_form, moments_value}
@@ -36,8 +36,8 @@ written_every x =
     value (kind_value x.kind) (
     value (numbers_value x.numbers) (
     value (moments_value x.moments) (
-    joined (told.optional (option_map written_optional_numbers x.optional_numbers)) (
-    joined (told.optional (option_map written_optional_contents x.optional_contents)) (
+    joined (visits.optional_field (option_map written_optional_numbers x.optional_numbers)) (
+    joined (visits.optional_field (option_map written_optional_contents x.optional_contents)) (
     value (written_reasons x.reasons) (
     value (sequence contents_value x.contents.items) no_values))))))))
 

@@ -7,7 +7,7 @@ use Rattle.kmip_ttlv.specs.Values.{boolean_value, date_time_value, interval_valu
 use Rattle.kmip_ttlv.specs.Visits.{joined}
 use Rattle.std.specs.Int.{w32, w64}
 use Rattle.std.specs.Prelude.{codes, false, option_map, string_bytes}
-use Rattle.kmip_ttlv.specs.Visits as told
+use Rattle.kmip_ttlv.specs.Visits as received
 use Rattle.ttlv_vectors.specs.declared.numbers.OptionalNumbers.{OptionalNumbers}
 use Rattle.ttlv_vectors.specs.declared.numbers.Many.{Many}
 use Rattle.ttlv_vectors.specs.declared.numbers.Named.{Named}
@@ -25,11 +25,11 @@ optional_numbers_form =
 unfoldable pub written_optional_numbers : OptionalNumbers → Value
 written_optional_numbers x =
     struct_value (codes "0x540010") (
-    joined (told.optional (option_map
+    joined (received.optional_field (option_map
     (λ y. newtype_value (codes "Transparent:0x540002") (i32_value (by_bits w32 y))) x.count)) (
-    joined (told.optional (option_map
+    joined (received.optional_field (option_map
     (λ y. newtype_value (codes "Transparent:0x540003") (i64_value (by_bits w64 y))) x.long)) (
-    joined (told.optional (option_map
+    joined (received.optional_field (option_map
     (λ y. newtype_value (codes "Transparent:0x540004") (date_time_value (by_bits w64 y))) x.date)) no_values)))
 
 -- what is read of them
@@ -52,7 +52,7 @@ unfoldable pub written_reasons : Reasons → Value
 written_reasons x =
     struct_value (codes "0x540015") (
     value (newtype_value (codes "Transparent:0x540007") (u32_value x.first)) (
-    joined (told.optional (option_map
+    joined (received.optional_field (option_map
     (λ y. newtype_value (codes "Transparent:0x540008") (u32_value y)) x.second)) no_values))
 
 -- what is read of them

@@ -7,7 +7,7 @@ use Rattle.kmip_ttlv.specs.Values.{Value, i32_value, newtype_value, no_values, s
 use Rattle.kmip_ttlv.specs.Values.{unit_variant_value, value}
 use Rattle.kmip_ttlv.specs.Visits.{joined}
 use Rattle.std.specs.Prelude.{List, Option, Some, [], codes, false, option_map, string_bytes, ℕ, ◌∷◌}
-use Rattle.kmip_ttlv.specs.Visits as told
+use Rattle.kmip_ttlv.specs.Visits as visits
 use Rattle.ttlv_vectors.specs.declared.query.MaximumItems.{MaximumItems}
 use Rattle.ttlv_vectors.specs.declared.query.TextAttribute.{TextAttribute}
 use Rattle.ttlv_vectors.specs.declared.query.LocateRequestPayload.{LocateRequestPayload}
@@ -56,7 +56,7 @@ locate_request_payload_form =
 unfoldable pub written_locate_request_payload : {A : Type 0} → LocateRequestPayload A → Value
 written_locate_request_payload x =
     struct_value (codes "0x420079") (
-    joined (told.optional (option_map maximum_items_value x.maximum_items)) (
+    joined (visits.optional_field (option_map maximum_items_value x.maximum_items)) (
     value (sequence text_attribute_value x.attributes.items) no_values))
 
 -- what is read of a `LocateRequestPayload`
@@ -140,7 +140,7 @@ written_query_response_payload x =
     struct_value (codes "0x42007C") (
     value (sequence written_operation x.operations.items) (
     value (sequence object_type_value x.object_types.items) (
-    joined (told.optional (option_map
+    joined (visits.optional_field (option_map
     (λ y. newtype_value (codes "Transparent:0x42009D") (text_value (string_bytes y))) x.vendor)) (
     value (sequence application_namespace_value x.namespaces.items) no_values))))
 
@@ -232,8 +232,8 @@ written_failed_item x =
     struct_value (codes "0x42000F") (
     value (written_operation x.operation) (
     value (result_status_value x.status) (
-    joined (told.optional (option_map written_result_reason x.reason)) (
-    joined (told.optional (option_map
+    joined (visits.optional_field (option_map written_result_reason x.reason)) (
+    joined (visits.optional_field (option_map
     (λ y. newtype_value (codes "Transparent:0x42007D") (text_value (string_bytes y))) x.message)) no_values))))
 
 -- what is read of a `FailedItem`

@@ -2,7 +2,7 @@
 //! Choices, by the type of an item or by a word before them.
 
 ghost use Rattle.std.specs.Prelude.{◌≡◌, ◌↔◌, refl, IsTrue, OnErr, OnOk, codes, false};
-ghost use Rattle.kmip_ttlv.specs.Visits.{Tells};
+ghost use Rattle.kmip_ttlv.specs.Visits.{Receives};
 ghost use Rattle.ttlv_vectors.specs.Chosens.{word_form, word_value, line_form, line_value, count_form, count_value, said_form, written_said, read_said, said_content, named_form, written_named, read_named, named_content, ChoosesNamed, label_form, label_value, address_form, address_value, place_form, written_place, read_place, ChoosesPlace, chosen_form, written_chosen, read_chosen};
 
 use kmip_ttlv::messages::writing;
@@ -122,15 +122,15 @@ pub enum Said<A: Allocator = Global> {
 }
 
 impl<A: Allocator> Said<A> {
-    // Tells what it holds.
+    // Sends what it holds.
     #[tactic(auto, unfolding(crate::specs::Chosens::said_content))]
-    pub(crate) fn tell<V: Visitor>(&self, visitor: &mut V) -> Result<(), AllocError>
-        ensures told { OnOk result (Tells V.knows V.step (said_content self.now) visitor.old visitor.new) }
+    pub(crate) fn send<V: Visitor>(&self, visitor: &mut V) -> Result<(), AllocError>
+        ensures received { OnOk result (Receives V.knows V.step (said_content self.now) visitor.old visitor.new) }
         ensures stopped { OnErr result (V.stopped visitor.new) }
     {
         match self {
-            Said::Line(held) => held.visit(visitor),
-            Said::Count(held) => held.visit(visitor),
+            Said::Line(inner) => inner.visit(visitor),
+            Said::Count(inner) => inner.visit(visitor),
         }
     }
 }
@@ -141,7 +141,7 @@ impl<B: Allocator> Serialize for Said<B> {
     #[tactic(auto, unfolding(crate::specs::Chosens::written_said))]
     fn visit<V: Visitor>(&self, visitor: &mut V) -> Result<(), AllocError> {
         writing::begin_newtype_variant(visitor, "Override:0x540071", "Transparent")?;
-        self.tell(visitor)?;
+        self.send(visitor)?;
         writing::end_newtype_variant(visitor, "Override:0x540071", "Transparent")
     }
 }
@@ -165,8 +165,8 @@ impl reader::Rule for SaidLineRule {
 impl<A: Allocator + Copy> reader::VariantOf<reader::ItemElement<Line<A>>, Said<A>, A>
     for SaidLineRule {
     #[tactic(auto, unfolding(kmip_ttlv_types::specs::Digits::six_digits, crate::specs::Chosens::read_said))]
-    fn from_content(held: Line<A>) -> Said<A> {
-        Said::Line(held)
+    fn from_content(inner: Line<A>) -> Said<A> {
+        Said::Line(inner)
     }
 }
 
@@ -189,8 +189,8 @@ impl reader::Rule for SaidCountRule {
 impl<A: Allocator + Copy> reader::VariantOf<reader::ItemElement<Count>, Said<A>, A>
     for SaidCountRule {
     #[tactic(auto, unfolding(kmip_ttlv_types::specs::Digits::six_digits, crate::specs::Chosens::read_said))]
-    fn from_content(held: Count) -> Said<A> {
-        Said::Count(held)
+    fn from_content(inner: Count) -> Said<A> {
+        Said::Count(inner)
     }
 }
 
@@ -241,15 +241,15 @@ pub enum Named<A: Allocator = Global> {
 }
 
 impl<A: Allocator> Named<A> {
-    // Tells what it holds.
+    // Sends what it holds.
     #[tactic(auto, unfolding(crate::specs::Chosens::named_content))]
-    pub(crate) fn tell<V: Visitor>(&self, visitor: &mut V) -> Result<(), AllocError>
-        ensures told { OnOk result (Tells V.knows V.step (named_content self.now) visitor.old visitor.new) }
+    pub(crate) fn send<V: Visitor>(&self, visitor: &mut V) -> Result<(), AllocError>
+        ensures received { OnOk result (Receives V.knows V.step (named_content self.now) visitor.old visitor.new) }
         ensures stopped { OnErr result (V.stopped visitor.new) }
     {
         match self {
-            Named::Line(held) => held.visit(visitor),
-            Named::Count(held) => held.visit(visitor),
+            Named::Line(inner) => inner.visit(visitor),
+            Named::Count(inner) => inner.visit(visitor),
         }
     }
 }
@@ -272,7 +272,7 @@ impl<B: Allocator> Serialize for Named<B> {
     #[tactic(auto, unfolding(crate::specs::Chosens::written_named))]
     fn visit<V: Visitor>(&self, visitor: &mut V) -> Result<(), AllocError> {
         writing::begin_newtype_variant(visitor, "Override:0x540072", "Transparent")?;
-        self.tell(visitor)?;
+        self.send(visitor)?;
         writing::end_newtype_variant(visitor, "Override:0x540072", "Transparent")
     }
 }
@@ -299,8 +299,8 @@ impl reader::Rule for NamedLineRule {
 impl<A: Allocator + Copy> reader::VariantOf<reader::ItemElement<Line<A>>, Named<A>, A>
     for NamedLineRule {
     #[tactic(auto, unfolding(kmip_ttlv_types::specs::Digits::six_digits, crate::specs::Chosens::read_named))]
-    fn from_content(held: Line<A>) -> Named<A> {
-        Named::Line(held)
+    fn from_content(inner: Line<A>) -> Named<A> {
+        Named::Line(inner)
     }
 }
 
@@ -326,8 +326,8 @@ impl reader::Rule for NamedCountRule {
 impl<A: Allocator + Copy> reader::VariantOf<reader::ItemElement<Count>, Named<A>, A>
     for NamedCountRule {
     #[tactic(auto, unfolding(kmip_ttlv_types::specs::Digits::six_digits, crate::specs::Chosens::read_named))]
-    fn from_content(held: Count) -> Named<A> {
-        Named::Count(held)
+    fn from_content(inner: Count) -> Named<A> {
+        Named::Count(inner)
     }
 }
 
@@ -461,8 +461,8 @@ impl<B: Allocator> Serialize for Place<B> {
     #[tactic(auto, unfolding(crate::specs::Chosens::written_place))]
     fn visit<V: Visitor>(&self, visitor: &mut V) -> Result<(), AllocError> {
         match self {
-            Place::Label(held) => held.visit(visitor),
-            Place::Address(held) => held.visit(visitor),
+            Place::Label(inner) => inner.visit(visitor),
+            Place::Address(inner) => inner.visit(visitor),
         }
     }
 }
@@ -489,8 +489,8 @@ impl reader::Rule for PlaceLabelRule {
 impl<A: Allocator + Copy> reader::VariantOf<reader::ItemElement<Label<A>>, Place<A>, A>
     for PlaceLabelRule {
     #[tactic(auto, unfolding(kmip_ttlv_types::specs::Digits::six_digits, crate::specs::Chosens::read_place))]
-    fn from_content(held: Label<A>) -> Place<A> {
-        Place::Label(held)
+    fn from_content(inner: Label<A>) -> Place<A> {
+        Place::Label(inner)
     }
 }
 
@@ -516,8 +516,8 @@ impl reader::Rule for PlaceAddressRule {
 impl<A: Allocator + Copy> reader::VariantOf<reader::ItemElement<Address<A>>, Place<A>, A>
     for PlaceAddressRule {
     #[tactic(auto, unfolding(kmip_ttlv_types::specs::Digits::six_digits, crate::specs::Chosens::read_place))]
-    fn from_content(held: Address<A>) -> Place<A> {
-        Place::Address(held)
+    fn from_content(inner: Address<A>) -> Place<A> {
+        Place::Address(inner)
     }
 }
 

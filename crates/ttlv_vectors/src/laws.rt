@@ -109,7 +109,7 @@ impl<A: Allocator> Sound for Said<A> {
     fn is_sound(&self) -> bool {
         match self {
             Said::Line(_) => true,
-            Said::Count(held) => held.is_sound(),
+            Said::Count(inner) => inner.is_sound(),
         }
     }
 }
@@ -120,7 +120,7 @@ impl<A: Allocator> Sound for Named<A> {
     fn is_sound(&self) -> bool {
         match self {
             Named::Line(_) => true,
-            Named::Count(held) => held.is_sound(),
+            Named::Count(inner) => inner.is_sound(),
         }
     }
 }
@@ -131,7 +131,7 @@ impl<A: Allocator> Chosen<A> {
         ensures { IsTrue result ↔ IfSome self.now.named (λ y. ChoosesNamed (string_bytes self.now.word.text) y) }
     {
         match &self.named {
-            Some(held) => held.is_chosen_by(self.word.text.as_str()),
+            Some(inner) => inner.is_chosen_by(self.word.text.as_str()),
             None => true,
         }
     }
@@ -141,7 +141,7 @@ impl<A: Allocator> Chosen<A> {
         ensures { IsTrue result ↔ All (λ y. ChoosesPlace (string_bytes self.now.word.text) y) self.now.places.items }
     {
         let said = self.word.text.as_str();
-        self.places.iter().all(|held| held.is_chosen_by(said))
+        self.places.iter().all(|inner| inner.is_chosen_by(said))
     }
 }
 

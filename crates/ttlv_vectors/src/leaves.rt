@@ -297,13 +297,13 @@ impl<A: Allocator + Copy> reader::ReadStructure<A> for OptionalContents<A> {
         OptionalContents {
             truth,
             seconds: match seconds {
-                Some(held) => Some(held.0),
+                Some(inner) => Some(inner.0),
                 None => None
             },
             text,
             bytes,
             big: match big {
-                Some(held) => Some(held.0),
+                Some(inner) => Some(inner.0),
                 None => None
             },
         }

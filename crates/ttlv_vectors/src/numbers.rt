@@ -70,7 +70,7 @@ impl<A: Allocator + Copy> ReadStructure<A> for OptionalNumbers {
             count,
             long,
             date: match date {
-                Some(held) => Some(held.0),
+                Some(inner) => Some(inner.0),
                 None => None,
             },
         }

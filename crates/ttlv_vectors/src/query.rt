@@ -367,7 +367,7 @@ impl<A: Allocator + Copy> reader::ReadItem<A> for ApplicationNamespace<A> {
 pub struct QueryResponsePayload<A: Allocator = Global> {
     /// The operations that it has.
     pub operations: Vec<Operation, A>,
-    /// The kinds of objects that it keeps.
+    /// The kinds of objects that it tag_values.
     pub object_types: Vec<ObjectType, A>,
     /// Who made it.
     pub vendor: Option<String<A>>,
@@ -604,7 +604,7 @@ pub struct FailedItem<A: Allocator = Global> {
     pub status: ResultStatus,
     /// Why.
     pub reason: Option<ResultReason>,
-    /// What a person is told.
+    /// What a person is received.
     pub message: Option<String<A>>,
 }
 

@@ -2,7 +2,7 @@
 //! part, with the value that it stands for.
 
 ghost use Rattle.std.specs.Prelude.{OnOk, OnErr};
-ghost use Rattle.kmip_ttlv.specs.Visits.{Tells};
+ghost use Rattle.kmip_ttlv.specs.Visits.{Receives};
 ghost use Rattle.ttlv_vectors.specs.Requests.{version_value, header_value, attribute_value, algorithm_value};
 ghost use Rattle.ttlv_vectors.specs.Requests.{length_value, usage_value, attributes_value, template_value};
 ghost use Rattle.ttlv_vectors.specs.Requests.{symmetric_key_value, create_value, payload_value, item_value};
@@ -34,8 +34,8 @@ pub struct CreateRequest {
 #[inline]
 #[tactic(auto, unfolding(crate::specs::Requests::version_value))]
 fn version<V: Visitor>(visitor: &mut V, major: i32, minor: i32) -> Result<(), AllocError>
-    ensures told { OnOk result
-        (Tells V.knows V.step (version_value major minor) visitor.old visitor.new) }
+    ensures received { OnOk result
+        (Receives V.knows V.step (version_value major minor) visitor.old visitor.new) }
     ensures stopped { OnErr result (V.stopped visitor.new) }
 {
     begin_struct(visitor, "0x420069")?;
@@ -49,8 +49,8 @@ fn version<V: Visitor>(visitor: &mut V, major: i32, minor: i32) -> Result<(), Al
 #[inline]
 #[tactic(auto, unfolding(crate::specs::Requests::header_value))]
 fn header<V: Visitor>(visitor: &mut V, major: i32, minor: i32, count: i32) -> Result<(), AllocError>
-    ensures told { OnOk result
-        (Tells V.knows V.step (header_value major minor count) visitor.old visitor.new) }
+    ensures received { OnOk result
+        (Receives V.knows V.step (header_value major minor count) visitor.old visitor.new) }
     ensures stopped { OnErr result (V.stopped visitor.new) }
 {
     begin_struct(visitor, "0x420077")?;
@@ -68,8 +68,8 @@ fn attribute<V: Visitor, T: Serialize>(
     name: &str,
     value: &T,
 ) -> Result<(), AllocError>
-    ensures told { OnOk result
-        (Tells V.knows V.step (attribute_value name.now (T.stated value.now)) visitor.old visitor.new) }
+    ensures received { OnOk result
+        (Receives V.knows V.step (attribute_value name.now (T.stated value.now)) visitor.old visitor.new) }
     ensures stopped { OnErr result (V.stopped visitor.new) }
 {
     begin_struct(visitor, "0x420008")?;
@@ -83,8 +83,8 @@ fn attribute<V: Visitor, T: Serialize>(
 #[inline]
 #[tactic(auto, unfolding(crate::specs::Requests::algorithm_value))]
 fn algorithm<V: Visitor>(visitor: &mut V) -> Result<(), AllocError>
-    ensures told { OnOk result
-        (Tells V.knows V.step (algorithm_value) visitor.old visitor.new) }
+    ensures received { OnOk result
+        (Receives V.knows V.step (algorithm_value) visitor.old visitor.new) }
     ensures stopped { OnErr result (V.stopped visitor.new) }
 {
     let aes = Leaf::UnitVariant {
@@ -99,8 +99,8 @@ fn algorithm<V: Visitor>(visitor: &mut V) -> Result<(), AllocError>
 #[inline]
 #[tactic(auto, unfolding(crate::specs::Requests::length_value))]
 fn length<V: Visitor>(visitor: &mut V, bits: i32) -> Result<(), AllocError>
-    ensures told { OnOk result
-        (Tells V.knows V.step (length_value bits) visitor.old visitor.new) }
+    ensures received { OnOk result
+        (Receives V.knows V.step (length_value bits) visitor.old visitor.new) }
     ensures stopped { OnErr result (V.stopped visitor.new) }
 {
     attribute(visitor, "Cryptographic Length", &Leaf::I32(bits))?;
@@ -111,8 +111,8 @@ fn length<V: Visitor>(visitor: &mut V, bits: i32) -> Result<(), AllocError>
 #[inline]
 #[tactic(auto, unfolding(crate::specs::Requests::usage_value))]
 fn usage_mask<V: Visitor>(visitor: &mut V, usage: i32) -> Result<(), AllocError>
-    ensures told { OnOk result
-        (Tells V.knows V.step (usage_value usage) visitor.old visitor.new) }
+    ensures received { OnOk result
+        (Receives V.knows V.step (usage_value usage) visitor.old visitor.new) }
     ensures stopped { OnErr result (V.stopped visitor.new) }
 {
     attribute(visitor, "Cryptographic Usage Mask", &Leaf::I32(usage))?;
@@ -123,8 +123,8 @@ fn usage_mask<V: Visitor>(visitor: &mut V, usage: i32) -> Result<(), AllocError>
 #[inline]
 #[tactic(auto, unfolding(crate::specs::Requests::attributes_value))]
 fn attributes<V: Visitor>(visitor: &mut V, bits: i32, usage: i32) -> Result<(), AllocError>
-    ensures told { OnOk result
-        (Tells V.knows V.step (attributes_value bits usage) visitor.old visitor.new) }
+    ensures received { OnOk result
+        (Receives V.knows V.step (attributes_value bits usage) visitor.old visitor.new) }
     ensures stopped { OnErr result (V.stopped visitor.new) }
 {
     begin_seq(visitor)?;
@@ -139,8 +139,8 @@ fn attributes<V: Visitor>(visitor: &mut V, bits: i32, usage: i32) -> Result<(), 
 #[inline]
 #[tactic(auto, unfolding(crate::specs::Requests::template_value))]
 fn template<V: Visitor>(visitor: &mut V, bits: i32, usage: i32) -> Result<(), AllocError>
-    ensures told { OnOk result
-        (Tells V.knows V.step (template_value bits usage) visitor.old visitor.new) }
+    ensures received { OnOk result
+        (Receives V.knows V.step (template_value bits usage) visitor.old visitor.new) }
     ensures stopped { OnErr result (V.stopped visitor.new) }
 {
     begin_newtype(visitor, "0x420091")?;
@@ -153,8 +153,8 @@ fn template<V: Visitor>(visitor: &mut V, bits: i32, usage: i32) -> Result<(), Al
 #[inline]
 #[tactic(auto, unfolding(crate::specs::Requests::symmetric_key_value))]
 fn symmetric_key<V: Visitor>(visitor: &mut V) -> Result<(), AllocError>
-    ensures told { OnOk result
-        (Tells V.knows V.step (symmetric_key_value) visitor.old visitor.new) }
+    ensures received { OnOk result
+        (Receives V.knows V.step (symmetric_key_value) visitor.old visitor.new) }
     ensures stopped { OnErr result (V.stopped visitor.new) }
 {
     unit_variant(visitor, "0x420057", "0x00000002")?;
@@ -165,8 +165,8 @@ fn symmetric_key<V: Visitor>(visitor: &mut V) -> Result<(), AllocError>
 #[inline]
 #[tactic(auto, unfolding(crate::specs::Requests::create_value))]
 fn create<V: Visitor>(visitor: &mut V) -> Result<(), AllocError>
-    ensures told { OnOk result
-        (Tells V.knows V.step (create_value) visitor.old visitor.new) }
+    ensures received { OnOk result
+        (Receives V.knows V.step (create_value) visitor.old visitor.new) }
     ensures stopped { OnErr result (V.stopped visitor.new) }
 {
     unit_variant(visitor, "0x42005C", "0x00000001")?;
@@ -177,8 +177,8 @@ fn create<V: Visitor>(visitor: &mut V) -> Result<(), AllocError>
 #[inline]
 #[tactic(auto, unfolding(crate::specs::Requests::payload_value))]
 fn payload<V: Visitor>(visitor: &mut V, bits: i32, usage: i32) -> Result<(), AllocError>
-    ensures told { OnOk result
-        (Tells V.knows V.step (payload_value bits usage) visitor.old visitor.new) }
+    ensures received { OnOk result
+        (Receives V.knows V.step (payload_value bits usage) visitor.old visitor.new) }
     ensures stopped { OnErr result (V.stopped visitor.new) }
 {
     begin_struct(visitor, "0x420079")?;
@@ -192,8 +192,8 @@ fn payload<V: Visitor>(visitor: &mut V, bits: i32, usage: i32) -> Result<(), All
 #[inline]
 #[tactic(auto, unfolding(crate::specs::Requests::item_value))]
 fn item<V: Visitor>(visitor: &mut V, bits: i32, usage: i32) -> Result<(), AllocError>
-    ensures told { OnOk result
-        (Tells V.knows V.step (item_value bits usage) visitor.old visitor.new) }
+    ensures received { OnOk result
+        (Receives V.knows V.step (item_value bits usage) visitor.old visitor.new) }
     ensures stopped { OnErr result (V.stopped visitor.new) }
 {
     begin_struct(visitor, "0x42000F")?;

@@ -3,11 +3,11 @@ use Rattle.kmip_ttlv_stream.proofs.Exact.{exact}
 use Rattle.kmip_ttlv_stream.proofs.Stopping.{ends_not_kept}
 use Rattle.kmip_ttlv_stream.proofs.from_reader.Goals as goal
 
-pub returns-in-Kept-clause-limit : goal.returns-in-Kept-clause-limit
-returns-in-Kept-clause-limit g c = by_size _ _ _ _ _ _ _ c.read_message.result c.read_message.ensures
+pub returns-in-Reused-clause-limit : goal.returns-in-Reused-clause-limit
+returns-in-Reused-clause-limit g c = by_size _ _ _ _ _ _ _ c.read_message.result c.read_message.ensures
 
-pub returns-in-Kept-clause-exact : goal.returns-in-Kept-clause-exact
-returns-in-Kept-clause-exact g c = exact _ _ _ _ _ _ _ c.read_message.ensures
+pub returns-in-Reused-clause-exact : goal.returns-in-Reused-clause-exact
+returns-in-Reused-clause-exact g c = exact _ _ _ _ _ _ _ c.read_message.ensures
 
 pub returns-in-Unkept-clause-ends : goal.returns-in-Unkept-clause-ends
 returns-in-Unkept-clause-ends g c =

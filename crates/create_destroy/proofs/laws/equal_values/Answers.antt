@@ -1,5 +1,5 @@
 -- Written by codegen from types.table: change that, and run codegen/codegen.
--- Values of a type are equal if they stand for the same: each part is, and numbers tell the variants of an Enumeration.
+-- Values of a type are equal if they stand for the same: each part is, and numbers tell apart the variants of an Enumeration.
 use Rattle.kmip_ttlv_laws.proofs.Equal.{apart, both, first_same, found_same, in_date_time, in_integer, in_newtype}
 use Rattle.kmip_ttlv_laws.proofs.Equal.{in_structure, in_text, in_unit, in_variant, later_same, row_of, several_equal}
 use Rattle.kmip_ttlv_laws.proofs.Equal.{signed_equal, texts_equal}

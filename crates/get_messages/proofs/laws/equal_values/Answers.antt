@@ -1,5 +1,5 @@
 -- Written by codegen from types.table: change that, and run codegen/codegen.
--- Values of a type are equal if they stand for the same: each part is, and numbers tell the variants of an Enumeration.
+-- Values of a type are equal if they stand for the same: each part is, and numbers tell apart the variants of an Enumeration.
 use Rattle.kmip_ttlv.specs.Values.{bytes_value, newtype_value}
 use Rattle.kmip_ttlv_laws.proofs.Equal.{both, bytes_equal, first_same, found_same, in_bytes, in_date_time, in_integer}
 use Rattle.kmip_ttlv_laws.proofs.Equal.{in_newtype, in_structure, in_text, in_unit, later_same, options_equal, row_of}

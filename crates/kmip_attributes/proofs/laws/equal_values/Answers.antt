@@ -1,5 +1,5 @@
 -- Written by codegen from types.table: change that, and run codegen/codegen.
--- Values of a type are equal if they stand for the same: each part is, and numbers tell the variants of an Enumeration.
+-- Values of a type are equal if they stand for the same: each part is, and numbers tell apart the variants of an Enumeration.
 use Rattle.kmip_ttlv.specs.Values.{bytes_value, newtype_value, text_value}
 use Rattle.kmip_ttlv_laws.proofs.Equal.{any_equal, apart, booleans_equal, both, bytes_equal, first_same, in_big_integer}
 use Rattle.kmip_ttlv_laws.proofs.Equal.{in_boolean, in_bytes, in_date_time, in_integer, in_interval, in_long_integer}

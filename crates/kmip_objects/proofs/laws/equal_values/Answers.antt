@@ -1,5 +1,5 @@
 -- Written by codegen from types.table: change that, and run codegen/codegen.
--- Values of a type are equal if they stand for the same: each part is, and numbers tell the variants of an Enumeration.
+-- Values of a type are equal if they stand for the same: each part is, and numbers tell apart the variants of an Enumeration.
 use Rattle.kmip_ttlv.specs.Values.{big_integer_value, bytes_value, newtype_value}
 use Rattle.kmip_ttlv_laws.proofs.Equal.{any_equal, apart, both, bytes_equal, first_same, in_big_integer, in_bytes}
 use Rattle.kmip_ttlv_laws.proofs.Equal.{in_integer, in_newtype, in_number, in_structure, in_text, in_variant}

@@ -7,4 +7,4 @@ pub returns : goal.returns
 returns g c =
     c.first.ensures
     ∙ built (g.T.Serialize.stated c.args.value.now) (unfinished c.visit.new.visitor)
-    (c.in_ok-visit.ensures.told (within [] []) (search rules))
+    (c.in_ok-visit.ensures.received (within [] []) (search rules))

@@ -86,9 +86,9 @@ pub returns-clause-no_variants_named : goal.returns-clause-no_variants_named
 unfolding reading
 returns-clause-no_variants_named c = (refl, refl, refl, refl, refl, refl, refl, refl, refl)
 
-pub returns-clause-kept_texts : goal.returns-clause-kept_texts
+pub returns-clause-stored_values : goal.returns-clause-stored_values
 unfolding reading
-returns-clause-kept_texts c = (refl, refl, refl)
+returns-clause-stored_values c = (refl, refl, refl)
 
 pub returns-clause-tuples : goal.returns-clause-tuples
 unfolding reading

@@ -1,7 +1,7 @@
 use Rattle.std.proofs.Common.{◌∙◌, ◌++◌, ◌∷◌, [], List, ℕ, subst}
 use Rattle.kmip_ttlv_items.specs.declared.found.Step.TheVariants.{End}
 use Rattle.kmip_ttlv_items.specs.ItemWalks.{Ended}
-use Rattle.kmip_ttlv_items.specs.Stepping.{Steps, Comes}
+use Rattle.kmip_ttlv_items.specs.Stepping.{Steps, StepsTo}
 use Rattle.kmip_ttlv_items.proofs.walk.find_fault.Goals as goal
 
 pub returns-in-End : goal.returns-in-End
@@ -17,7 +17,7 @@ walk-preserved g c =
     let found = c.walk.invariant.met.0 in
     let passed = c.pass_leaves.ensures.met found c.walk.invariant.met.1 in
     let i = c.in_default.field-0 in
-    let comes : Comes c.pass_leaves.new.self c.next.new.self i = subst (Steps c.pass_leaves.new.self c.next.new.self) c.in_default.is c.in_ok-fault.ensures.ok in
+    let comes : StepsTo c.pass_leaves.new.self c.next.new.self i = subst (Steps c.pass_leaves.new.self c.next.new.self) c.in_default.is c.in_ok-fault.ensures.ok in
     record {
       bytes = c.next.ensures.bytes ∙ c.pass_leaves.ensures.bytes ∙ c.walk.invariant.bytes;
       met = (found ++ passed.0 ++ (i ∷ []), comes.met (found ++ passed.0) passed.1);

@@ -1,6 +1,6 @@
 use Rattle.std.proofs.Common.{rules, arith, ◌∙◌, ◌<◌, ◌^◌, [], ◌∷◌, ◌++◌, length, refl, ap, sym, subst, length-append}
 use Rattle.kmip_ttlv_items.specs.Enclosing.{open_ends}
-use Rattle.kmip_ttlv_items.specs.Stepping.{Steps, Comes}
+use Rattle.kmip_ttlv_items.specs.Stepping.{Steps, StepsTo}
 use Rattle.kmip_ttlv_items.proofs.Steps.{overlaid_none, keeps_more}
 use Rattle.kmip_ttlv_items.proofs.Walks.{met_few}
 use Rattle.kmip_ttlv_items.proofs.walk.walk_items.Goals as goal
@@ -19,13 +19,13 @@ pub walk-preserved : goal.walk-preserved
 walk-preserved g c =
     let found = c.walk.invariant.keeps.0 in
     let i = c.in-Item.item in
-    let comes : Comes c.walk.walk c.next.new.self i = subst (Steps c.walk.walk c.next.new.self) c.in-Item.is c.in_ok-item.ensures.ok in
+    let comes : StepsTo c.walk.walk c.next.new.self i = subst (Steps c.walk.walk c.next.new.self) c.in-Item.is c.in_ok-item.ensures.ok in
     record {
       bytes = c.next.ensures.bytes ∙ c.walk.invariant.bytes;
       keeps = (
         found ++ (i ∷ []),
         comes.met found c.walk.invariant.keeps.1,
         omega (arith, c.walk.invariant.keeps.2, length-append found (i ∷ [])),
-        keeps_more g.T.KeepItem.kept found i c.args.out.now c.walk.out c.put.new.out c.walk.count c.walk.invariant.keeps.3 c.walk.invariant.keeps.2 c.put.ensures,
+        keeps_more g.T.FromFoundItem.converted found i c.args.out.now c.walk.out c.put.new.out c.walk.count c.walk.invariant.keeps.3 c.walk.invariant.keeps.2 c.put.ensures,
       );
     }

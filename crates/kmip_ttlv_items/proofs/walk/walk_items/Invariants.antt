@@ -7,7 +7,7 @@ use Rattle.kmip_ttlv_items.proofs.walk.walk_items.Given as goal
 abbrev pub invariant-walk : goal.invariant-walk
 invariant-walk g l = record {
   bytes : l.walk.bytes.now ≡ l.bytes;
-  keeps : (found : List FoundItem) × Met l.walk found × (l.count ≡ length found) × (l.out ≡ overlaid (map g.T.KeepItem.kept found) l.fn.out);
+  keeps : (found : List FoundItem) × Met l.walk found × (l.count ≡ length found) × (l.out ≡ overlaid (map g.T.FromFoundItem.converted found) l.fn.out);
 }
 
 abbrev pub decreases-walk : goal.decreases-walk

@@ -2,7 +2,7 @@ use Rattle.std.proofs.Common.{◌∙◌, ◌<◌, ℕ, List, [], ◌∷◌, ◌+
 use Rattle.std.specs.Prelude.{codes, None}
 use Rattle.kmip_ttlv_items.specs.Enclosing.{open_ends}
 use Rattle.kmip_ttlv_items.specs.ItemWalks.{Ended}
-use Rattle.kmip_ttlv_items.specs.Stepping.{Steps, Comes}
+use Rattle.kmip_ttlv_items.specs.Stepping.{Steps, StepsTo}
 use Rattle.kmip_ttlv_util.proofs.Saying.{adds_same, breaks_same}
 use Rattle.kmip_ttlv_json.specs.declared.print.Spot.{Spot}
 use Rattle.kmip_ttlv_json.specs.Parts.{closes, spot_after, parts, spot_behind, first_spot}
@@ -16,13 +16,13 @@ items-init g c = record { bytes = c.new-walk.ensures.bytes; told = ([], c.new-wa
 pub push_item-requires : goal.push_item-requires
 push_item-requires g c =
     let i = c.in-Item.item in
-    let comes : Comes c.items.walk c.next.new.self i = subst (Steps c.items.walk c.next.new.self) c.in-Item.is c.in_ok-item.ensures.ok in
+    let comes : StepsTo c.items.walk c.next.new.self i = subst (Steps c.items.walk c.next.new.self) c.in-Item.is c.in_ok-item.ensures.ok in
     subst (λ (s : List ℕ). IsThere s i) c.items.invariant.bytes comes.whole
 
 pub items-preserved : goal.items-preserved
 items-preserved g c =
     let i = c.in-Item.item in
-    let comes : Comes c.items.walk c.next.new.self i = subst (Steps c.items.walk c.next.new.self) c.in-Item.is c.in_ok-item.ensures.ok in
+    let comes : StepsTo c.items.walk c.next.new.self i = subst (Steps c.items.walk c.next.new.self) c.in-Item.is c.in_ok-item.ensures.ok in
     let w = c.args.message.now in
     let there : IsThere w i = subst (λ (s : List ℕ). IsThere s i) c.items.invariant.bytes comes.whole in
     let found = c.items.invariant.told.0 in
@@ -59,7 +59,7 @@ returns-in_err-item-clause-err g c =
 pub returns-in_err-push_item-in-Item-clause-err : goal.returns-in_err-push_item-in-Item-clause-err
 returns-in_err-push_item-in-Item-clause-err g c =
     let i = c.in-Item.item in
-    let comes : Comes c.items.walk c.next.new.self i = subst (Steps c.items.walk c.next.new.self) c.in-Item.is c.in_ok-item.ensures.ok in
+    let comes : StepsTo c.items.walk c.next.new.self i = subst (Steps c.items.walk c.next.new.self) c.in-Item.is c.in_ok-item.ensures.ok in
     let w = c.args.message.now in
     let plain : (k : ℕ) → get_or w k 0 < 256 = λ k. omega (arith, c.type_inv.message k) in
     let there : IsThere w i = subst (λ (s : List ℕ). IsThere s i) c.items.invariant.bytes comes.whole in

@@ -1,5 +1,5 @@
 use Rattle.std.proofs.Common.{sym, subst}
-use Rattle.kmip_ttlv_ser.specs.WriteAnswers.{IsWrittenAs}
+use Rattle.kmip_ttlv_ser.specs.EncodeResults.{IsWrittenAs}
 use Rattle.kmip_ttlv_laws.proofs.Rereads.{if_decoded, if_decoding_fails}
 use Rattle.kmip_ttlv_laws.proofs.message.reread.Goals as goal
 

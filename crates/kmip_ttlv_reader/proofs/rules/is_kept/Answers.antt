@@ -1,12 +1,12 @@
 use Rattle.std.proofs.Common.{◌≡◌, ap, sym, ◌∙◌, Some}
 use Rattle.std.specs.Option.{option_copied}
-use Rattle.kmip_ttlv_reader.specs.Keeps.{last}
-use Rattle.kmip_ttlv_reader.specs.Rules.{says}
+use Rattle.kmip_ttlv_reader.specs.TagValues.{last}
+use Rattle.kmip_ttlv_reader.specs.Rules.{plain_verdict}
 use Rattle.kmip_ttlv_reader.proofs.PartLemmas.{is_wanted}
 use Rattle.kmip_ttlv_reader.proofs.rules.is_kept.Goals as goal
 
 pub returns-in-Some : goal.returns-in-Some
 returns-in-Some g c =
     let text = c.in-Some.text.now in
-    let kept : Some text ≡ last c.args.kept.now c.args.tag = ap option_copied (sym c.in-Some.is) ∙ c.last_under.ensures in
-    ap says c.is_among.ensures ∙ is_wanted c.args.kept.now c.args.tag c.args.texts.now text kept
+    let stored : Some text ≡ last c.args.stored.now c.args.tag = ap option_copied (sym c.in-Some.is) ∙ c.last_under.ensures in
+    ap plain_verdict c.is_among.ensures ∙ is_wanted c.args.stored.now c.args.tag c.args.texts.now text stored

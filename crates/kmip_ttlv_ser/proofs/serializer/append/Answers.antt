@@ -1,7 +1,7 @@
 use Rattle.std.proofs.Common.{◌≡◌, ◌-◌, ◌≤◌, Some, length, vec_len, vec_capacity, refl, sym, ap, ◌∙◌, arith, subst}
 use Rattle.kmip_ttlv_types.specs.Trees.{bytes_all}
-use Rattle.kmip_ttlv_ser.specs.declared.held.Held.TheVariants.{Nothing}
-use Rattle.kmip_ttlv_ser.specs.declared.held.Place.{Place}
+use Rattle.kmip_ttlv_ser.specs.declared.pending.PendingTag.TheVariants.{Nothing}
+use Rattle.kmip_ttlv_ser.specs.declared.pending.Place.{Place}
 use Rattle.kmip_ttlv_ser.specs.WrittenItems.{items}
 use Rattle.kmip_ttlv_ser.specs.Outputs.{Before}
 use Rattle.kmip_ttlv_ser.proofs.Leaves.{place_len}
@@ -20,7 +20,7 @@ unreachable-requires g c =
     let m = c.in_ok-plan.ensures in
     let old = c.args.out.now.items in
     let free = c.in_ok-plan.plan.end.offset - c.len.result in
-    let start : Before = record { held = Some old; room = Some free } in
+    let start : Before = record { pending = Some old; room = Some free } in
     let same = ap (λ k. k.0) c.new-2.ensures.sink ∙ c.replace.ensures.value in
     let room : free ≤ vec_capacity c.new-2.result.sink.0 - vec_len c.new-2.result.sink.0 = subst (λ u. free ≤ vec_capacity u - vec_len u) (sym same) (omega (arith, c.in_ok-reserve.ensures.ok, c.in_ok-reserve.ensures.len)) in
     let given = c.emit-whole.ensures m.trees start m.are (c.deref.ensures.value ∙ m.kept) (given_nothing old c.new-2.result.sink.0.items free _ c.new-2.result.failure (ap (λ k. k.items) same ∙ c.in_ok-reserve.ensures.items) room c.new-2.ensures.failure) in
@@ -32,7 +32,7 @@ returns g c =
     let m = c.in_ok-plan.ensures in
     let old = c.args.out.now.items in
     let free = c.in_ok-plan.plan.end.offset - c.len.result in
-    let start : Before = record { held = Some old; room = Some free } in
+    let start : Before = record { pending = Some old; room = Some free } in
     let same = ap (λ k. k.0) c.new-2.ensures.sink ∙ c.replace.ensures.value in
     let room : free ≤ vec_capacity c.new-2.result.sink.0 - vec_len c.new-2.result.sink.0 = subst (λ u. free ≤ vec_capacity u - vec_len u) (sym same) (omega (arith, c.in_ok-reserve.ensures.ok, c.in_ok-reserve.ensures.len)) in
     let given = c.emit-whole.ensures m.trees start m.are (c.deref.ensures.value ∙ m.kept) (given_nothing old c.new-2.result.sink.0.items free _ c.new-2.result.failure (ap (λ k. k.items) same ∙ c.in_ok-reserve.ensures.items) room c.new-2.ensures.failure) in

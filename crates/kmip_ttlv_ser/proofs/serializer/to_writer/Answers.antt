@@ -4,7 +4,7 @@ use Rattle.kmip_ttlv_types.specs.Trees.{bytes_all}
 use Rattle.kmip_ttlv_base.specs.Errors.{kind_of, view_of_kind, location_of, view_of_location}
 use Rattle.kmip_ttlv_ser.specs.Waiting.{waiting}
 use Rattle.kmip_ttlv_ser.specs.Gathers.{Lent}
-use Rattle.kmip_ttlv_ser.specs.WriteAnswers.{origin, WrittenTo, IsNotWritten}
+use Rattle.kmip_ttlv_ser.specs.EncodeResults.{origin, WrittenTo, IsNotWritten}
 use Rattle.kmip_ttlv_ser.proofs.Outputs.{gathered_nothing, flushed, whole_reached, written_to, partly_written, not_written}
 use Rattle.kmip_ttlv_ser.proofs.serializer.to_writer.Goals as goal
 

@@ -22,7 +22,7 @@ walk-preserved-in-Continue-1 g c =
     let w = c.walk.invariant in
     record {
       text = w.text ++ (93 ∷ []);
-      is = walking_closes (diag_style c.args.prefix.now) c.args.closed c.args.bytes.now w.text (w.text ++ (93 ∷ [])) c.walk.count (place_of c.walk.walk) (place_of c.next.new.self) w.is c.in-Closes.ensures.comes refl;
+      is = walking_closes (diag_style c.args.prefix.now) c.args.closed c.args.bytes.now w.text (w.text ++ (93 ∷ [])) c.walk.count (place_of c.walk.walk) (place_of c.next.new.self) w.is c.in-Closes.ensures.advances refl;
       holds = g.met.S.TextSink.adds_both c.args.out.now c.walk.out c.push_close.new.out w.text (93 ∷ []) w.holds c.in_ok-push_close-in-Closes.ensures.ok;
     }
 
@@ -30,28 +30,28 @@ pub returns-in_err-push_close-in-Closes-clause-err : goal.returns-in_err-push_cl
 unfolding hostile
 returns-in_err-push_close-in-Closes-clause-err g c =
     let w = c.walk.invariant in
-    let s = walking_closes (diag_style c.args.prefix.now) c.args.closed c.args.bytes.now w.text (w.text ++ (93 ∷ [])) c.walk.count (place_of c.walk.walk) (place_of c.next.new.self) w.is c.in-Closes.ensures.comes refl in
+    let s = walking_closes (diag_style c.args.prefix.now) c.args.closed c.args.bytes.now w.text (w.text ++ (93 ∷ [])) c.walk.count (place_of c.walk.walk) (place_of c.next.new.self) w.is c.in-Closes.ensures.advances refl in
     err_now g.S.TextSink.adds g.S.TextSink.breaks _ c.args.out.now c.push_close.new.out _ (breaks_rest g.S.TextSink.adds g.S.TextSink.breaks g.met.S.TextSink.breaks_first c.args.out.now c.push_close.new.out _ _ _ (g.met.S.TextSink.breaks_second _ _ _ w.text (93 ∷ []) w.holds c.in_err-push_close-in-Closes.ensures.err) s.text)
 
 pub returns-in_err-push_close-in-Over-clause-err : goal.returns-in_err-push_close-in-Over-clause-err
 unfolding hostile
 returns-in_err-push_close-in-Over-clause-err g c =
     let w = c.walk.invariant in
-    let s = walking_over (diag_style c.args.prefix.now) c.args.closed c.args.bytes.now w.text (w.text ++ (93 ∷ [])) c.walk.count (place_of c.walk.walk) w.is c.in-Over.ensures.comes refl in
+    let s = walking_over (diag_style c.args.prefix.now) c.args.closed c.args.bytes.now w.text (w.text ++ (93 ∷ [])) c.walk.count (place_of c.walk.walk) w.is c.in-Over.ensures.advances refl in
     err_now g.S.TextSink.adds g.S.TextSink.breaks _ c.args.out.now c.push_close-in-Over.new.out _ (breaks_same g.S.TextSink.adds g.S.TextSink.breaks _ _ _ _ (g.met.S.TextSink.breaks_second _ _ _ w.text (93 ∷ []) w.holds c.in_err-push_close-in-Over.ensures.err) s.text)
 
 pub returns-in_err-push_str-in-Past-clause-err : goal.returns-in_err-push_str-in-Past-clause-err
 unfolding hostile exceeded
 returns-in_err-push_str-in-Past-clause-err g c =
     let w = c.walk.invariant in
-    let s = walking_past (diag_style c.args.prefix.now) c.args.closed c.args.bytes.now w.text (w.text ++ exceeded) c.walk.count (place_of c.walk.walk) w.is c.in-Past.ensures.comes refl in
+    let s = walking_past (diag_style c.args.prefix.now) c.args.closed c.args.bytes.now w.text (w.text ++ exceeded) c.walk.count (place_of c.walk.walk) w.is c.in-Past.ensures.advances refl in
     err_now g.S.TextSink.adds g.S.TextSink.breaks _ c.args.out.now c.push_str.new.self _ (breaks_same g.S.TextSink.adds g.S.TextSink.breaks _ _ _ _ (g.met.S.TextSink.breaks_second _ _ _ w.text exceeded w.holds c.in_err-push_str-in-Past.ensures.err) s.text)
 
 pub returns-in_err-push_str-in-Reads-clause-err : goal.returns-in_err-push_str-in-Reads-clause-err
 unfolding hostile
 returns-in_err-push_str-in-Reads-clause-err g c =
     let w = c.walk.invariant in
-    let h = c.in-Reads.ensures.comes in
+    let h = c.in-Reads.ensures.advances in
     let now = place_of c.walk.walk in
     let none : type_read (length c.args.bytes.now) now.pos (entry_at c.args.bytes.now now.pos) ≡ None = ap (λ (s : Place). type_read (length c.args.bytes.now) s.pos (entry_at c.args.bytes.now s.pos)) (sym h.0) ∙ c.in_default.ensures.none in
     let s = walking_unreadable (diag_style c.args.prefix.now) c.args.closed c.args.bytes.now w.text (w.text ++ codes "ERR") c.walk.count now w.is h.1 none refl in
@@ -61,7 +61,7 @@ pub returns-in_err-push_mark-in-Reads-clause-err : goal.returns-in_err-push_mark
 unfolding hostile
 returns-in_err-push_mark-in-Reads-clause-err g c =
     let w = c.walk.invariant in
-    let h = c.in-Reads.ensures.comes in
+    let h = c.in-Reads.ensures.advances in
     let i = c.in-Some.item in
     let at = subst (λ (s : Place). Walking (diag_style c.args.prefix.now) c.args.closed c.args.bytes.now w.text c.walk.count s) (sym h.0) w.is in
     let ready = subst (λ (s : Place). Ready s) (sym h.0) h.1 in
@@ -74,7 +74,7 @@ pub returns-in_err-step-in-Reads-clause-err : goal.returns-in_err-step-in-Reads-
 unfolding hostile
 returns-in_err-step-in-Reads-clause-err g c =
     let w = c.walk.invariant in
-    let h = c.in-Reads.ensures.comes in
+    let h = c.in-Reads.ensures.advances in
     let i = c.in-Some.item in
     let at = subst (λ (s : Place). Walking (diag_style c.args.prefix.now) c.args.closed c.args.bytes.now w.text c.walk.count s) (sym h.0) w.is in
     let ready = subst (λ (s : Place). Ready s) (sym h.0) h.1 in
@@ -87,32 +87,32 @@ pub returns-in-Over-clause-ok : goal.returns-in-Over-clause-ok
 unfolding hostile
 returns-in-Over-clause-ok g c =
     let w = c.walk.invariant in
-    let s = walking_over (diag_style c.args.prefix.now) c.args.closed c.args.bytes.now w.text (w.text ++ (93 ∷ [])) c.walk.count (place_of c.walk.walk) w.is c.in-Over.ensures.comes refl in
+    let s = walking_over (diag_style c.args.prefix.now) c.args.closed c.args.bytes.now w.text (w.text ++ (93 ∷ [])) c.walk.count (place_of c.walk.walk) w.is c.in-Over.ensures.advances refl in
     adds_same g.S.TextSink.adds g.S.TextSink.breaks c.args.out.now c.push_close-in-Over.new.out _ _ (g.met.S.TextSink.adds_both c.args.out.now c.walk.out c.push_close-in-Over.new.out w.text (93 ∷ []) w.holds c.in_ok-push_close-in-Over.ensures.ok) s.text
 
 pub returns-in-Over-clause-count : goal.returns-in-Over-clause-count
 returns-in-Over-clause-count g c =
     let w = c.walk.invariant in
-    (walking_over (diag_style c.args.prefix.now) c.args.closed c.args.bytes.now w.text (w.text ++ (93 ∷ [])) c.walk.count (place_of c.walk.walk) w.is c.in-Over.ensures.comes refl).counts
+    (walking_over (diag_style c.args.prefix.now) c.args.closed c.args.bytes.now w.text (w.text ++ (93 ∷ [])) c.walk.count (place_of c.walk.walk) w.is c.in-Over.ensures.advances refl).counts
 
 pub returns-in-Past-clause-ok : goal.returns-in-Past-clause-ok
 unfolding hostile exceeded
 returns-in-Past-clause-ok g c =
     let w = c.walk.invariant in
-    let s = walking_past (diag_style c.args.prefix.now) c.args.closed c.args.bytes.now w.text (w.text ++ exceeded) c.walk.count (place_of c.walk.walk) w.is c.in-Past.ensures.comes refl in
+    let s = walking_past (diag_style c.args.prefix.now) c.args.closed c.args.bytes.now w.text (w.text ++ exceeded) c.walk.count (place_of c.walk.walk) w.is c.in-Past.ensures.advances refl in
     adds_same g.S.TextSink.adds g.S.TextSink.breaks c.args.out.now c.push_str.new.self _ _ (g.met.S.TextSink.adds_both c.args.out.now c.walk.out c.push_str.new.self w.text exceeded w.holds c.in_ok-push_str-in-Past.ensures.ok) s.text
 
 pub returns-in-Past-clause-count : goal.returns-in-Past-clause-count
 unfolding exceeded
 returns-in-Past-clause-count g c =
     let w = c.walk.invariant in
-    (walking_past (diag_style c.args.prefix.now) c.args.closed c.args.bytes.now w.text (w.text ++ exceeded) c.walk.count (place_of c.walk.walk) w.is c.in-Past.ensures.comes refl).counts
+    (walking_past (diag_style c.args.prefix.now) c.args.closed c.args.bytes.now w.text (w.text ++ exceeded) c.walk.count (place_of c.walk.walk) w.is c.in-Past.ensures.advances refl).counts
 
 pub returns-in_default-clause-ok : goal.returns-in_default-clause-ok
 unfolding hostile
 returns-in_default-clause-ok g c =
     let w = c.walk.invariant in
-    let h = c.in-Reads.ensures.comes in
+    let h = c.in-Reads.ensures.advances in
     let now = place_of c.walk.walk in
     let none : type_read (length c.args.bytes.now) now.pos (entry_at c.args.bytes.now now.pos) ≡ None = ap (λ (s : Place). type_read (length c.args.bytes.now) s.pos (entry_at c.args.bytes.now s.pos)) (sym h.0) ∙ c.in_default.ensures.none in
     let s = walking_unreadable (diag_style c.args.prefix.now) c.args.closed c.args.bytes.now w.text (w.text ++ codes "ERR") c.walk.count now w.is h.1 none refl in
@@ -121,20 +121,20 @@ returns-in_default-clause-ok g c =
 pub returns-in_default-clause-count : goal.returns-in_default-clause-count
 returns-in_default-clause-count g c =
     let w = c.walk.invariant in
-    let h = c.in-Reads.ensures.comes in
+    let h = c.in-Reads.ensures.advances in
     let now = place_of c.walk.walk in
     let none : type_read (length c.args.bytes.now) now.pos (entry_at c.args.bytes.now now.pos) ≡ None = ap (λ (s : Place). type_read (length c.args.bytes.now) s.pos (entry_at c.args.bytes.now s.pos)) (sym h.0) ∙ c.in_default.ensures.none in
     (walking_unreadable (diag_style c.args.prefix.now) c.args.closed c.args.bytes.now w.text (w.text ++ codes "ERR") c.walk.count now w.is h.1 none refl).counts
 
 pub walk-smaller : goal.walk-smaller
 walk-smaller g c =
-    let h = c.in-Reads.ensures.comes in
+    let h = c.in-Reads.ensures.advances in
     smaller c.args.closed c.args.bytes.now (place_of c.walk.walk) (place_of c.next.new.self) (place_of c.step.new.self) c.in-Some.item c.walk.walk.ends.items c.next.new.self.ends.items c.step.new.self.ends.items h.0 c.in-Some.ensures.some c.in_ok-step-in-Reads.ensures.goes refl refl c.in_ok-step-in-Reads.ensures.longer
 
 pub walk-preserved : goal.walk-preserved
 walk-preserved g c =
     let w = c.walk.invariant in
-    let h = c.in-Reads.ensures.comes in
+    let h = c.in-Reads.ensures.advances in
     let i = c.in-Some.item in
     let at = subst (λ (s : Place). Walking (diag_style c.args.prefix.now) c.args.closed c.args.bytes.now w.text c.walk.count s) (sym h.0) w.is in
     let ready = subst (λ (s : Place). Ready s) (sym h.0) h.1 in

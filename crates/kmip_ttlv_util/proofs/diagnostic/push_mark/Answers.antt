@@ -21,11 +21,11 @@ unfolding mark
 returns-in_err-push_str-clause-err g c =
     let r = c.left_out.result in
     let n = c.deref.result.now in
-    let kept = stripped c.args.prefix.now.text.now (six_digits c.args.tag) in
+    let detail_value = stripped c.args.prefix.now.text.now (six_digits c.args.tag) in
     let two : 2 ≡ 6 - r = omega arith in
-    let digits : last_digits 2 n ≡ kept = ap (λ (k : ℕ). last_digits k n) two ∙ behind r c.args.tag n _ c.left_out.ensures.bounded c.deref.ensures c.left_out.ensures.stripped in
-    let text = c.from_utf8_unchecked.ensures ∙ ap (λ (s : List ℕ). s ++ (c.letter.result ∷ [])) (two_of c.eight-digits.result n c.eight-digits.ensures ∙ digits) ∙ ap (λ (l : ℕ). kept ++ (l ∷ [])) c.letter.ensures.letter in
-    let whole = ap (λ (s : List ℕ). s ++ value_text c.args.value) text ∙ append_assoc kept (letter c.args.typ ∷ []) (value_text c.args.value) in
+    let digits : last_digits 2 n ≡ detail_value = ap (λ (k : ℕ). last_digits k n) two ∙ behind r c.args.tag n _ c.left_out.ensures.bounded c.deref.ensures c.left_out.ensures.stripped in
+    let text = c.from_utf8_unchecked.ensures ∙ ap (λ (s : List ℕ). s ++ (c.letter.result ∷ [])) (two_of c.eight-digits.result n c.eight-digits.ensures ∙ digits) ∙ ap (λ (l : ℕ). detail_value ++ (l ∷ [])) c.letter.ensures.letter in
+    let whole = ap (λ (s : List ℕ). s ++ value_text c.args.value) text ∙ append_assoc detail_value (letter c.args.typ ∷ []) (value_text c.args.value) in
     err_now g.S.TextSink.adds g.S.TextSink.breaks _ _ _ _ (breaks_same g.S.TextSink.adds g.S.TextSink.breaks _ _ _ _ (g.met.S.TextSink.breaks_first _ _ _ (value_text c.args.value) c.in_err-push_str.ensures.err) whole)
 
 pub returns-then-left_out-eq4 : goal.returns-then-left_out-eq4
@@ -33,11 +33,11 @@ unfolding mark
 returns-then-left_out-eq4 g c =
     let r = c.left_out.result in
     let n = c.deref.result.now in
-    let kept = stripped c.args.prefix.now.text.now (six_digits c.args.tag) in
+    let detail_value = stripped c.args.prefix.now.text.now (six_digits c.args.tag) in
     let two : 2 ≡ 6 - r = omega arith in
-    let digits : last_digits 2 n ≡ kept = ap (λ (k : ℕ). last_digits k n) two ∙ behind r c.args.tag n _ c.left_out.ensures.bounded c.deref.ensures c.left_out.ensures.stripped in
-    let text = c.from_utf8_unchecked.ensures ∙ ap (λ (s : List ℕ). s ++ (c.letter.result ∷ [])) (two_of c.eight-digits.result n c.eight-digits.ensures ∙ digits) ∙ ap (λ (l : ℕ). kept ++ (l ∷ [])) c.letter.ensures.letter in
-    let whole = ap (λ (s : List ℕ). s ++ value_text c.args.value) text ∙ append_assoc kept (letter c.args.typ ∷ []) (value_text c.args.value) in
+    let digits : last_digits 2 n ≡ detail_value = ap (λ (k : ℕ). last_digits k n) two ∙ behind r c.args.tag n _ c.left_out.ensures.bounded c.deref.ensures c.left_out.ensures.stripped in
+    let text = c.from_utf8_unchecked.ensures ∙ ap (λ (s : List ℕ). s ++ (c.letter.result ∷ [])) (two_of c.eight-digits.result n c.eight-digits.ensures ∙ digits) ∙ ap (λ (l : ℕ). detail_value ++ (l ∷ [])) c.letter.ensures.letter in
+    let whole = ap (λ (s : List ℕ). s ++ value_text c.args.value) text ∙ append_assoc detail_value (letter c.args.typ ∷ []) (value_text c.args.value) in
     record {
       ok = ok_same g.S.TextSink.adds g.S.TextSink.breaks c.push_value.result _ _ _ _ (ok_then g.S.TextSink.adds g.S.TextSink.breaks g.met.S.TextSink.adds_both c.push_value.result _ _ _ _ (value_text c.args.value) c.in_ok-push_str.ensures.ok c.push_value.ensures.ok) whole;
       err = err_same g.S.TextSink.adds g.S.TextSink.breaks c.push_value.result _ _ _ _ (err_then g.S.TextSink.adds g.S.TextSink.breaks g.met.S.TextSink.breaks_second c.push_value.result _ _ _ _ (value_text c.args.value) c.in_ok-push_str.ensures.ok c.push_value.ensures.err) whole;

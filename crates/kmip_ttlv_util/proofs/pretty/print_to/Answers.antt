@@ -29,7 +29,7 @@ walk-preserved-in-Closes g c =
       c.walk.invariant.0,
       record {
         text = w.text;
-        is = λ wording. walking_closes (pretty_style (name_in c.args.names.now) c.args.closed c.args.bytes.now wording) c.args.closed c.args.bytes.now w.text w.text c.walk.invariant.0 (place_of c.walk.walk) (place_of c.next.new.self) (w.is wording) c.in-Closes.ensures.comes (sym (append-nil w.text));
+        is = λ wording. walking_closes (pretty_style (name_in c.args.names.now) c.args.closed c.args.bytes.now wording) c.args.closed c.args.bytes.now w.text w.text c.walk.invariant.0 (place_of c.walk.walk) (place_of c.next.new.self) (w.is wording) c.in-Closes.ensures.advances (sym (append-nil w.text));
         holds = w.holds;
       },
     )
@@ -37,7 +37,7 @@ walk-preserved-in-Closes g c =
 pub returns-in-Over-clause-ok : goal.returns-in-Over-clause-ok
 returns-in-Over-clause-ok g c =
     let w = c.walk.invariant.1 in
-    let s = walking_over (pretty_style (name_in c.args.names.now) c.args.closed c.args.bytes.now []) c.args.closed c.args.bytes.now w.text w.text c.walk.invariant.0 (place_of c.walk.walk) (w.is []) c.in-Over.ensures.comes (sym (append-nil w.text)) in
+    let s = walking_over (pretty_style (name_in c.args.names.now) c.args.closed c.args.bytes.now []) c.args.closed c.args.bytes.now w.text w.text c.walk.invariant.0 (place_of c.walk.walk) (w.is []) c.in-Over.ensures.advances (sym (append-nil w.text)) in
     record { text = w.text; is = ([], s.text); holds = w.holds }
 
 pub returns-in-Past : goal.returns-in-Past
@@ -45,7 +45,7 @@ unfolding exceeded
 returns-in-Past g c =
     let w = c.walk.invariant.1 in
     let kind = IsPrinted (name_in c.args.names.now) c.args.closed c.args.bytes.now in
-    let s = walking_past (pretty_style (name_in c.args.names.now) c.args.closed c.args.bytes.now []) c.args.closed c.args.bytes.now w.text (w.text ++ exceeded) c.walk.invariant.0 (place_of c.walk.walk) (w.is []) c.in-Past.ensures.comes refl in
+    let s = walking_past (pretty_style (name_in c.args.names.now) c.args.closed c.args.bytes.now []) c.args.closed c.args.bytes.now w.text (w.text ++ exceeded) c.walk.invariant.0 (place_of c.walk.walk) (w.is []) c.in-Past.ensures.advances refl in
     record {
       ok = ok_some c.push_str.result kind (λ t. g.S.TextSink.adds c.args.out.now t c.push_str.new.self) (λ t. g.S.TextSink.adds c.args.out.now t c.push_str.new.self) (w.text ++ exceeded) (ok_then g.S.TextSink.adds g.S.TextSink.breaks g.met.S.TextSink.adds_both c.push_str.result _ _ _ w.text exceeded w.holds c.push_str.ensures.ok) ([], s.text) (λ t h. h);
       err = err_some c.push_str.result kind (λ t. g.S.TextSink.breaks c.args.out.now t c.push_str.new.self) (λ t. g.S.TextSink.breaks c.args.out.now t c.push_str.new.self) (w.text ++ exceeded) (err_then g.S.TextSink.adds g.S.TextSink.breaks g.met.S.TextSink.breaks_second c.push_str.result _ _ _ w.text exceeded w.holds c.push_str.ensures.err) ([], s.text) (λ t h. h);
@@ -60,7 +60,7 @@ returns-in_default g c =
     let kind = IsPrinted (name_in c.args.names.now) c.args.closed c.args.bytes.now in
     let wording = unreadable c.next.new.self.pos in
     let piece = codes "ERROR: " ++ wording in
-    let h = c.in-Reads.ensures.comes in
+    let h = c.in-Reads.ensures.advances in
     let now = place_of c.walk.walk in
     let none : type_read (length c.args.bytes.now) now.pos (entry_at c.args.bytes.now now.pos) ≡ None = ap (λ (s : Place). type_read (length c.args.bytes.now) s.pos (entry_at c.args.bytes.now s.pos)) (sym h.0) ∙ c.in_default.ensures.none in
     let s = walking_unreadable (pretty_style (name_in c.args.names.now) c.args.closed c.args.bytes.now wording) c.args.closed c.args.bytes.now w.text (w.text ++ piece) c.walk.invariant.0 now (w.is wording) h.1 none refl in
@@ -72,7 +72,7 @@ returns-in_default g c =
 pub depth-requires : goal.depth-requires
 depth-requires g c =
     let i = c.walk.invariant.1 in
-    let w = subst (λ (s : Place). Walking (pretty_style (name_in c.args.names.now) c.args.closed c.args.bytes.now []) c.args.closed c.args.bytes.now i.text c.walk.invariant.0 s) (sym c.in-Reads.ensures.comes.0) (i.is []) in
+    let w = subst (λ (s : Place). Walking (pretty_style (name_in c.args.names.now) c.args.closed c.args.bytes.now []) c.args.closed c.args.bytes.now i.text c.walk.invariant.0 s) (sym c.in-Reads.ensures.advances.0) (i.is []) in
     omega (arith, w.depth, w.eighths, w.within, length-reverse c.next.new.self.ends.items)
 
 pub push_item-requires : goal.push_item-requires
@@ -81,18 +81,18 @@ push_item-requires g c = c.in-Some.ensures.some.valid
 pub step-requires-clause-few : goal.step-requires-clause-few
 step-requires-clause-few g c =
     let i = c.walk.invariant.1 in
-    let w = subst (λ (s : Place). Walking (pretty_style (name_in c.args.names.now) c.args.closed c.args.bytes.now []) c.args.closed c.args.bytes.now i.text c.walk.invariant.0 s) (sym c.in-Reads.ensures.comes.0) (i.is []) in
+    let w = subst (λ (s : Place). Walking (pretty_style (name_in c.args.names.now) c.args.closed c.args.bytes.now []) c.args.closed c.args.bytes.now i.text c.walk.invariant.0 s) (sym c.in-Reads.ensures.advances.0) (i.is []) in
     omega (arith, w.depth, w.eighths, w.within)
 
 pub walk-smaller : goal.walk-smaller
 walk-smaller g c =
-    let h = c.in-Reads.ensures.comes in
+    let h = c.in-Reads.ensures.advances in
     smaller c.args.closed c.args.bytes.now (place_of c.walk.walk) (place_of c.next.new.self) (place_of c.step.new.self) c.in-Some.item c.walk.walk.ends.items c.next.new.self.ends.items c.step.new.self.ends.items h.0 c.in-Some.ensures.some c.in_ok-step-in-Reads.ensures.goes refl refl c.in_ok-step-in-Reads.ensures.longer
 
 pub walk-preserved : goal.walk-preserved
 walk-preserved g c =
     let w = c.walk.invariant.1 in
-    let h = c.in-Reads.ensures.comes in
+    let h = c.in-Reads.ensures.advances in
     let names = name_in c.args.names.now in
     let closed = c.args.closed in
     let bytes = c.args.bytes.now in
@@ -112,7 +112,7 @@ walk-preserved g c =
 pub returns-in_err-push_item-in-Reads-clause-err : goal.returns-in_err-push_item-in-Reads-clause-err
 returns-in_err-push_item-in-Reads-clause-err g c =
     let w = c.walk.invariant.1 in
-    let h = c.in-Reads.ensures.comes in
+    let h = c.in-Reads.ensures.advances in
     let names = name_in c.args.names.now in
     let closed = c.args.closed in
     let bytes = c.args.bytes.now in
@@ -127,7 +127,7 @@ returns-in_err-push_item-in-Reads-clause-err g c =
 pub returns-in_err-step-in-Reads-clause-err : goal.returns-in_err-step-in-Reads-clause-err
 returns-in_err-step-in-Reads-clause-err g c =
     let w = c.walk.invariant.1 in
-    let h = c.in-Reads.ensures.comes in
+    let h = c.in-Reads.ensures.advances in
     let names = name_in c.args.names.now in
     let closed = c.args.closed in
     let bytes = c.args.bytes.now in

@@ -1,7 +1,7 @@
 use Rattle.std.proofs.Common.{ℕ, ◌+◌, ◌-◌, ◌*◌, ◌^◌, List, Option, length}
 use Rattle.std.specs.Io.KnownBytes.{Consumes}
 use Rattle.ttlv_run.specs.Decoding.{characters}
-use Rattle.ttlv_run.specs.Streaming.{held}
+use Rattle.ttlv_run.specs.Streaming.{buffered}
 use Rattle.ttlv_run.specs.Texts.{names_of}
 use Rattle.ttlv_run.proofs.TextStreams.{TextPrinting}
 use Rattle.ttlv_run.proofs.Windows.{as_number}
@@ -9,8 +9,8 @@ use Rattle.ttlv_run.proofs.digits.print_digits.Given as goal
 
 abbrev pub invariant-pieces : goal.invariant-pieces
 invariant-pieces g l =
-    (known : Option (List ℕ)) → Consumes known (g.R.Read.remaining l.fn.input) (held l.fn.text)
-    → TextPrinting (names_of l.names) l.job l.form known (g.R.Read.remaining l.input) (g.W.Write.contents l.fn.output) (g.W.Write.contents l.output) l.base l.decoder l.mark (held l.text) (held l.bytes) l.ended
+    (known : Option (List ℕ)) → Consumes known (g.R.Read.remaining l.fn.input) (buffered l.fn.text)
+    → TextPrinting (names_of l.names) l.job l.form known (g.R.Read.remaining l.input) (g.W.Write.contents l.fn.output) (g.W.Write.contents l.output) l.base l.decoder l.mark (buffered l.text) (buffered l.bytes) l.ended
 
 abbrev pub decreases-pieces : goal.decreases-pieces
-decreases-pieces g l = 2 * (2 ^ 64 - (characters l.decoder + length (held l.text))) - as_number l.ended
+decreases-pieces g l = 2 * (2 ^ 64 - (characters l.decoder + length (buffered l.text))) - as_number l.ended

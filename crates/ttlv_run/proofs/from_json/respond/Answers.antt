@@ -6,7 +6,7 @@ use Rattle.ttlv_run.specs.Backs.{IsOneLine}
 use Rattle.ttlv_run.specs.Inputs.{IsUnread}
 use Rattle.ttlv_run.specs.JsonLines.{PrintsBytes, FailsAt, RespondsJson}
 use Rattle.ttlv_run.specs.Runs.{Streams}
-use Rattle.ttlv_run.specs.Streaming.{held, Comes}
+use Rattle.ttlv_run.specs.Streaming.{buffered, Yields}
 use Rattle.ttlv_run.proofs.JsonReads.{JsonReading, json_starts, json_line, json_bad, json_fails, json_next, json_rest, json_ended, json_came, json_no_memory, json_read_fails}
 use Rattle.ttlv_run.proofs.Windows.{left_of}
 use Rattle.ttlv_run.proofs.from_json.respond.Goals as goal
@@ -21,8 +21,8 @@ lines-init g c =
     }
 
 -- offsets end
-pub returns-then-base-held : goal.returns-then-base-held
-returns-then-base-held g c =
+pub returns-then-base-buffered : goal.returns-then-base-buffered
+returns-then-base-buffered g c =
     let job = c.args.job.now in
     let known = g.R.Read.remaining c.args.input.now in
     let now = g.R.Read.remaining c.lines.input in
@@ -30,8 +30,8 @@ returns-then-base-held g c =
     let mid = g.W.Write.contents c.lines.output in
     let base = c.lines.base in
     let at = c.lines.at in
-    let bytes = c.held-held.result.now in
-    let p = subst (λ (b : List ℕ). JsonReading job known now old mid base at b) (sym c.held-held.ensures.are) c.lines.invariant.reading in
+    let bytes = c.buffered-buffered.result.now in
+    let p = subst (λ (b : List ℕ). JsonReading job known now old mid base at b) (sym c.buffered-buffered.ensures.are) c.lines.invariant.reading in
     json_no_memory job known old now mid base at bytes p
 
 -- a line is no text, or printing failed
@@ -44,8 +44,8 @@ returns-in_err-error g c =
     let mid = g.W.Write.contents c.lines.output in
     let base = c.lines.base in
     let at = c.lines.at in
-    let bytes = c.held-held.result.now in
-    let p = subst (λ (b : List ℕ). JsonReading job known now old mid base at b) (sym c.held-held.ensures.are) c.lines.invariant.reading in
+    let bytes = c.buffered-buffered.result.now in
+    let p = subst (λ (b : List ℕ). JsonReading job known now old mid base at b) (sym c.buffered-buffered.ensures.are) c.lines.invariant.reading in
     let new = g.W.Write.contents c.print_bytes.new.output in
     let line = c.in-Some.line.now in
     let y = err_from_is_err_and c.from_residual.result c.from_residual.ensures.1 in
@@ -63,13 +63,13 @@ returns-in-Some-2 g c =
     let mid = g.W.Write.contents c.lines.output in
     let base = c.lines.base in
     let at = c.lines.at in
-    let bytes = c.held-held.result.now in
-    let p = subst (λ (b : List ℕ). JsonReading job known now old mid base at b) (sym c.held-held.ensures.are) c.lines.invariant.reading in
+    let bytes = c.buffered-buffered.result.now in
+    let p = subst (λ (b : List ℕ). JsonReading job known now old mid base at b) (sym c.buffered-buffered.ensures.are) c.lines.invariant.reading in
     let new = g.W.Write.contents c.print_bytes.new.output in
     let line = c.in-Some.line.now in
     let l = left_of now false (λ e. cc e) in
-    let told = subst (PrintsBytes job.raw line mid new) c.in-Some-2.is c.in_ok-error.ensures.ok in
-    json_bad job known old now mid base at bytes p new false l line (json_next job known old now mid base at bytes p line c.in-Some.ensures l.left) c.in-Some-2.error told
+    let reported = subst (PrintsBytes job.raw line mid new) c.in-Some-2.is c.in_ok-error.ensures.ok in
+    json_bad job known old now mid base at bytes p new false l line (json_next job known old now mid base at bytes p line c.in-Some.ensures l.left) c.in-Some-2.error reported
 
 pub lines-preserved-in-Some : goal.lines-preserved-in-Some
 lines-preserved-in-Some g c =
@@ -80,13 +80,13 @@ lines-preserved-in-Some g c =
     let mid = g.W.Write.contents c.lines.output in
     let base = c.lines.base in
     let at = c.lines.at in
-    let bytes = c.held-held.result.now in
-    let p = subst (λ (b : List ℕ). JsonReading job known now old mid base at b) (sym c.held-held.ensures.are) c.lines.invariant.reading in
+    let bytes = c.buffered-buffered.result.now in
+    let p = subst (λ (b : List ℕ). JsonReading job known now old mid base at b) (sym c.buffered-buffered.ensures.are) c.lines.invariant.reading in
     let new = g.W.Write.contents c.print_bytes.new.output in
     let line = c.in-Some.line.now in
-    let told = subst (PrintsBytes job.raw line mid new) c.in_default-2.is c.in_ok-error.ensures.ok in
+    let reported = subst (PrintsBytes job.raw line mid new) c.in_default-2.is c.in_ok-error.ensures.ok in
     record {
-      reading = subst (JsonReading job known now old new base (at + (length line + 1))) c.held-held.ensures.are (json_line job known old now mid base at bytes p new line c.in-Some.ensures told);
+      reading = subst (JsonReading job known now old new base (at + (length line + 1))) c.buffered-buffered.ensures.are (json_line job known old now mid base at bytes p new line c.in-Some.ensures reported);
       at_end = c.lines.invariant.at_end;
     }
 
@@ -100,8 +100,8 @@ returns-in_err-error-2 g c =
     let mid = g.W.Write.contents c.lines.output in
     let base = c.lines.base in
     let at = c.lines.at in
-    let bytes = c.held-held.result.now in
-    let p = subst (λ (b : List ℕ). JsonReading job known now old mid base at b) (sym c.held-held.ensures.are) c.lines.invariant.reading in
+    let bytes = c.buffered-buffered.result.now in
+    let p = subst (λ (b : List ℕ). JsonReading job known now old mid base at b) (sym c.buffered-buffered.ensures.are) c.lines.invariant.reading in
     let new = g.W.Write.contents c.print_bytes-then-ended.new.output in
     let line = c.behind.result.now in
     let y = err_from_is_err_and c.from_residual-in_err-error-2.result c.from_residual-in_err-error-2.ensures.1 in
@@ -118,8 +118,8 @@ returns-then-ended g c =
     let mid = g.W.Write.contents c.lines.output in
     let base = c.lines.base in
     let at = c.lines.at in
-    let bytes = c.held-held.result.now in
-    let p = subst (λ (b : List ℕ). JsonReading job known now old mid base at b) (sym c.held-held.ensures.are) c.lines.invariant.reading in
+    let bytes = c.buffered-buffered.result.now in
+    let p = subst (λ (b : List ℕ). JsonReading job known now old mid base at b) (sym c.buffered-buffered.ensures.are) c.lines.invariant.reading in
     let new = g.W.Write.contents c.print_bytes-then-ended.new.output in
     let line = c.behind.result.now in
     let s : Streams = record { input = known; input_left = now; output = old; output_now = new } in
@@ -135,17 +135,17 @@ returns-in_err-ended g c =
     let mid = g.W.Write.contents c.lines.output in
     let base = c.lines.base in
     let at = c.lines.at in
-    let bytes = c.held-held.result.now in
-    let p = subst (λ (b : List ℕ). JsonReading job known now old mid base at b) (sym c.held-held.ensures.are) c.lines.invariant.reading in
+    let bytes = c.buffered-buffered.result.now in
+    let p = subst (λ (b : List ℕ). JsonReading job known now old mid base at b) (sym c.buffered-buffered.ensures.are) c.lines.invariant.reading in
     let next = g.R.Read.remaining c.read_lines.new.input in
-    let after = held c.read_lines.new.self in
-    let left : held c.let_go.new.self ≡ drop at bytes = c.let_go.ensures ∙ ap (drop at) (sym c.held-held.ensures.are) in
+    let after = buffered c.read_lines.new.self in
+    let left : buffered c.discard.new.self ≡ drop at bytes = c.discard.ensures ∙ ap (drop at) (sym c.buffered-buffered.ensures.are) in
     let y = err_from_is_err_and c.from_residual-in_err-ended.result c.from_residual-in_err-ended.ensures.1 in
     let s : Streams = record { input = known; input_left = next; output = old; output_now = mid } in
     let fails = c.in_err-ended.ensures.err in
-    let comes = subst (λ (b : List ℕ). Comes now next b after) left fails.comes in
+    let yields = subst (λ (b : List ℕ). Yields now next b after) left fails.yields in
     let one : IsOneLine after = fails.one_line (subst IsOneLine (sym left) c.in_default.ensures) in
-    let q = json_came job known old now mid base at bytes p next after comes in
+    let q = json_came job known old now mid base at bytes p next after yields in
     subst (RespondsJson job s) (sym y.1) (json_read_fails job known old next mid (base + at) 0 after q one y.0 (subst IsUnread (sym y.2) c.in_err-ended.ensures.why))
 
 pub lines-preserved : goal.lines-preserved
@@ -157,13 +157,13 @@ lines-preserved g c =
     let mid = g.W.Write.contents c.lines.output in
     let base = c.lines.base in
     let at = c.lines.at in
-    let bytes = c.held-held.result.now in
-    let p = subst (λ (b : List ℕ). JsonReading job known now old mid base at b) (sym c.held-held.ensures.are) c.lines.invariant.reading in
+    let bytes = c.buffered-buffered.result.now in
+    let p = subst (λ (b : List ℕ). JsonReading job known now old mid base at b) (sym c.buffered-buffered.ensures.are) c.lines.invariant.reading in
     let next = g.R.Read.remaining c.read_lines.new.input in
-    let after = held c.read_lines.new.self in
-    let left : held c.let_go.new.self ≡ drop at bytes = c.let_go.ensures ∙ ap (drop at) (sym c.held-held.ensures.are) in
-    let comes = subst (λ (b : List ℕ). Comes now next b after) left c.in_ok-ended.ensures.ok.comes in
+    let after = buffered c.read_lines.new.self in
+    let left : buffered c.discard.new.self ≡ drop at bytes = c.discard.ensures ∙ ap (drop at) (sym c.buffered-buffered.ensures.are) in
+    let yields = subst (λ (b : List ℕ). Yields now next b after) left c.in_ok-ended.ensures.ok.yields in
     record {
-      reading = json_came job known old now mid base at bytes p next after comes;
+      reading = json_came job known old now mid base at bytes p next after yields;
       at_end = c.in_ok-ended.ensures.ok.at_end;
     }

@@ -1,15 +1,15 @@
 use Rattle.std.proofs.Common.{◌≡◌, ◌+◌, ◌-◌, ◌*◌, ◌^◌, true, length}
 use Rattle.std.specs.Io.KnownBytes.{IsAtEnd}
-use Rattle.ttlv_run.specs.Streaming.{held}
+use Rattle.ttlv_run.specs.Streaming.{buffered}
 use Rattle.ttlv_run.proofs.JsonReads.{JsonReading}
 use Rattle.ttlv_run.proofs.Windows.{as_number}
 use Rattle.ttlv_run.proofs.from_json.respond.Given as goal
 
 abbrev pub invariant-lines : goal.invariant-lines
 invariant-lines g l = record {
-  reading : JsonReading l.job (g.R.Read.remaining l.fn.input) (g.R.Read.remaining l.input) (g.W.Write.contents l.fn.output) (g.W.Write.contents l.output) l.base l.at (held l.window);
+  reading : JsonReading l.job (g.R.Read.remaining l.fn.input) (g.R.Read.remaining l.input) (g.W.Write.contents l.fn.output) (g.W.Write.contents l.output) l.base l.at (buffered l.window);
   at_end : l.ended ≡ true → IsAtEnd (g.R.Read.remaining l.input);
 }
 
 abbrev pub decreases-lines : goal.decreases-lines
-decreases-lines g l = (2 ^ 64 - (l.base + length (held l.window))) * 2 ^ 66 + 2 * (length (held l.window) - l.at) - as_number l.ended
+decreases-lines g l = (2 ^ 64 - (l.base + length (buffered l.window))) * 2 ^ 66 + 2 * (length (buffered l.window) - l.at) - as_number l.ended

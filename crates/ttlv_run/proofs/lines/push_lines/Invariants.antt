@@ -8,7 +8,7 @@ use Rattle.ttlv_run.proofs.lines.push_lines.Given as goal
 abbrev pub invariant-items : goal.invariant-items
 invariant-items g l = record {
   bytes : l.walk.bytes.now ≡ l.message;
-  told :
+  reported :
       (found : List FoundItem)
       × Met l.walk found
       × (l.reach ≡ reach_all (names_of l.names) l.look no_reach found)

@@ -2,7 +2,7 @@ use Rattle.std.proofs.Common.{rules, ◌≡◌, ◌∙◌, ◌+◌, ◌++◌, tr
 use Rattle.kmip_ttlv_items.specs.declared.found.Fault.{Fault}
 use Rattle.kmip_ttlv_util.specs.Pieces.{SomeText}
 use Rattle.ttlv_run.specs.Messages.{is_taken, malformed, not_taken}
-use Rattle.ttlv_run.specs.Streaming.{is_due, GoesOnBehind}
+use Rattle.ttlv_run.specs.Streaming.{is_due, ContinuesBehind}
 use Rattle.ttlv_run.specs.Texts.{names_of, IsMessageText}
 use Rattle.ttlv_run.proofs.Good.{fault_within}
 use Rattle.ttlv_run.proofs.Printing.{err_holds}
@@ -15,7 +15,7 @@ returns-in_err-fault-clause-err g c =
     let w = c.messages.invariant.whole in
     let h = c.in_err-fault.ensures.err in
     let due : is_due c.args.bytes.now c.messages.at c.args.last ≡ true = sym c.is_due.ensures ∙ search rules in
-    let broken : SomeText (GoesOnBehind (names_of c.args.names.now) c.args.task c.args.base c.args.bytes.now c.args.last) (λ t. g.S.TextSink.breaks c.args.out.now t c.push_message.new.out) = record {
+    let broken : SomeText (ContinuesBehind (names_of c.args.names.now) c.args.task c.args.base c.args.bytes.now c.args.last) (λ t. g.S.TextSink.breaks c.args.out.now t c.push_message.new.out) = record {
       text = w.text ++ h.text;
       is = one_broken (names_of c.args.names.now) c.args.task c.args.base c.args.bytes.now c.args.last c.messages.at c.message_at-message.result.now w.text h.text c.message_at-message.ensures.is due w.is h.is.0 h.is.1;
       holds = g.met.S.TextSink.breaks_second _ _ _ w.text h.text w.holds h.holds;

@@ -2,7 +2,7 @@ use Rattle.std.proofs.Common.{rules, ◌≡◌, ◌∙◌, ap}
 use Rattle.kmip_ttlv_types.specs.Streams.{AppendsFront}
 use Rattle.kmip_ttlv_util.specs.Pieces.{SomeText, Moves}
 use Rattle.kmip_ttlv_util.specs.Waiting.{waiting}
-use Rattle.ttlv_run.specs.Streaming.{GoesOnBehind}
+use Rattle.ttlv_run.specs.Streaming.{ContinuesBehind}
 use Rattle.ttlv_run.specs.Texts.{names_of}
 use Rattle.ttlv_run.proofs.Printing.{sent_front}
 use Rattle.ttlv_run.proofs.Windows.{goes_on}
@@ -13,7 +13,7 @@ pub returns-in-Err-finish-clause-err : goal.returns-in-Err-finish-clause-err
 returns-in-Err-finish-clause-err g c =
     let has = g.W.Write.contents in
     let names = names_of c.args.names.now in
-    let kind = GoesOnBehind names c.args.task c.args.base c.args.bytes.now c.args.last in
+    let kind = ContinuesBehind names c.args.task c.args.base c.args.bytes.now c.args.last in
     let first = c.new-pieces.result in
     let last = c.print_all.new.out in
     let end = c.finish.new.self in

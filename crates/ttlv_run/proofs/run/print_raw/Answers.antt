@@ -9,7 +9,7 @@ use Rattle.ttlv_run.specs.Inputs.{IsUnread}
 use Rattle.ttlv_run.specs.Messages.{is_there}
 use Rattle.ttlv_run.specs.Reasons.{IsOfPrinting}
 use Rattle.ttlv_run.specs.Runs.{Streams, Places}
-use Rattle.ttlv_run.specs.Streaming.{held, EndsAt, PrintsOn, Comes}
+use Rattle.ttlv_run.specs.Streaming.{buffered, EndsAt, PrintsOn, Yields}
 use Rattle.ttlv_run.specs.Texts.{names_of}
 use Rattle.ttlv_run.proofs.Told.{unwritten}
 use Rattle.ttlv_run.proofs.Windows.{RawInput, Printing, shown_none, standing, bytes_drop, faults, fails_in, printed, goes_further, more_came, no_memory, read_fails}
@@ -18,22 +18,22 @@ use Rattle.ttlv_run.proofs.run.print_raw.Goals as goal
 pub pieces-init : goal.pieces-init
 pieces-init g c = λ known h.
     record {
-      came = held c.args.window;
-      shown = shown_none (names_of c.args.names.now) c.args.job.now.task (g.W.Write.contents c.args.output.now) (held c.args.window);
+      came = buffered c.args.window;
+      shown = shown_none (names_of c.args.names.now) c.args.job.now.task (g.W.Write.contents c.args.output.now) (buffered c.args.window);
       input = record { consumed = h; raw = c.requires.raw; enough = c.requires.front; at_end = c.requires.at_end };
     }
 
 -- offsets end
-pub returns-then-base-held : goal.returns-then-base-held
-returns-then-base-held g c = λ known h.
+pub returns-then-base-buffered : goal.returns-then-base-buffered
+returns-then-base-buffered g c = λ known h.
     let names = names_of c.args.names.now in
     let job = c.args.job.now in
     let now = g.R.Read.remaining c.pieces.input in
     let old = g.W.Write.contents c.args.output.now in
     let mid = g.W.Write.contents c.pieces.output in
-    let bytes = c.held-held.result.now in
-    let p = subst (λ (b : List ℕ). Printing names job known now old mid c.pieces.base b c.pieces.ended) (sym c.held-held.ensures.are) (c.pieces.invariant known h) in
-    inr (no_memory names job old mid c.pieces.base p.came bytes c.pieces.ended p.shown c.held-held.ensures.bytes known now (standing names job known now old mid c.pieces.base bytes c.pieces.ended p))
+    let bytes = c.buffered-buffered.result.now in
+    let p = subst (λ (b : List ℕ). Printing names job known now old mid c.pieces.base b c.pieces.ended) (sym c.buffered-buffered.ensures.are) (c.pieces.invariant known h) in
+    inr (no_memory names job old mid c.pieces.base p.came bytes c.pieces.ended p.shown c.buffered-buffered.ensures.bytes known now (standing names job known now old mid c.pieces.base bytes c.pieces.ended p))
 
 -- printing failed
 pub returns-in_err-count : goal.returns-in_err-count
@@ -44,11 +44,11 @@ returns-in_err-count g c = λ known h.
     let now = g.R.Read.remaining c.pieces.input in
     let old = g.W.Write.contents c.args.output.now in
     let mid = g.W.Write.contents c.pieces.output in
-    let bytes = c.held-held.result.now in
-    let p = subst (λ (b : List ℕ). Printing names job known now old mid c.pieces.base b c.pieces.ended) (sym c.held-held.ensures.are) (c.pieces.invariant known h) in
+    let bytes = c.buffered-buffered.result.now in
+    let p = subst (λ (b : List ℕ). Printing names job known now old mid c.pieces.base b c.pieces.ended) (sym c.buffered-buffered.ensures.are) (c.pieces.invariant known h) in
     let new = g.W.Write.contents c.print_messages.new.output in
     let s : Streams = record { input = known; input_left = now; output = old; output_now = new } in
-    subst (Places names job s) (sym y.1) (unwritten names job s y.0 (subst IsOfPrinting (sym y.2) c.in_err-count.ensures.why) (fails_in names job old mid c.pieces.base p.came bytes c.pieces.ended p.shown new known now (standing names job known now old mid c.pieces.base bytes c.pieces.ended p) c.held-held.ensures.bytes c.in_err-count.ensures.err))
+    subst (Places names job s) (sym y.1) (unwritten names job s y.0 (subst IsOfPrinting (sym y.2) c.in_err-count.ensures.why) (fails_in names job old mid c.pieces.base p.came bytes c.pieces.ended p.shown new known now (standing names job known now old mid c.pieces.base bytes c.pieces.ended p) c.buffered-buffered.ensures.bytes c.in_err-count.ensures.err))
 
 pub returns-in-Fault : goal.returns-in-Fault
 returns-in-Fault g c = λ known h.
@@ -57,11 +57,11 @@ returns-in-Fault g c = λ known h.
     let now = g.R.Read.remaining c.pieces.input in
     let old = g.W.Write.contents c.args.output.now in
     let mid = g.W.Write.contents c.pieces.output in
-    let bytes = c.held-held.result.now in
-    let p = subst (λ (b : List ℕ). Printing names job known now old mid c.pieces.base b c.pieces.ended) (sym c.held-held.ensures.are) (c.pieces.invariant known h) in
+    let bytes = c.buffered-buffered.result.now in
+    let p = subst (λ (b : List ℕ). Printing names job known now old mid c.pieces.base b c.pieces.ended) (sym c.buffered-buffered.ensures.are) (c.pieces.invariant known h) in
     let new = g.W.Write.contents c.print_messages.new.output in
-    let told = subst (λ (r : Reached). SomeText (PrintsOn names job.task c.pieces.base bytes c.pieces.ended r) (Appends mid new)) c.in-Fault.is c.in_ok-count.ensures.ok in
-    faults names job old mid c.pieces.base p.came bytes c.pieces.ended p.shown new known now (standing names job known now old mid c.pieces.base bytes c.pieces.ended p) c.in-Fault.place told
+    let reported = subst (λ (r : Reached). SomeText (PrintsOn names job.task c.pieces.base bytes c.pieces.ended r) (Appends mid new)) c.in-Fault.is c.in_ok-count.ensures.ok in
+    faults names job old mid c.pieces.base p.came bytes c.pieces.ended p.shown new known now (standing names job known now old mid c.pieces.base bytes c.pieces.ended p) c.in-Fault.place reported
 
 pub returns-then-ended : goal.returns-then-ended
 returns-then-ended g c = λ known h.
@@ -70,13 +70,13 @@ returns-then-ended g c = λ known h.
     let now = g.R.Read.remaining c.pieces.input in
     let old = g.W.Write.contents c.args.output.now in
     let mid = g.W.Write.contents c.pieces.output in
-    let bytes = c.held-held.result.now in
-    let p = subst (λ (b : List ℕ). Printing names job known now old mid c.pieces.base b c.pieces.ended) (sym c.held-held.ensures.are) (c.pieces.invariant known h) in
+    let bytes = c.buffered-buffered.result.now in
+    let p = subst (λ (b : List ℕ). Printing names job known now old mid c.pieces.base b c.pieces.ended) (sym c.buffered-buffered.ensures.are) (c.pieces.invariant known h) in
     let new = g.W.Write.contents c.print_messages.new.output in
-    let told = subst (λ (r : Reached). SomeText (PrintsOn names job.task c.pieces.base bytes c.pieces.ended r) (Appends mid new)) c.in-Behind.is c.in_ok-count.ensures.ok in
+    let reported = subst (λ (r : Reached). SomeText (PrintsOn names job.task c.pieces.base bytes c.pieces.ended r) (Appends mid new)) c.in-Behind.is c.in_ok-count.ensures.ok in
     let end = subst (EndsAt bytes c.pieces.ended) c.in-Behind.is c.in_ok-count.ensures.end in
     let all : c.in-Behind.count ≡ length bytes = subst (λ (b : Bool). EndsAt bytes b (Behind c.in-Behind.count)) c.if-ended.true end in
-    printed names job known now old mid c.pieces.base bytes c.pieces.ended p new c.in-Behind.count c.if-ended.true all told
+    printed names job known now old mid c.pieces.base bytes c.pieces.ended p new c.in-Behind.count c.if-ended.true all reported
 
 -- reading failed, or memory ran out for it
 pub returns-in_err-ended : goal.returns-in_err-ended
@@ -87,21 +87,21 @@ returns-in_err-ended g c = λ known h.
     let now = g.R.Read.remaining c.pieces.input in
     let old = g.W.Write.contents c.args.output.now in
     let mid = g.W.Write.contents c.pieces.output in
-    let bytes = c.held-held.result.now in
-    let p = subst (λ (b : List ℕ). Printing names job known now old mid c.pieces.base b c.pieces.ended) (sym c.held-held.ensures.are) (c.pieces.invariant known h) in
+    let bytes = c.buffered-buffered.result.now in
+    let p = subst (λ (b : List ℕ). Printing names job known now old mid c.pieces.base b c.pieces.ended) (sym c.buffered-buffered.ensures.are) (c.pieces.invariant known h) in
     let new = g.W.Write.contents c.print_messages.new.output in
     let next = g.R.Read.remaining c.read_more.new.input in
     let s : Streams = record { input = known; input_left = next; output = old; output_now = new } in
     let count = c.in-Behind.count in
-    let told = subst (λ (r : Reached). SomeText (PrintsOn names job.task c.pieces.base bytes c.pieces.ended r) (Appends mid new)) c.in-Behind.is c.in_ok-count.ensures.ok in
+    let reported = subst (λ (r : Reached). SomeText (PrintsOn names job.task c.pieces.base bytes c.pieces.ended r) (Appends mid new)) c.in-Behind.is c.in_ok-count.ensures.ok in
     let end = subst (EndsAt bytes c.pieces.ended) c.in-Behind.is c.in_ok-count.ensures.end in
     let front : (count ≤ length bytes) × (is_there (drop count bytes) ≡ false) = subst (λ (b : Bool). EndsAt bytes b (Behind count)) c.if-ended.false end in
     let on : Printing names job known now old new (c.pieces.base + count) (drop count bytes) false = record {
       came = p.came;
-      shown = goes_further names job old mid c.pieces.base p.came bytes c.pieces.ended p.shown new c.held-held.ensures.bytes count c.if-ended.false front.0 told;
+      shown = goes_further names job old mid c.pieces.base p.came bytes c.pieces.ended p.shown new c.buffered-buffered.ensures.bytes count c.if-ended.false front.0 reported;
       input = subst (RawInput job.encoding known now p.came) c.if-ended.false p.input;
     } in
-    subst (Places names job s) (sym y.1) (read_fails names job known now old new (c.pieces.base + count) (drop count bytes) false on (bytes_drop count bytes c.held-held.ensures.bytes) next y.0 (subst IsUnread (sym y.2) c.in_err-ended.ensures.why) front.1 c.in_err-ended.ensures.err refl)
+    subst (Places names job s) (sym y.1) (read_fails names job known now old new (c.pieces.base + count) (drop count bytes) false on (bytes_drop count bytes c.buffered-buffered.ensures.bytes) next y.0 (subst IsUnread (sym y.2) c.in_err-ended.ensures.why) front.1 c.in_err-ended.ensures.err refl)
 
 pub pieces-preserved : goal.pieces-preserved
 pieces-preserved g c = λ known h.
@@ -110,21 +110,21 @@ pieces-preserved g c = λ known h.
     let now = g.R.Read.remaining c.pieces.input in
     let old = g.W.Write.contents c.args.output.now in
     let mid = g.W.Write.contents c.pieces.output in
-    let bytes = c.held-held.result.now in
-    let p = subst (λ (b : List ℕ). Printing names job known now old mid c.pieces.base b c.pieces.ended) (sym c.held-held.ensures.are) (c.pieces.invariant known h) in
+    let bytes = c.buffered-buffered.result.now in
+    let p = subst (λ (b : List ℕ). Printing names job known now old mid c.pieces.base b c.pieces.ended) (sym c.buffered-buffered.ensures.are) (c.pieces.invariant known h) in
     let new = g.W.Write.contents c.print_messages.new.output in
     let next = g.R.Read.remaining c.read_more.new.input in
     let count = c.in-Behind.count in
     let came = c.in_ok-ended.field-0 in
-    let after = held c.read_more.new.self in
-    let told = subst (λ (r : Reached). SomeText (PrintsOn names job.task c.pieces.base bytes c.pieces.ended r) (Appends mid new)) c.in-Behind.is c.in_ok-count.ensures.ok in
+    let after = buffered c.read_more.new.self in
+    let reported = subst (λ (r : Reached). SomeText (PrintsOn names job.task c.pieces.base bytes c.pieces.ended r) (Appends mid new)) c.in-Behind.is c.in_ok-count.ensures.ok in
     let end = subst (EndsAt bytes c.pieces.ended) c.in-Behind.is c.in_ok-count.ensures.end in
     let front : (count ≤ length bytes) × (is_there (drop count bytes) ≡ false) = subst (λ (b : Bool). EndsAt bytes b (Behind count)) c.if-ended.false end in
     let on : Printing names job known now old new (c.pieces.base + count) (drop count bytes) false = record {
       came = p.came;
-      shown = goes_further names job old mid c.pieces.base p.came bytes c.pieces.ended p.shown new c.held-held.ensures.bytes count c.if-ended.false front.0 told;
+      shown = goes_further names job old mid c.pieces.base p.came bytes c.pieces.ended p.shown new c.buffered-buffered.ensures.bytes count c.if-ended.false front.0 reported;
       input = subst (RawInput job.encoding known now p.came) c.if-ended.false p.input;
     } in
-    let comes = subst (λ (b : List ℕ). Comes now next b after) (c.let_go.ensures ∙ ap (drop count) (sym c.held-held.ensures.are)) c.in_ok-ended.ensures.ok.comes in
+    let yields = subst (λ (b : List ℕ). Yields now next b after) (c.discard.ensures ∙ ap (drop count) (sym c.buffered-buffered.ensures.are)) c.in_ok-ended.ensures.ok.yields in
     let at_end : nat_eq came 0 ≡ true → IsAtEnd next = λ none. c.in_ok-ended.ensures.ok.ended (eqb-true came 0 none) in
-    more_came names job known now old new (c.pieces.base + count) (drop count bytes) false on next after (nat_eq came 0) comes refl at_end
+    more_came names job known now old new (c.pieces.base + count) (drop count bytes) false on next after (nat_eq came 0) yields refl at_end

@@ -1,6 +1,6 @@
 use Rattle.std.proofs.Common.{◌≤◌, length, ap, arith}
 use Rattle.ttlv_run.specs.Fronts.{front_size}
-use Rattle.ttlv_run.specs.Streaming.{held}
+use Rattle.ttlv_run.specs.Streaming.{buffered}
 use Rattle.ttlv_run.proofs.FrontsTold.{size_most}
 use Rattle.ttlv_run.proofs.Windows.{comes_more}
 use Rattle.ttlv_run.proofs.run.read_front.Goals as goal
@@ -10,18 +10,18 @@ returns-then-branch-eq0-clause-ok g c =
     let left = g.R.Read.remaining in
     let more = c.in_ok-read_more.ensures.ok in
     record {
-      comes = comes_more (left c.args.input.now) (left c.pieces.input) (left c.read_more.new.input) (held c.args.window.now) (held c.pieces.window) (held c.read_more.new.self) c.pieces.invariant more.comes;
+      yields = comes_more (left c.args.input.now) (left c.pieces.input) (left c.read_more.new.input) (buffered c.args.window.now) (buffered c.pieces.window) (buffered c.read_more.new.self) c.pieces.invariant more.yields;
       enough = λ e. cc e;
       at_end = λ e. more.ended c.if-branch-eq0.true;
     }
 
 pub pieces-smaller : goal.pieces-smaller
 pieces-smaller g c =
-    let most : front_size c.args.encoding c.held-in-pieces.result.now ≤ 1024 = size_most c.args.encoding c.held-in-pieces.result.now in
+    let most : front_size c.args.encoding c.buffered-in-pieces.result.now ≤ 1024 = size_most c.args.encoding c.buffered-in-pieces.result.now in
     let more = c.in_ok-read_more.ensures.ok.as_many in
-    omega (arith, most, more, c.if-branch-eq0.false, c.pieces-test.true, c.front_size.ensures, ap length c.held.ensures.are)
+    omega (arith, most, more, c.if-branch-eq0.false, c.pieces-test.true, c.front_size.ensures, ap length c.buffered.ensures.are)
 
 pub pieces-preserved : goal.pieces-preserved
 pieces-preserved g c =
     let left = g.R.Read.remaining in
-    comes_more (left c.args.input.now) (left c.pieces.input) (left c.read_more.new.input) (held c.args.window.now) (held c.pieces.window) (held c.read_more.new.self) c.pieces.invariant c.in_ok-read_more.ensures.ok.comes
+    comes_more (left c.args.input.now) (left c.pieces.input) (left c.read_more.new.input) (buffered c.args.window.now) (buffered c.pieces.window) (buffered c.read_more.new.self) c.pieces.invariant c.in_ok-read_more.ensures.ok.yields

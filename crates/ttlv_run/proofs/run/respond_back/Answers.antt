@@ -10,7 +10,7 @@ use Rattle.ttlv_run.specs.Backs.{IsOneLine, ReadsBack}
 use Rattle.ttlv_run.specs.Inputs.{IsUnread}
 use Rattle.ttlv_run.specs.Reasons.{IsOfPrinting}
 use Rattle.ttlv_run.specs.Runs.{Streams, RespondsBack, PrintedBack}
-use Rattle.ttlv_run.specs.Streaming.{held, Comes}
+use Rattle.ttlv_run.specs.Streaming.{buffered, Yields}
 use Rattle.ttlv_run.specs.Texts.{names_of}
 use Rattle.ttlv_run.proofs.BackStreams.{BackReading, back_starts, back_came, back_goes, back_printed, back_unwritten, back_no_text, back_no_memory, back_read_fails}
 use Rattle.ttlv_run.proofs.Told.{unwritten_back}
@@ -26,8 +26,8 @@ pieces-init g c =
     }
 
 -- offsets end
-pub returns-then-base-held : goal.returns-then-base-held
-returns-then-base-held g c =
+pub returns-then-base-buffered : goal.returns-then-base-buffered
+returns-then-base-buffered g c =
     let names = names_of c.args.names.now in
     let job = c.args.job.now in
     let known = g.R.Read.remaining c.args.input.now in
@@ -36,8 +36,8 @@ returns-then-base-held g c =
     let mid = g.W.Write.contents c.pieces.output in
     let base = c.pieces.base in
     let first = c.pieces.first in
-    let bytes = c.held-held.result.now in
-    let p = subst (λ (b : List ℕ). BackReading names job known now old mid base b first) (sym c.held-held.ensures.are) c.pieces.invariant.reading in
+    let bytes = c.buffered-buffered.result.now in
+    let p = subst (λ (b : List ℕ). BackReading names job known now old mid base b first) (sym c.buffered-buffered.ensures.are) c.pieces.invariant.reading in
     back_no_memory names job known old now mid base bytes first p
 
 -- printing failed
@@ -51,8 +51,8 @@ returns-in_err-reached g c =
     let mid = g.W.Write.contents c.pieces.output in
     let base = c.pieces.base in
     let first = c.pieces.first in
-    let bytes = c.held-held.result.now in
-    let p = subst (λ (b : List ℕ). BackReading names job known now old mid base b first) (sym c.held-held.ensures.are) c.pieces.invariant.reading in
+    let bytes = c.buffered-buffered.result.now in
+    let p = subst (λ (b : List ℕ). BackReading names job known now old mid base b first) (sym c.buffered-buffered.ensures.are) c.pieces.invariant.reading in
     let new = g.W.Write.contents c.print_lines.new.output in
     let y = err_from_is_err_and c.from_residual.result c.from_residual.ensures.1 in
     let s : Streams = record { input = known; input_left = now; output = old; output_now = new } in
@@ -70,11 +70,11 @@ returns-in-NoText g c =
     let mid = g.W.Write.contents c.pieces.output in
     let base = c.pieces.base in
     let first = c.pieces.first in
-    let bytes = c.held-held.result.now in
-    let p = subst (λ (b : List ℕ). BackReading names job known now old mid base b first) (sym c.held-held.ensures.are) c.pieces.invariant.reading in
+    let bytes = c.buffered-buffered.result.now in
+    let p = subst (λ (b : List ℕ). BackReading names job known now old mid base b first) (sym c.buffered-buffered.ensures.are) c.pieces.invariant.reading in
     let new = g.W.Write.contents c.print_lines.new.output in
-    let told = subst (λ (r : BackReached). SomeText (ReadsBack names.tags job.prefix.now base bytes c.pieces.ended r) (Appends mid new)) c.in-NoText.is c.in_ok-reached.ensures.ok in
-    back_no_text names job known old now mid base bytes first p new c.pieces.ended c.pieces.invariant.at_end told
+    let reported = subst (λ (r : BackReached). SomeText (ReadsBack names.tags job.prefix.now base bytes c.pieces.ended r) (Appends mid new)) c.in-NoText.is c.in_ok-reached.ensures.ok in
+    back_no_text names job known old now mid base bytes first p new c.pieces.ended c.pieces.invariant.at_end reported
 
 -- all lines were read back
 pub returns-then-ended : goal.returns-then-ended
@@ -87,15 +87,15 @@ returns-then-ended g c =
     let mid = g.W.Write.contents c.pieces.output in
     let base = c.pieces.base in
     let first = c.pieces.first in
-    let bytes = c.held-held.result.now in
-    let p = subst (λ (b : List ℕ). BackReading names job known now old mid base b first) (sym c.held-held.ensures.are) c.pieces.invariant.reading in
+    let bytes = c.buffered-buffered.result.now in
+    let p = subst (λ (b : List ℕ). BackReading names job known now old mid base b first) (sym c.buffered-buffered.ensures.are) c.pieces.invariant.reading in
     let new = g.W.Write.contents c.print_lines.new.output in
     let count = c.in-Behind.count in
     let found = c.in-Behind.found in
     let ok = subst (λ (b : Bool). SomeText (ReadsBack names.tags job.prefix.now base bytes b c.in_ok-reached.reached) (Appends mid new)) c.if-ended.true c.in_ok-reached.ensures.ok in
-    let told = subst (λ (r : BackReached). SomeText (ReadsBack names.tags job.prefix.now base bytes true r) (Appends mid new)) c.in-Behind.is ok in
+    let reported = subst (λ (r : BackReached). SomeText (ReadsBack names.tags job.prefix.now base bytes true r) (Appends mid new)) c.in-Behind.is ok in
     let s : Streams = record { input = known; input_left = now; output = old; output_now = new } in
-    subst (PrintedBack names job s) (sym c.or-first.ensures) (back_printed names job known old now mid base bytes first p new (c.pieces.invariant.at_end c.if-ended.true) count found told)
+    subst (PrintedBack names job s) (sym c.or-first.ensures) (back_printed names job known old now mid base bytes first p new (c.pieces.invariant.at_end c.if-ended.true) count found reported)
 
 -- reading failed, or memory ran out for it
 pub returns-in_err-ended : goal.returns-in_err-ended
@@ -108,23 +108,23 @@ returns-in_err-ended g c =
     let mid = g.W.Write.contents c.pieces.output in
     let base = c.pieces.base in
     let first = c.pieces.first in
-    let bytes = c.held-held.result.now in
-    let p = subst (λ (b : List ℕ). BackReading names job known now old mid base b first) (sym c.held-held.ensures.are) c.pieces.invariant.reading in
+    let bytes = c.buffered-buffered.result.now in
+    let p = subst (λ (b : List ℕ). BackReading names job known now old mid base b first) (sym c.buffered-buffered.ensures.are) c.pieces.invariant.reading in
     let new = g.W.Write.contents c.print_lines.new.output in
     let count = c.in-Behind.count in
     let found = c.in-Behind.found in
     let ok = subst (λ (b : Bool). SomeText (ReadsBack names.tags job.prefix.now base bytes b c.in_ok-reached.reached) (Appends mid new)) c.if-ended.false c.in_ok-reached.ensures.ok in
-    let told = subst (λ (r : BackReached). SomeText (ReadsBack names.tags job.prefix.now base bytes false r) (Appends mid new)) c.in-Behind.is ok in
+    let reported = subst (λ (r : BackReached). SomeText (ReadsBack names.tags job.prefix.now base bytes false r) (Appends mid new)) c.in-Behind.is ok in
     let next = g.R.Read.remaining c.read_lines.new.input in
-    let after = held c.read_lines.new.self in
-    let left = c.let_go.ensures ∙ ap (drop count) (sym c.held-held.ensures.are) in
-    let on = back_goes names job known old now mid base bytes first p new count found told in
+    let after = buffered c.read_lines.new.self in
+    let left = c.discard.ensures ∙ ap (drop count) (sym c.buffered-buffered.ensures.are) in
+    let on = back_goes names job known old now mid base bytes first p new count found reported in
     let y = err_from_is_err_and c.from_residual-in_err-ended.result c.from_residual-in_err-ended.ensures.1 in
     let s : Streams = record { input = known; input_left = next; output = old; output_now = new } in
     let fails = c.in_err-ended.ensures.err in
-    let comes = subst (λ (b : List ℕ). Comes now next b after) left fails.comes in
-    let one : IsOneLine after = fails.one_line (subst IsOneLine (sym left) told.is.2) in
-    let reading = back_came names job known old now new (base + count) (drop count bytes) (option_or first found) on next after comes in
+    let yields = subst (λ (b : List ℕ). Yields now next b after) left fails.yields in
+    let one : IsOneLine after = fails.one_line (subst IsOneLine (sym left) reported.is.2) in
+    let reading = back_came names job known old now new (base + count) (drop count bytes) (option_or first found) on next after yields in
     subst (RespondsBack names job s) (sym y.1) (back_read_fails names job known old next new (base + count) after (option_or first found) reading one y.0 (subst IsUnread (sym y.2) c.in_err-ended.ensures.why))
 
 pub pieces-preserved : goal.pieces-preserved
@@ -137,19 +137,19 @@ pieces-preserved g c =
     let mid = g.W.Write.contents c.pieces.output in
     let base = c.pieces.base in
     let first = c.pieces.first in
-    let bytes = c.held-held.result.now in
-    let p = subst (λ (b : List ℕ). BackReading names job known now old mid base b first) (sym c.held-held.ensures.are) c.pieces.invariant.reading in
+    let bytes = c.buffered-buffered.result.now in
+    let p = subst (λ (b : List ℕ). BackReading names job known now old mid base b first) (sym c.buffered-buffered.ensures.are) c.pieces.invariant.reading in
     let new = g.W.Write.contents c.print_lines.new.output in
     let count = c.in-Behind.count in
     let found = c.in-Behind.found in
     let ok = subst (λ (b : Bool). SomeText (ReadsBack names.tags job.prefix.now base bytes b c.in_ok-reached.reached) (Appends mid new)) c.if-ended.false c.in_ok-reached.ensures.ok in
-    let told = subst (λ (r : BackReached). SomeText (ReadsBack names.tags job.prefix.now base bytes false r) (Appends mid new)) c.in-Behind.is ok in
+    let reported = subst (λ (r : BackReached). SomeText (ReadsBack names.tags job.prefix.now base bytes false r) (Appends mid new)) c.in-Behind.is ok in
     let next = g.R.Read.remaining c.read_lines.new.input in
-    let after = held c.read_lines.new.self in
-    let left = c.let_go.ensures ∙ ap (drop count) (sym c.held-held.ensures.are) in
-    let on = back_goes names job known old now mid base bytes first p new count found told in
-    let comes = subst (λ (b : List ℕ). Comes now next b after) left c.in_ok-ended.ensures.ok.comes in
-    let reading = back_came names job known old now new (base + count) (drop count bytes) (option_or first found) on next after comes in
+    let after = buffered c.read_lines.new.self in
+    let left = c.discard.ensures ∙ ap (drop count) (sym c.buffered-buffered.ensures.are) in
+    let on = back_goes names job known old now mid base bytes first p new count found reported in
+    let yields = subst (λ (b : List ℕ). Yields now next b after) left c.in_ok-ended.ensures.ok.yields in
+    let reading = back_came names job known old now new (base + count) (drop count bytes) (option_or first found) on next after yields in
     record {
       reading = subst (λ (o : Option BackFault). BackReading names job known next old new (base + count) after o) (sym c.or-first.ensures) reading;
       at_end = c.in_ok-ended.ensures.ok.at_end;

@@ -1,6 +1,6 @@
 use Rattle.std.proofs.Common.{◌≡◌, ◌+◌, ◌-◌, ◌*◌, ◌^◌, true, length}
 use Rattle.std.specs.Io.KnownBytes.{IsAtEnd}
-use Rattle.ttlv_run.specs.Streaming.{held}
+use Rattle.ttlv_run.specs.Streaming.{buffered}
 use Rattle.ttlv_run.specs.Texts.{names_of}
 use Rattle.ttlv_run.proofs.BackStreams.{BackReading}
 use Rattle.ttlv_run.proofs.Windows.{as_number}
@@ -8,9 +8,9 @@ use Rattle.ttlv_run.proofs.run.respond_back.Given as goal
 
 abbrev pub invariant-pieces : goal.invariant-pieces
 invariant-pieces g l = record {
-  reading : BackReading (names_of l.names) l.job (g.R.Read.remaining l.fn.input) (g.R.Read.remaining l.input) (g.W.Write.contents l.fn.output) (g.W.Write.contents l.output) l.base (held l.window) l.first;
+  reading : BackReading (names_of l.names) l.job (g.R.Read.remaining l.fn.input) (g.R.Read.remaining l.input) (g.W.Write.contents l.fn.output) (g.W.Write.contents l.output) l.base (buffered l.window) l.first;
   at_end : l.ended ≡ true → IsAtEnd (g.R.Read.remaining l.input);
 }
 
 abbrev pub decreases-pieces : goal.decreases-pieces
-decreases-pieces g l = 2 * (2 ^ 64 - (l.base + length (held l.window))) - as_number l.ended
+decreases-pieces g l = 2 * (2 ^ 64 - (l.base + length (buffered l.window))) - as_number l.ended

@@ -7,5 +7,5 @@ pub returns-in-Ok-Some-clause-malformed : goal.returns-in-Ok-Some-clause-malform
 returns-in-Ok-Some-clause-malformed g c = λ one. record {
   line = string_bytes c.in-Ok-Some.line;
   breaks = rw c.in-Ok-Some.field-0-is at c.in-Ok-Some.ensures;
-  told = subst (AppendsFront _ _) c.as_bytes.ensures.value (sent_front c.send.result _ _ c.as_bytes.result.now c.send.ensures.ok c.send.ensures.err);
+  reported = subst (AppendsFront _ _) c.as_bytes.ensures.value (sent_front c.send.result _ _ c.as_bytes.result.now c.send.ensures.ok c.send.ensures.err);
 }

@@ -18,8 +18,8 @@ returns-in_err-push_diagnostic-in-Diagnose-clause-err g c =
     let plain : (k : ℕ) → get_or m k 0 < 256 = λ k. omega (arith, c.type_inv.message k) in
     let closed = c.in-Diagnose.closed in
     let text = hostile c.in-Diagnose.prefix.now closed (length m) (trace closed m) ++ 10 ∷ [] in
-    let told = told_any names c.args.at m plain c.args.task text (λ found fault ended. ap (λ (task : Task). message_text names task c.args.at m found fault ended) c.in-Diagnose.is) in
-    let broken : SomeText (Told names c.args.task c.args.at m) (λ t. g.S.TextSink.breaks c.args.out.now t c.push_diagnostic.new.out) = record { text = text; is = told; holds = c.in_err-push_diagnostic-in-Diagnose.ensures.err } in
+    let reported = told_any names c.args.at m plain c.args.task text (λ found fault ended. ap (λ (task : Task). message_text names task c.args.at m found fault ended) c.in-Diagnose.is) in
+    let broken : SomeText (Told names c.args.task c.args.at m) (λ t. g.S.TextSink.breaks c.args.out.now t c.push_diagnostic.new.out) = record { text = text; is = reported; holds = c.in_err-push_diagnostic-in-Diagnose.ensures.err } in
     err_holds _ _ broken
 
 pub returns-in_err-push_hexadecimal-in-Hexadecimal-clause-err : goal.returns-in_err-push_hexadecimal-in-Hexadecimal-clause-err
@@ -28,8 +28,8 @@ returns-in_err-push_hexadecimal-in-Hexadecimal-clause-err g c =
     let m = c.args.message.now in
     let plain : (k : ℕ) → get_or m k 0 < 256 = λ k. omega (arith, c.type_inv.message k) in
     let text = encode_upper m ++ 10 ∷ [] in
-    let told = told_any names c.args.at m plain c.args.task text (λ found fault ended. ap (λ (task : Task). message_text names task c.args.at m found fault ended) c.in-Hexadecimal.is) in
-    let broken : SomeText (Told names c.args.task c.args.at m) (λ t. g.S.TextSink.breaks c.args.out.now t c.push_hexadecimal.new.out) = record { text = text; is = told; holds = c.in_err-push_hexadecimal-in-Hexadecimal.ensures.err } in
+    let reported = told_any names c.args.at m plain c.args.task text (λ found fault ended. ap (λ (task : Task). message_text names task c.args.at m found fault ended) c.in-Hexadecimal.is) in
+    let broken : SomeText (Told names c.args.task c.args.at m) (λ t. g.S.TextSink.breaks c.args.out.now t c.push_hexadecimal.new.out) = record { text = text; is = reported; holds = c.in_err-push_hexadecimal-in-Hexadecimal.ensures.err } in
     err_holds _ _ broken
 
 -- out of memory behind the text
@@ -86,10 +86,10 @@ returns-clause-ok g c =
 
 pub returns-in-Json-clause-ok : goal.returns-in-Json-clause-ok
 returns-in-Json-clause-ok g c =
-    let told = json_told (names_of c.args.names.now) c.args.at c.args.message.now c.in-Json.hiding c.args.task c.in-Json.is in
-    IfOk-weaker c.push_json.result _ _ (λ fault h. record { text = h.text; is = told h.text fault h.is; holds = h.holds }) c.push_json.ensures.ok
+    let reported = json_told (names_of c.args.names.now) c.args.at c.args.message.now c.in-Json.hiding c.args.task c.in-Json.is in
+    IfOk-weaker c.push_json.result _ _ (λ fault h. record { text = h.text; is = reported h.text fault h.is; holds = h.holds }) c.push_json.ensures.ok
 
 pub returns-in-Json-clause-err : goal.returns-in-Json-clause-err
 returns-in-Json-clause-err g c =
-    let told = json_told (names_of c.args.names.now) c.args.at c.args.message.now c.in-Json.hiding c.args.task c.in-Json.is in
-    err_map c.push_json.result _ _ c.push_json.ensures.err (λ h. record { text = h.text; is = (h.is.0, told h.text h.is.0 h.is.1); holds = h.holds })
+    let reported = json_told (names_of c.args.names.now) c.args.at c.args.message.now c.in-Json.hiding c.args.task c.in-Json.is in
+    err_map c.push_json.result _ _ c.push_json.ensures.err (λ h. record { text = h.text; is = (h.is.0, reported h.text h.is.0 h.is.1); holds = h.holds })

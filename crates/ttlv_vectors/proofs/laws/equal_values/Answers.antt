@@ -1,5 +1,5 @@
 -- Written by codegen from types.table: change that, and run codegen/codegen.
--- Values of a type are equal if they stand for the same: each part is, and numbers tell the variants of an Enumeration.
+-- Values of a type are equal if they stand for the same: each part is, and numbers tell apart the variants of an Enumeration.
 use Rattle.kmip_ttlv.specs.Values.{big_integer_value, boolean_value, bytes_value, interval_value, newtype_value}
 use Rattle.kmip_ttlv.specs.Values.{text_value}
 use Rattle.kmip_ttlv_laws.proofs.Equal.{any_equal, apart, booleans_equal, both, bytes_equal, first_same, found_same}

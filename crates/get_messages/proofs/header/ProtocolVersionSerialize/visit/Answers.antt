@@ -1,5 +1,5 @@
 -- Written by codegen from types.table: change that, and run codegen/codegen.
--- What a visitor is told: a line for each part, by what its call ensures.
+-- What a visitor receives: a line for each part, by what its call ensures.
 use Rattle.kmip_ttlv.specs.Values.{i32_value}
 use Rattle.kmip_ttlv_laws.proofs.Telling.{all_told, signed_told, structure_told}
 use Rattle.std.proofs.Common.{refl}
@@ -7,11 +7,11 @@ use Rattle.std.specs.Int.{w32}
 use Rattle.get_messages.specs.Headers.{protocol_version_value}
 use Rattle.get_messages.proofs.header.ProtocolVersionSerialize.visit.Goals as goal
 
-pub returns-clause-told : goal.returns-clause-told
+pub returns-clause-received : goal.returns-clause-received
 unfolding protocol_version_value
-returns-clause-told g c =
+returns-clause-received g c =
     let x = c.args.self.now in
-    structure_told g.V.Visitor.knows g.V.Visitor.step (protocol_version_value x) refl c.in_ok-begin_struct.ensures.told (
-    signed_told i32_value w32 x.major (assumption c.well_formed) c.in_ok-integer.ensures.told (
-    signed_told i32_value w32 x.minor (assumption c.well_formed) c.in_ok-integer-2.ensures.told (
-    all_told))) c.in_ok-end_struct.ensures.told
+    structure_told g.V.Visitor.knows g.V.Visitor.step (protocol_version_value x) refl c.in_ok-begin_struct.ensures.received (
+    signed_told i32_value w32 x.major (assumption c.well_formed) c.in_ok-integer.ensures.received (
+    signed_told i32_value w32 x.minor (assumption c.well_formed) c.in_ok-integer-2.ensures.received (
+    all_told))) c.in_ok-end_struct.ensures.received

@@ -1,17 +1,17 @@
 -- Written by codegen from types.table: change that, and run codegen/codegen.
--- What a visitor is told: a line for each part, by what its call ensures.
+-- What a visitor receives: a line for each part, by what its call ensures.
 use Rattle.kmip_ttlv_laws.proofs.Telling.{all_told, optional_told, structure_told}
 use Rattle.std.proofs.Common.{refl}
 use Rattle.get_messages.specs.Wrappings.{written_cryptographic_parameters, block_cipher_mode_value, padding_method_value, hashing_algorithm_value, role_type_value}
 use Rattle.get_messages.proofs.wrapping.CryptographicParametersSerialize.visit.Goals as goal
 
-pub returns-clause-told : goal.returns-clause-told
+pub returns-clause-received : goal.returns-clause-received
 unfolding written_cryptographic_parameters
-returns-clause-told g c =
+returns-clause-received g c =
     let x = c.args.self.now in
-    structure_told g.V.Visitor.knows g.V.Visitor.step (written_cryptographic_parameters x) refl c.in_ok-begin_struct.ensures.told (
-    optional_told block_cipher_mode_value x.block_cipher_mode c.in_ok-option.ensures.told (
-    optional_told padding_method_value x.padding_method c.in_ok-option-2.ensures.told (
-    optional_told hashing_algorithm_value x.hashing_algorithm c.in_ok-option-3.ensures.told (
-    optional_told role_type_value x.role_type c.in_ok-option-4.ensures.told (
-    all_told))))) c.in_ok-end_struct.ensures.told
+    structure_told g.V.Visitor.knows g.V.Visitor.step (written_cryptographic_parameters x) refl c.in_ok-begin_struct.ensures.received (
+    optional_told block_cipher_mode_value x.block_cipher_mode c.in_ok-option.ensures.received (
+    optional_told padding_method_value x.padding_method c.in_ok-option-2.ensures.received (
+    optional_told hashing_algorithm_value x.hashing_algorithm c.in_ok-option-3.ensures.received (
+    optional_told role_type_value x.role_type c.in_ok-option-4.ensures.received (
+    all_told))))) c.in_ok-end_struct.ensures.received

@@ -1,5 +1,5 @@
 -- Written by codegen from types.table: change that, and run codegen/codegen.
--- What a visitor is told: a line for each part, by what its call ensures.
+-- What a visitor receives: a line for each part, by what its call ensures.
 use Rattle.kmip_ttlv.specs.Values.{bytes_value, newtype_value}
 use Rattle.kmip_ttlv_laws.proofs.Telling.{all_told, optional_told, part_told, structure_told}
 use Rattle.std.proofs.Common.{refl}
@@ -8,12 +8,12 @@ use Rattle.kmip_attributes.specs.Structures.{written_digest}
 use Rattle.kmip_attributes.specs.Values.{written_key_format_type}
 use Rattle.kmip_attributes.proofs.structures.DigestSerialize.visit.Goals as goal
 
-pub returns-clause-told : goal.returns-clause-told
+pub returns-clause-received : goal.returns-clause-received
 unfolding written_digest
-returns-clause-told g c =
+returns-clause-received g c =
     let x = c.args.self.now in
-    structure_told g.V.Visitor.knows g.V.Visitor.step (written_digest x) refl c.in_ok-begin_struct.ensures.told (
-    part_told c.in_ok-visit.ensures.told (
-    optional_told (λ y. newtype_value (codes "Transparent:0x420035") (bytes_value y.items)) x.digest_value c.in_ok-optional_byte_string.ensures.told (
-    optional_told written_key_format_type x.key_format_type c.in_ok-option.ensures.told (
-    all_told)))) c.in_ok-end_struct.ensures.told
+    structure_told g.V.Visitor.knows g.V.Visitor.step (written_digest x) refl c.in_ok-begin_struct.ensures.received (
+    part_told c.in_ok-visit.ensures.received (
+    optional_told (λ y. newtype_value (codes "Transparent:0x420035") (bytes_value y.items)) x.digest_value c.in_ok-optional_byte_string.ensures.received (
+    optional_told written_key_format_type x.key_format_type c.in_ok-option.ensures.received (
+    all_told)))) c.in_ok-end_struct.ensures.received

@@ -1,5 +1,5 @@
 -- Written by codegen from types.table: change that, and run codegen/codegen.
--- What a visitor is told: a line for each part, by what its call ensures.
+-- What a visitor receives: a line for each part, by what its call ensures.
 use Rattle.kmip_ttlv.specs.Values.{newtype_value, text_value}
 use Rattle.kmip_ttlv_laws.proofs.Telling.{all_told, optional_told, structure_told}
 use Rattle.std.proofs.Common.{refl}
@@ -9,13 +9,13 @@ use Rattle.kmip_attributes.specs.Values.{written_key_format_type}
 use Rattle.kmip_objects.specs.Keys.{written_key_compression_type}
 use Rattle.kmip_messages.proofs.request.GetRequestSerialize.visit.Goals as goal
 
-pub returns-clause-told : goal.returns-clause-told
+pub returns-clause-received : goal.returns-clause-received
 unfolding written_get_request
-returns-clause-told g c =
+returns-clause-received g c =
     let x = c.args.self.now in
-    structure_told g.V.Visitor.knows g.V.Visitor.step (written_get_request x) refl c.in_ok-begin_struct.ensures.told (
-    optional_told (λ y. newtype_value (codes "Transparent:0x420094") (text_value (string_bytes y))) x.unique_identifier c.in_ok-optional_text_string.ensures.told (
-    optional_told written_key_format_type x.key_format_type c.in_ok-option.ensures.told (
-    optional_told written_key_compression_type x.key_compression_type c.in_ok-option-2.ensures.told (
-    optional_told written_key_wrapping_specification x.key_wrapping_specification c.in_ok-option-3.ensures.told (
-    all_told))))) c.in_ok-end_struct.ensures.told
+    structure_told g.V.Visitor.knows g.V.Visitor.step (written_get_request x) refl c.in_ok-begin_struct.ensures.received (
+    optional_told (λ y. newtype_value (codes "Transparent:0x420094") (text_value (string_bytes y))) x.unique_identifier c.in_ok-optional_text_string.ensures.received (
+    optional_told written_key_format_type x.key_format_type c.in_ok-option.ensures.received (
+    optional_told written_key_compression_type x.key_compression_type c.in_ok-option-2.ensures.received (
+    optional_told written_key_wrapping_specification x.key_wrapping_specification c.in_ok-option-3.ensures.received (
+    all_told))))) c.in_ok-end_struct.ensures.received

@@ -1,5 +1,5 @@
 -- Written by codegen from types.table: change that, and run codegen/codegen.
--- What a visitor is told: a line for each part, by what its call ensures.
+-- What a visitor receives: a line for each part, by what its call ensures.
 use Rattle.kmip_ttlv.specs.Values.{bytes_value, newtype_value}
 use Rattle.kmip_ttlv_laws.proofs.Telling.{all_told, optional_told, part_told, structure_told}
 use Rattle.std.proofs.Common.{refl}
@@ -8,13 +8,13 @@ use Rattle.kmip_messages.specs.Requests.{written_request_item}
 use Rattle.kmip_messages.specs.Headers.{message_extension_value}
 use Rattle.kmip_messages.proofs.request.RequestItemSerialize.visit.Goals as goal
 
-pub returns-clause-told : goal.returns-clause-told
+pub returns-clause-received : goal.returns-clause-received
 unfolding written_request_item
-returns-clause-told g c =
+returns-clause-received g c =
     let x = c.args.self.now in
-    structure_told g.V.Visitor.knows g.V.Visitor.step (written_request_item x) refl c.in_ok-begin_struct.ensures.told (
-    part_told c.in_ok-visit.ensures.told (
-    optional_told (λ y. newtype_value (codes "Transparent:0x420093") (bytes_value y.items)) x.unique_batch_item_id c.in_ok-optional_byte_string.ensures.told (
-    part_told c.in_ok-visit-2.ensures.told (
-    optional_told message_extension_value x.message_extension c.in_ok-option.ensures.told (
-    all_told))))) c.in_ok-end_struct.ensures.told
+    structure_told g.V.Visitor.knows g.V.Visitor.step (written_request_item x) refl c.in_ok-begin_struct.ensures.received (
+    part_told c.in_ok-visit.ensures.received (
+    optional_told (λ y. newtype_value (codes "Transparent:0x420093") (bytes_value y.items)) x.unique_batch_item_id c.in_ok-optional_byte_string.ensures.received (
+    part_told c.in_ok-visit-2.ensures.received (
+    optional_told message_extension_value x.message_extension c.in_ok-option.ensures.received (
+    all_told))))) c.in_ok-end_struct.ensures.received

@@ -1,16 +1,16 @@
 -- Written by codegen from types.table: change that, and run codegen/codegen.
--- What a visitor is told: a line for each part, by what its call ensures.
+-- What a visitor receives: a line for each part, by what its call ensures.
 use Rattle.kmip_ttlv_laws.proofs.Telling.{all_told, optional_told, part_told, structure_told}
 use Rattle.std.proofs.Common.{refl}
 use Rattle.kmip_messages.specs.Responses.{written_register_response}
 use Rattle.kmip_messages.specs.Templates.{written_template_attribute}
 use Rattle.kmip_messages.proofs.response.RegisterResponseSerialize.visit.Goals as goal
 
-pub returns-clause-told : goal.returns-clause-told
+pub returns-clause-received : goal.returns-clause-received
 unfolding written_register_response
-returns-clause-told g c =
+returns-clause-received g c =
     let x = c.args.self.now in
-    structure_told g.V.Visitor.knows g.V.Visitor.step (written_register_response x) refl c.in_ok-begin_struct.ensures.told (
-    part_told c.in_ok-string.ensures.told (
-    optional_told written_template_attribute x.template_attribute c.in_ok-option.ensures.told (
-    all_told))) c.in_ok-end_struct.ensures.told
+    structure_told g.V.Visitor.knows g.V.Visitor.step (written_register_response x) refl c.in_ok-begin_struct.ensures.received (
+    part_told c.in_ok-string.ensures.received (
+    optional_told written_template_attribute x.template_attribute c.in_ok-option.ensures.received (
+    all_told))) c.in_ok-end_struct.ensures.received

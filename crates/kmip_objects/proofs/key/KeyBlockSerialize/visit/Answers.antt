@@ -1,20 +1,20 @@
 -- Written by codegen from types.table: change that, and run codegen/codegen.
--- What a visitor is told: a line for each part, by what its call ensures.
+-- What a visitor receives: a line for each part, by what its call ensures.
 use Rattle.kmip_ttlv_laws.proofs.Telling.{all_told, optional_told, part_told, structure_told}
 use Rattle.std.proofs.Common.{refl}
 use Rattle.kmip_objects.specs.Keys.{written_key_block, written_key_compression_type, cryptographic_length_value, written_key_wrapping_data}
 use Rattle.kmip_attributes.specs.Values.{written_cryptographic_algorithm}
 use Rattle.kmip_objects.proofs.key.KeyBlockSerialize.visit.Goals as goal
 
-pub returns-clause-told : goal.returns-clause-told
+pub returns-clause-received : goal.returns-clause-received
 unfolding written_key_block
-returns-clause-told g c =
+returns-clause-received g c =
     let x = c.args.self.now in
-    structure_told g.V.Visitor.knows g.V.Visitor.step (written_key_block x) refl c.in_ok-begin_struct.ensures.told (
-    part_told c.in_ok-visit.ensures.told (
-    optional_told written_key_compression_type x.key_compression_type c.in_ok-option.ensures.told (
-    part_told c.in_ok-visit-2.ensures.told (
-    optional_told written_cryptographic_algorithm x.cryptographic_algorithm c.in_ok-option-2.ensures.told (
-    optional_told cryptographic_length_value x.cryptographic_length c.in_ok-option-3.ensures.told (
-    optional_told written_key_wrapping_data x.key_wrapping_data c.in_ok-option-4.ensures.told (
-    all_told))))))) c.in_ok-end_struct.ensures.told
+    structure_told g.V.Visitor.knows g.V.Visitor.step (written_key_block x) refl c.in_ok-begin_struct.ensures.received (
+    part_told c.in_ok-visit.ensures.received (
+    optional_told written_key_compression_type x.key_compression_type c.in_ok-option.ensures.received (
+    part_told c.in_ok-visit-2.ensures.received (
+    optional_told written_cryptographic_algorithm x.cryptographic_algorithm c.in_ok-option-2.ensures.received (
+    optional_told cryptographic_length_value x.cryptographic_length c.in_ok-option-3.ensures.received (
+    optional_told written_key_wrapping_data x.key_wrapping_data c.in_ok-option-4.ensures.received (
+    all_told))))))) c.in_ok-end_struct.ensures.received

@@ -1,5 +1,5 @@
 -- Written by codegen from types.table: change that, and run codegen/codegen.
--- What a visitor is told: a line for each part, by what its call ensures.
+-- What a visitor receives: a line for each part, by what its call ensures.
 use Rattle.kmip_ttlv.specs.Values.{i32_value, i64_value}
 use Rattle.kmip_ttlv_laws.proofs.Telling.{all_told, signed_told, structure_told}
 use Rattle.std.proofs.Common.{refl}
@@ -7,11 +7,11 @@ use Rattle.std.specs.Int.{w32, w64}
 use Rattle.ttlv_vectors.specs.Leaves.{numbers_value}
 use Rattle.ttlv_vectors.proofs.leaves.NumbersSerialize.visit.Goals as goal
 
-pub returns-clause-told : goal.returns-clause-told
+pub returns-clause-received : goal.returns-clause-received
 unfolding numbers_value
-returns-clause-told g c =
+returns-clause-received g c =
     let x = c.args.self.now in
-    structure_told g.V.Visitor.knows g.V.Visitor.step (numbers_value x) refl c.in_ok-begin_struct.ensures.told (
-    signed_told i32_value w32 x.count (assumption c.well_formed) c.in_ok-integer.ensures.told (
-    signed_told i64_value w64 x.long (assumption c.well_formed) c.in_ok-long_integer.ensures.told (
-    all_told))) c.in_ok-end_struct.ensures.told
+    structure_told g.V.Visitor.knows g.V.Visitor.step (numbers_value x) refl c.in_ok-begin_struct.ensures.received (
+    signed_told i32_value w32 x.count (assumption c.well_formed) c.in_ok-integer.ensures.received (
+    signed_told i64_value w64 x.long (assumption c.well_formed) c.in_ok-long_integer.ensures.received (
+    all_told))) c.in_ok-end_struct.ensures.received

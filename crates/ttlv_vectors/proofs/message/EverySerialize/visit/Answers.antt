@@ -1,5 +1,5 @@
 -- Written by codegen from types.table: change that, and run codegen/codegen.
--- What a visitor is told: a line for each part, by what its call ensures.
+-- What a visitor receives: a line for each part, by what its call ensures.
 use Rattle.kmip_ttlv_laws.proofs.Telling.{all_told, optional_told, part_told, structure_told}
 use Rattle.std.proofs.Common.{refl}
 use Rattle.ttlv_vectors.specs.Messages.{written_every}
@@ -7,17 +7,17 @@ use Rattle.ttlv_vectors.specs.Numbers.{written_optional_numbers}
 use Rattle.ttlv_vectors.specs.Leaves.{written_optional_contents}
 use Rattle.ttlv_vectors.proofs.message.EverySerialize.visit.Goals as goal
 
-pub returns-clause-told : goal.returns-clause-told
+pub returns-clause-received : goal.returns-clause-received
 unfolding written_every
-returns-clause-told g c =
+returns-clause-received g c =
     let x = c.args.self.now in
-    structure_told g.V.Visitor.knows g.V.Visitor.step (written_every x) refl c.in_ok-begin_struct.ensures.told (
-    part_told c.in_ok-unit_variant.ensures.told (
-    part_told c.in_ok-visit.ensures.told (
-    part_told c.in_ok-visit-2.ensures.told (
-    part_told c.in_ok-visit-3.ensures.told (
-    optional_told written_optional_numbers x.optional_numbers c.in_ok-option.ensures.told (
-    optional_told written_optional_contents x.optional_contents c.in_ok-option-2.ensures.told (
-    part_told c.in_ok-visit-4.ensures.told (
-    part_told c.in_ok-several.ensures.told (
-    all_told))))))))) c.in_ok-end_struct.ensures.told
+    structure_told g.V.Visitor.knows g.V.Visitor.step (written_every x) refl c.in_ok-begin_struct.ensures.received (
+    part_told c.in_ok-unit_variant.ensures.received (
+    part_told c.in_ok-visit.ensures.received (
+    part_told c.in_ok-visit-2.ensures.received (
+    part_told c.in_ok-visit-3.ensures.received (
+    optional_told written_optional_numbers x.optional_numbers c.in_ok-option.ensures.received (
+    optional_told written_optional_contents x.optional_contents c.in_ok-option-2.ensures.received (
+    part_told c.in_ok-visit-4.ensures.received (
+    part_told c.in_ok-several.ensures.received (
+    all_told))))))))) c.in_ok-end_struct.ensures.received

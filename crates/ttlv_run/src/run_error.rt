@@ -1,0 +1,66 @@
+//! Why a run ends with status 2 or 3.
+
+ghost use Rattle.std.specs.Prelude.{◌≡◌};
+ghost use Rattle.ttlv_run.specs.Reasons.{status_of, words_of};
+
+use crate::misread::Misread;
+use std::alloc::AllocError;
+
+/// Why a run ends with status 2 or 3.
+#[derive(Clone, Copy, Debug, PartialEq, Eq)]
+pub enum RunError {
+    /// The input can't be opened.
+    UnopenedInput,
+    /// The input can't be read.
+    UnreadableInput,
+    /// The input, taken as an encoding, stands for no bytes.
+    MisreadInput(Misread),
+    /// The input is no UTF-8.
+    NotUtf8,
+    /// The output can't be written.
+    UnwritableOutput,
+    /// No one reads the output any more.
+    ClosedPipe,
+    /// Memory was refused.
+    NoMemory,
+}
+
+impl RunError {
+    /// The status with which a run ends.
+    pub fn status(self) -> u8
+        ensures { result ≡ status_of self }
+    {
+        match self {
+            RunError::UnopenedInput
+            | RunError::UnreadableInput
+            | RunError::MisreadInput(_)
+            | RunError::NotUtf8 => 2,
+            RunError::UnwritableOutput | RunError::ClosedPipe | RunError::NoMemory => 3,
+        }
+    }
+
+    /// What is wrong, in words.
+    pub fn words(self) -> &'static str
+        ensures { result.now ≡ words_of self }
+    {
+        match self {
+            RunError::UnopenedInput => "it can't be opened",
+            RunError::UnreadableInput => "it can't be read",
+            RunError::MisreadInput(_) => "it stands for no bytes",
+            RunError::NotUtf8 => "it is not UTF-8",
+            RunError::UnwritableOutput => "the output can't be written",
+            RunError::ClosedPipe => "",
+            RunError::NoMemory => "out of memory",
+        }
+    }
+}
+
+impl From<AllocError> for RunError {
+    ghost use Rattle.ttlv_run.specs.declared.run_error.RunError.TheVariants.{NoMemory};
+
+    ghost from_gives = { λ _ r. r ≡ NoMemory };
+
+    fn from(_error: AllocError) -> RunError {
+        RunError::NoMemory
+    }
+}
