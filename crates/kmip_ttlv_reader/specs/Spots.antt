@@ -63,6 +63,10 @@ optional_values view (x ∷ xs) = some_value (seq_value (values_by view (x ∷ x
 abbrev pub structure_form : ℕ → Fields → Bool → Form
 structure_form tag fields deny = struct (tag_text tag) fields deny
 
+-- a structure of this tag, whatever its fields are
+abbrev pub IsStructureOf : ℕ → Form → Type 0
+IsStructureOf tag s = (fields : Fields) × (deny : Bool) × (s ≡ structure_form tag fields deny)
+
 -- the value of a structure of this tag
 abbrev pub structure_value : {X : Type 0} → ℕ → (X → Values) → X → Value
 structure_value tag values x = struct_value (tag_text tag) (values x)

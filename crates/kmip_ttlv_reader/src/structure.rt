@@ -9,7 +9,7 @@ ghost use Rattle.kmip_ttlv_reader.specs.Outcomes.{outcome, field_outcome, opened
 ghost use Rattle.kmip_ttlv_reader.specs.Results.{IsStep};
 ghost use Rattle.kmip_ttlv_reader.specs.ReadResults.{IsReadAs, ErrorStands, early_end, sort_of};
 ghost use Rattle.kmip_ttlv_reader.specs.Wholes.{BeginsWhole};
-ghost use Rattle.kmip_ttlv_reader.specs.Spots.{IsWithin, IsReadTo, at, structure_form, structure_value, optional_value};
+ghost use Rattle.kmip_ttlv_reader.specs.Spots.{IsWithin, IsReadTo, at, IsStructureOf, structure_form, structure_value, optional_value};
 ghost use Rattle.kmip_ttlv_base.specs.Forms.{option};
 
 use crate::cursor::{Cursor, is_tag, missing_field, tag_is};
@@ -83,7 +83,8 @@ pub trait ReadNested<A: Allocator + Copy>: Sized + Drop {
         requires within { IsWithin scope.now cursor.old }
         ensures read { IsReadTo value cursor.new (at (outcome form) scope.now cursor.old) result }
         ensures within { IfOk result (λ _. IsWithin scope.now cursor.new) }
-        ensures further { IfOk result (λ _. cursor.old.pos + 8 ≤ cursor.new.pos) };
+        ensures further { IfOk result (λ _. cursor.old.pos + 8 ≤ cursor.new.pos) }
+        ensures tagged { IsStructureOf TAG form };
 
     // It goes by its own name, and may not be absent.
     ghost structured: { (is_struct form ≡ true) × (is_option form ≡ false) };
@@ -216,6 +217,7 @@ pub fn read_structure<'b, T: ReadStructure<A>, A: Allocator + Copy>(
     ensures read { IsReadTo T.value cursor.new (at (outcome T.form) scope.now cursor.old) result }
     ensures within { IfOk result (λ _. IsWithin scope.now cursor.new) }
     ensures further { IfOk result (λ _. cursor.old.pos + 8 ≤ cursor.new.pos) }
+    ensures tagged { IsStructureOf T.TAG T.form }
 {
     T::has_form();
     match read_whole::<T, A>(scope, cursor) {
