@@ -1,5 +1,3 @@
-pub mod Headers
-pub mod Templates
 pub mod Requests
 pub mod Responses
 pub mod Soundness

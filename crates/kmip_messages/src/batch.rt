@@ -1,39 +1,14 @@
-//! Requests in few words, whether a message says how many items it has, and whether its parts agree.
+//! Items of requests in few words, whether a message says how many items it has, and whether its parts agree.
 
 ghost use Rattle.std.specs.Prelude.{◌≡◌, ◌↔◌, IsTrue, None, pos};
 ghost use Rattle.kmip_messages.specs.Soundness.{IsRequest, IsResponse};
 ghost use Rattle.kmip_messages.specs.Batches.{IsConsistentRequest, IsConsistentResponse};
 
-use crate::header::{BatchCount, Operation, ProtocolVersion, RequestHeader};
 use crate::request::{Request, RequestItem, RequestPayload};
 use crate::response::Response;
+use kmip_headers::header::Operation;
 use kmip_ttlv::laws::Sound;
 use std::alloc::Allocator;
-
-impl<A: Allocator> RequestHeader<A> {
-    /// The header of a request of this version with so many items, without any field that may be absent (KMIP 1.0, section 7.2).
-    pub fn new(version: ProtocolVersion, items: i32) -> RequestHeader<A>
-        ensures version { result.version ≡ version }
-        ensures items { result.batch_count.count ≡ items }
-        ensures size { result.maximum_response_size ≡ None }
-        ensures asynchronous { result.asynchronous_indicator ≡ None }
-        ensures authentication { result.authentication ≡ None }
-        ensures errors { result.batch_error_continuation_option ≡ None }
-        ensures order { result.batch_order_option ≡ None }
-        ensures time { result.time_stamp ≡ None }
-    {
-        RequestHeader {
-            version,
-            maximum_response_size: None,
-            asynchronous_indicator: None,
-            authentication: None,
-            batch_error_continuation_option: None,
-            batch_order_option: None,
-            time_stamp: None,
-            batch_count: BatchCount { count: items },
-        }
-    }
-}
 
 impl<A: Allocator> RequestItem<A> {
     /// One thing that is asked for, without an identifier and an extension (KMIP 1.0, section 7.2).

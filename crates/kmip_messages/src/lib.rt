@@ -1,14 +1,23 @@
 //! KMIP's messages: requests and responses of the operations that clients and servers use most, in batches of any mix, for the
-//! protocol's versions 1.0 to 1.4 (KMIP 1.0, sections 4, 6 and 7). The objects are those of `kmip_objects`, the attributes those of
-//! `kmip_attributes`.
+//! protocol's versions 1.0 to 1.4 (KMIP 1.0, sections 4, 6 and 7).
 //!
-//! The types are those of `types.table`, as `codegen/codegen` writes them. By hand is `batch`. What is decoded is encoded as the
-//! same canonical bytes, save for a Vendor Extension, which is ignored; any other item that the tables don't name is an error.
+//! This is the crate that a program lists: it has all types of a message, and those of the crates below it under the names of
+//! their modules. `request` and `response` are the messages, `header` what they begin with, `request_payload` and
+//! `response_payload` what an item asks for and what became of it, `template` and `object` what an object is, `key` what a key
+//! is, `attribute`, `structures` and `values` what is known of one.
+//!
+//! `codegen/codegen` writes `request`, `response` and `laws` of `types.table`; by hand is `batch`. What is decoded is encoded as
+//! the same canonical bytes, save for a Vendor Extension, which is ignored; any other item that the tables don't name is an
+//! error.
 #![tactic(auto)]
 
 pub mod batch;
-pub mod header;
 pub mod laws;
 pub mod request;
 pub mod response;
-pub mod template;
+
+pub use kmip_attributes::{attribute, structures, values};
+pub use kmip_headers::header;
+pub use kmip_objects::{key, object, template};
+pub use kmip_requests::request_payload;
+pub use kmip_responses::response_payload;

@@ -6,8 +6,8 @@ use Rattle.kmip_ttlv.specs.Returns.{as_int32, as_number, as_octets, as_text}
 use Rattle.kmip_ttlv.specs.Rules.{at_least, equal, in_brackets, member, rule, sides}
 use Rattle.kmip_ttlv.specs.Values.{big_integer_value, bytes_value, newtype_value}
 use Rattle.kmip_ttlv.specs.WrittenItems.{is_wrapper, pending_after, take_tag}
-use Rattle.kmip_ttlv_laws.proofs.MessageParts.{PartAgrees, a_structure, any_then, as_whole, every_agrees, head_or}
-use Rattle.kmip_ttlv_laws.proofs.MessageParts.{if_present, leaf_part, leaf_then, neither_named, nothing_left}
+use Rattle.kmip_ttlv_laws.proofs.MessageParts.{PartAgrees, a_structure, any_then, as_whole, every_agrees, first_of}
+use Rattle.kmip_ttlv_laws.proofs.MessageParts.{head_or, if_present, leaf_part, leaf_then, neither_named, nothing_left}
 use Rattle.kmip_ttlv_laws.proofs.MessageParts.{optional_then, part_then, present, several_then, structure, text_is_utf8}
 use Rattle.kmip_ttlv_laws.proofs.MessageRules.{chosen_by_type, overridden_leaf, overridden_structure}
 use Rattle.std.proofs.Common.{refl}
@@ -20,6 +20,8 @@ use Rattle.kmip_attributes.specs.Values.{cryptographic_algorithm_form, written_c
 use Rattle.kmip_attributes.proofs.Agreeing.{cryptographic_algorithm_agrees}
 use Rattle.kmip_attributes.specs.Values.{certificate_type_form, written_certificate_type, read_certificate_type, certificate_type_number}
 use Rattle.kmip_attributes.proofs.Agreeing.{certificate_type_agrees}
+use Rattle.kmip_attributes.specs.Values.{name_type_form, written_name_type, read_name_type, name_type_number}
+use Rattle.kmip_attributes.proofs.Agreeing.{name_type_agrees}
 use Rattle.kmip_attributes.specs.Values.{block_cipher_mode_form, written_block_cipher_mode, read_block_cipher_mode, block_cipher_mode_number}
 use Rattle.kmip_attributes.proofs.Agreeing.{block_cipher_mode_agrees}
 use Rattle.kmip_attributes.specs.Values.{padding_method_form, written_padding_method, read_padding_method, padding_method_number}
@@ -119,6 +121,21 @@ use Rattle.kmip_objects.specs.declared.object.OpaqueDataType.{OpaqueDataType}
 use Rattle.kmip_objects.specs.Objects.{opaque_object_form, written_opaque_object, read_opaque_object, returned_opaque_object}
 use Rattle.kmip_objects.specs.Soundness.{IsOpaqueObject}
 use Rattle.kmip_objects.specs.declared.object.OpaqueObject.{OpaqueObject}
+use Rattle.kmip_objects.specs.Templates.{template_name_form, written_template_name, read_template_name, returned_template_name}
+use Rattle.kmip_objects.specs.Soundness.{IsTemplateName}
+use Rattle.kmip_objects.specs.declared.template.TemplateName.{TemplateName}
+use Rattle.kmip_objects.specs.Templates.{template_attribute_form, written_template_attribute, read_template_attribute, returned_template_attribute}
+use Rattle.kmip_objects.specs.Soundness.{IsTemplateAttribute}
+use Rattle.kmip_objects.specs.declared.template.TemplateAttribute.{TemplateAttribute}
+use Rattle.kmip_objects.specs.Templates.{common_template_attribute_form, written_common_template_attribute, read_common_template_attribute, returned_common_template_attribute}
+use Rattle.kmip_objects.specs.Soundness.{IsCommonTemplateAttribute}
+use Rattle.kmip_objects.specs.declared.template.CommonTemplateAttribute.{CommonTemplateAttribute}
+use Rattle.kmip_objects.specs.Templates.{private_key_template_attribute_form, written_private_key_template_attribute, read_private_key_template_attribute, returned_private_key_template_attribute}
+use Rattle.kmip_objects.specs.Soundness.{IsPrivateKeyTemplateAttribute}
+use Rattle.kmip_objects.specs.declared.template.PrivateKeyTemplateAttribute.{PrivateKeyTemplateAttribute}
+use Rattle.kmip_objects.specs.Templates.{public_key_template_attribute_form, written_public_key_template_attribute, read_public_key_template_attribute, returned_public_key_template_attribute}
+use Rattle.kmip_objects.specs.Soundness.{IsPublicKeyTemplateAttribute}
+use Rattle.kmip_objects.specs.declared.template.PublicKeyTemplateAttribute.{PublicKeyTemplateAttribute}
 
 pub unique_identifier_agrees : {A : Type 0} (x : UniqueIdentifier A)
     → PartAgrees unique_identifier_form
@@ -416,3 +433,53 @@ opaque_object_agrees x is =
     structure refl refl (
     part_then refl refl (opaque_data_type_agrees x.opaque_data_type is) (
     leaf_then refl refl refl refl (as_octets) nothing_left))
+
+pub template_name_agrees : {A : Type 0} (x : TemplateName A) → IsTemplateName x
+    → PartAgrees template_name_form
+    (written_template_name x) (a_structure 0x420053)
+    (returned_template_name x)
+unfolding take_tag tag_of number transparent_name rule written_template_name returned_template_name written_name_type
+template_name_agrees x is =
+    structure refl refl (
+    leaf_then refl refl refl refl (as_text (text_is_utf8 x.value)) (
+    part_then refl refl (name_type_agrees x.name_type is) nothing_left))
+
+pub template_attribute_agrees : {A : Type 0} (x : TemplateAttribute A) → IsTemplateAttribute x
+    → PartAgrees template_attribute_form
+    (written_template_attribute x) (a_structure 0x420091)
+    (returned_template_attribute x)
+unfolding take_tag tag_of number transparent_name rule written_template_attribute returned_template_attribute returned_template_name returned_attribute
+template_attribute_agrees x is =
+    structure refl refl (
+    any_then written_template_name returned_template_name (a_structure 0x420053) x.names.items refl (neither_named (codes "0x420053") (first_of x.attributes.items) (a_structure 0x420008) None refl refl) (every_agrees template_name_agrees (λ y. refl) x.names.items is.0) (
+    any_then written_attribute returned_attribute (a_structure 0x420008) x.attributes.items refl refl (every_agrees attribute_agrees (λ y. refl) x.attributes.items is.1) nothing_left))
+
+pub common_template_attribute_agrees : {A : Type 0} (x : CommonTemplateAttribute A) → IsCommonTemplateAttribute x
+    → PartAgrees common_template_attribute_form
+    (written_common_template_attribute x) (a_structure 0x42001F)
+    (returned_common_template_attribute x)
+unfolding take_tag tag_of number transparent_name rule written_common_template_attribute returned_common_template_attribute returned_template_name returned_attribute
+common_template_attribute_agrees x is =
+    structure refl refl (
+    any_then written_template_name returned_template_name (a_structure 0x420053) x.names.items refl (neither_named (codes "0x420053") (first_of x.attributes.items) (a_structure 0x420008) None refl refl) (every_agrees template_name_agrees (λ y. refl) x.names.items is.0) (
+    any_then written_attribute returned_attribute (a_structure 0x420008) x.attributes.items refl refl (every_agrees attribute_agrees (λ y. refl) x.attributes.items is.1) nothing_left))
+
+pub private_key_template_attribute_agrees : {A : Type 0} (x : PrivateKeyTemplateAttribute A) → IsPrivateKeyTemplateAttribute x
+    → PartAgrees private_key_template_attribute_form
+    (written_private_key_template_attribute x) (a_structure 0x420065)
+    (returned_private_key_template_attribute x)
+unfolding take_tag tag_of number transparent_name rule written_private_key_template_attribute returned_private_key_template_attribute returned_template_name returned_attribute
+private_key_template_attribute_agrees x is =
+    structure refl refl (
+    any_then written_template_name returned_template_name (a_structure 0x420053) x.names.items refl (neither_named (codes "0x420053") (first_of x.attributes.items) (a_structure 0x420008) None refl refl) (every_agrees template_name_agrees (λ y. refl) x.names.items is.0) (
+    any_then written_attribute returned_attribute (a_structure 0x420008) x.attributes.items refl refl (every_agrees attribute_agrees (λ y. refl) x.attributes.items is.1) nothing_left))
+
+pub public_key_template_attribute_agrees : {A : Type 0} (x : PublicKeyTemplateAttribute A) → IsPublicKeyTemplateAttribute x
+    → PartAgrees public_key_template_attribute_form
+    (written_public_key_template_attribute x) (a_structure 0x42006E)
+    (returned_public_key_template_attribute x)
+unfolding take_tag tag_of number transparent_name rule written_public_key_template_attribute returned_public_key_template_attribute returned_template_name returned_attribute
+public_key_template_attribute_agrees x is =
+    structure refl refl (
+    any_then written_template_name returned_template_name (a_structure 0x420053) x.names.items refl (neither_named (codes "0x420053") (first_of x.attributes.items) (a_structure 0x420008) None refl refl) (every_agrees template_name_agrees (λ y. refl) x.names.items is.0) (
+    any_then written_attribute returned_attribute (a_structure 0x420008) x.attributes.items refl refl (every_agrees attribute_agrees (λ y. refl) x.attributes.items is.1) nothing_left))

@@ -1,3 +1,4 @@
 pub mod Keys
 pub mod Objects
+pub mod Templates
 pub mod Soundness

@@ -28,8 +28,13 @@ use Rattle.kmip_objects.specs.declared.object.SecretDataType.{SecretDataType}
 use Rattle.kmip_objects.specs.declared.object.SecretData.{SecretData}
 use Rattle.kmip_objects.specs.declared.object.OpaqueDataType.{OpaqueDataType}
 use Rattle.kmip_objects.specs.declared.object.OpaqueObject.{OpaqueObject}
+use Rattle.kmip_objects.specs.declared.template.TemplateName.{TemplateName}
+use Rattle.kmip_objects.specs.declared.template.TemplateAttribute.{TemplateAttribute}
+use Rattle.kmip_objects.specs.declared.template.CommonTemplateAttribute.{CommonTemplateAttribute}
+use Rattle.kmip_objects.specs.declared.template.PrivateKeyTemplateAttribute.{PrivateKeyTemplateAttribute}
+use Rattle.kmip_objects.specs.declared.template.PublicKeyTemplateAttribute.{PublicKeyTemplateAttribute}
 use Rattle.kmip_objects.specs.Keys.{key_compression_type_number, wrapping_method_number, encoding_option_number}
-use Rattle.kmip_attributes.specs.Soundness.{IsBlockCipherMode, IsPaddingMethod, IsHashingAlgorithm, IsKeyRoleType, IsAttribute, IsKeyFormatType, IsCryptographicAlgorithm, IsCertificateType}
+use Rattle.kmip_attributes.specs.Soundness.{IsBlockCipherMode, IsPaddingMethod, IsHashingAlgorithm, IsKeyRoleType, IsAttribute, IsKeyFormatType, IsCryptographicAlgorithm, IsCertificateType, IsNameType}
 use Rattle.kmip_objects.specs.Objects.{split_key_method_number, secret_data_type_number, opaque_data_type_number}
 
 -- which values of `KeyCompressionType` are sound
@@ -174,3 +179,32 @@ IsOpaqueDataType x =
 abbrev pub IsOpaqueObject : {A : Type 0} → OpaqueObject A → Type 0
 IsOpaqueObject x =
     IsOpaqueDataType x.opaque_data_type
+
+-- which values of `TemplateName` are sound
+abbrev pub IsTemplateName : {A : Type 0} → TemplateName A → Type 0
+IsTemplateName x =
+    IsNameType x.name_type
+
+-- which values of `TemplateAttribute` are sound
+abbrev pub IsTemplateAttribute : {A : Type 0} → TemplateAttribute A → Type 0
+IsTemplateAttribute x =
+    All IsTemplateName x.names.items
+    × All IsAttribute x.attributes.items
+
+-- which values of `CommonTemplateAttribute` are sound
+abbrev pub IsCommonTemplateAttribute : {A : Type 0} → CommonTemplateAttribute A → Type 0
+IsCommonTemplateAttribute x =
+    All IsTemplateName x.names.items
+    × All IsAttribute x.attributes.items
+
+-- which values of `PrivateKeyTemplateAttribute` are sound
+abbrev pub IsPrivateKeyTemplateAttribute : {A : Type 0} → PrivateKeyTemplateAttribute A → Type 0
+IsPrivateKeyTemplateAttribute x =
+    All IsTemplateName x.names.items
+    × All IsAttribute x.attributes.items
+
+-- which values of `PublicKeyTemplateAttribute` are sound
+abbrev pub IsPublicKeyTemplateAttribute : {A : Type 0} → PublicKeyTemplateAttribute A → Type 0
+IsPublicKeyTemplateAttribute x =
+    All IsTemplateName x.names.items
+    × All IsAttribute x.attributes.items

@@ -5,7 +5,8 @@ ghost use Rattle.std.specs.Prelude.{◌≡◌};
 ghost use Rattle.kmip_ttlv.specs.Equal.{AreEqual, ReturnsEqual};
 ghost use Rattle.kmip_objects.specs.Keys.{unique_identifier_value, written_key_compression_type, read_key_compression_type, written_wrapping_method, read_wrapping_method, written_encoding_option, read_encoding_option, returned_wrapping_parameters, read_wrapping_parameters, returned_encryption_key_information, read_encryption_key_information, returned_mac_signature_key_information, read_mac_signature_key_information, returned_key_wrapping_data, read_key_wrapping_data, key_bytes_value, transparent_symmetric_key_value, read_key_material, returned_plain_key_value, read_plain_key_value, wrapped_key_value_value, returned_key_value, read_key_value, cryptographic_length_value, returned_key_block, read_key_block};
 ghost use Rattle.kmip_objects.specs.Objects.{returned_certificate, read_certificate, returned_symmetric_key, read_symmetric_key, returned_public_key, read_public_key, returned_private_key, read_private_key, written_split_key_method, read_split_key_method, split_key_parts_value, key_part_identifier_value, split_key_threshold_value, returned_split_key, read_split_key, returned_template, read_template, written_secret_data_type, read_secret_data_type, returned_secret_data, read_secret_data, written_opaque_data_type, read_opaque_data_type, returned_opaque_object, read_opaque_object};
-ghost use Rattle.kmip_objects.specs.Soundness.{IsKeyCompressionType, IsWrappingMethod, IsEncodingOption, IsWrappingParameters, IsEncryptionKeyInformation, IsMacSignatureKeyInformation, IsKeyWrappingData, IsPlainKeyValue, IsKeyValue, IsCryptographicLength, IsKeyBlock, IsCertificate, IsSymmetricKey, IsPublicKey, IsPrivateKey, IsSplitKeyMethod, IsSplitKeyParts, IsKeyPartIdentifier, IsSplitKeyThreshold, IsSplitKey, IsTemplate, IsSecretDataType, IsSecretData, IsOpaqueDataType, IsOpaqueObject};
+ghost use Rattle.kmip_objects.specs.Templates.{returned_template_name, read_template_name, returned_template_attribute, read_template_attribute, returned_common_template_attribute, read_common_template_attribute, returned_private_key_template_attribute, read_private_key_template_attribute, returned_public_key_template_attribute, read_public_key_template_attribute};
+ghost use Rattle.kmip_objects.specs.Soundness.{IsKeyCompressionType, IsWrappingMethod, IsEncodingOption, IsWrappingParameters, IsEncryptionKeyInformation, IsMacSignatureKeyInformation, IsKeyWrappingData, IsPlainKeyValue, IsKeyValue, IsCryptographicLength, IsKeyBlock, IsCertificate, IsSymmetricKey, IsPublicKey, IsPrivateKey, IsSplitKeyMethod, IsSplitKeyParts, IsKeyPartIdentifier, IsSplitKeyThreshold, IsSplitKey, IsTemplate, IsSecretDataType, IsSecretData, IsOpaqueDataType, IsOpaqueObject, IsTemplateName, IsTemplateAttribute, IsCommonTemplateAttribute, IsPrivateKeyTemplateAttribute, IsPublicKeyTemplateAttribute};
 
 use crate::key::{
     CryptographicLength, EncodingOption, EncryptionKeyInformation, KeyBlock, KeyBytes,
@@ -17,6 +18,10 @@ use crate::object::{
     Certificate, KeyPartIdentifier, OpaqueDataType, OpaqueObject, PrivateKey, PublicKey,
     SecretData, SecretDataType, SplitKey, SplitKeyMethod, SplitKeyParts, SplitKeyThreshold,
     SymmetricKey, Template,
+};
+use crate::template::{
+    CommonTemplateAttribute, PrivateKeyTemplateAttribute, PublicKeyTemplateAttribute,
+    TemplateAttribute, TemplateName,
 };
 use kmip_ttlv::laws::{Sound, is_absent_or_whole};
 use std::alloc::Allocator;
@@ -53,6 +58,11 @@ pub fn equal_values<A: Allocator>()
     ensures secret_data { ReturnsEqual returned_secret_data read_secret_data ⟦<SecretData<A> as PartialEq>⟧.eq }
     ensures opaque_data_type { ReturnsEqual written_opaque_data_type read_opaque_data_type ⟦<OpaqueDataType as PartialEq>⟧.eq }
     ensures opaque_object { ReturnsEqual returned_opaque_object read_opaque_object ⟦<OpaqueObject<A> as PartialEq>⟧.eq }
+    ensures template_name { ReturnsEqual returned_template_name read_template_name ⟦<TemplateName<A> as PartialEq>⟧.eq }
+    ensures template_attribute { ReturnsEqual returned_template_attribute read_template_attribute ⟦<TemplateAttribute<A> as PartialEq>⟧.eq }
+    ensures common_template_attribute { ReturnsEqual returned_common_template_attribute read_common_template_attribute ⟦<CommonTemplateAttribute<A> as PartialEq>⟧.eq }
+    ensures private_key_template_attribute { ReturnsEqual returned_private_key_template_attribute read_private_key_template_attribute ⟦<PrivateKeyTemplateAttribute<A> as PartialEq>⟧.eq }
+    ensures public_key_template_attribute { ReturnsEqual returned_public_key_template_attribute read_public_key_template_attribute ⟦<PublicKeyTemplateAttribute<A> as PartialEq>⟧.eq }
 {
     kmip_attributes::laws::equal_values::<A>();
 }
@@ -273,5 +283,45 @@ impl<A: Allocator> Sound for OpaqueObject<A> {
 
     fn is_sound(&self) -> bool {
         self.opaque_data_type.is_sound()
+    }
+}
+
+impl<A: Allocator> Sound for TemplateName<A> {
+    ghost IsSound = { IsTemplateName };
+
+    fn is_sound(&self) -> bool {
+        self.name_type.is_sound()
+    }
+}
+
+impl<A: Allocator> Sound for TemplateAttribute<A> {
+    ghost IsSound = { IsTemplateAttribute };
+
+    fn is_sound(&self) -> bool {
+        self.names.is_sound() && self.attributes.is_sound()
+    }
+}
+
+impl<A: Allocator> Sound for CommonTemplateAttribute<A> {
+    ghost IsSound = { IsCommonTemplateAttribute };
+
+    fn is_sound(&self) -> bool {
+        self.names.is_sound() && self.attributes.is_sound()
+    }
+}
+
+impl<A: Allocator> Sound for PrivateKeyTemplateAttribute<A> {
+    ghost IsSound = { IsPrivateKeyTemplateAttribute };
+
+    fn is_sound(&self) -> bool {
+        self.names.is_sound() && self.attributes.is_sound()
+    }
+}
+
+impl<A: Allocator> Sound for PublicKeyTemplateAttribute<A> {
+    ghost IsSound = { IsPublicKeyTemplateAttribute };
+
+    fn is_sound(&self) -> bool {
+        self.names.is_sound() && self.attributes.is_sound()
     }
 }

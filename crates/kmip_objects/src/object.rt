@@ -1,5 +1,5 @@
 // Written by codegen from types.table: change that, and run codegen/codegen.
-//! What a server tag_values (KMIP 1.0, section 2.2).
+//! What a server keeps (KMIP 1.0, section 2.2).
 
 ghost use Rattle.std.specs.Prelude.{◌≡◌, ◌==◌, refl, Some, true};
 ghost use Rattle.std.proofs.Common.{rules};
@@ -929,7 +929,7 @@ impl<A: Allocator + Copy> reader::ReadNested<A> for OpaqueObject<A> {
     }
 }
 
-/// What a server tag_values.
+/// What a server keeps.
 #[derive(Drop)]
 pub enum ManagedObject<'a, A: Allocator = Global> {
     /// A certificate.

@@ -2,13 +2,14 @@
 //! items by hand, as KMIP 1.0, section 9.1, has them.
 
 use crate::rereads::{comes_back, decoded};
-use kmip_attributes::attribute::{Attribute, AttributeValue};
-use kmip_attributes::values::{ObjectType, State};
+use kmip_messages::attribute::{Attribute, AttributeValue};
+use kmip_messages::values::{ObjectType, State};
 use kmip_messages::header::{Operation, ProtocolVersion, RequestHeader};
-use kmip_messages::request::{LocateRequest, Request, RequestItem, RequestPayload};
+use kmip_messages::request::{Request, RequestItem, RequestPayload};
+use kmip_messages::request_payload::LocateRequest;
 use kmip_messages::response::{Response, ResultStatus};
-use kmip_objects::key::{KeyMaterial, KeyValue};
-use kmip_objects::object::ManagedObject;
+use kmip_messages::key::{KeyMaterial, KeyValue};
+use kmip_messages::object::ManagedObject;
 use kmip_ttlv::laws::{Message, Sound, reread};
 use std::alloc::Global;
 use std::test::Fail;

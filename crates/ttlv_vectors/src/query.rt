@@ -367,7 +367,7 @@ impl<A: Allocator + Copy> reader::ReadItem<A> for ApplicationNamespace<A> {
 pub struct QueryResponsePayload<A: Allocator = Global> {
     /// The operations that it has.
     pub operations: Vec<Operation, A>,
-    /// The kinds of objects that it tag_values.
+    /// The kinds of objects that it keeps.
     pub object_types: Vec<ObjectType, A>,
     /// Who made it.
     pub vendor: Option<String<A>>,
@@ -604,7 +604,7 @@ pub struct FailedItem<A: Allocator = Global> {
     pub status: ResultStatus,
     /// Why.
     pub reason: Option<ResultReason>,
-    /// What a person is received.
+    /// What a person is told.
     pub message: Option<String<A>>,
 }
 

@@ -3,7 +3,7 @@
 
 use crate::rereads::{comes_back, comes_back_in, decoded};
 use kmip_messages::request::{Request, RequestPayload};
-use kmip_objects::object::ManagedObject;
+use kmip_messages::object::ManagedObject;
 use kmip_ttlv::error::{Error, ErrorKind};
 use kmip_ttlv::memory::BoundedAllocator;
 use kmip_ttlv::{from_slice, to_vec};

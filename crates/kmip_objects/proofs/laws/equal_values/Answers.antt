@@ -8,9 +8,10 @@ use Rattle.kmip_ttlv_laws.proofs.Equal.{unsigned_equal}
 use Rattle.std.proofs.Common.{refl}
 use Rattle.std.specs.Prelude.{codes}
 use Rattle.kmip_objects.specs.Keys.{unique_identifier_value, key_compression_type_number, key_compression_type_numbers, key_compression_type_read_number, written_key_compression_type, read_key_compression_type, wrapping_method_number, wrapping_method_numbers, wrapping_method_read_number, written_wrapping_method, read_wrapping_method, encoding_option_number, encoding_option_numbers, encoding_option_read_number, written_encoding_option, read_encoding_option, returned_wrapping_parameters, read_wrapping_parameters, returned_encryption_key_information, read_encryption_key_information, returned_mac_signature_key_information, read_mac_signature_key_information, returned_key_wrapping_data, read_key_wrapping_data, key_bytes_value, transparent_symmetric_key_value, read_key_material, returned_plain_key_value, read_plain_key_value, wrapped_key_value_value, returned_key_value, read_key_value, cryptographic_length_value, returned_key_block, read_key_block}
-use Rattle.kmip_attributes.specs.Values.{written_block_cipher_mode, read_block_cipher_mode, written_padding_method, read_padding_method, written_hashing_algorithm, read_hashing_algorithm, written_key_role_type, read_key_role_type, written_key_format_type, read_key_format_type, written_cryptographic_algorithm, read_cryptographic_algorithm, written_certificate_type, read_certificate_type}
+use Rattle.kmip_attributes.specs.Values.{written_block_cipher_mode, read_block_cipher_mode, written_padding_method, read_padding_method, written_hashing_algorithm, read_hashing_algorithm, written_key_role_type, read_key_role_type, written_key_format_type, read_key_format_type, written_cryptographic_algorithm, read_cryptographic_algorithm, written_certificate_type, read_certificate_type, written_name_type, read_name_type}
 use Rattle.kmip_attributes.specs.Attributes.{returned_attribute, read_attribute}
 use Rattle.kmip_objects.specs.Objects.{returned_certificate, read_certificate, returned_symmetric_key, read_symmetric_key, returned_public_key, read_public_key, returned_private_key, read_private_key, split_key_method_number, split_key_method_numbers, split_key_method_read_number, written_split_key_method, read_split_key_method, split_key_parts_value, key_part_identifier_value, split_key_threshold_value, returned_split_key, read_split_key, returned_template, read_template, secret_data_type_number, secret_data_type_numbers, secret_data_type_read_number, written_secret_data_type, read_secret_data_type, returned_secret_data, read_secret_data, opaque_data_type_number, opaque_data_type_numbers, opaque_data_type_read_number, written_opaque_data_type, read_opaque_data_type, returned_opaque_object, read_opaque_object}
+use Rattle.kmip_objects.specs.Templates.{returned_template_name, read_template_name, returned_template_attribute, read_template_attribute, returned_common_template_attribute, read_common_template_attribute, returned_private_key_template_attribute, read_private_key_template_attribute, returned_public_key_template_attribute, read_public_key_template_attribute}
 use Rattle.kmip_objects.specs.declared.key.KeyCompressionType.{KeyCompressionType}
 use Rattle.kmip_objects.specs.declared.key.KeyCompressionType.TheVariants as key_compression_type
 use Rattle.kmip_objects.specs.declared.key.WrappingMethod.{WrappingMethod}
@@ -241,3 +242,43 @@ returns-clause-opaque_object g c x y e =
     both (returns-clause-opaque_data_type g c x.opaque_data_type y.opaque_data_type (first_same e)) (
     let e = later_same e in
     bytes_equal x.opaque_data_value.items y.opaque_data_value.items (in_bytes (in_newtype (first_same e))))
+
+pub returns-clause-template_name : goal.returns-clause-template_name
+unfolding returned_template_name read_template_name
+returns-clause-template_name g c x y e =
+    let e = in_structure e in
+    both (texts_equal x.value y.value (in_text (in_newtype (first_same e)))) (
+    let e = later_same e in
+    c.equal_values.ensures.name_type x.name_type y.name_type (first_same e))
+
+pub returns-clause-template_attribute : goal.returns-clause-template_attribute
+unfolding returned_template_attribute read_template_attribute
+returns-clause-template_attribute g c x y e =
+    let e = in_structure e in
+    both (any_equal returned_template_name read_template_name _ (returns-clause-template_name g c) x.names.items y.names.items (first_same e)) (
+    let e = later_same e in
+    any_equal returned_attribute read_attribute _ (c.equal_values.ensures.attribute) x.attributes.items y.attributes.items (first_same e))
+
+pub returns-clause-common_template_attribute : goal.returns-clause-common_template_attribute
+unfolding returned_common_template_attribute read_common_template_attribute
+returns-clause-common_template_attribute g c x y e =
+    let e = in_structure e in
+    both (any_equal returned_template_name read_template_name _ (returns-clause-template_name g c) x.names.items y.names.items (first_same e)) (
+    let e = later_same e in
+    any_equal returned_attribute read_attribute _ (c.equal_values.ensures.attribute) x.attributes.items y.attributes.items (first_same e))
+
+pub returns-clause-private_key_template_attribute : goal.returns-clause-private_key_template_attribute
+unfolding returned_private_key_template_attribute read_private_key_template_attribute
+returns-clause-private_key_template_attribute g c x y e =
+    let e = in_structure e in
+    both (any_equal returned_template_name read_template_name _ (returns-clause-template_name g c) x.names.items y.names.items (first_same e)) (
+    let e = later_same e in
+    any_equal returned_attribute read_attribute _ (c.equal_values.ensures.attribute) x.attributes.items y.attributes.items (first_same e))
+
+pub returns-clause-public_key_template_attribute : goal.returns-clause-public_key_template_attribute
+unfolding returned_public_key_template_attribute read_public_key_template_attribute
+returns-clause-public_key_template_attribute g c x y e =
+    let e = in_structure e in
+    both (any_equal returned_template_name read_template_name _ (returns-clause-template_name g c) x.names.items y.names.items (first_same e)) (
+    let e = later_same e in
+    any_equal returned_attribute read_attribute _ (c.equal_values.ensures.attribute) x.attributes.items y.attributes.items (first_same e))

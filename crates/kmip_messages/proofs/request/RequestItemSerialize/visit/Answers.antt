@@ -5,7 +5,7 @@ use Rattle.kmip_ttlv_laws.proofs.Telling.{all_told, optional_told, part_told, st
 use Rattle.std.proofs.Common.{refl}
 use Rattle.std.specs.Prelude.{codes}
 use Rattle.kmip_messages.specs.Requests.{written_request_item}
-use Rattle.kmip_messages.specs.Headers.{message_extension_value}
+use Rattle.kmip_headers.specs.Headers.{message_extension_value}
 use Rattle.kmip_messages.proofs.request.RequestItemSerialize.visit.Goals as goal
 
 pub returns-clause-received : goal.returns-clause-received

@@ -5,7 +5,7 @@ use Rattle.kmip_ttlv_laws.proofs.Telling.{all_told, optional_told, part_told, st
 use Rattle.std.proofs.Common.{refl}
 use Rattle.std.specs.Prelude.{codes, string_bytes}
 use Rattle.kmip_messages.specs.Responses.{written_response_item, written_result_reason, written_response_payload}
-use Rattle.kmip_messages.specs.Headers.{written_operation, message_extension_value}
+use Rattle.kmip_headers.specs.Headers.{written_operation, message_extension_value}
 use Rattle.kmip_messages.proofs.response.ResponseItemSerialize.visit.Goals as goal
 
 pub returns-clause-received : goal.returns-clause-received

@@ -1,0 +1,2 @@
+pub mod RequestPayloads
+pub mod Soundness

@@ -1,0 +1,127 @@
+-- Written by codegen from types.table: change that, and run codegen/codegen.
+-- Which values of each type are sound: what was encoded of them is decoded again.
+use Rattle.kmip_ttlv.specs.MessageParts.{there}
+use Rattle.std.specs.Int.{w32, w64}
+use Rattle.std.specs.Prelude.{All, FitsSigned, IfSome, length, ◌+◌, ◌<◌, ◌^◌, ◌≡◌}
+use Rattle.kmip_requests.specs.declared.request_payload.CreateRequest.{CreateRequest}
+use Rattle.kmip_requests.specs.declared.request_payload.CreateKeyPairRequest.{CreateKeyPairRequest}
+use Rattle.kmip_requests.specs.declared.request_payload.RegisterRequest.{RegisterRequest}
+use Rattle.kmip_requests.specs.declared.request_payload.MaximumItems.{MaximumItems}
+use Rattle.kmip_requests.specs.declared.request_payload.StorageStatusMask.{StorageStatusMask}
+use Rattle.kmip_requests.specs.declared.request_payload.LocateRequest.{LocateRequest}
+use Rattle.kmip_requests.specs.declared.request_payload.KeyWrappingSpecification.{KeyWrappingSpecification}
+use Rattle.kmip_requests.specs.declared.request_payload.GetRequest.{GetRequest}
+use Rattle.kmip_requests.specs.declared.request_payload.AttributeRequest.{AttributeRequest}
+use Rattle.kmip_requests.specs.declared.request_payload.DeleteAttributeRequest.{DeleteAttributeRequest}
+use Rattle.kmip_requests.specs.declared.request_payload.RevocationReasonGiven.{RevocationReasonGiven}
+use Rattle.kmip_requests.specs.declared.request_payload.CompromiseOccurrenceDate.{CompromiseOccurrenceDate}
+use Rattle.kmip_requests.specs.declared.request_payload.RevokeRequest.{RevokeRequest}
+use Rattle.kmip_requests.specs.declared.request_payload.QueryFunction.{QueryFunction}
+use Rattle.kmip_requests.specs.declared.request_payload.QueryRequest.{QueryRequest}
+use Rattle.kmip_requests.specs.declared.request_payload.DiscoverVersionsRequest.{DiscoverVersionsRequest}
+use Rattle.kmip_requests.specs.RequestPayloads.{query_function_number}
+use Rattle.kmip_attributes.specs.Soundness.{IsObjectType, IsAttribute, IsKeyFormatType, IsAttributeIndex, IsRevocationReasonCode}
+use Rattle.kmip_objects.specs.Soundness.{IsTemplateAttribute, IsCommonTemplateAttribute, IsPrivateKeyTemplateAttribute, IsPublicKeyTemplateAttribute, IsCertificate, IsSymmetricKey, IsPublicKey, IsPrivateKey, IsSplitKey, IsTemplate, IsSecretData, IsOpaqueObject, IsWrappingMethod, IsEncryptionKeyInformation, IsMacSignatureKeyInformation, IsEncodingOption, IsKeyCompressionType}
+use Rattle.kmip_headers.specs.Soundness.{IsProtocolVersion}
+
+-- which values of `CreateRequest` are sound
+abbrev pub IsCreateRequest : {A : Type 0} → CreateRequest A → Type 0
+IsCreateRequest x =
+    IsObjectType x.object_type
+    × IsTemplateAttribute x.template_attribute
+
+-- which values of `CreateKeyPairRequest` are sound
+abbrev pub IsCreateKeyPairRequest : {A : Type 0} → CreateKeyPairRequest A → Type 0
+IsCreateKeyPairRequest x =
+    IfSome x.common IsCommonTemplateAttribute
+    × IfSome x.private_key IsPrivateKeyTemplateAttribute
+    × IfSome x.public_key IsPublicKeyTemplateAttribute
+
+-- which values of `RegisterRequest` are sound
+abbrev pub IsRegisterRequest : {A : Type 0} → RegisterRequest A → Type 0
+IsRegisterRequest x =
+    IsObjectType x.object_type
+    × IsTemplateAttribute x.template_attribute
+    × IfSome x.certificate IsCertificate
+    × IfSome x.symmetric_key IsSymmetricKey
+    × IfSome x.public_key IsPublicKey
+    × IfSome x.private_key IsPrivateKey
+    × IfSome x.split_key IsSplitKey
+    × IfSome x.template IsTemplate
+    × IfSome x.secret_data IsSecretData
+    × IfSome x.opaque_object IsOpaqueObject
+    × (there x.certificate + (there x.symmetric_key + (there x.public_key + (there x.private_key + (there x.split_key + (there x.template + (there x.secret_data + there x.opaque_object)))))) ≡ 1)
+
+-- which values of `MaximumItems` are sound
+abbrev pub IsMaximumItems : MaximumItems → Type 0
+IsMaximumItems x =
+    FitsSigned w32 x.count
+
+-- which values of `StorageStatusMask` are sound
+abbrev pub IsStorageStatusMask : StorageStatusMask → Type 0
+IsStorageStatusMask x =
+    FitsSigned w32 x.mask
+
+-- which values of `LocateRequest` are sound
+abbrev pub IsLocateRequest : {A : Type 0} → LocateRequest A → Type 0
+IsLocateRequest x =
+    IfSome x.maximum_items IsMaximumItems
+    × IfSome x.storage_status_mask IsStorageStatusMask
+    × All IsAttribute x.attributes.items
+
+-- which values of `KeyWrappingSpecification` are sound
+abbrev pub IsKeyWrappingSpecification : {A : Type 0} → KeyWrappingSpecification A → Type 0
+IsKeyWrappingSpecification x =
+    IsWrappingMethod x.wrapping_method
+    × IfSome x.encryption_key_information IsEncryptionKeyInformation
+    × IfSome x.mac_signature_key_information IsMacSignatureKeyInformation
+    × IfSome x.encoding_option IsEncodingOption
+
+-- which values of `GetRequest` are sound
+abbrev pub IsGetRequest : {A : Type 0} → GetRequest A → Type 0
+IsGetRequest x =
+    IfSome x.key_format_type IsKeyFormatType
+    × IfSome x.key_compression_type IsKeyCompressionType
+    × IfSome x.key_wrapping_specification IsKeyWrappingSpecification
+
+-- which values of `AttributeRequest` are sound
+abbrev pub IsAttributeRequest : {A : Type 0} → AttributeRequest A → Type 0
+IsAttributeRequest x =
+    IsAttribute x.attribute
+
+-- which values of `DeleteAttributeRequest` are sound
+abbrev pub IsDeleteAttributeRequest : {A : Type 0} → DeleteAttributeRequest A → Type 0
+IsDeleteAttributeRequest x =
+    IfSome x.attribute_index IsAttributeIndex
+
+-- which values of `RevocationReasonGiven` are sound
+abbrev pub IsRevocationReasonGiven : {A : Type 0} → RevocationReasonGiven A → Type 0
+IsRevocationReasonGiven x =
+    IsRevocationReasonCode x.code
+
+-- which values of `CompromiseOccurrenceDate` are sound
+abbrev pub IsCompromiseOccurrenceDate : CompromiseOccurrenceDate → Type 0
+IsCompromiseOccurrenceDate x =
+    FitsSigned w64 x.seconds
+
+-- which values of `RevokeRequest` are sound
+abbrev pub IsRevokeRequest : {A : Type 0} → RevokeRequest A → Type 0
+IsRevokeRequest x =
+    IsRevocationReasonGiven x.revocation_reason
+    × IfSome x.compromise_occurrence_date IsCompromiseOccurrenceDate
+
+-- which values of `QueryFunction` are sound
+abbrev pub IsQueryFunction : QueryFunction → Type 0
+IsQueryFunction x =
+    (query_function_number x < 2 ^ 32)
+
+-- which values of `QueryRequest` are sound
+abbrev pub IsQueryRequest : {A : Type 0} → QueryRequest A → Type 0
+IsQueryRequest x =
+    (0 < length x.functions.items)
+    × All IsQueryFunction x.functions.items
+
+-- which values of `DiscoverVersionsRequest` are sound
+abbrev pub IsDiscoverVersionsRequest : {A : Type 0} → DiscoverVersionsRequest A → Type 0
+IsDiscoverVersionsRequest x =
+    All IsProtocolVersion x.versions.items

@@ -1,0 +1,2 @@
+pub mod ResponsePayloads
+pub mod Soundness

@@ -1,0 +1,67 @@
+-- Written by codegen from types.table: change that, and run codegen/codegen.
+-- Which values of each type are sound: what was encoded of them is decoded again.
+use Rattle.kmip_ttlv.specs.MessageParts.{there}
+use Rattle.std.specs.Prelude.{All, IfSome, ◌+◌, ◌≡◌}
+use Rattle.kmip_responses.specs.declared.response_payload.CreateResponse.{CreateResponse}
+use Rattle.kmip_responses.specs.declared.response_payload.CreateKeyPairResponse.{CreateKeyPairResponse}
+use Rattle.kmip_responses.specs.declared.response_payload.RegisterResponse.{RegisterResponse}
+use Rattle.kmip_responses.specs.declared.response_payload.GetResponse.{GetResponse}
+use Rattle.kmip_responses.specs.declared.response_payload.GetAttributesResponse.{GetAttributesResponse}
+use Rattle.kmip_responses.specs.declared.response_payload.AttributeResponse.{AttributeResponse}
+use Rattle.kmip_responses.specs.declared.response_payload.QueryResponse.{QueryResponse}
+use Rattle.kmip_responses.specs.declared.response_payload.DiscoverVersionsResponse.{DiscoverVersionsResponse}
+use Rattle.kmip_attributes.specs.Soundness.{IsObjectType, IsAttribute}
+use Rattle.kmip_objects.specs.Soundness.{IsTemplateAttribute, IsPrivateKeyTemplateAttribute, IsPublicKeyTemplateAttribute, IsCertificate, IsSymmetricKey, IsPublicKey, IsPrivateKey, IsSplitKey, IsTemplate, IsSecretData, IsOpaqueObject}
+use Rattle.kmip_headers.specs.Soundness.{IsOperation, IsProtocolVersion}
+
+-- which values of `CreateResponse` are sound
+abbrev pub IsCreateResponse : {A : Type 0} → CreateResponse A → Type 0
+IsCreateResponse x =
+    IsObjectType x.object_type
+    × IfSome x.template_attribute IsTemplateAttribute
+
+-- which values of `CreateKeyPairResponse` are sound
+abbrev pub IsCreateKeyPairResponse : {A : Type 0} → CreateKeyPairResponse A → Type 0
+IsCreateKeyPairResponse x =
+    IfSome x.private_key IsPrivateKeyTemplateAttribute
+    × IfSome x.public_key IsPublicKeyTemplateAttribute
+
+-- which values of `RegisterResponse` are sound
+abbrev pub IsRegisterResponse : {A : Type 0} → RegisterResponse A → Type 0
+IsRegisterResponse x =
+    IfSome x.template_attribute IsTemplateAttribute
+
+-- which values of `GetResponse` are sound
+abbrev pub IsGetResponse : {A : Type 0} → GetResponse A → Type 0
+IsGetResponse x =
+    IsObjectType x.object_type
+    × IfSome x.certificate IsCertificate
+    × IfSome x.symmetric_key IsSymmetricKey
+    × IfSome x.public_key IsPublicKey
+    × IfSome x.private_key IsPrivateKey
+    × IfSome x.split_key IsSplitKey
+    × IfSome x.template IsTemplate
+    × IfSome x.secret_data IsSecretData
+    × IfSome x.opaque_object IsOpaqueObject
+    × (there x.certificate + (there x.symmetric_key + (there x.public_key + (there x.private_key + (there x.split_key + (there x.template + (there x.secret_data + there x.opaque_object)))))) ≡ 1)
+
+-- which values of `GetAttributesResponse` are sound
+abbrev pub IsGetAttributesResponse : {A : Type 0} → GetAttributesResponse A → Type 0
+IsGetAttributesResponse x =
+    All IsAttribute x.attributes.items
+
+-- which values of `AttributeResponse` are sound
+abbrev pub IsAttributeResponse : {A : Type 0} → AttributeResponse A → Type 0
+IsAttributeResponse x =
+    IsAttribute x.attribute
+
+-- which values of `QueryResponse` are sound
+abbrev pub IsQueryResponse : {A : Type 0} → QueryResponse A → Type 0
+IsQueryResponse x =
+    All IsOperation x.operations.items
+    × All IsObjectType x.object_types.items
+
+-- which values of `DiscoverVersionsResponse` are sound
+abbrev pub IsDiscoverVersionsResponse : {A : Type 0} → DiscoverVersionsResponse A → Type 0
+IsDiscoverVersionsResponse x =
+    All IsProtocolVersion x.versions.items

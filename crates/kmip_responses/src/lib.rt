@@ -1,0 +1,6 @@
+//! What KMIP's responses say (KMIP 1.0, section 4): the payload of each operation, as `codegen/codegen` writes them of
+//! `types.table`.
+#![tactic(auto)]
+
+pub mod laws;
+pub mod response_payload;
