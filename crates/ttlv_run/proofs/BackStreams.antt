@@ -139,14 +139,14 @@ module _ (names : Names) (job : BackJob) (known output : Option (List ℕ)) wher
           let more = drop (base + n) p.taken ++ l.left in
           let are : all ≡ front ++ more = ap (λ (s : List ℕ). s ++ l.left) (sym (take-append-drop (base + n) p.taken)) ∙ append_assoc front (drop (base + n) p.taken) l.left in
           let ends = by l.left l.none reported.is.ends in
-          let writable = goes_on names.tags prefix front more ends in
+          let continues = goes_on names.tags prefix front more ends in
           let first = first_break prefix 0 (lines_of all) in
           record {
             input = all;
             fault = first.0;
             first = first.1;
-            rest = writable.0;
-            is = ap (text_back names.tags prefix) are ∙ writable.1;
+            rest = continues.0;
+            is = ap (text_back names.tags prefix) are ∙ continues.1;
             taken = record { front = p.taken; left = l.left; are = refl; taken = p.consumed; rest = l.are };
             front = front;
             more = more;

@@ -31,13 +31,13 @@ prepended front x (Some rest) = ap Some (sym (append_assoc front x rest))
 none_prepended : (front : List ℕ) (o : Option (List ℕ)) → o ≡ None → prepend_known front o ≡ None
 none_prepended front o is = ap (prepend_known front) is
 
-module _ (form : Form) (front bytes : List ℕ) (writable : Continues form front bytes) where
+module _ (form : Form) (front bytes : List ℕ) (continues : Continues form front bytes) where
   -- digits that are bytes
   on_some : (rest x : List ℕ) → decode_form form rest ≡ Some x → decode_form form (front ++ rest) ≡ Some (bytes ++ x)
-  on_some rest x is = writable.on rest ∙ ap (prepend_known bytes) is
+  on_some rest x is = continues.on rest ∙ ap (prepend_known bytes) is
 
   on_none : (rest : List ℕ) → decode_form form rest ≡ None → decode_form form (front ++ rest) ≡ None
-  on_none rest is = writable.on rest ∙ none_prepended bytes (decode_form form rest) is
+  on_none rest is = continues.on rest ∙ none_prepended bytes (decode_form form rest) is
 
   -- whole groups are bytes by themselves
   goes_made : decode_form form front ≡ Some bytes
@@ -45,13 +45,13 @@ module _ (form : Form) (front bytes : List ℕ) (writable : Continues form front
 
   module _ (g : List ℕ) (long : length g ≡ width form) (plain : IsBytes g) where
     more_groups : length (front ++ g) % width form ≡ 0
-    more_groups = subst (λ (n : ℕ). n % width form ≡ 0) (omega (arith, long, length-append front g)) (more_whole form (length front) writable.whole)
+    more_groups = subst (λ (n : ℕ). n % width form ≡ 0) (omega (arith, long, length-append front g)) (more_whole form (length front) continues.whole)
 
     -- a group more
     goes_further : (x : List ℕ) → group_of form g ≡ Some x → Continues form (front ++ g) (bytes ++ x)
     goes_further x is = record {
       whole = more_groups;
-      on = λ rest. ap (decode_form form) (append_assoc front g rest) ∙ writable.on (g ++ rest) ∙ ap (prepend_known bytes) (group_then form g x long plain is rest)
+      on = λ rest. ap (decode_form form) (append_assoc front g rest) ∙ continues.on (g ++ rest) ∙ ap (prepend_known bytes) (group_then form g x long plain is rest)
           ∙ prepended bytes x (decode_form form rest);
     }
 
@@ -78,7 +78,7 @@ module _ (form : Form) (front bytes : List ℕ) (writable : Continues form front
       bad = g;
       more = [];
       are = ap (λ (t : List ℕ). front ++ t) (sym (append-nil g));
-      whole = writable.whole;
+      whole = continues.whole;
       made = goes_made;
       few = omega (arith, long);
       none = none;
@@ -98,7 +98,7 @@ module _ (form : Form) (digits left bytes : List ℕ) (o : IsOpen form digits le
     front = o.front;
     are = all_digits ∙ ap (λ (t : List ℕ). o.front ++ t) (sym is);
     few = omega (arith, ap (λ (t : List ℕ). length t) is, length-append left (b ∷ []), few);
-    writable = o.writable;
+    continues = o.continues;
   }
 
   -- or of one that is
@@ -107,21 +107,21 @@ module _ (form : Form) (digits left bytes : List ℕ) (o : IsOpen form digits le
     same = ap (λ (t : List ℕ). o.front ++ t) is ∙ sym all_digits
 
     pub open_made : (x : List ℕ) → decode_form form g ≡ Some x → decode_form form (digits ++ b ∷ []) ≡ Some (bytes ++ x)
-    open_made x some = ap (decode_form form) (sym same) ∙ on_some form o.front bytes o.writable g x some
+    open_made x some = ap (decode_form form) (sym same) ∙ on_some form o.front bytes o.continues g x some
 
     pub open_whole : (x : List ℕ) → decode_form form g ≡ Some x → IsBytes x → width form ≤ length x + 1 → IsOpen form (digits ++ b ∷ []) [] (bytes ++ x)
     open_whole x some are least = record {
       front = o.front ++ g;
       are = sym same ∙ sym (append-nil (o.front ++ g));
       few = some_width form;
-      writable = goes_further form o.front bytes o.writable g long plain x (group_known form g x long plain are least some);
+      continues = goes_further form o.front bytes o.continues g long plain x (group_known form g x long plain are least some);
     }
 
     pub open_padded : (x : List ℕ) → decode_form form g ≡ Some x → length x + 1 < width form → IsPadded form (digits ++ b ∷ []) (bytes ++ x)
-    open_padded x some few = subst (λ (t : List ℕ). IsPadded form t (bytes ++ x)) same (group_padded form o.front bytes o.writable g long plain x some few)
+    open_padded x some few = subst (λ (t : List ℕ). IsPadded form t (bytes ++ x)) same (group_padded form o.front bytes o.continues g long plain x some few)
 
     pub open_spoilt : decode_form form g ≡ None → IsSpoilt form (digits ++ b ∷ []) bytes
-    open_spoilt none = subst (λ (t : List ℕ). IsSpoilt form t bytes) same (group_spoilt form o.front bytes o.writable g long plain none)
+    open_spoilt none = subst (λ (t : List ℕ). IsSpoilt form t bytes) same (group_spoilt form o.front bytes o.continues g long plain none)
 
 -- a digit put behind those of a group makes it whole
 pub filled : (ds : List ℕ) (count w b : ℕ) → w ≡ count + 1 → w ≤ length ds → (take w (slice_set ds count b) ≡ take count ds ++ b ∷ []) × (length (take w (slice_set ds count b)) ≡ w)
@@ -165,8 +165,8 @@ knows_makes Groups form digits left bytes o = record {
   front = o.front;
   left = left;
   are = o.are;
-  whole = o.writable.whole;
-  made = goes_made form o.front bytes o.writable;
+  whole = o.continues.whole;
+  made = goes_made form o.front bytes o.continues;
   most = λ groups more is some whole. absurd (omega (arith, least_group form (length groups) some whole, o.few, ap (λ (t : List ℕ). length t) is, length-append groups more));
 }
 knows_makes Padded form digits left bytes p = record {
@@ -190,11 +190,11 @@ knows_makes Spoilt form digits left bytes p = record {
 
 -- the digits of a text that ended are bytes
 pub open_ends : (form : Form) (digits left bytes x : List ℕ) → IsOpen form digits left bytes → decode_form form left ≡ Some x → decode_form form digits ≡ Some (bytes ++ x)
-open_ends form digits left bytes x o is = ap (decode_form form) o.are ∙ on_some form o.front bytes o.writable left x is
+open_ends form digits left bytes x o is = ap (decode_form form) o.are ∙ on_some form o.front bytes o.continues left x is
 
 -- or none
 pub open_fails : (form : Form) (digits left bytes : List ℕ) → IsOpen form digits left bytes → decode_form form left ≡ None → decode_form form digits ≡ None
-open_fails form digits left bytes o is = ap (decode_form form) o.are ∙ on_none form o.front bytes o.writable left is
+open_fails form digits left bytes o is = ap (decode_form form) o.are ∙ on_none form o.front bytes o.continues left is
 
 pub spoilt_fails : (form : Form) (digits bytes : List ℕ) → IsSpoilt form digits bytes → decode_form form digits ≡ None
 spoilt_fails form digits bytes p = ap (decode_form form) p.are ∙ p.none p.more
@@ -264,7 +264,7 @@ no_digits form = record {
   front = [];
   are = refl;
   few = some_width form;
-  writable = record { whole = by_zero; on = λ rest. none_in_front (decode_form form rest) };
+  continues = record { whole = by_zero; on = λ rest. none_in_front (decode_form form rest) };
 }
   where
     by_zero : 0 % width form ≡ 0

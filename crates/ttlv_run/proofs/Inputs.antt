@@ -28,7 +28,7 @@ line_lost names job s place h = record {
   text = h.text;
   taken = h.taken;
   stands = h.stands;
-  writable = λ more none others. record { more = []; place = Some place; prints = subst (λ (t : List ℕ). Breaks names job.task (h.bytes ++ more) t place) (sym (append-nil h.text)) (h.prints more none) };
+  continues = λ more none others. record { more = []; place = Some place; prints = subst (λ (t : List ℕ). Breaks names job.task (h.bytes ++ more) t place) (sym (append-nil h.text)) (h.prints more none) };
   appended = all_front s.output s.output_now h.text h.appended;
 }
 

@@ -163,4 +163,4 @@ module _ (names : Names) (job : Job) (s : Streams) (all : List ℕ) where
   beginning_of_all u plain stands =
       let h = further_of job.encoding u.input u.bytes all u.last u.stands stands in
       let others : AreBytes h.more = subst AreBytes (ap (drop (length u.bytes)) h.are ∙ drop-append_seam u.bytes h.more) (bytes_drop (length u.bytes) all plain) in
-      subst (λ (b : List ℕ). Continues names job.task b u.text) (sym h.are) (u.writable h.more h.none others)
+      subst (λ (b : List ℕ). Continues names job.task b u.text) (sym h.are) (u.continues h.more h.none others)

@@ -334,7 +334,7 @@ module _ (names : Names) (job : Job) (output mid : Option (List ℕ)) (base : �
         text = p.text ++ reported.text;
         taken = k.taken;
         stands = k.stands;
-        writable = λ more none others. reported.is (came ++ more) p.text (stands more none) (bytes_append came more (plain_all plain) others) (p.whole more);
+        continues = λ more none others. reported.is (came ++ more) p.text (stands more none) (bytes_append came more (plain_all plain) others) (p.whole more);
         appended = AppendsFront-second output mid now p.text reported.text p.appended reported.holds;
       }
 
@@ -347,7 +347,7 @@ module _ (names : Names) (job : Job) (output mid : Option (List ℕ)) (base : �
     text = p.text;
     taken = k.taken;
     stands = k.stands;
-    writable = λ more none others. whole_goes names job.task (came ++ more) (plain_bytes (came ++ more) (bytes_append came more (plain_all plain) others)) base p.text (omega (arith, p.within, length-append came more)) (p.whole more);
+    continues = λ more none others. whole_goes names job.task (came ++ more) (plain_bytes (came ++ more) (bytes_append came more (plain_all plain) others)) base p.text (omega (arith, p.within, length-append came more)) (p.whole more);
     appended = all_front output mid p.text p.appended;
   }
 

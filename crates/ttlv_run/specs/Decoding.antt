@@ -42,7 +42,7 @@ pub record IsOpen (form : Form) (digits left bytes : List ℕ) : Type 0 where
   pub front : List ℕ
   pub are : digits ≡ front ++ left
   pub few : length left < width form
-  pub writable : Continues form front bytes
+  pub continues : Continues form front bytes
 
 -- digits are bytes, and with one more they are none, whatever follows
 pub record IsPadded (form : Form) (digits bytes : List ℕ) : Type 0 where

@@ -70,7 +70,7 @@ pub record Unwritten (names : Names) (job : Job) (s : Streams) : Type 0 where
   pub text : List ℕ
   pub taken : TakesSome s.input s.input_left input
   pub stands : StandsUpTo job.encoding input bytes last
-  pub writable : (more : List ℕ) → (last ≡ true → more ≡ []) → AreBytes more → Continues names job.task (bytes ++ more) text
+  pub continues : (more : List ℕ) → (last ≡ true → more ≡ []) → AreBytes more → Continues names job.task (bytes ++ more) text
   pub appended : AppendsFront s.output s.output_now text
 
 -- exactly what is printed of the messages that are whole among bytes was appended to the output

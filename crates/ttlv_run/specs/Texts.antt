@@ -41,11 +41,11 @@ pub record Names : Type 0 where
 
 -- those that a program holds; a user's own names of values come before the others
 abbrev pub names_of : {A : Type 0} → NamesHeld A → Names
-names_of buffered = record {
-  tags = name_in buffered.tags;
-  values = λ tag value. value_named (name_in buffered.own) (name_in buffered.values tag) tag value;
-  masks = λ tag mask. mask_names (value_named (name_in buffered.own) (name_in buffered.masks tag) tag) mask;
-  secrets = has_line buffered.secrets;
+names_of tables = record {
+  tags = name_in tables.tags;
+  values = λ tag value. value_named (name_in tables.own) (name_in tables.values tag) tag value;
+  masks = λ tag mask. mask_names (value_named (name_in tables.own) (name_in tables.masks tag) tag) mask;
+  secrets = has_line tables.secrets;
 }
 
 -- a name behind a space
