@@ -20,7 +20,7 @@ use std::alloc::Allocator;
 
 /// The canonical bytes of a request, consistent or not.
 ///
-/// `OutOfMemory` where memory was refused, and `LengthOverflow` where a length doesn't fit its four bytes.
+/// `OutOfMemory` if memory ran out, and `LengthOverflow` where a length doesn't fit its four bytes.
 pub fn write_request<A: Allocator + Copy, B: Allocator>(
     alloc: A,
     request: &Request<B>,
@@ -50,7 +50,7 @@ pub fn read_request<A: Allocator + Copy>(alloc: A, bytes: &[u8]) -> Result<Reque
 
 /// The canonical bytes of a response, consistent or not.
 ///
-/// `OutOfMemory` where memory was refused, and `LengthOverflow` where a length doesn't fit its four bytes.
+/// `OutOfMemory` if memory ran out, and `LengthOverflow` where a length doesn't fit its four bytes.
 pub fn write_response<A: Allocator + Copy, B: Allocator>(
     alloc: A,
     response: &Response<B>,

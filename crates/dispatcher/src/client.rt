@@ -2,7 +2,9 @@
 
 use kmip_messages::header::{Operation, ProtocolVersion, RequestHeader};
 use kmip_messages::request::{Request, RequestItem, RequestPayload};
-use kmip_messages::request_payload::{DiscoverVersionsRequest, ObjectRequest, QueryFunction, QueryRequest};
+use kmip_messages::request_payload::{
+    DiscoverVersionsRequest, ObjectRequest, QueryFunction, QueryRequest,
+};
 use kmip_messages::response::{Response, ResponseItem, ResponsePayload};
 use kmip_ttlv::error::Error;
 use kmip_ttlv::{from_slice, to_vec};

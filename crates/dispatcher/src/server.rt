@@ -7,7 +7,9 @@ ghost use Rattle.std.specs.Prelude.{◌≡◌, IfOk, length};
 
 use kmip_messages::header::{Operation, ProtocolVersion, ResponseHeader};
 use kmip_messages::request::{Request, RequestItem, RequestPayload};
-use kmip_messages::response::{Response, ResponseItem, ResponsePayload, ResultReason, ResultStatus};
+use kmip_messages::response::{
+    Response, ResponseItem, ResponsePayload, ResultReason, ResultStatus,
+};
 use kmip_messages::response_payload::{DiscoverVersionsResponse, QueryResponse};
 use kmip_ttlv::error::{Error, ErrorKind};
 use kmip_ttlv::{Config, PrettyPrinter, from_reader, to_writer};

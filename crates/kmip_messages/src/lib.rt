@@ -3,8 +3,8 @@
 //!
 //! This is the crate that a program lists: it has all types of a message, and those of the crates below it under the names of
 //! their modules. `request` and `response` are the messages, `header` what they begin with, `request_payload` and
-//! `response_payload` what an item asks for and what became of it, `template` and `object` what an object is, `key` what a key
-//! is, `attribute`, `structures` and `values` what is known of one.
+//! `response_payload` what an item asks for and what became of it, `template` what objects are made with, `object` what a
+//! server keeps, `key` what a key is, `attribute`, `structures` and `values` what is known of one.
 //!
 //! `codegen/codegen` writes `request`, `response` and `laws` of `types.table`; by hand is `batch`. What is decoded is encoded as
 //! the same canonical bytes, save for a Vendor Extension, which is ignored; any other item that the tables don't name is an

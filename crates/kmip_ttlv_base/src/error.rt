@@ -144,6 +144,11 @@ impl<A: Allocator> Error<A> {
     }
 
     /// Why the call failed.
+    ///
+    /// ```
+    /// let error = Error::<Global>::out_of_memory();
+    /// assert!(rt; matches!(error.kind(), ErrorKind::OutOfMemory) && error.location().is_unknown());
+    /// ```
     pub fn kind(&self) -> &ErrorKind<A>
         ensures { result.now ≡ kind_of self.now }
     {

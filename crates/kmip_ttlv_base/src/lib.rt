@@ -6,8 +6,8 @@ mod build;
 pub mod error;
 mod location;
 pub mod parts;
-pub mod shape;
 mod send;
+pub mod shape;
 pub mod visit;
 
 pub use kmip_ttlv_types as types;

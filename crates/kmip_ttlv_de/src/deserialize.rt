@@ -47,7 +47,7 @@ pub trait Deserialize<A: Allocator + Copy>: ByShape + Sized + Drop {
         ensures { IfOk result (λ s. form_of s ≡ form) };
 
     /// The value for data that the shape gives. Texts and bytes may be moved out of the data: nothing is said of
-    /// what is left in it. An AllocError where memory is refused.
+    /// what is left in it. An AllocError when out of memory.
     fn from_data(alloc: A, value: &mut Data<A>) -> Result<Self, AllocError>
         requires { Gives form (view value.old) }
         ensures { IfOk result (λ v. is_value (view value.old) v) };

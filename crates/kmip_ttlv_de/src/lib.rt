@@ -67,6 +67,12 @@ use std::alloc::Allocator;
 /// - `Other`: the root's shape is a sequence or an enum; a Structure ends before its fields, or the
 ///   parts of a tuple, are read; an item is too many for a tuple; an item after the fields has the
 ///   tag of one of them, or the struct allows no other; a number names no variant.
+///
+/// ```
+/// let bytes = hex::decode(alloc, "420078010000002042000D0200000004000000010000000042005002000000040000100000000000")?;
+/// let ping: Ping = from_slice(alloc, &bytes)?; // the type of docs/LIBRARY.md
+/// assert!(rt; ping.count == 1 && ping.maximum_size == 4096);
+/// ```
 pub fn from_slice<T: Decode<A>, A: Allocator + Copy>(alloc: A, bytes: &[u8]) -> Result<T, A>
     // Which value comes, or which error and where: unless memory runs out, what the form reads the bytes as.
     ensures equals { IsReadAs T.is_value (root_outcome T.form bytes.now) result }

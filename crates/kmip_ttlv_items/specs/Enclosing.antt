@@ -7,6 +7,6 @@ abbrev pub in_front : Option ℕ → List ℕ → List ℕ
 in_front None es = es
 in_front (Some e) es = e ∷ es
 
--- the ends that are held, the innermost first
+-- the ends of open structures, the innermost first
 abbrev pub open_ends : {A : Type 0} → Ends A → List ℕ
 open_ends ends = in_front ends.innermost (reverse ends.outer.items)

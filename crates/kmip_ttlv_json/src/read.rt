@@ -106,7 +106,7 @@ fn push_items(alloc: Global, out: &mut Vec<u8>, items: &Vec<Value>) -> Result<()
     Ok(())
 }
 
-// Adds the item that this is the JSON of, and tells whether it is a Structure.
+// Adds the item that this is the JSON of, and returns whether it is a Structure.
 #[cycle(tree)]
 fn push_tree(alloc: Global, out: &mut Vec<u8>, item: &Value) -> Result<bool, JsonError>
     ensures ok { IfOk result (AddsTree (tree_of (view item.now)) out.old.items out.new.items) }

@@ -69,7 +69,7 @@ leaf_type (bytes_value s) = ByteString
 leaf_type (big_integer_value s) = BigInteger
 leaf_type _ = Structure
 
--- a text that a form reads as a text is kept under its tag, and so is the text of a number that a form reads as any
+-- a text that a form reads as a text is stored under its tag, and so is the text of a number that a form reads as any
 -- number; no other leaf is
 abbrev pub with_value : Form → ℕ → Value → List TagValue → List TagValue
 with_value text t (text_value s) k = k ++ record { tag = t; text = s } ∷ []
@@ -186,7 +186,7 @@ mutual
         → EncodesStructure h w t ws
         → FormsAgree ss k ws y vs k'
         → Agrees (enum own cs) k h w record { tag = t; typ = Structure } (tuple_variant_value own name vs) k'
-    -- a number chooses a unit; its text is kept
+    -- a number chooses a unit; its text is stored
     number_agrees :
         {own : List ℕ} {vs : Variants} {k : List TagValue} {h : PendingTag} {w : Value} {t n : ℕ}
         → IsNumbered h w t n

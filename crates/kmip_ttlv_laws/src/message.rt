@@ -23,6 +23,11 @@ pub trait Message<A: Allocator + Copy>: Serialize + Decode<A> + PartialEq + Soun
 /// Encodes a message and decodes it again. A sound message comes back as one that is equal to it.
 ///
 /// The only errors of a sound message are `OutOfMemory`, and `LengthOverflow` if its bytes don't fit a length.
+///
+/// ```
+/// let ping = Ping { count: 1, maximum_size: 4096 }; // the type of docs/LIBRARY.md
+/// assert!(rt; reread(alloc, &ping)? == ping);
+/// ```
 pub fn reread<T: Message<A>, A: Allocator + Copy>(alloc: A, message: &T) -> Result<T, Error<A>>
     ensures equal { T.IsSound message.now → IfOk result (λ other. T.eq message.now other ≡ true) }
     ensures why { T.IsSound message.now → IfErr result (λ e. IsOfSize (view_of_kind (kind_of e))) }

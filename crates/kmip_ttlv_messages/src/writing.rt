@@ -108,6 +108,10 @@ pub fn several<V: Visitor, T: Serialize, A: Allocator>(
 }
 
 /// An Integer, in a newtype of this name. Where it is absent, the visitor receives nothing.
+///
+/// ```
+/// optional_integer(visitor, "Transparent:0x42004F", &self.maximum_items)?;
+/// ```
 #[inline(always)]
 pub fn optional_integer<V: Visitor>(
     visitor: &mut V,

@@ -207,7 +207,7 @@ unit_wanted b o p t (Some unit) = gives tt
 unit_wanted b o p t (Some (wrapped s)) = fails (named_content b p t parts.LengthAndValue)
 unit_wanted b o p t (Some (tuple ss)) = fails (named_content b p t parts.Length)
 
--- an enum by a number: its type, its length, its content, the variant that it names; its text is kept
+-- an enum by a number: its type, its length, its content, the variant that it names; its text is stored
 unfoldable pub number_outcome : List ℕ → Variants → TtlvType → Reader Value
 number_outcome name vs t b o k p e = do
   type_wanted (is_number_type t) Enumeration b p t

@@ -115,7 +115,7 @@ byte_digits b = digit_glyph true (b / 16) ∷ digit_glyph true (b % 16) ∷ []
 abbrev pub number_text : List ℕ → List ℕ
 number_text content = 48 ∷ 120 ∷ flat_map byte_digits content
 
--- a text is kept under its item's tag, and so is the text of an Enumeration's number; no other leaf is
+-- a text is stored under its item's tag, and so is the text of an Enumeration's number; no other leaf is
 abbrev pub stored_after_leaf : Form → Raw → List TagValue → List TagValue
 stored_after_leaf text x k = k ++ record { tag = x.tag; text = x.content } ∷ []
 stored_after_leaf any_number x k = k ++ record { tag = x.tag; text = number_text x.content } ∷ []

@@ -103,7 +103,7 @@ fn leaf_data<A: Allocator + Copy>(
     })
 }
 
-// A text is kept under its item's tag, and so is the text of an Enumeration's number; no other leaf is.
+// A text is stored under its item's tag, and so is the text of an Enumeration's number; no other leaf is.
 #[inline(always)]
 fn store_leaf<'b, A: Allocator + Copy>(
     leaf: Leaf,

@@ -3,7 +3,7 @@
 //!
 //! `reader` is for users: a type names its tag and its fields, and `read_message` reads it. The other
 //! modules are the steps below it, which `kmip_ttlv_de` takes too, to read by a shape: an item's header
-//! (`head`), leaves (`leaf`), the texts that rules ask for (`keep`), and errors (`failure`, `errors`).
+//! (`head`), leaves (`leaf`), the texts that rules ask for (`store`), and errors (`failure`, `errors`).
 //!
 //! What is read is defined in specs/: `Outcomes` says as one total function which value comes, or which
 //! error and where; `Reads` has one rule for each way to read from a list of items, and `Begins` says that

@@ -19,7 +19,7 @@ use kmip_ttlv_base::error::SerdeError;
 use kmip_ttlv_base::types::{TtlvTag, TtlvType, number};
 use std::alloc::{AllocError, Allocator};
 
-/// Why a rule is refused.
+/// Why a rule is an error.
 #[derive(Clone, Copy)]
 pub enum RuleError<'n> {
     /// The whole name of a variant that begins as a rule and has no operator.
@@ -54,8 +54,8 @@ pub enum Verdict<'n> {
 /// - `TAG in [TEXT, ..]` holds where the text stored under the tag is one of those between the
 ///   commas, each trimmed; not where the brackets are missing.
 ///
-/// A rule without operator is refused with the whole name. `>=`, and `in` with brackets, are
-/// refused with the first side where it is no tag; `>=` where a text is kept, with that text or
+/// A rule without operator is an error with the whole name. `>=`, and `in` with brackets, are
+/// refused with the first side where it is no tag; `>=` where a text is stored, with that text or
 /// else the second side, where it is no number.
 #[tactic(auto, unfolding(crate::specs::Rules::rule))]
 #[inline(always)]

@@ -29,7 +29,7 @@ pub enum TextPlace<'b> {
     Number(NumberText),
 }
 
-/// The number that a text is, if it is one. A long text is parsed once, as it is kept, however many rules ask for its
+/// The number that a text is, if it is one. A long text is parsed once, as it is stored, however many rules ask for its
 /// number; a short one when a rule asks.
 #[derive(Clone, Copy, Drop)]
 pub enum TextNumber {
@@ -128,7 +128,7 @@ impl<'b> Rows<'b> {
         None
     }
 
-    // Holds a text in a row.
+    // Puts a text into a row.
     #[inline(always)]
     fn put(&mut self, at: usize, row: Row<'b>)
         requires { at < length self.old.rows }

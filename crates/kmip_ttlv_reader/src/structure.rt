@@ -38,7 +38,7 @@ pub trait ReadStructure<A: Allocator + Copy>: Sized + Drop {
     // The structure's tag.
     ghost TAG: { ℕ };
 
-    // Whether items that no field names are refused.
+    // Whether an item that no field names is an error.
     ghost DENIES_UNKNOWN: { Bool };
 
     /// The fields, in their order.
@@ -268,6 +268,10 @@ fn read_root<T: ReadStructure<A>, A: Allocator + Copy>(alloc: A, bytes: &[u8]) -
 /// `OutOfMemory` and, where the bytes end too early, `IoError` of kind UnexpectedEof; every other with
 /// its offset in bytes from the first byte, the item's tag and type, and the tags of the structures
 /// around it.
+///
+/// ```
+/// let version: ProtocolVersion = read_message(alloc, &bytes)?; // a part of a message, alone
+/// ```
 pub fn read_message<T: ReadStructure<A>, A: Allocator + Copy>(
     alloc: A,
     bytes: &[u8],

@@ -38,7 +38,7 @@ pub record Measured (o : Option (List Tree)) (p q : Place) (old new : List ℕ) 
   pub small : q.offset < 2 ^ 64
   pub kept : new ≡ old ++ sizes_all trees
 
--- the error that is returned for a `Refusal`; its text may need memory
+-- the error that is returned for an `EncodeError`; its text may need memory
 abbrev pub IsErrorOf : {A : Type 0} → EncodeError → Error A → Type 0
 IsErrorOf LengthOverflow e = (view_of_kind (kind_of e) ≡ length_overflow) × (view_of_location (location_of e) ≡ unknown)
 IsErrorOf (Invalid cause offset) e =

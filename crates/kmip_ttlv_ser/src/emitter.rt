@@ -17,10 +17,10 @@ ghost use Rattle.kmip_ttlv_ser.specs.declared.pending.PendingTag.TheVariants.{No
 ghost use Rattle.kmip_ttlv_ser.specs.Emits.{Written, HasWritten, wrote, began, waits, began_newtype};
 ghost use Rattle.kmip_ttlv_ser.specs.Emits.{began_variant, emit_step};
 
-use crate::pending::PendingTag;
 use crate::measurer::padding;
 use crate::names::{is_wrapper, number_of, transparent_name, without_override};
 use crate::output::Output;
+use crate::pending::PendingTag;
 use kmip_ttlv_base::shape::Serialize;
 use kmip_ttlv_base::visit::{Group, Leaf, Visitor};
 use kmip_ttlv_types::numbers::sign_of;

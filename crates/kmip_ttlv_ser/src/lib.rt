@@ -9,13 +9,13 @@
 
 mod buffer;
 mod emitter;
+mod encode_error;
 mod gathered;
-mod pending;
 pub mod laws;
 mod measurer;
 mod names;
 mod output;
-mod encode_error;
+mod pending;
 mod serializer;
 
 pub use serializer::{TtlvSerializer, to_vec, to_writer};

@@ -13,9 +13,9 @@ ghost use Rattle.kmip_ttlv_ser.specs.Measures.{after_unit, into, wrapped, into_n
 ghost use Rattle.kmip_ttlv_ser.specs.Measures.{unwrapped, out_of_newtype, out_of_variant, measure_step};
 ghost use Rattle.kmip_ttlv_ser.specs.Measures.{Plans};
 
-use crate::pending::{PendingTag, Place};
-use crate::names::{is_wrapper, number_of, transparent_name, without_override};
 use crate::encode_error::{Cause, EncodeError};
+use crate::names::{is_wrapper, number_of, transparent_name, without_override};
+use crate::pending::{PendingTag, Place};
 use kmip_ttlv_base::error::Result as Answer;
 use kmip_ttlv_base::shape::Serialize;
 use kmip_ttlv_base::visit::{Group, Leaf, Visitor};

@@ -7,9 +7,9 @@ ghost use Rattle.kmip_ttlv_ser.specs.EncodeResults.{IsClosed, AppendsValue};
 use crate::buffer::Buffer;
 use crate::emitter::emit;
 use crate::gathered::Gathered;
-use crate::pending::Place;
 use crate::measurer::measure;
 use crate::output::Direct;
+use crate::pending::Place;
 use kmip_ttlv_base::error::{Error, ErrorKind, ErrorLocation, MalformedTtlvError, Result};
 use kmip_ttlv_base::shape::Serialize;
 use kmip_ttlv_types::ByteOffset;
@@ -80,6 +80,13 @@ pub fn to_writer<A: Allocator + Copy, T: Serialize, W: Write>(
 ///
 /// After an error, out of memory included, each later call fails with `UnknownStructureLength`, without a
 /// place. Converted to an `ErrorLocation`, a serializer is the number of bytes of the calls that succeeded.
+///
+/// ```
+/// let mut serializer = TtlvSerializer::new(alloc);
+/// serializer.serialize(&first)?;
+/// serializer.serialize(&second)?;
+/// let bytes = serializer.into_vec()?; // both messages, one after the other
+/// ```
 #[derive(Drop)]
 pub struct TtlvSerializer<A: Allocator = Global> {
     alloc: A,

@@ -44,7 +44,7 @@ pub trait Source {
 
 /// What bytes are written to: any writer, or memory.
 pub trait Sink {
-    // The bytes that it received, if they are known.
+    // The bytes that were emitted into it, if they are known.
     ghost emitted: { Self → Option (List ℕ) };
 
     // How many more bytes it has room for, if that is known.

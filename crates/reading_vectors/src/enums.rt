@@ -1,4 +1,4 @@
-//! Enums: rules, numbers that name a variant, and what is kept for the rules.
+//! Enums: rules, numbers that name a variant, and what is stored for the rules.
 
 use crate::answer::{Of, check, check_place, check_rows};
 use crate::names::{
@@ -26,7 +26,7 @@ const TWO_ITEMS: &str =
 const THREE_ITEMS: &str =
     "AAAAAA0100000038CCCCCC0100000030DDDDDD02000000040000000100000000DDDDDD02000000040000000200000000DDDDDD02000000040000000300000000";
 
-// An enum under the second tag, behind a number that was kept under the first.
+// An enum under the second tag, behind a number that was stored under the first.
 type Behind<L> = Structure<
     TagA,
     TwoFields<TagB, Choice<TagB, OneVariant<One, NoContent>>, TagC, Choice<TagC, L>>,
@@ -86,7 +86,7 @@ fn has_no_variant<P: Part>(alloc: Global) -> Result<(), Fail> {
     check::<P>(alloc, NUMBERS, wanted)
 }
 
-// A kept number is compared as its text, or as the number, or is one of some texts.
+// A stored number is compared as its text, or as the number, or is one of some texts.
 #[test]
 fn rules_of_a_kept_number(rt: HostRuntime) -> Result<(), Fail> {
     let heap = rt.alloc();
@@ -220,7 +220,7 @@ fn items_that_name_no_variant(rt: HostRuntime) -> Result<(), Fail> {
     check_rows::<Of<Structure<TagB, OneField<TagC, Choice<TagC, Sevens>>>>>(rt.alloc(), &NESTED_TWO)
 }
 
-// The last text under a tag is kept, and none of an item that is ignored.
+// The last text under a tag is stored, and none of an item that is ignored.
 #[test]
 fn rules_of_kept_texts(rt: HostRuntime) -> Result<(), Fail> {
     type Letters = TwoVariants<IfTextA, Content<Number>, IfTextB, Content<Number>>;

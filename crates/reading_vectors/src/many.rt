@@ -1,5 +1,5 @@
-//! Messages of many kept texts, of a long one that many rules ask for, or of many ignored items. What
-//! is read of them is what the last kept text says. What such messages cost, `ttlv_times` prints.
+//! Messages of many stored texts, of a long one that many rules ask for, or of many ignored items. What
+//! is read of them is what the last stored text says. What such messages cost, `ttlv_times` prints.
 
 use crate::answer::Of;
 use crate::names::{
@@ -32,7 +32,7 @@ fn check_run<P: Part>(alloc: Global, message: &[u8], count: usize, last: &str) -
     Err(Fail::new("an error, or other elements"))
 }
 
-// A rule asks, for each of many texts, for a tag under which none was kept.
+// A rule asks, for each of many texts, for a tag under which none was stored.
 #[test]
 fn many_texts_under_one_tag(rt: HostRuntime) -> Result<(), Fail> {
     type Texts = TwoVariants<IfOtherAtLeastWord, Content<Text>, IfText, Content<Text>>;

@@ -25,7 +25,7 @@ use ttlv_words::{Color, Request, request_of};
 /// The status of usage, and of input that can't be read.
 const USAGE: u8 = 2;
 
-/// The status of want of memory.
+/// The exit status if memory runs out.
 const NO_MEMORY: u8 = 3;
 
 // The words of the command line, behind the program's name.

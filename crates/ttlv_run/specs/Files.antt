@@ -61,7 +61,7 @@ pub record Opening (O I : Type 0) : Type 1 where
   pub remaining : I → Option (List ℕ)
 
 -- with a file: the input of its name was opened, and what was asked is done with its bytes; or it could not be opened,
--- and this is told
+-- and this is reported
 pub data FileDone
     {O I : Type 0} (how : Opening O I) (names : Names) (asked : Asked) (name : Bor (List ℕ)) (old new : At O)
     (status : ℕ) : Type 0 where

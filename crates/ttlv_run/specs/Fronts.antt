@@ -1,4 +1,4 @@
--- How many bytes of an input tell its encoding, and the bytes that a front of it stands for.
+-- How many bytes of an input decide its encoding, and the bytes that a front of it stands for.
 use Rattle.std.specs.Prelude.{◌≡◌, ℕ, ◌<◌, ◌≤◌, Bool, true, false, not, ◌||◌, List, ◌++◌, length, nat_lt, Option, Some, None, if◌then◌else◌}
 use Rattle.std.specs.Io.KnownBytes.{IsAtEnd}
 use Rattle.ttlv_run.specs.declared.form.Form.{Form}
@@ -16,7 +16,7 @@ abbrev pub is_some : {A : Type 0} → Option A → Bool
 is_some None = false
 is_some (Some x) = true
 
--- how many bytes of an input tell its encoding, where these are there: four that it is raw, 64 that it is hexadecimal or a dump,
+-- how many bytes of an input decide its encoding, where these are there: four that it is raw, 64 that it is hexadecimal or a dump,
 -- 1,024 anything else
 abbrev pub front_size : Encoding → List ℕ → ℕ
 front_size e s =
@@ -24,7 +24,7 @@ front_size e s =
     else if nat_lt (length s) front_length || is_some (front_of s) then front_length
     else long_front
 
--- bytes came behind those that were there, and now as many are there as tell the encoding, or all
+-- bytes came behind those that were there, and now as many are there as decide the encoding, or all
 pub record Begins (e : Encoding) (old new : Option (List ℕ)) (before after : List ℕ) (ended : Bool) : Type 0 where
   pub yields : Yields old new before after
   pub enough : ended ≡ false → front_size e after ≤ length after

@@ -78,14 +78,14 @@ abbrev pub starts_digit : Option ℕ → Bool
 starts_digit None = false
 starts_digit (Some b) = is_hex_digit b || b == 92
 
--- how many bytes of a text are its front, which tells hexadecimal digits and dumps; and how many tell any other text
+-- how many bytes of a text are its front, which shows hexadecimal digits and dumps; and how many decide any other text
 abbrev pub front_length : ℕ
 front_length = 64
 
 abbrev pub long_front : ℕ
 long_front = 1024
 
--- what the front of a text tells: a dump of packets, another dump, or hexadecimal digits; or none of these
+-- what the front of a text shows: a dump of packets, another dump, or hexadecimal digits; or none of these
 abbrev pub front_found : List ℕ → Option Encoding
 front_found s =
     if has_packet s then Some Packets
@@ -93,12 +93,12 @@ front_found s =
     else if starts_digit (first_byte s) && is_hexadecimal s then Some Hexadecimal
     else None
 
--- what a text looks like: what its front tells, or else what a longer one does
+-- what a text looks like: what its front shows, or else what a longer one does
 abbrev pub text_found : Option Encoding → List ℕ → Encoding
 text_found (Some e) s = e
 text_found None s = if has_packet s then Packets else by_first s (first_byte s)
 
--- what the front of an input that isn't raw tells
+-- what the front of an input that isn't raw shows
 abbrev pub front_of : List ℕ → Option Encoding
 front_of s = front_found (body (take front_length s))
 

@@ -32,7 +32,7 @@ words_of NoMemory = codes "out of memory"
 abbrev pub IsOfPrinting : RunError → Type 0
 IsOfPrinting why = (why ≡ UnwritableOutput) ⊎ (why ≡ ClosedPipe) ⊎ (why ≡ NoMemory)
 
--- the beginning of a line: what the input is called, and the offset in it, if one is told
+-- the beginning of a line: what the input is called, and the offset in it, if one is given
 abbrev pub place_report : List ℕ → Option ℕ → List ℕ
 place_report name None = name
 place_report name (Some at) = name ++ codes ": byte " ++ decimal at

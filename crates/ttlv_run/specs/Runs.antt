@@ -103,7 +103,7 @@ FrontsIn None names task s output output_now = Fronts names task s output output
 FrontsIn (Some form) names task s output output_now =
     (rest : List ℕ) × (length rest ≤ 1) × TextFronts names task form s rest output output_now
 
--- or nothing, where they don't tell the encoding
+-- or nothing, where they don't decide the encoding
 abbrev pub FrontsIf : Bool → Names → Job → List ℕ → Option (List ℕ) → Option (List ℕ) → Type 0
 FrontsIf true names job bytes output output_now = Keeps output output_now
 FrontsIf false names job bytes output output_now =

@@ -157,7 +157,7 @@ fn push_lines<S: TextSink, A: Allocator + Copy>(
 /// Adds what lines of diagnostics under a prefix are read back as, and gives where the first of them that is not whole
 /// stops being one. Their bytes begin at an offset; if they aren't the last, what is behind the last line feed is left.
 ///
-/// It stops in front of a line that is not UTF-8. What a line is read back as is never held as a whole. It fails
+/// It stops in front of a line that is not UTF-8. What a line is read back as is never in memory as a whole. It fails
 /// where the sink fails and when out of memory; a beginning of the text was added then.
 pub fn print_back<S: TextSink, A: Allocator + Copy>(
     alloc: A,

@@ -144,7 +144,7 @@ pub fn encoding_of(encoding: Encoding, input: &[u8]) -> Encoding
     encoding
 }
 
-/// How many bytes of an input tell its encoding, or all of a shorter one, where these bytes of it are there.
+/// How many bytes of an input decide its encoding, or all of a shorter one, where these bytes of it are there.
 pub fn front_size(encoding: Encoding, input: &[u8]) -> usize
     ensures { result ≡ front_size encoding input.now }
 {

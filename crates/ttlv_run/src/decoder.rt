@@ -74,7 +74,7 @@ pub struct Decoder {
     // The digits of a group that isn't whole yet, in front of room for more.
     digits: [u8; 4],
     count: usize,
-    // The last character, which only the next one tells: both may be `0x` or `\x`.
+    // The last character, which only the next one decides: both may be `0x` or `\x`.
     waiting: Option<u8>,
     // How many characters stand in front of it.
     offset: usize,

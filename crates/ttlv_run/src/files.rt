@@ -95,9 +95,9 @@ fn greater(a: u8, b: u8) -> u8
     if a < b { b } else { a }
 }
 
-/// Does with each file what is asked, one after the other, and answers the greatest of their exit statuses:
+/// Does with each file what is asked, one after the other, and returns the greatest of their exit statuses:
 /// those of [`run`], [`read_back`] and [`read_json`], and 2 for a file that can't be opened. Behind a file with status 3,
-/// want of memory or an output that fails, no other is read.
+/// out of memory or an output that fails, no other is read.
 pub fn run_files<B: Allocator + Copy, O: Opener, W: Write, E: Write>(
     memory: Memory<Global, B>,
     asked: Asked<'_>,

@@ -185,8 +185,8 @@ fn report_fault<E: Write>(errors: &mut E, name: &str, fault: LineFault)
 ///
 /// A message is printed before the next read if all of its line is there. With status 1 the messages before the first line that is
 /// none are printed, nothing more is read, and `errors` says why that is none. With status 2 those of the lines before are printed:
-/// that came before reading failed, or are in front of the one that is not UTF-8. Statuses 2 and 3 are told there as
-/// [`run`](crate::run::run) tells them; with status 3 the output has a beginning of what is printed.
+/// that came before reading failed, or are in front of the one that is not UTF-8. Statuses 2 and 3 are reported there as
+/// [`run`](crate::run::run) reports them; with status 3 the output has a beginning of what is printed.
 pub fn read_json<R: Read, W: Write, E: Write>(
     heap: Global,
     job: &JsonJob<'_>,
@@ -214,7 +214,7 @@ pub fn read_json<R: Read, W: Write, E: Write>(
           output_now = W.contents output.new;
         })
         (E.contents errors.old) (E.contents errors.new) }
-    // With statuses 2 and 3 there is a reason that is true of the input or of the output, and it is told.
+    // With statuses 2 and 3 there is a reason that is true of the input or of the output, and it is reported.
     ensures refused { (result ≡ 2) ⊎ (result ≡ 3) → RefusedJson job.now
         (record {
           input = R.remaining input.old;

@@ -8,10 +8,10 @@ ghost use Rattle.ttlv_run.specs.Guesses.{starts_packet, has_packet, has_url_digi
 use crate::form::{is_between, is_hex_digit};
 use crate::job::Encoding;
 
-/// How many bytes of a text are its front, which tells hexadecimal digits and dumps.
+/// How many bytes of a text are its front, which shows hexadecimal digits and dumps.
 pub const FRONT: usize = 64;
 
-/// How many tell the encoding of any other text.
+/// How many decide the encoding of any other text.
 pub const LONG_FRONT: usize = 1024;
 
 fn is_control(b: u8) -> bool
@@ -171,7 +171,7 @@ fn starts_digit(first: Option<u8>) -> bool
     }
 }
 
-// What the front of a text tells.
+// What the front of a text shows.
 fn front_found(text: &[u8]) -> Option<Encoding>
     ensures { result ≡ front_found text.now }
 {
@@ -187,7 +187,7 @@ fn front_found(text: &[u8]) -> Option<Encoding>
     None
 }
 
-// What a text looks like: what its front tells, or else what a longer one does.
+// What a text looks like: what its front shows, or else what a longer one does.
 fn text_found(front: Option<Encoding>, text: &[u8]) -> Encoding
     ensures { result ≡ text_found front text.now }
 {
@@ -232,7 +232,7 @@ fn first_text(input: &[u8], count: usize) -> &[u8]
     &text[mark_length(text)..]
 }
 
-/// What the front of an input that isn't raw tells: hexadecimal digits, or a dump.
+/// What the front of an input that isn't raw shows: hexadecimal digits, or a dump.
 pub fn front_of(input: &[u8]) -> Option<Encoding>
     ensures { result ≡ front_of input.now }
 {

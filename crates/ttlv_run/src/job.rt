@@ -14,7 +14,7 @@ pub enum Values {
     /// Nothing: `<redacted>` stands there.
     Hidden,
     /// The value; control characters and backslashes of a text as Rust's `char::escape_debug` writes
-    /// them, so that a text stays in its line and tells a terminal nothing.
+    /// them, so that a text stays in its line and sends a terminal nothing.
     Escaped,
     /// The value, and a text as it is.
     Raw,

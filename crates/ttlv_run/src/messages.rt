@@ -224,7 +224,7 @@ fn push_report<A: Allocator>(
 
 /// The line on standard error that says where an input is malformed.
 ///
-/// It refuses for want of memory alone.
+/// It fails only if memory runs out.
 #[tactic(auto, unfolding(crate::specs::Messages::fault_line))]
 pub fn fault_line<A: Allocator + Copy>(
     alloc: A,

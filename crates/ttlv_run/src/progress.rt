@@ -1,4 +1,4 @@
-//! How far the reading of a long input is, told as it goes.
+//! How far the reading of a long input is, reported as it goes.
 
 ghost use Rattle.std.specs.Prelude.{◌≡◌};
 
@@ -10,7 +10,7 @@ use std::io::{Read, Write};
 /// The bytes of a mebibyte.
 const MEBIBYTE: u64 = 1_048_576;
 
-/// A reader that tells, each time when a mebibyte more was read, how many were: in one line, which is
+/// A reader that reports, each time when a mebibyte more was read, how many were: in one line, which is
 /// written over and over, by whatever comes next too, and cleared where the input ends or can't be read.
 ///
 /// The bytes are those of the reader that it stands in front of. Where the line can't be written, that
@@ -26,7 +26,7 @@ pub struct Progress<R, E> {
 }
 
 impl<R, E> Progress<R, E> {
-    /// A reader in front of another, of so many bytes if that is known. It tells nothing where it is not
+    /// A reader in front of another, of so many bytes if that is known. It reports nothing if it is not
     /// `shown`, as where `errors` is no terminal.
     pub fn new(input: R, errors: E, total: Option<u64>, shown: bool) -> Self {
         Progress {
@@ -41,7 +41,7 @@ impl<R, E> Progress<R, E> {
 }
 
 impl<R: Read, E: Write> Progress<R, E> {
-    // Tells how many mebibytes were read.
+    // Reports how many mebibytes were read.
     fn report(&mut self)
         ensures { self.new.input ≡ self.old.input }
     {

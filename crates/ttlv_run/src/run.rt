@@ -109,7 +109,7 @@ fn print_raw<A: Allocator, B: Allocator + Copy, R: Read, W: Write>(
     }
 }
 
-// Reads until the bytes that are there tell the encoding, or the input ended; returns whether it did.
+// Reads until the bytes that are there decide the encoding, or the input ended; returns whether it did.
 fn read_front<A: Allocator, R: Read>(
     encoding: Encoding,
     window: &mut Window<A>,
@@ -251,7 +251,7 @@ fn respond_back<A: Allocator + Copy, B: Allocator + Copy, R: Read, W: Write>(
     }
 }
 
-/// Writes a text behind another, where that was written to its end; answers whether this was too.
+/// Writes a text after another, if that was written to its end; returns whether this was too.
 pub(crate) fn report<E: Write>(errors: &mut E, writable: bool, text: &str) -> bool
     ensures { (known : Option (List ℕ)) (front : List ℕ) → Reports writable known (E.contents errors.old) front
         → Reports result known (E.contents errors.new) (front ++ text.now) }
@@ -259,7 +259,7 @@ pub(crate) fn report<E: Write>(errors: &mut E, writable: bool, text: &str) -> bo
     writable && errors.send(text.as_bytes()).is_ok()
 }
 
-/// Writes what the input is called, and the offset in it, if one is told.
+/// Writes what the input is called, and the offset in it, if one is given.
 pub(crate) fn report_place<E: Write>(errors: &mut E, name: &str, offset: Option<usize>) -> bool
     ensures { Reports result (E.contents errors.old) (E.contents errors.new) (place_report name.now offset) }
 {
@@ -282,7 +282,7 @@ fn report_words<E: Write>(errors: &mut E, name: &str, words: &str)
     report(errors, writable, "\n");
 }
 
-/// Writes the line of a refusal, as far as it can be written. It takes no memory.
+/// Writes the line of an error, as far as it can be written. It takes no memory.
 pub(crate) fn report_error<E: Write>(errors: &mut E, name: &str, run_error: RunError)
     ensures { AppendsFront (E.contents errors.old) (E.contents errors.new) (error_line name.now run_error) }
 {
@@ -312,8 +312,8 @@ fn report_back_fault<E: Write>(errors: &mut E, name: &str, fault: BackFault)
 /// can't be written.
 ///
 /// Messages are printed as they come, each before the next read if all of it is there, of a text with one character more.
-/// Where no encoding was named, that is from when the input's first bytes tell it: four that it is raw, 64 that it is
-/// hexadecimal or a dump, 1,024 anything else. Output is sent in pieces of 8,192 bytes, and never held as a whole. With
+/// Where no encoding was named, that is from when the input's first bytes decide it: four that it is raw, 64 that it is
+/// hexadecimal or a dump, 1,024 anything else. Output is sent in pieces of 8,192 bytes, and never in memory as a whole. With
 /// status 1 the output has what is printed up to the fault, and nothing more is read. If reading fails or the digits of a
 /// text are those of no bytes, it has what is printed of the messages that were whole. With status 3 it has a beginning
 /// of what is printed, or nothing. With statuses 1 to 3 one line on `errors` says why, except for a closed pipe.
@@ -347,7 +347,7 @@ pub fn run<A: Allocator + Copy, B: Allocator + Copy, R: Read, W: Write, E: Write
           output_now = W.contents output.new;
         })
         (E.contents errors.old) (E.contents errors.new) }
-    // With statuses 2 and 3 there is a reason that is true of the input or of the output, and it is told.
+    // With statuses 2 and 3 there is a reason that is true of the input or of the output, and it is reported.
     ensures refused { (result ≡ 2) ⊎ (result ≡ 3) → Refused (names_of names.now) job.now
         (record {
           input = R.remaining input.old;
@@ -374,10 +374,10 @@ pub fn run<A: Allocator + Copy, B: Allocator + Copy, R: Read, W: Write, E: Write
 /// the exit status: 0 if each of them is whole, 1 if a line stops being a diagnostic or leaves a structure open, 2 if
 /// the input can't be read or is not UTF-8, or 3 when out of memory or if the output can't be written.
 ///
-/// A line is printed before the next read if all of it is there; what it is read back as is never held as a whole. With
-/// status 1 too all lines are read back, each as far as it goes, and the first that is not whole is told on `errors`.
+/// A line is printed before the next read if all of it is there; what it is read back as is never in memory as a whole. With
+/// status 1 too all lines are read back, each as far as it goes, and the first that is not whole is reported on `errors`.
 /// With status 2 the output has what the lines before are read back as: those that came before reading failed, or that
-/// are in front of the one that is not UTF-8. Statuses 2 and 3 are told as [`run`] tells them, and with status 3 the
+/// are in front of the one that is not UTF-8. Statuses 2 and 3 are reported as [`run`] reports them, and with status 3 the
 /// output is as there.
 pub fn read_back<A: Allocator + Copy, B: Allocator + Copy, R: Read, W: Write, E: Write>(
     memory: Memory<A, B>,
@@ -398,7 +398,7 @@ pub fn read_back<A: Allocator + Copy, B: Allocator + Copy, R: Read, W: Write, E:
         }) None
         × Keeps (E.contents errors.old) (E.contents errors.new) }
     // With status 1 a line is not whole: what the whole input is read back as was appended, and the first such line
-    // is told.
+    // is reported.
     ensures malformed { result ≡ 1 → MalformedBack (names_of names.now) job.now
         (record {
           input = R.remaining input.old;
@@ -407,7 +407,7 @@ pub fn read_back<A: Allocator + Copy, B: Allocator + Copy, R: Read, W: Write, E:
           output_now = W.contents output.new;
         })
         (E.contents errors.old) (E.contents errors.new) }
-    // With statuses 2 and 3 there is a reason that is true of the input or of the output, and it is told.
+    // With statuses 2 and 3 there is a reason that is true of the input or of the output, and it is reported.
     ensures refused { (result ≡ 2) ⊎ (result ≡ 3) → RefusedBack (names_of names.now) job.now
         (record {
           input = R.remaining input.old;

@@ -21,7 +21,7 @@ pub enum RunError {
     UnwritableOutput,
     /// No one reads the output any more.
     ClosedPipe,
-    /// Memory was refused.
+    /// Memory ran out.
     NoMemory,
 }
 

@@ -22,7 +22,7 @@ fn joined<A: Allocator>(alloc: A, front: &str, table: &str) -> Result<String<A>,
     Ok(all)
 }
 
-// Tells that a line of a table names no tag.
+// Reports that a line of a table names no tag.
 fn report_line<E: Write>(errors: &mut E, name: &str, line: usize) {
     let _ = errors.send(name.as_bytes());
     let _ = errors.send(b": line ");
@@ -30,7 +30,7 @@ fn report_line<E: Write>(errors: &mut E, name: &str, line: usize) {
     let _ = errors.send(b" names no tag\n");
 }
 
-// Tells why a table is none, and answers the exit status.
+// Reports why a table is none, and returns the exit status.
 fn refuse<E: Write>(errors: &mut E, name: &str, run_error: RunError) -> u8
     ensures { (result ≡ 2) ⊎ (result ≡ 3) }
 {
@@ -42,7 +42,7 @@ fn refuse<E: Write>(errors: &mut E, name: &str, run_error: RunError) -> u8
 /// `errors` that says why there is none.
 ///
 /// The error is the exit status: 2 where the input can't be read, is not UTF-8 or has a line that names no
-/// tag, and 3 where memory is refused.
+/// tag, and 3 when out of memory.
 pub fn own_table<A: Allocator + Copy, R: Read, E: Write>(
     alloc: A,
     standard: &str,

@@ -91,7 +91,7 @@ impl<A: Allocator> Window<A> {
         front(self.bytes.as_slice(), self.count)
     }
 
-    // For how many bytes room is made: a piece, or as many as are there, but no more than the first message wants.
+    // For how many bytes room is made: a piece, or as many as are there, but no more than the first message needs.
     fn room_to_ask(&self) -> usize
         ensures { 3 ≤ result }
     {

@@ -3,13 +3,13 @@
 
 use crate::rereads::{comes_back, decoded};
 use kmip_messages::attribute::{Attribute, AttributeValue};
-use kmip_messages::values::{ObjectType, State};
 use kmip_messages::header::{Operation, ProtocolVersion, RequestHeader};
+use kmip_messages::key::{KeyMaterial, KeyValue};
+use kmip_messages::object::ManagedObject;
 use kmip_messages::request::{Request, RequestItem, RequestPayload};
 use kmip_messages::request_payload::LocateRequest;
 use kmip_messages::response::{Response, ResultStatus};
-use kmip_messages::key::{KeyMaterial, KeyValue};
-use kmip_messages::object::ManagedObject;
+use kmip_messages::values::{ObjectType, State};
 use kmip_ttlv::laws::{Message, Sound, reread};
 use std::alloc::Global;
 use std::test::Fail;

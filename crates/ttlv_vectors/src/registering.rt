@@ -2,8 +2,8 @@
 //! encoded as the same bytes. These are made of items by hand, as section 9.1 has them.
 
 use crate::rereads::{comes_back, comes_back_in, decoded};
-use kmip_messages::request::{Request, RequestPayload};
 use kmip_messages::object::ManagedObject;
+use kmip_messages::request::{Request, RequestPayload};
 use kmip_ttlv::error::{Error, ErrorKind};
 use kmip_ttlv::memory::BoundedAllocator;
 use kmip_ttlv::{from_slice, to_vec};
