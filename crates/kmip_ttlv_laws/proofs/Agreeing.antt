@@ -16,8 +16,15 @@ use Rattle.kmip_ttlv_ser.specs.declared.pending.PendingTag.TheVariants.{Nothing}
 use Rattle.kmip_ttlv_ser.specs.WrittenItems.{◌>>=◌, enumeration, pending_tag, items, items_in, left_over, some_item}
 use Rattle.kmip_ttlv_reader.proofs.Giving.{begins_one}
 use Rattle.kmip_ttlv_reader.specs.TagValues.{TagValue}
-use Rattle.kmip_ttlv_reader.specs.Reads.{Begins, Reads, ReadsContent, ReadsField, ReadsFields, ReadsForms, ReadsRun, ReadsVariant, absent, by_number, by_rule, done, ends, has_tag, here, inner, is_like, is_root, is_struct, decoded_leaf, more, named, names, next, no_part, part, parts, run, structure, there, whole, wrap, wrap_some, leaf as read_leaf}
-use Rattle.kmip_ttlv_laws.specs.Agreements.{Head, Agrees, goes_on, leaf_agrees, inner_agrees, option_agrees, newtype_agrees, struct_agrees, rule_agrees, tuple_agrees, number_agrees, seq_agrees, RunAgrees, last_agrees, next_agrees, FieldsAgree, no_field_agrees, nothing_agrees, absent_agrees, field_agrees, FormsAgree, no_form_agrees, form_agrees, Wraps, some_wraps, newtype_wraps, variant_wraps, EncodesStructure, struct_encloses, newtype_encloses, variant_encloses, tuple_encloses, IsNumbered, unit_is_numbered, number_is_numbered, HasVariant, first_variant, later_variant, is_named, is_alike, is_field_of, is_run, leaf_type, with_value}
+use Rattle.kmip_ttlv_reader.specs.Reads.{Begins, Reads, ReadsContent, ReadsField, ReadsFields, ReadsForms, ReadsRun, ReadsVariant, absent, by_number, by_rule}
+use Rattle.kmip_ttlv_reader.specs.Reads.{done, ends, has_tag, here, inner, is_like, is_root, is_struct, decoded_leaf, more, named, names, next, no_part, part}
+use Rattle.kmip_ttlv_reader.specs.Reads.{parts, run, structure, there, whole, wrap, wrap_some, leaf as read_leaf}
+use Rattle.kmip_ttlv_laws.specs.Agreements.{Head, Agrees, goes_on, leaf_agrees, inner_agrees, option_agrees, newtype_agrees, struct_agrees, rule_agrees}
+use Rattle.kmip_ttlv_laws.specs.Agreements.{tuple_agrees, number_agrees, seq_agrees, RunAgrees, last_agrees, next_agrees, FieldsAgree, no_field_agrees}
+use Rattle.kmip_ttlv_laws.specs.Agreements.{nothing_agrees, absent_agrees, field_agrees, FormsAgree, no_form_agrees, form_agrees, Wraps, some_wraps}
+use Rattle.kmip_ttlv_laws.specs.Agreements.{newtype_wraps, variant_wraps, EncodesStructure, struct_encodes, newtype_encodes, variant_encodes, tuple_encodes}
+use Rattle.kmip_ttlv_laws.specs.Agreements.{IsNumbered, unit_is_numbered, number_is_numbered, HasVariant, first_variant, later_variant, is_named, is_alike}
+use Rattle.kmip_ttlv_laws.specs.Agreements.{is_field_of, is_run, leaf_type, with_value}
 use Rattle.kmip_ttlv_laws.specs.Contents.{items_below}
 use Rattle.kmip_ttlv_laws.specs.ReadingLaws.{AgreeingIsRead, AgreeingIsWritten}
 use Rattle.kmip_ttlv_laws.proofs.Contents.{below_splits}
@@ -27,11 +34,11 @@ use Rattle.kmip_ttlv_laws.proofs.Roots.{reading_what_was_written}
 
 -- ---- heads
 
-abbrev pub HasHead : Raw → Head → Type 0
+abbrev HasHead : Raw → Head → Type 0
 HasHead r x = (r.tag ≡ x.tag) × (r.typ ≡ x.typ)
 
 -- the first of the items, if there are any, has this head
-abbrev pub BeginsAs : List Tree → Option Head → Type 0
+abbrev BeginsAs : List Tree → Option Head → Type 0
 BeginsAs [] None = Unit {0}
 BeginsAs [] (Some x) = ⊥
 BeginsAs (t ∷ ts) None = ⊥
@@ -76,7 +83,8 @@ items_same (t ∷ ts) = ap (λ (l : List Raw). raw_of t ∷ l) (items_same ts)
 -- ---- what values are encoded as
 
 -- a value that gives an item, and then others
-two_steps : (w : Value) (ws : Values) (h : PendingTag) (t : Tree) (ts us : List Tree) → items w h ≡ Some (t ∷ ts) → items_in ws Nothing ≡ Some us → items_in (value w ws) h ≡ Some (t ∷ (ts ++ us))
+two_steps : (w : Value) (ws : Values) (h : PendingTag) (t : Tree) (ts us : List Tree) → items w h ≡ Some (t ∷ ts) → items_in ws Nothing ≡ Some us
+    → items_in (value w ws) h ≡ Some (t ∷ (ts ++ us))
 two_steps w ws h t ts us e f = rw e (rw f refl)
 
 -- an empty sequence, and then others
@@ -99,11 +107,12 @@ wrapped_items t ts (newtype_wraps named_is taken) e = rw named_is (rw taken (rw 
 wrapped_items t ts (variant_wraps wrapper taken) e = rw wrapper (rw taken (rw e refl))
 
 -- a structure around values
-enclosing_items : {h : PendingTag} {w : Value} {t : ℕ} {ws : Values} (us : List Tree) → EncodesStructure h w t ws → items_in ws Nothing ≡ Some us → items w h ≡ Some (node t (trees_of us) ∷ [])
-enclosing_items us (struct_encloses taken) e = rw taken (rw e refl)
-enclosing_items us (newtype_encloses {w = w} named_is taken) e = rw named_is (rw taken (rw (one_step w us e) refl))
-enclosing_items us (variant_encloses {w = w} wrapper taken) e = rw wrapper (rw taken (rw (one_step w us e) refl))
-enclosing_items us (tuple_encloses taken) e = rw taken (rw e refl)
+enclosing_items : {h : PendingTag} {w : Value} {t : ℕ} {ws : Values} (us : List Tree) → EncodesStructure h w t ws → items_in ws Nothing ≡ Some us
+    → items w h ≡ Some (node t (trees_of us) ∷ [])
+enclosing_items us (struct_encodes taken) e = rw taken (rw e refl)
+enclosing_items us (newtype_encodes {w = w} named_is taken) e = rw named_is (rw taken (rw (one_step w us e) refl))
+enclosing_items us (variant_encodes {w = w} wrapper taken) e = rw wrapper (rw taken (rw (one_step w us e) refl))
+enclosing_items us (tuple_encodes taken) e = rw taken (rw e refl)
 
 -- a number
 numbered_items : {h : PendingTag} {w : Value} {t n : ℕ} → IsNumbered h w t n → items w h ≡ Some (leaf t Enumeration (to_be_bytes w32 n) ∷ [])
@@ -126,7 +135,8 @@ pub record IsRead (s : Form) (k : List TagValue) (h : PendingTag) (w : Value) (x
   pub are : items w h ≡ Some (first ∷ rest)
   pub head_is : HasHead (raw_of first) x
   pub alone : is_run v ≡ false → rest ≡ []
-  pub reads : AllByRecursion Fits (first ∷ rest) → (ys : List Raw) → (is_run v ≡ true → is_like (raw_of first) ys ≡ false) → Reads s k (raw_of first ∷ (map raw_of rest ++ ys)) v k' ys
+  pub reads : AllByRecursion Fits (first ∷ rest) → (ys : List Raw) → (is_run v ≡ true → is_like (raw_of first) ys ≡ false)
+      → Reads s k (raw_of first ∷ (map raw_of rest ++ ys)) v k' ys
 
 -- so do the elements of a sequence, at its start and after earlier elements
 pub record RunIsRead (s : Form) (k : List TagValue) (h : PendingTag) (ws : Values) (x : Head) (vs : Values) (k' : List TagValue) : Type 0 where
@@ -134,8 +144,10 @@ pub record RunIsRead (s : Form) (k : List TagValue) (h : PendingTag) (ws : Value
   pub rest : List Tree
   pub are : items_in ws h ≡ Some (first ∷ rest)
   pub head_is : HasHead (raw_of first) x
-  pub starts : AllByRecursion Fits (first ∷ rest) → (ys : List Raw) → is_like (raw_of first) ys ≡ false → Reads (seq s) k (raw_of first ∷ (map raw_of rest ++ ys)) (seq_value vs) k' ys
-  pub goes_on : AllByRecursion Fits (first ∷ rest) → (r : Raw) (ys : List Raw) → HasHead r x → is_like r ys ≡ false → ReadsRun s r k (raw_of first ∷ (map raw_of rest ++ ys)) vs k' ys
+  pub starts : AllByRecursion Fits (first ∷ rest) → (ys : List Raw) → is_like (raw_of first) ys ≡ false
+      → Reads (seq s) k (raw_of first ∷ (map raw_of rest ++ ys)) (seq_value vs) k' ys
+  pub goes_on : AllByRecursion Fits (first ∷ rest) → (r : Raw) (ys : List Raw) → HasHead r x → is_like r ys ≡ false
+      → ReadsRun s r k (raw_of first ∷ (map raw_of rest ++ ys)) vs k' ys
 
 -- the fields read the values from the items, and use them up
 pub record FieldsAreRead (fs : Fields) (k : List TagValue) (ws : Values) (y : Option Head) (vs : Values) (k' : List TagValue) : Type 0 where
@@ -152,7 +164,8 @@ pub record FormsAreRead (ss : Forms) (k : List TagValue) (ws : Values) (y : Opti
   pub reads : AllByRecursion Fits trees → ReadsForms ss k (map raw_of trees) vs k' []
 
 -- a leaf
-leaf_is_read : {s : Form} {h : PendingTag} {w v : Value} {t : ℕ} (k : List TagValue) → pending_tag h ≡ Some t → LeafIs s w v → IsRead s k h w record { tag = t; typ = leaf_type w } v (with_value s t w k)
+leaf_is_read : {s : Form} {h : PendingTag} {w v : Value} {t : ℕ} (k : List TagValue) → pending_tag h ≡ Some t → LeafIs s w v
+    → IsRead s k h w record { tag = t; typ = leaf_type w } v (with_value s t w k)
 leaf_is_read {s} {h} {w} {v} {t} k pending l =
     let x : Raw = record { tag = t; typ = leaf_type w; content = l.content } in
     record {
@@ -161,16 +174,19 @@ leaf_is_read {s} {h} {w} {v} {t} k pending l =
       are = l.written h t pending;
       head_is = (refl, refl);
       alone = λ e. refl;
-      reads = λ f ys apart. subst (λ (u : Value). Reads s k (x ∷ ys) u (with_value s t w k) ys) l.gives (subst (λ (c : List TagValue). Reads s k (x ∷ ys) (decoded_leaf s l.content) c ys) (l.keeps t k) (read_leaf {h = x} l.takes_it l.valid));
+      reads = λ f ys apart. subst (λ (u : Value). Reads s k (x ∷ ys) u (with_value s t w k) ys) l.gives
+          (subst (λ (c : List TagValue). Reads s k (x ∷ ys) (decoded_leaf s l.content) c ys) (l.keeps t k) (read_leaf {h = x} l.takes_it l.valid));
     }
 
 -- a variant reads what its content reads
-variant_reads : {vs : Variants} {i : ℕ} {own name : List ℕ} {c : Content} {k k' : List TagValue} {xs ys : List Raw} {v : Value} → HasVariant vs i name c → ReadsContent own name c k xs v k' ys → ReadsVariant own vs i k xs v k' ys
+variant_reads : {vs : Variants} {i : ℕ} {own name : List ℕ} {c : Content} {k k' : List TagValue} {xs ys : List Raw} {v : Value} → HasVariant vs i name c
+    → ReadsContent own name c k xs v k' ys → ReadsVariant own vs i k xs v k' ys
 variant_reads first_variant r = here r
 variant_reads (later_variant h) r = there (variant_reads h r)
 
 -- a field reads what its form reads
-field_reads : (name : List ℕ) (s : Form) (x : Head) (r : Raw) (k k' : List TagValue) (xs ys : List Raw) (v : Value) → is_field_of name s x ≡ true → HasHead r x → Reads s k (r ∷ xs) v k' ys → ReadsField name s k (r ∷ xs) v k' ys
+field_reads : (name : List ℕ) (s : Form) (x : Head) (r : Raw) (k k' : List TagValue) (xs ys : List Raw) (v : Value) → is_field_of name s x ≡ true → HasHead r x
+    → Reads s k (r ∷ xs) v k' ys → ReadsField name s k (r ∷ xs) v k' ys
 field_reads name s x r k k' xs ys v e h read = by_kind (is_struct s) refl
   where
     by_kind : (b : Bool) → is_struct s ≡ b → ReadsField name s k (r ∷ xs) v k' ys
@@ -264,7 +280,8 @@ mutual
         are = two_steps w no_values h r.first r.rest [] r.are refl ∙ ap (λ (l : List Tree). Some (r.first ∷ l)) (append-nil r.rest);
         head_is = r.head_is;
         starts = λ f ys apart. run (r.reads f ys (λ e. apart)) (ends apart);
-        goes_on = λ f q ys h apart. more (like_head q (raw_of r.first) x (map raw_of r.rest ++ ys) h r.head_is) (r.reads f ys (λ e. like_same q (raw_of r.first) x ys h r.head_is ∙ apart)) (ends apart);
+        goes_on = λ f q ys h apart. more (like_head q (raw_of r.first) x (map raw_of r.rest ++ ys) h r.head_is)
+            (r.reads f ys (λ e. like_same q (raw_of r.first) x ys h r.head_is ∙ apart)) (ends apart);
       }
   run_agreed (next_agrees {s = s} {k = k} {k' = k'} {h = h} {w = w} {v = v} {ws = ws} {x = x} a single b) =
       let r = agreed a in
@@ -278,7 +295,8 @@ mutual
         are = two_steps w ws h r.first r.rest (q.first ∷ q.rest) r.are q.are ∙ ap (λ (l : List Tree). Some (r.first ∷ (l ++ (q.first ∷ q.rest)))) e;
         head_is = r.head_is;
         starts = λ f ys apart. run (read f (raw_of q.first ∷ (map raw_of q.rest ++ ys))) (q.goes_on f.1 (raw_of r.first) ys r.head_is apart);
-        goes_on = λ f p ys h apart. more (like_head p (raw_of r.first) x (raw_of q.first ∷ (map raw_of q.rest ++ ys)) h r.head_is) (read f (raw_of q.first ∷ (map raw_of q.rest ++ ys))) (q.goes_on f.1 p ys h apart);
+        goes_on = λ f p ys h apart. more (like_head p (raw_of r.first) x (raw_of q.first ∷ (map raw_of q.rest ++ ys)) h r.head_is)
+            (read f (raw_of q.first ∷ (map raw_of q.rest ++ ys))) (q.goes_on f.1 p ys h apart);
       }
 
   fields_agreed : {fs : Fields} {k k' : List TagValue} {ws vs : Values} {y : Option Head} → FieldsAgree fs k ws y vs k' → FieldsAreRead fs k ws y vs k'
@@ -300,7 +318,8 @@ mutual
             rw (map-append raw_of r.rest q.trees)
             (next
             (field_reads name s x (raw_of r.first) k k' _ (map raw_of q.trees) v e r.head_is
-            (r.reads (fits_first (r.first ∷ r.rest) q.trees f) (map raw_of q.trees) (λ is. like_first (raw_of r.first) x q.trees y r.head_is q.head_is ∙ not_alike v x y apart is)))
+            (r.reads (fits_first (r.first ∷ r.rest) q.trees f) (map raw_of q.trees) (λ is. like_first (raw_of r.first) x q.trees y r.head_is q.head_is
+            ∙ not_alike v x y apart is)))
             (q.reads (fits_last (r.first ∷ r.rest) q.trees f)));
       }
 
@@ -316,7 +335,8 @@ mutual
         reads = λ f.
             rw (map-append raw_of r.rest q.trees)
             (part
-            (r.reads (fits_first (r.first ∷ r.rest) q.trees f) (map raw_of q.trees) (λ is. like_first (raw_of r.first) x q.trees y r.head_is q.head_is ∙ not_alike v x y apart is))
+            (r.reads (fits_first (r.first ∷ r.rest) q.trees f) (map raw_of q.trees) (λ is. like_first (raw_of r.first) x q.trees y r.head_is q.head_is
+            ∙ not_alike v x y apart is))
             (q.reads (fits_last (r.first ∷ r.rest) q.trees f)));
       }
 
@@ -333,7 +353,8 @@ root_single e (number_agrees numbered units) = refl
 root_single e (seq_agrees a) = absurd cc
 
 -- so it is read from its item alone
-alone_read : (s : Form) (k k' : List TagValue) (h : PendingTag) (w v : Value) (x : Head) (r : IsRead s k h w x v k') → is_run v ≡ false → AllByRecursion Fits (r.first ∷ r.rest) → Reads s k (raw_of r.first ∷ []) v k' []
+alone_read : (s : Form) (k k' : List TagValue) (h : PendingTag) (w v : Value) (x : Head) (r : IsRead s k h w x v k') → is_run v ≡ false
+    → AllByRecursion Fits (r.first ∷ r.rest) → Reads s k (raw_of r.first ∷ []) v k' []
 alone_read s k k' h w v x r single fits = one_read s k k' v r.first r.rest [] (r.alone single) single (λ f. r.reads f []) fits.0
 
 pub agreeing_is_written : AgreeingIsWritten

@@ -3,10 +3,12 @@ use Rattle.std.proofs.Common.{◌≡◌, ℕ, true, List, [], ◌∷◌, length,
 use Rattle.std.specs.List.{AllByRecursion}
 use Rattle.std.proofs.lemmas.List.{length-append}
 use Rattle.kmip_ttlv_types.specs.declared.typ.TtlvType.{TtlvType}
-use Rattle.kmip_ttlv_types.specs.declared.typ.TtlvType.TheVariants.{Structure, Integer, LongInteger, BigInteger, Enumeration, Boolean, TextString, ByteString, DateTime, Interval}
+use Rattle.kmip_ttlv_types.specs.declared.typ.TtlvType.TheVariants.{Structure, Integer, LongInteger, BigInteger, Enumeration, Boolean, TextString, ByteString}
+use Rattle.kmip_ttlv_types.specs.declared.typ.TtlvType.TheVariants.{DateTime, Interval}
 use Rattle.kmip_ttlv_types.specs.Leaves.{is_valid}
 use Rattle.kmip_ttlv_types.specs.Items.{IsTextOf}
-use Rattle.kmip_ttlv_types.specs.Trees.{Tree, leaf, node, Trees, no_trees, tree, bytes, bytes_below, bytes_all, raw_of, leaf_bytes, node_bytes, Fits, FitsBelow, IsTreeText, AreTreeTexts}
+use Rattle.kmip_ttlv_types.specs.Trees.{Tree, leaf, node, Trees, no_trees, tree, bytes, bytes_below, bytes_all, raw_of, leaf_bytes, node_bytes, Fits, FitsBelow}
+use Rattle.kmip_ttlv_types.specs.Trees.{IsTreeText, AreTreeTexts}
 use Rattle.kmip_ttlv_ser.specs.declared.pending.PendingTag.TheVariants.{Nothing}
 use Rattle.kmip_ttlv_ser.specs.Sizes.{FitsAfter}
 use Rattle.kmip_ttlv_laws.specs.ReadingLaws.{CanonicalIsText, ReadingTrees, WrittenIsWellFormed}
@@ -65,48 +67,55 @@ written_is_well_formed v n written ts w is utf8 =
 -- ---- trees that have an encoding
 
 -- canonical bytes are as long as any encoding
-leaf_length : (tag : ℕ) (typ : TtlvType) (content a : List ℕ) → IsContent Utf8 typ content → IsTextOf record { tag = tag; typ = typ; content = content } a → length (leaf_bytes tag typ content) ≡ length a
+leaf_length : (tag : ℕ) (typ : TtlvType) (content a : List ℕ) → IsContent Utf8 typ content → IsTextOf record { tag = tag; typ = typ; content = content } a
+    → length (leaf_bytes tag typ content) ≡ length a
 leaf_length tag typ content a m t =
     let p = text_of_tree Utf8 (leaf tag typ content) (t.tag_fits, m) t.length_fits in
     omega (arith, ap length p.parts, ap length t.parts, length-append content p.pad, length-append content t.pad, p.pad_length, t.pad_length)
 
-node_length : (tag : ℕ) (content c a : List ℕ) → length content ≡ length c → IsTextOf record { tag = tag; typ = Structure; content = c } a → length (node_bytes tag content) ≡ length a
+node_length : (tag : ℕ) (content c a : List ℕ) → length content ≡ length c → IsTextOf record { tag = tag; typ = Structure; content = c } a
+    → length (node_bytes tag content) ≡ length a
 unfolding node_bytes
 node_length tag content c a e t = omega (arith, e, ap length t.parts, length-append c t.pad, t.pad_length)
 
 -- a tree that has an encoding is made of what fits, and its canonical bytes are as long
-record StoredValue (t : Tree) (a : List ℕ) : Type 0 where
+record HasCanonical (t : Tree) (a : List ℕ) : Type 0 where
   made : IsMade Utf8 t
   fits : Fits t
   long : length (bytes t) ≡ length a
 
-record KeptBelow (ts : Trees) (a : List ℕ) : Type 0 where
+record HaveCanonical (ts : Trees) (a : List ℕ) : Type 0 where
   made : AreMade Utf8 ts
   fits : FitsBelow ts
   long : length (bytes_below ts) ≡ length a
 
 mutual
-  kept_of : (t : Tree) (a : List ℕ) → IsTreeText t a → StoredValue t a
-  kept_of (leaf tag typ content) a h =
+  canonical_of : (t : Tree) (a : List ℕ) → IsTreeText t a → HasCanonical t a
+  canonical_of (leaf tag typ content) a h =
       let m = content_of typ content h.0 in
       record { made = (h.1.tag_fits, m); fits = h.1.length_fits; long = leaf_length tag typ content a m h.1 }
-  kept_of (node tag below) a h =
-      let k = kept_below below h.0 h.2 in
+  canonical_of (node tag below) a h =
+      let k = canonical_below below h.0 h.2 in
       record { made = (h.1.tag_fits, k.made); fits = (rw k.long h.1.length_fits, k.fits); long = node_length tag (bytes_below below) h.0 a k.long h.1 }
 
-  kept_below : (ts : Trees) (a : List ℕ) → AreTreeTexts ts a → KeptBelow ts a
-  kept_below no_trees a h = record { made = tt; fits = tt; long = sym (ap length h) }
-  kept_below (tree t ts) a h =
-      let k = kept_of t h.0 h.3 in
-      let l = kept_below ts h.1 h.4 in
-      record { made = (k.made, l.made); fits = (k.fits, l.fits); long = omega (arith, ap length h.2, length-append h.0 h.1, length-append (bytes t) (bytes_below ts), k.long, l.long) }
+  canonical_below : (ts : Trees) (a : List ℕ) → AreTreeTexts ts a → HaveCanonical ts a
+  canonical_below no_trees a h = record { made = tt; fits = tt; long = sym (ap length h) }
+  canonical_below (tree t ts) a h =
+      let k = canonical_of t h.0 h.3 in
+      let l = canonical_below ts h.1 h.4 in
+      record {
+        made = (k.made, l.made);
+        fits = (k.fits, l.fits);
+        long =
+            omega (arith, ap length h.2, length-append h.0 h.1, length-append (bytes t) (bytes_below ts), k.long, l.long);
+      }
 
 pub canonical_is_text : CanonicalIsText
-canonical_is_text t a h = let k = kept_of t a h in (made_text t k.made k.fits, k.long)
+canonical_is_text t a h = let k = canonical_of t a h in (made_text t k.made k.fits, k.long)
 
 pub reading_trees : ReadingTrees
 reading_trees s t a after v root h =
-    let k = kept_of t a h in
+    let k = canonical_of t a h in
     let free = padding_of_trees_is_free s t a (bytes t) after [] v h (made_text t k.made k.fits) in
     let alone = begins_alone s (raw_of t) (bytes t) [] v root (text_of_tree Utf8 t k.made k.fits) in
     (λ g. alone.0 (free.0 g), λ r. free.1 (alone.1 r))

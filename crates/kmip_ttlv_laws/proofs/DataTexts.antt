@@ -14,7 +14,8 @@ values_texts f h [] = tt
 values_texts f h (b ∷ bs) = (h b, values_texts f h bs)
 
 -- the texts in one layer of data are UTF-8, if those of each data in it are
-layer_texts : {A B : Type 0} (f : B → Data A) → ((b : B) → TextsAreUtf8 (view (f b))) → (y : layer.Data-F A B) → TextsAreUtf8 (view_step (map-Data A (Data A) Value view (map-Data A B (Data A) f y)))
+layer_texts : {A B : Type 0} (f : B → Data A) → ((b : B) → TextsAreUtf8 (view (f b))) → (y : layer.Data-F A B)
+    → TextsAreUtf8 (view_step (map-Data A (Data A) Value view (map-Data A B (Data A) f y)))
 layer_texts f h (layer.Bool b) = tt
 layer_texts f h (layer.I8 z) = tt
 layer_texts f h (layer.I16 z) = tt

@@ -14,7 +14,8 @@ use Rattle.std.specs.Str.{bytes_eq}
 use Rattle.std.specs.Cmp.Lexicographic.{pointwise}
 use Rattle.kmip_ttlv_base.specs.Forms.{Form}
 use Rattle.kmip_ttlv_base.specs.Values.{Value, Values, struct_value, value, newtype_value, newtype_variant_value, unit_variant_value, values_of}
-use Rattle.kmip_ttlv_base.specs.Values.{big_integer_value, boolean_value, bytes_value, date_time_value, i32_value, i64_value, interval_value, text_value, u32_value}
+use Rattle.kmip_ttlv_base.specs.Values.{big_integer_value, boolean_value, bytes_value, date_time_value, i32_value, i64_value, interval_value, text_value}
+use Rattle.kmip_ttlv_base.specs.Values.{u32_value}
 use Rattle.kmip_ttlv_reader.specs.Reads.{is_root}
 use Rattle.kmip_ttlv_laws.specs.Agreements.{MessageAgrees}
 use Rattle.kmip_ttlv_laws.specs.Equal.{ReturnsEqual}
@@ -102,6 +103,11 @@ options_equal f g E equal None (Some y) e = absurd cc
 options_equal f g E equal (Some x) None e = absurd cc
 options_equal f g E equal (Some x) (Some y) e = let same : f x ≡ g y = cc in equal x y same
 
+-- the same of what has one value
+pub options_same : {T : Type 0} (f : T → Value) (E : T → T → Bool) → ReturnsEqual f f E → (x y : Option T) → optional f x ≡ optional f y
+    → option_eq E x y ≡ true
+options_same f = options_equal f f
+
 -- elements of a sequence
 sequences_equal :
     {T : Type 0} (f g : T → Value) (E : T → T → Bool)
@@ -169,7 +175,7 @@ found_same name rows found x y e =
     cc
 
 -- the name of the variant that a value is
-abbrev pub variant_of : Value → List ℕ
+abbrev variant_of : Value → List ℕ
 variant_of (newtype_variant_value own name v) = name
 variant_of v = []
 

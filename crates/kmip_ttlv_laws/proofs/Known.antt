@@ -1,33 +1,44 @@
 -- What is known of the texts that were kept, and what stays known: an item keeps no text under a tag that neither it nor a field in it has.
-use Rattle.std.proofs.Common.{◌≡◌, subst, ℕ, Bool as Boole, true, false, cond, List, [], ◌++◌, ◌∷◌, Some, None, Option, option_map, filter, refl, ap, sym, ◌∙◌, ◌==◌}
+use Rattle.std.proofs.Common.{◌≡◌, subst, ℕ, Bool as Boole, true, false, cond, List, [], ◌++◌, ◌∷◌, Some, None, Option, option_map, filter, refl, ap, sym, ◌∙◌}
+use Rattle.std.proofs.Common.{◌==◌}
 use Rattle.std.specs.Prelude.{◌&&◌, ◌||◌, not}
 use Rattle.std.specs.List.{last_or}
 use Rattle.std.proofs.lemmas.Bool.{and_parts, eq-eqb, eqb-true, false≢true, not-true, or_right}
 use Rattle.std.proofs.lemmas.Option.{none-some}
-use Rattle.kmip_ttlv_base.specs.Forms.{Form, struct, option, seq, newtype, enum, any_number, text as text_form, Fields, no_fields, field, Variants, no_variants, variant, Content, unit, wrapped, tuple}
+use Rattle.kmip_ttlv_base.specs.Forms.{Form, struct, option, seq, newtype, enum, any_number, text as text_form, Fields, no_fields, field, Variants, no_variants}
+use Rattle.kmip_ttlv_base.specs.Forms.{variant, Content, unit, wrapped, tuple}
 use Rattle.kmip_ttlv_base.specs.Values.{Value, Values, text_value, u32_value}
 use Rattle.kmip_ttlv_ser.specs.declared.pending.PendingTag.{PendingTag}
 use Rattle.kmip_ttlv_reader.specs.TagValues.{TagValue, last}
 use Rattle.kmip_ttlv_reader.specs.Reads.{has_tag, is_struct}
-use Rattle.kmip_ttlv_laws.specs.Agreements.{Head, Agrees, FieldsAgree, HasVariant, RunAgrees, absent_agrees, field_agrees, first_variant, inner_agrees, last_agrees, later_variant, leaf_agrees, newtype_agrees, next_agrees, no_field_agrees, nothing_agrees, number_agrees, option_agrees, rule_agrees, seq_agrees, struct_agrees, tuple_agrees, with_value}
+use Rattle.kmip_ttlv_laws.specs.Agreements.{Head, Agrees, FieldsAgree, HasVariant, RunAgrees, absent_agrees, field_agrees, first_variant, inner_agrees}
+use Rattle.kmip_ttlv_laws.specs.Agreements.{last_agrees, later_variant, leaf_agrees, newtype_agrees, next_agrees, no_field_agrees, nothing_agrees}
+use Rattle.kmip_ttlv_laws.specs.Agreements.{number_agrees, option_agrees, rule_agrees, seq_agrees, struct_agrees, tuple_agrees, with_value}
 
 -- ---- the last text of a tag
 
 found_last : (o : Option TagValue) (k : List TagValue) (r : TagValue) → last_or o (filter (λ q. q.tag == r.tag) (k ++ r ∷ [])) ≡ Some r
 found_last o [] r = rw (eq-eqb r.tag r.tag refl) refl
-found_last o (q ∷ k) r = elim (q.tag == r.tag) as (λ b. last_or o (cond b (q ∷ filter (λ p. p.tag == r.tag) (k ++ r ∷ [])) (filter (λ p. p.tag == r.tag) (k ++ r ∷ []))) ≡ Some r) [ true ↦ found_last (Some q) k r | false ↦ found_last o k r ]
+found_last o (q ∷ k) r = elim (q.tag == r.tag) as
+    (λ b. last_or o (cond b (q ∷ filter (λ p. p.tag == r.tag) (k ++ r ∷ [])) (filter (λ p. p.tag == r.tag) (k ++ r ∷ []))) ≡ Some r) [
+      | true ↦
+          found_last (Some q) k r
+      | false ↦ found_last o k r
+    ]
 
 -- the text that was kept last under a tag is the last
-pub last_kept : (k : List TagValue) (r : TagValue) → last (k ++ r ∷ []) r.tag ≡ Some r.text
-last_kept k r = ap (option_map (λ q. q.text)) (found_last None k r)
+last_stored : (k : List TagValue) (r : TagValue) → last (k ++ r ∷ []) r.tag ≡ Some r.text
+last_stored k r = ap (option_map (λ q. q.text)) (found_last None k r)
 
-skips : (o : Option TagValue) (k : List TagValue) (r : TagValue) (t : ℕ) → (r.tag == t) ≡ false → last_or o (filter (λ q. q.tag == t) (k ++ r ∷ [])) ≡ last_or o (filter (λ q. q.tag == t) k)
+skips : (o : Option TagValue) (k : List TagValue) (r : TagValue) (t : ℕ) → (r.tag == t) ≡ false → last_or o (filter (λ q. q.tag == t) (k ++ r ∷ [])) ≡ last_or o
+    (filter (λ q. q.tag == t) k)
 skips o [] r t other = rw other refl
-skips o (q ∷ k) r t other = elim (q.tag == t) as (λ b. last_or o (cond b (q ∷ filter (λ p. p.tag == t) (k ++ r ∷ [])) (filter (λ p. p.tag == t) (k ++ r ∷ []))) ≡ last_or o (cond b (q ∷ filter (λ p. p.tag == t) k) (filter (λ p. p.tag == t) k))) [ true ↦ skips (Some q) k r t other | false ↦ skips o k r t other ]
+skips o (q ∷ k) r t other = elim (q.tag == t) as (λ b. last_or o (cond b (q ∷ filter (λ p. p.tag == t) (k ++ r ∷ [])) (filter (λ p. p.tag == t) (k ++ r ∷ [])))
+    ≡ last_or o (cond b (q ∷ filter (λ p. p.tag == t) k) (filter (λ p. p.tag == t) k))) [ true ↦ skips (Some q) k r t other | false ↦ skips o k r t other ]
 
 -- and it still is after a text under another tag
-pub still_kept : (k : List TagValue) (r : TagValue) (t : ℕ) → (r.tag == t) ≡ false → last (k ++ r ∷ []) t ≡ last k t
-still_kept k r t other = ap (option_map (λ q. q.text)) (skips None k r t other)
+still_stored : (k : List TagValue) (r : TagValue) (t : ℕ) → (r.tag == t) ≡ false → last (k ++ r ∷ []) t ≡ last k t
+still_stored k r t other = ap (option_map (λ q. q.text)) (skips None k r t other)
 
 -- ---- what is known
 
@@ -50,11 +61,12 @@ pub finds_none : (k : List TagValue) → Finds [] k
 finds_none k t text e = absurd (none-some text e)
 
 -- a text that is kept is known
-pub finds_kept : (known : List Known) (k : List TagValue) (r : TagValue) → Finds known k → Finds (record { tag = r.tag; text = Some r.text } ∷ known) (k ++ r ∷ [])
-finds_kept known k r found t text =
+pub finds_stored : (known : List Known) (k : List TagValue) (r : TagValue) → Finds known k → Finds (record { tag = r.tag; text = Some r.text } ∷ known)
+    (k ++ r ∷ [])
+finds_stored known k r found t text =
     elim (r.tag == t) as (λ b. (r.tag == t) ≡ b → cond b (Some r.text) (said known t) ≡ Some text → last (k ++ r ∷ []) t ≡ Some text) [
-      | true ↦ λ same e. subst (λ u. last (k ++ r ∷ []) u ≡ Some text) (eqb-true r.tag t same) (last_kept k r ∙ e)
-      | false ↦ λ other e. still_kept k r t other ∙ found t text e
+      | true ↦ λ same e. subst (λ u. last (k ++ r ∷ []) u ≡ Some text) (eqb-true r.tag t same) (last_stored k r ∙ e)
+      | false ↦ λ other e. still_stored k r t other ∙ found t text e
     ] refl
 
 -- that nothing is known of a tag is true in any case
@@ -95,8 +107,8 @@ abbrev pub spares : ℕ → ℕ → Form → Boole
 spares t u s = (is_struct s || not (u == t)) && is_without t s
 
 leaf_spares : (s : Form) (u : ℕ) (w : Value) (k : List TagValue) (t : ℕ) → (is_struct s || not (u == t)) ≡ true → last (with_value s u w k) t ≡ last k t
-leaf_spares text_form u (text_value b) k t other = still_kept k _ t (not-true (u == t) other)
-leaf_spares any_number u (u32_value n) k t other = still_kept k _ t (not-true (u == t) other)
+leaf_spares text_form u (text_value b) k t other = still_stored k _ t (not-true (u == t) other)
+leaf_spares any_number u (u32_value n) k t other = still_stored k _ t (not-true (u == t) other)
 leaf_spares _ u w k t other = refl
 
 -- the variant that is chosen lacks the tag if each does
@@ -114,7 +126,8 @@ other_item false name u t named other =
     ] refl
 
 mutual
-  pub spared : {s : Form} {k k' : List TagValue} {h : PendingTag} {w v : Value} {x : Head} (t : ℕ) → Agrees s k h w x v k' → (is_struct s || not (x.tag == t)) ≡ true → is_without t s ≡ true → last k' t ≡ last k t
+  pub spared : {s : Form} {k k' : List TagValue} {h : PendingTag} {w v : Value} {x : Head} (t : ℕ) → Agrees s k h w x v k'
+      → (is_struct s || not (x.tag == t)) ≡ true → is_without t s ≡ true → last k' t ≡ last k t
   spared t (leaf_agrees {s = s} {k = k} {w = w} {t = u} pending c) other free = leaf_spares s u w k t other
   spared t (inner_agrees wraps a) other free = spared t a other free
   spared t (option_agrees {s = s} {x = x} a) other free = spared t a (or_right (is_struct s) (not (x.tag == t)) other) free
@@ -122,14 +135,17 @@ mutual
   spared t (struct_agrees tagged encloses a) other free = fields_spared t a free
   spared t (rule_agrees {s = s} {x = x} is at a) other free = spared t a (or_right (is_struct s) (not (x.tag == t)) other) (chosen_lacks t at free)
   spared t (tuple_agrees is at encloses a) other free = absurd (false≢true (chosen_lacks t at free))
-  spared t (number_agrees {k = k} {t = u} numbered units) other free = still_kept k _ t (not-true (u == t) other)
+  spared t (number_agrees {k = k} {t = u} numbered units) other free = still_stored k _ t (not-true (u == t) other)
   spared t (seq_agrees a) other free = run_spared t a other free
 
-  run_spared : {s : Form} {k k' : List TagValue} {h : PendingTag} {ws vs : Values} {x : Head} (t : ℕ) → RunAgrees s k h ws x vs k' → not (x.tag == t) ≡ true → is_without t s ≡ true → last k' t ≡ last k t
+  run_spared : {s : Form} {k k' : List TagValue} {h : PendingTag} {ws vs : Values} {x : Head} (t : ℕ) → RunAgrees s k h ws x vs k' → not (x.tag == t) ≡ true
+      → is_without t s ≡ true → last k' t ≡ last k t
   run_spared t (last_agrees {s = s} {x = x} a) other free = spared t a (or_right (is_struct s) (not (x.tag == t)) other) free
-  run_spared t (next_agrees {s = s} {x = x} a single b) other free = run_spared t b other free ∙ spared t a (or_right (is_struct s) (not (x.tag == t)) other) free
+  run_spared t (next_agrees {s = s} {x = x} a single b) other free = run_spared t b other free
+      ∙ spared t a (or_right (is_struct s) (not (x.tag == t)) other) free
 
-  fields_spared : {fs : Fields} {k k' : List TagValue} {ws vs : Values} {y : Option Head} (t : ℕ) → FieldsAgree fs k ws y vs k' → are_without t fs ≡ true → last k' t ≡ last k t
+  fields_spared : {fs : Fields} {k k' : List TagValue} {ws vs : Values} {y : Option Head} (t : ℕ) → FieldsAgree fs k ws y vs k' → are_without t fs ≡ true
+      → last k' t ≡ last k t
   fields_spared t no_field_agrees free = refl
   fields_spared t (nothing_agrees a) free = fields_spared t a free
   fields_spared t (absent_agrees {name = name} {s = s} {fs = fs} other a) free =
@@ -145,12 +161,15 @@ abbrev pub left : List Known → ℕ → Form → List Known
 left known u s = filter (λ r. spares r.tag u s) known
 
 -- of a tag that passes a test, what is known is among what passes
-said_left : (p : ℕ → Boole) (known : List Known) (t : ℕ) (text : List ℕ) → said (filter (λ r. p r.tag) known) t ≡ Some text → (p t ≡ true) × (said known t ≡ Some text)
+said_left : (p : ℕ → Boole) (known : List Known) (t : ℕ) (text : List ℕ) → said (filter (λ r. p r.tag) known) t ≡ Some text → (p t ≡ true)
+    × (said known t ≡ Some text)
 said_left p [] t text = λ e. absurd (none-some text e)
 said_left p (r ∷ known) t text =
-    elim (p r.tag) as (λ b. p r.tag ≡ b → said (cond b (r ∷ filter (λ q. p q.tag) known) (filter (λ q. p q.tag) known)) t ≡ Some text → (p t ≡ true) × (cond (r.tag == t) r.text (said known t) ≡ Some text)) [
+    elim (p r.tag) as (λ b. p r.tag ≡ b → said (cond b (r ∷ filter (λ q. p q.tag) known) (filter (λ q. p q.tag) known)) t ≡ Some text → (p t ≡ true)
+    × (cond (r.tag == t) r.text (said known t) ≡ Some text)) [
       | true ↦ λ passes.
-          elim (r.tag == t) as (λ b. (r.tag == t) ≡ b → cond b r.text (said (filter (λ q. p q.tag) known) t) ≡ Some text → (p t ≡ true) × (cond b r.text (said known t) ≡ Some text)) [
+          elim (r.tag == t) as (λ b. (r.tag == t) ≡ b → cond b r.text (said (filter (λ q. p q.tag) known) t) ≡ Some text → (p t ≡ true)
+          × (cond b r.text (said known t) ≡ Some text)) [
             | true ↦ λ same e. (sym (ap p (eqb-true r.tag t same)) ∙ passes, e)
             | false ↦ λ differ e. said_left p known t text e
           ] refl
@@ -167,7 +186,8 @@ pub finds_less : (known : List Known) (k : List TagValue) (u : ℕ) (s : Form) �
 finds_less known k u s found t text e = found t text (said_left (λ r. spares r u s) known t text e).1
 
 -- after an item that agrees with its form
-pub finds_left : (known : List Known) {s : Form} {k k' : List TagValue} {h : PendingTag} {w v : Value} {x : Head} → Agrees s k h w x v k' → Finds known k → Finds (left known x.tag s) k'
+pub finds_left : (known : List Known) {s : Form} {k k' : List TagValue} {h : PendingTag} {w v : Value} {x : Head} → Agrees s k h w x v k' → Finds known k
+    → Finds (left known x.tag s) k'
 finds_left known {s} {x = x} a found t text e =
     let both = said_left (λ r. spares r x.tag s) known t text e in
     let parts = and_parts (is_struct s || not (x.tag == t)) (is_without t s) both.0 in

@@ -13,7 +13,8 @@ use Rattle.kmip_ttlv_base.specs.Forms.{Content, Form, Variants}
 use Rattle.kmip_ttlv_base.specs.Values.{Value}
 use Rattle.kmip_ttlv_types.proofs.PlaceLemmas.{code_one}
 use Rattle.kmip_ttlv_reader.specs.TagValues.{TagValue}
-use Rattle.kmip_ttlv_reader.specs.Reads.{Reads, ReadsContent, ReadsVariant, by_number, by_rule, here, leaf, parts, run, structure, there, whole, wrap, wrap_some}
+use Rattle.kmip_ttlv_reader.specs.Reads.{Reads, ReadsContent, ReadsVariant, by_number, by_rule, here, leaf, parts, run, structure, there, whole, wrap}
+use Rattle.kmip_ttlv_reader.specs.Reads.{wrap_some}
 use Rattle.kmip_ttlv_laws.specs.ReadingLaws.{PaddingIsRequired, PaddingOfRootsIsRequired}
 use Rattle.kmip_ttlv_laws.specs.Padding.{LacksPadding}
 use Rattle.kmip_ttlv_laws.proofs.Roots.{one_item, root_of_begins, text_length}
@@ -36,15 +37,19 @@ headers_same m n t u i j a b e = sym (take_at (header m t i) a 8 refl) ∙ ap (t
 -- what lacks padding doesn't begin with a whole item
 not_whole : (x z : Raw) (a t rest : List ℕ) → LacksPadding x a → IsTextOf z t → a ≡ t ++ rest → ⊥
 not_whole x z a t rest l w e =
-    let split : header x.tag x.typ (length x.content) ++ (x.content ++ l.pad) ≡ header z.tag z.typ (length z.content) ++ ((z.content ++ w.pad) ++ rest) = sym l.parts ∙ e ∙ ap (λ (b : List ℕ). b ++ rest) w.parts in
+    let split : header x.tag x.typ (length x.content) ++ (x.content ++ l.pad) ≡ header z.tag z.typ (length z.content) ++ ((z.content ++ w.pad) ++ rest) =
+    sym l.parts ∙ e ∙ ap (λ (b : List ℕ). b ++ rest) w.parts in
     let heads = headers_same x.tag z.tag x.typ z.typ (length x.content) (length z.content) (x.content ++ l.pad) ((z.content ++ w.pad) ++ rest) split in
     let types : x.typ ≡ z.typ = header_typ x.tag z.tag x.typ z.typ (length x.content) (length z.content) heads in
-    let lengths : length x.content ≡ length z.content = header_length x.tag z.tag x.typ z.typ (length x.content) (length z.content) l.length_fits w.length_fits heads in
-    let pads : padding x.typ (length x.content) ≡ padding z.typ (length z.content) = ap (λ y. padding y (length x.content)) types ∙ ap (padding z.typ) lengths in
+    let lengths : length x.content ≡ length z.content = header_length x.tag z.tag x.typ z.typ (length x.content) (length z.content) l.length_fits
+    w.length_fits heads in
+    let pads : padding x.typ (length x.content) ≡ padding z.typ (length z.content) = ap (λ y. padding y (length x.content)) types
+    ∙ ap (padding z.typ) lengths in
     absurd (omega (arith, lacking_length x a l, text_length z t w, ap length e, length-append t rest, l.pad_short, pads, lengths))
 
 -- bytes that end in an item that lacks padding are no list of items
-not_split : (xs : List Raw) (x : Raw) (front back content : List ℕ) → content ≡ front ++ back → Splits xs front → LacksPadding x back → (zs : List Raw) → Splits zs content → ⊥
+not_split : (xs : List Raw) (x : Raw) (front back content : List ℕ) → content ≡ front ++ back → Splits xs front → LacksPadding x back → (zs : List Raw)
+    → Splits zs content → ⊥
 not_split [] x front back content e s l [] z = absurd (omega (arith, ap length e, ap length z, length-append front back, lacking_length x back l))
 not_split [] x front back content e s l (y ∷ ys) z = not_whole x y back z.0 z.1 l z.2 (sym (e ∙ ap (λ (b : List ℕ). b ++ back) s) ∙ z.3)
 not_split (w ∷ ws) x front back content e s l [] z = absurd (omega (arith, ap length e, ap length z, length-append front back, lacking_length x back l))
@@ -59,25 +64,31 @@ not_split (w ∷ ws) x front back content e s l (y ∷ ys) z =
 -- ---- what a form reads from a Structure is split
 
 mutual
-  split_of_reads : {s : Form} {k k' : List TagValue} {x : Raw} {xs ys : List Raw} {v : Value} → x.typ ≡ Structure → Reads s k (x ∷ xs) v k' ys → (zs : List Raw) × Splits zs x.content
-  split_of_reads e (leaf {h = h} t v) = absurd (let none : is_valid Structure h.content ≡ true = subst (λ (y : TtlvType). is_valid y h.content ≡ true) e v in cc)
+  split_of_reads : {s : Form} {k k' : List TagValue} {x : Raw} {xs ys : List Raw} {v : Value} → x.typ ≡ Structure → Reads s k (x ∷ xs) v k' ys → (zs : List Raw)
+      × Splits zs x.content
+  split_of_reads e (leaf {h = h} t v) = absurd (let none : is_valid Structure h.content ≡ true = subst (λ (y : TtlvType). is_valid y h.content ≡ true) e v in
+      cc)
   split_of_reads e (wrap_some r) = split_of_reads e r
   split_of_reads e (wrap r) = split_of_reads e r
   split_of_reads e (run r rs) = split_of_reads e r
   split_of_reads e (structure {zs = zs} n t z fs m) = (zs, z)
   split_of_reads e (by_rule c r) = split_of_variant e r
-  split_of_reads e (by_number {h = h} c t v f) = absurd (let none : is_valid Structure h.content ≡ true = subst (λ (y : TtlvType). is_valid y h.content ≡ true) e v in cc)
+  split_of_reads e (by_number {h = h} c t v f) = absurd (let none : is_valid Structure h.content ≡ true =
+      subst (λ (y : TtlvType). is_valid y h.content ≡ true) e v in cc)
 
-  split_of_variant : {name : List ℕ} {vs : Variants} {i : ℕ} {k k' : List TagValue} {x : Raw} {xs ys : List Raw} {v : Value} → x.typ ≡ Structure → ReadsVariant name vs i k (x ∷ xs) v k' ys → (zs : List Raw) × Splits zs x.content
+  split_of_variant : {name : List ℕ} {vs : Variants} {i : ℕ} {k k' : List TagValue} {x : Raw} {xs ys : List Raw} {v : Value} → x.typ ≡ Structure
+      → ReadsVariant name vs i k (x ∷ xs) v k' ys → (zs : List Raw) × Splits zs x.content
   split_of_variant e (here r) = split_of_content e r
   split_of_variant e (there r) = split_of_variant e r
 
-  split_of_content : {name vname : List ℕ} {c : Content} {k k' : List TagValue} {x : Raw} {xs ys : List Raw} {v : Value} → x.typ ≡ Structure → ReadsContent name vname c k (x ∷ xs) v k' ys → (zs : List Raw) × Splits zs x.content
+  split_of_content : {name vname : List ℕ} {c : Content} {k k' : List TagValue} {x : Raw} {xs ys : List Raw} {v : Value} → x.typ ≡ Structure
+      → ReadsContent name vname c k (x ∷ xs) v k' ys → (zs : List Raw) × Splits zs x.content
   split_of_content e (whole r) = split_of_reads e r
   split_of_content e (parts {zs = zs} t z r) = (zs, z)
 
 pub padding_is_required : PaddingIsRequired
-padding_is_required s k k' x xs ys v e r = let z = split_of_reads e.is_structure r in not_split e.whole e.lacking e.front e.back x.content e.parts e.are_whole e.lacks z.0 z.1
+padding_is_required s k k' x xs ys v e r = let z = split_of_reads e.is_structure r in
+    not_split e.whole e.lacking e.front e.back x.content e.parts e.are_whole e.lacks z.0 z.1
 
 pub padding_of_roots_is_required : PaddingOfRootsIsRequired
 padding_of_roots_is_required s x a after v t e g = let r = root_of_begins s x a after v t g in padding_is_required s [] r.stored x [] [] v e r.reads

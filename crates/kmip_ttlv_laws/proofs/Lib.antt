@@ -16,4 +16,4 @@ pub mod Agreeing
 pub mod Equal
 pub mod Rereads
 pub mod WorkedAgreements
-pub mod Telling
+pub mod Receiving

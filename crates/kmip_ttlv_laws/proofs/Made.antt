@@ -6,16 +6,20 @@ use Rattle.std.specs.List.{AllByRecursion}
 use Rattle.std.proofs.lemmas.Bool.{ltb-true}
 use Rattle.std.proofs.lemmas.List.{append-nil, length-replicate}
 use Rattle.kmip_ttlv_types.specs.declared.typ.TtlvType.{TtlvType}
-use Rattle.kmip_ttlv_types.specs.declared.typ.TtlvType.TheVariants.{Structure, Integer, LongInteger, BigInteger, Enumeration, Boolean, TextString, ByteString, DateTime, Interval}
+use Rattle.kmip_ttlv_types.specs.declared.typ.TtlvType.TheVariants.{Structure, Integer, LongInteger, BigInteger, Enumeration, Boolean, TextString, ByteString}
+use Rattle.kmip_ttlv_types.specs.declared.typ.TtlvType.TheVariants.{DateTime, Interval}
 use Rattle.kmip_ttlv_types.specs.ItemTypes.{pad_len, padding}
 use Rattle.kmip_ttlv_types.specs.Leaves.{is_valid}
 use Rattle.kmip_ttlv_types.specs.Items.{IsTextOf}
 use Rattle.kmip_ttlv_types.specs.Names.{tag_of, number, below_tag_limit, transparent_name, override_name}
 use Rattle.kmip_ttlv_types.specs.Trees.{Tree, leaf, node, Trees, no_trees, tree, trees_of, bytes, bytes_below, raw_of, leaf_bytes, node_bytes, Fits}
-use Rattle.kmip_ttlv_base.specs.Values.{Value, boolean_value, i8_value, i16_value, i32_value, u32_value, i64_value, u64_value, date_time_value, interval_value, text_value, bytes_value, big_integer_value, none_value, some_value, seq_value, struct_value, newtype_value, unit_variant_value, newtype_variant_value, tuple_variant_value, unsupported_value, Values, no_values, value}
+use Rattle.kmip_ttlv_base.specs.Values.{Value, boolean_value, i8_value, i16_value, i32_value, u32_value, i64_value, u64_value, date_time_value, interval_value}
+use Rattle.kmip_ttlv_base.specs.Values.{text_value, bytes_value, big_integer_value, none_value, some_value, seq_value, struct_value, newtype_value}
+use Rattle.kmip_ttlv_base.specs.Values.{unit_variant_value, newtype_variant_value, tuple_variant_value, unsupported_value, Values, no_values, value}
 use Rattle.kmip_ttlv_ser.specs.declared.pending.PendingTag.{PendingTag}
 use Rattle.kmip_ttlv_ser.specs.declared.pending.PendingTag.TheVariants.{Nothing, Plain, Overriding}
-use Rattle.kmip_ttlv_ser.specs.WrittenItems.{◌>>=◌, take_tag, one_leaf, one_node, one_structure, some_item, left_over, without_override, pending_after, enumeration, newtype_row, variant_row, is_wrapper, items, items_in}
+use Rattle.kmip_ttlv_ser.specs.WrittenItems.{◌>>=◌, take_tag, one_leaf, one_node, one_structure, some_item, left_over, without_override, pending_after}
+use Rattle.kmip_ttlv_ser.specs.WrittenItems.{enumeration, newtype_row, variant_row, is_wrapper, items, items_in}
 use Rattle.kmip_ttlv_laws.specs.Texts.{EachText, EachTextIn}
 
 -- content of a leaf of this type, whose texts satisfy P
@@ -37,7 +41,7 @@ abbrev pub AllMade : (List ℕ → Type 0) → List Tree → Type 0
 AllMade P ts = AllByRecursion (IsMade P) ts
 
 -- a held tag has three bytes
-abbrev pub TagFits : PendingTag → Type 0
+abbrev TagFits : PendingTag → Type 0
 TagFits Nothing = Unit {0}
 TagFits (Plain t) = t < 2 ^ 24
 TagFits (Overriding t) = t < 2 ^ 24
@@ -69,11 +73,13 @@ take_small : (w : PendingTag) (name : List ℕ) (t : ℕ) → TagFits w → take
 unfolding take_tag
 take_small Nothing name t f e = tag_small name t e
 take_small (Plain s) name t f e = absurd cc
-take_small (Overriding s) name t f e = let b = bind_some (tag_of name) (λ n. Some s) t e in let same : s ≡ t = let k = b.2 in cc in subst (λ m. m < 2 ^ 24) same f
+take_small (Overriding s) name t f e = let b = bind_some (tag_of name) (λ n. Some s) t e in let same : s ≡ t = let k = b.2 in cc in
+    subst (λ m. m < 2 ^ 24) same f
 
 -- ---- the rows of a value's items
 
-leaf_made : (P : List ℕ → Type 0) (w : PendingTag) (typ : TtlvType) (content : List ℕ) (ts : List Tree) → TagFits w → IsContent P typ content → one_leaf w typ content ≡ Some ts → AllMade P ts
+leaf_made : (P : List ℕ → Type 0) (w : PendingTag) (typ : TtlvType) (content : List ℕ) (ts : List Tree) → TagFits w → IsContent P typ content
+    → one_leaf w typ content ≡ Some ts → AllMade P ts
 leaf_made P Nothing typ content ts f c e = absurd cc
 leaf_made P (Plain t) typ content ts f c e = let same : leaf t typ content ∷ [] ≡ ts = cc in subst (AllMade P) same ((f, c), tt)
 leaf_made P (Overriding t) typ content ts f c e = let same : leaf t typ content ∷ [] ≡ ts = cc in subst (AllMade P) same ((f, c), tt)
@@ -82,11 +88,13 @@ pub below_made : (P : List ℕ → Type 0) (ts : List Tree) → AllMade P ts →
 below_made P [] h = tt
 below_made P (t ∷ ts) h = (h.0, below_made P ts h.1)
 
-node_made : (P : List ℕ → Type 0) (t : ℕ) (o : Option (List Tree)) (ts : List Tree) → t < 2 ^ 24 → ((us : List Tree) → o ≡ Some us → AllMade P us) → one_node t o ≡ Some ts → AllMade P ts
+node_made : (P : List ℕ → Type 0) (t : ℕ) (o : Option (List Tree)) (ts : List Tree) → t < 2 ^ 24 → ((us : List Tree) → o ≡ Some us → AllMade P us)
+    → one_node t o ≡ Some ts → AllMade P ts
 node_made P t None ts small h e = absurd cc
 node_made P t (Some us) ts small h e = let same : node t (trees_of us) ∷ [] ≡ ts = cc in subst (AllMade P) same ((small, below_made P us (h us refl)), tt)
 
-structure_made : (P : List ℕ → Type 0) (w : PendingTag) (name : List ℕ) (o : Option (List Tree)) (ts : List Tree) → TagFits w → ((us : List Tree) → o ≡ Some us → AllMade P us) → one_structure w name o ≡ Some ts → AllMade P ts
+structure_made : (P : List ℕ → Type 0) (w : PendingTag) (name : List ℕ) (o : Option (List Tree)) (ts : List Tree) → TagFits w
+    → ((us : List Tree) → o ≡ Some us → AllMade P us) → one_structure w name o ≡ Some ts → AllMade P ts
 structure_made P w name o ts f h e = let b = bind_some (take_tag w name) (λ t. one_node t o) ts e in node_made P b.0 o ts (take_small w name b.0 f b.1) h b.2
 
 some_item_same : (us ts : List Tree) → some_item us ≡ Some ts → us ≡ ts
@@ -95,32 +103,36 @@ some_item_same [] ts e = absurd cc
 some_item_same (u ∷ us) ts e = cc
 
 -- the items of a wrapper's content, under the tag that is then held
-wrapper_made : (P : List ℕ → Type 0) (inside : PendingTag → Option (List Tree)) (w : PendingTag) (ts : List Tree) → TagFits w → ((u : PendingTag) (us : List Tree) → TagFits u → inside u ≡ Some us → AllMade P us) → (inside w >>= some_item) ≡ Some ts → AllMade P ts
+wrapper_made : (P : List ℕ → Type 0) (inside : PendingTag → Option (List Tree)) (w : PendingTag) (ts : List Tree) → TagFits w
+    → ((u : PendingTag) (us : List Tree) → TagFits u → inside u ≡ Some us → AllMade P us) → (inside w >>= some_item) ≡ Some ts → AllMade P ts
 wrapper_made P inside w ts f h e = let b = bind_some (inside w) some_item ts e in subst (AllMade P) (some_item_same b.0 ts b.2) (h w b.0 f b.1)
 
-newtype_made : (P : List ℕ → Type 0) (o : Option (List ℕ)) (name : List ℕ) (w : PendingTag) (inside : PendingTag → Option (List Tree)) (ts : List Tree) → TagFits w → ((u : PendingTag) (us : List Tree) → TagFits u → inside u ≡ Some us → AllMade P us) → newtype_row o name w inside ≡ Some ts → AllMade P ts
+newtype_made : (P : List ℕ → Type 0) (o : Option (List ℕ)) (name : List ℕ) (w : PendingTag) (inside : PendingTag → Option (List Tree)) (ts : List Tree)
+    → TagFits w → ((u : PendingTag) (us : List Tree) → TagFits u → inside u ≡ Some us → AllMade P us) → newtype_row o name w inside ≡ Some ts → AllMade P ts
 newtype_made P None name w inside ts f h e = structure_made P w name (inside Nothing) ts f (λ us. h Nothing us tt) e
 newtype_made P (Some n) name w inside ts f h e =
     let b = bind_some (take_tag w n) (λ t. inside (Plain t) >>= some_item) ts e in
     wrapper_made P inside (Plain b.0) ts (take_small w n b.0 f b.1) h b.2
 
-held_over_fits : (w : PendingTag) (name : List ℕ) (t : ℕ) → t < 2 ^ 24 → TagFits (pending_after w name t)
+pending_after_fits : (w : PendingTag) (name : List ℕ) (t : ℕ) → t < 2 ^ 24 → TagFits (pending_after w name t)
 unfolding pending_after
-held_over_fits Nothing name t small = by_prefix (override_name name)
+pending_after_fits Nothing name t small = by_prefix (override_name name)
   where
     by_prefix : (o : Option (List ℕ)) → TagFits (elim o [ None ↦ Plain t | Some rest ↦ Overriding t ])
     by_prefix None = small
     by_prefix (Some rest) = small
-held_over_fits (Plain s) name t small = small
-held_over_fits (Overriding s) name t small = small
+pending_after_fits (Plain s) name t small = small
+pending_after_fits (Overriding s) name t small = small
 
-variant_made : (P : List ℕ → Type 0) (b : Bool) (name : List ℕ) (w : PendingTag) (inside : PendingTag → Option (List Tree)) (ts : List Tree) → TagFits w → ((u : PendingTag) (us : List Tree) → TagFits u → inside u ≡ Some us → AllMade P us) → variant_row b name w inside ≡ Some ts → AllMade P ts
+variant_made : (P : List ℕ → Type 0) (b : Bool) (name : List ℕ) (w : PendingTag) (inside : PendingTag → Option (List Tree)) (ts : List Tree) → TagFits w
+    → ((u : PendingTag) (us : List Tree) → TagFits u → inside u ≡ Some us → AllMade P us) → variant_row b name w inside ≡ Some ts → AllMade P ts
 variant_made P true name w inside ts f h e =
     let b = bind_some (take_tag w (without_override name)) (λ t. inside (pending_after w name t) >>= some_item) ts e in
-    wrapper_made P inside (pending_after w name b.0) ts (held_over_fits w name b.0 (take_small w (without_override name) b.0 f b.1)) h b.2
+    wrapper_made P inside (pending_after w name b.0) ts (pending_after_fits w name b.0 (take_small w (without_override name) b.0 f b.1)) h b.2
 variant_made P false name w inside ts f h e = structure_made P w (without_override (without_override name)) (inside Nothing) ts f (λ us. h Nothing us tt) e
 
-unit_made : (P : List ℕ → Type 0) (w : PendingTag) (name vname : List ℕ) (ts : List Tree) → TagFits w → (take_tag w name >>= λ t. enumeration t vname) ≡ Some ts → AllMade P ts
+unit_made : (P : List ℕ → Type 0) (w : PendingTag) (name vname : List ℕ) (ts : List Tree) → TagFits w → (take_tag w name >>= λ t. enumeration t vname) ≡ Some ts
+    → AllMade P ts
 unfolding enumeration
 unit_made P w name vname ts f e =
     let b = bind_some (take_tag w name) (λ t. enumeration t vname) ts e in
@@ -161,16 +173,19 @@ mutual
   items_made P (newtype_value name v) w ts h f e = newtype_made P (transparent_name name) name w (items v) ts f (λ u us. items_made P v u us h) e
   items_made P (unit_variant_value name vname) w ts h f e = unit_made P w name vname ts f e
   items_made P (newtype_variant_value name vname v) w ts h f e = variant_made P (is_wrapper vname) name w (items v) ts f (λ u us. items_made P v u us h) e
-  items_made P (tuple_variant_value name vname vs) w ts h f e = structure_made P w (without_override name) (items_in vs Nothing) ts f (λ us. items_in_made P vs Nothing us h tt) e
+  items_made P (tuple_variant_value name vname vs) w ts h f e = structure_made P w (without_override name) (items_in vs Nothing) ts f
+      (λ us. items_in_made P vs Nothing us h tt) e
   items_made P (unsupported_value name) w ts h f e = absurd cc
 
-  pub items_in_made : (P : List ℕ → Type 0) (vs : Values) (w : PendingTag) (ts : List Tree) → EachTextIn P vs → TagFits w → items_in vs w ≡ Some ts → AllMade P ts
+  pub items_in_made : (P : List ℕ → Type 0) (vs : Values) (w : PendingTag) (ts : List Tree) → EachTextIn P vs → TagFits w → items_in vs w ≡ Some ts
+      → AllMade P ts
   items_in_made P no_values w ts h f e = let same : [] ≡ ts = cc in subst (AllMade P) same tt
   items_in_made P (value v vs) w ts h f e =
       let a = bind_some (items v w) (λ first. items_in vs (left_over w first) >>= λ rest. Some (first ++ rest)) ts e in
       let b = bind_some (items_in vs (left_over w a.0)) (λ rest. Some (a.0 ++ rest)) ts a.2 in
       let same : a.0 ++ b.0 ≡ ts = let k = b.2 in cc in
-      subst (AllMade P) same (made_append P a.0 b.0 (items_made P v w a.0 h.0 f a.1) (items_in_made P vs (left_over w a.0) b.0 h.1 (left_over_fits w a.0 f) b.1))
+      subst (AllMade P) same (made_append P a.0 b.0 (items_made P v w a.0 h.0 f a.1)
+      (items_in_made P vs (left_over w a.0) b.0 h.1 (left_over_fits w a.0 f) b.1))
 
 -- no condition on texts
 abbrev pub Any : List ℕ → Type 0

@@ -1,7 +1,8 @@
 -- Structures whose parts agree with themselves, field by field: lemmas for a message type's own proof.
-use Rattle.std.proofs.Common.{◌≡◌, ◌<◌, ◌^◌, subst, FitsSigned, ℤ, ℕ, Bool as Boole, true, false, List, [], ◌++◌, ◌∷◌, Some, None, Option, option_map, map, length, ◌==◌, refl, sym, ap, ◌∙◌, arith, String, string_bytes}
+use Rattle.std.proofs.Common.{◌≡◌, ◌<◌, subst, FitsSigned, ℤ, ℕ, Bool as Boole, true, false, List, [], ◌++◌, ◌∷◌, Some, None, Option, option_map, map}
+use Rattle.std.proofs.Common.{length, ◌==◌, refl, sym, ap, ◌∙◌, arith, String, string_bytes}
 use Rattle.std.proofs.lemmas.Bool.{eqb-true, false≢true}
-use Rattle.std.specs.Prelude.{◌&&◌}
+use Rattle.std.specs.Prelude.{◌&&◌, ◌||◌}
 use Rattle.std.specs.List.{AllByRecursion}
 use Rattle.std.proofs.lemmas.List.Elements.{recursion_from_All}
 use Rattle.std.specs.Prelude.{◌%◌, All, IfSome}
@@ -13,7 +14,8 @@ use Rattle.std.proofs.lemmas.Int.{to_z-of_z}
 use Rattle.kmip_ttlv_types.specs.declared.typ.TtlvType.TheVariants.{Structure, Enumeration}
 use Rattle.kmip_ttlv_types.specs.Names.{number, transparent_name}
 use Rattle.kmip_ttlv_base.specs.Forms.{Form, big_integer, date_time, int32, int64, struct, option, newtype, enum, seq, Fields, no_fields, field, Variants}
-use Rattle.kmip_ttlv_base.specs.Values.{Value, big_integer_value, date_time_value, i32_value, i64_value, newtype_value, unit_variant_value, some_value, none_value, seq_value, struct_value, Values, no_values, value, values_of}
+use Rattle.kmip_ttlv_base.specs.Values.{Value, big_integer_value, date_time_value, i32_value, i64_value, newtype_value, unit_variant_value, some_value}
+use Rattle.kmip_ttlv_base.specs.Values.{none_value, seq_value, struct_value, Values, no_values, value, values_of}
 use Rattle.kmip_ttlv_base.specs.Visits.{joined, optional_field}
 use Rattle.kmip_ttlv_messages.specs.MessageParts.{by_bits, optional as read_optional, optional_sequence, sequence}
 use Rattle.kmip_ttlv_ser.specs.declared.pending.PendingTag.{PendingTag}
@@ -21,7 +23,10 @@ use Rattle.kmip_ttlv_ser.specs.declared.pending.PendingTag.TheVariants.{Nothing}
 use Rattle.kmip_ttlv_ser.specs.WrittenItems.{take_tag, pending_tag}
 use Rattle.kmip_ttlv_reader.specs.TagValues.{TagValue}
 use Rattle.kmip_ttlv_reader.specs.Reads.{has_tag}
-use Rattle.kmip_ttlv_laws.specs.Agreements.{Head, Agrees, FieldsAgree, IsNumbered, MessageAgrees, RunAgrees, Wraps, absent_agrees, field_agrees, inner_agrees, is_alike, is_named, is_field_of, is_run, goes_on, last_agrees, leaf_agrees, leaf_type, newtype_agrees, newtype_encloses, newtype_wraps, next_agrees, no_field_agrees, nothing_agrees, number_agrees, option_agrees, seq_agrees, struct_agrees, struct_encloses, unit_is_numbered}
+use Rattle.kmip_ttlv_laws.specs.Agreements.{Head, Agrees, FieldsAgree, IsNumbered, MessageAgrees, RunAgrees, Wraps, absent_agrees, field_agrees, inner_agrees}
+use Rattle.kmip_ttlv_laws.specs.Agreements.{is_alike, is_named, is_field_of, is_run, goes_on, last_agrees, leaf_agrees, leaf_type, newtype_agrees}
+use Rattle.kmip_ttlv_laws.specs.Agreements.{newtype_encodes, newtype_wraps, next_agrees, no_field_agrees, nothing_agrees, number_agrees, option_agrees}
+use Rattle.kmip_ttlv_laws.specs.Agreements.{seq_agrees, struct_agrees, struct_encodes, unit_is_numbered}
 use Rattle.kmip_ttlv_laws.proofs.Known.{Finds, Known, finds_left, finds_less, finds_none, left}
 use Rattle.kmip_ttlv_laws.specs.Returns.{ComesBack, as_big_integer, as_date_time, as_int32, as_int64, NamesUnit, text_of_number}
 
@@ -48,7 +53,9 @@ pub ends : (v : Value) (x : Head) (y : Option Head) → is_run v ≡ false → g
 ends v x y single = rw single refl
 
 -- a field: what follows doesn't continue it, and after it is known what it leaves
-pub field_then : {known : List Known} {name : List ℕ} {s : Form} {fs : Fields} {w v : Value} {ws vs : Values} {x : Head} {y : Option Head} → is_field_of name s x ≡ true → goes_on v x y ≡ false → PartAgrees s w x v → PartsAgree (left known x.tag s) fs ws y vs → PartsAgree known (field name s fs) (value w ws) (Some x) (value v vs)
+pub field_then : {known : List Known} {name : List ℕ} {s : Form} {fs : Fields} {w v : Value} {ws vs : Values} {x : Head} {y : Option Head}
+    → is_field_of name s x ≡ true → goes_on v x y ≡ false → PartAgrees s w x v → PartsAgree (left known x.tag s) fs ws y vs
+    → PartsAgree known (field name s fs) (value w ws) (Some x) (value v vs)
 field_then {known} named apart p rest =
     record {
       stored = λ k. rest.stored (p.stored k);
@@ -56,38 +63,60 @@ field_then {known} named apart p rest =
     }
 
 -- a field that is no sequence
-pub part_then : {known : List Known} {name : List ℕ} {s : Form} {fs : Fields} {w v : Value} {ws vs : Values} {x : Head} {y : Option Head} → is_field_of name s x ≡ true → is_run v ≡ false → PartAgrees s w x v → PartsAgree (left known x.tag s) fs ws y vs → PartsAgree known (field name s fs) (value w ws) (Some x) (value v vs)
+pub part_then : {known : List Known} {name : List ℕ} {s : Form} {fs : Fields} {w v : Value} {ws vs : Values} {x : Head} {y : Option Head}
+    → is_field_of name s x ≡ true → is_run v ≡ false → PartAgrees s w x v → PartsAgree (left known x.tag s) fs ws y vs
+    → PartsAgree known (field name s fs) (value w ws) (Some x) (value v vs)
 part_then {v = v} {x = x} {y = y} named single p rest = field_then named (ends v x y single) p rest
 
 -- a leaf in a newtype of the name `Transparent:TAG`, in the field of that tag
-pub leaf_then : {known : List Known} {name tag inner : List ℕ} {s : Form} {fs : Fields} {w v : Value} {ws vs : Values} {t : ℕ} {y : Option Head} → transparent_name name ≡ Some inner → take_tag Nothing inner ≡ Some t → is_field_of tag s record { tag = t; typ = leaf_type w } ≡ true → is_run v ≡ false → ComesBack s w v → PartsAgree (left known t (newtype name s)) fs ws y vs → PartsAgree known (field tag (newtype name s) fs) (value (newtype_value name w) ws) (Some record { tag = t; typ = leaf_type w }) (value (newtype_value name v) vs)
-leaf_then wraps takes named single back rest = part_then named single record { stored = _; agrees = λ k. newtype_agrees (inner_agrees (newtype_wraps wraps takes) (leaf_agrees refl back)) } rest
+pub leaf_then : {known : List Known} {name tag inner : List ℕ} {s : Form} {fs : Fields} {w v : Value} {ws vs : Values} {t : ℕ} {y : Option Head}
+    → transparent_name name ≡ Some inner → take_tag Nothing inner ≡ Some t → is_field_of tag s record { tag = t; typ = leaf_type w } ≡ true → is_run v ≡ false
+    → ComesBack s w v → PartsAgree (left known t (newtype name s)) fs ws y vs → PartsAgree known (field tag (newtype name s) fs)
+    (value (newtype_value name w) ws) (Some record { tag = t; typ = leaf_type w }) (value (newtype_value name v) vs)
+leaf_then wraps takes named single back rest =
+    part_then named single record { stored = _; agrees = λ k. newtype_agrees (inner_agrees (newtype_wraps wraps takes) (leaf_agrees refl back)) } rest
 
 -- a unit by its number
-pub unit_agrees : {tag vname name : List ℕ} {vs : Variants} {t n : ℕ} → take_tag Nothing tag ≡ Some t → number vname ≡ Some n → text_of_number n ≡ name → (k : List TagValue) → NamesUnit vs k n → Agrees (enum tag vs) k Nothing (unit_variant_value tag vname) record { tag = t; typ = Enumeration } (unit_variant_value tag name) (k ++ record { tag = t; text = text_of_number n } ∷ [])
+pub unit_agrees : {tag vname name : List ℕ} {vs : Variants} {t n : ℕ} → take_tag Nothing tag ≡ Some t → number vname ≡ Some n → text_of_number n ≡ name
+    → (k : List TagValue) → NamesUnit vs k n → Agrees (enum tag vs) k Nothing (unit_variant_value tag vname) record { tag = t; typ = Enumeration }
+    (unit_variant_value tag name) (k ++ record { tag = t; text = text_of_number n } ∷ [])
 unit_agrees {tag} {vname} {name} {vs} {t} {n} takes numbered text k units =
-    let P : List ℕ → Type 0 = λ m. Agrees (enum tag vs) k Nothing (unit_variant_value tag vname) record { tag = t; typ = Enumeration } (unit_variant_value tag m) (k ++ record { tag = t; text = text_of_number n } ∷ []) in
+    let P : List ℕ → Type 0 = λ m. Agrees (enum tag vs) k Nothing (unit_variant_value tag vname) record { tag = t; typ = Enumeration }
+    (unit_variant_value tag m) (k ++ record { tag = t; text = text_of_number n } ∷ []) in
     subst P text (number_agrees (unit_is_numbered takes numbered) units)
 
 -- an Enumeration of one number
-pub constant_then : {known : List Known} {tag vname : List ℕ} {vs : Variants} {fs : Fields} {ws us : Values} {t n : ℕ} {y : Option Head} → take_tag Nothing tag ≡ Some t → number vname ≡ Some n → text_of_number n ≡ vname → has_tag tag t ≡ true → ((k : List TagValue) → NamesUnit vs k n) → PartsAgree (left known t (enum tag vs)) fs ws y us → PartsAgree known (field tag (enum tag vs) fs) (value (unit_variant_value tag vname) ws) (Some record { tag = t; typ = Enumeration }) (value (unit_variant_value tag vname) us)
-constant_then {t = t} {n = n} takes numbered text named units rest = part_then named refl record { stored = λ k. k ++ record { tag = t; text = text_of_number n } ∷ []; agrees = λ k. unit_agrees takes numbered text k (units k) } rest
+pub constant_then : {known : List Known} {tag vname : List ℕ} {vs : Variants} {fs : Fields} {ws us : Values} {t n : ℕ} {y : Option Head}
+    → take_tag Nothing tag ≡ Some t → number vname ≡ Some n → text_of_number n ≡ vname → has_tag tag t ≡ true → ((k : List TagValue) → NamesUnit vs k n)
+    → PartsAgree (left known t (enum tag vs)) fs ws y us → PartsAgree known (field tag (enum tag vs) fs) (value (unit_variant_value tag vname) ws)
+    (Some record { tag = t; typ = Enumeration }) (value (unit_variant_value tag vname) us)
+constant_then {t = t} {n = n} takes numbered text named units rest =
+    part_then named refl record {
+      stored = λ k. k ++ record { tag = t; text = text_of_number n } ∷ [];
+      agrees =
+          λ k. unit_agrees takes numbered text k (units k);
+    } rest
 
 -- what is true of fields where less is known
-where_more_is_known : {known : List Known} {fs : Fields} {ws vs : Values} {y : Option Head} (u : ℕ) (s : Form) → PartsAgree (left known u s) fs ws y vs → PartsAgree known fs ws y vs
+where_more_is_known : {known : List Known} {fs : Fields} {ws vs : Values} {y : Option Head} (u : ℕ) (s : Form) → PartsAgree (left known u s) fs ws y vs
+    → PartsAgree known fs ws y vs
 where_more_is_known {known} u s rest = record { stored = rest.stored; agrees = λ k found. rest.agrees k (finds_less known k u s found) }
 
 -- an option that is left out
-pub absent_then : {known : List Known} {name : List ℕ} {s : Form} {fs : Fields} {ws vs : Values} {y : Option Head} → is_named name y ≡ false → PartsAgree known fs ws y vs → PartsAgree known (field name (option s) fs) ws y (value none_value vs)
+pub absent_then : {known : List Known} {name : List ℕ} {s : Form} {fs : Fields} {ws vs : Values} {y : Option Head} → is_named name y ≡ false
+    → PartsAgree known fs ws y vs → PartsAgree known (field name (option s) fs) ws y (value none_value vs)
 absent_then other rest = record { stored = rest.stored; agrees = λ k found. absent_agrees other (rest.agrees k found) }
 
 -- an option that is there
-pub present_then : {known : List Known} {name : List ℕ} {s : Form} {fs : Fields} {w v : Value} {ws vs : Values} {x : Head} {y : Option Head} → is_field_of name (option s) x ≡ true → is_run v ≡ false → PartAgrees s w x v → PartsAgree (left known x.tag (option s)) fs ws y vs → PartsAgree known (field name (option s) fs) (value w ws) (Some x) (value (some_value v) vs)
+pub present_then : {known : List Known} {name : List ℕ} {s : Form} {fs : Fields} {w v : Value} {ws vs : Values} {x : Head} {y : Option Head}
+    → is_field_of name (option s) x ≡ true → is_run v ≡ false → PartAgrees s w x v → PartsAgree (left known x.tag (option s)) fs ws y vs
+    → PartsAgree known (field name (option s) fs) (value w ws) (Some x) (value (some_value v) vs)
 present_then named single p rest = part_then named single record { stored = p.stored; agrees = λ k. option_agrees (p.agrees k) } rest
 
 -- a structure of such fields
-pub structure : {name : List ℕ} {fs : Fields} {deny : Boole} {ws vs : Values} {t : ℕ} {y : Option Head} → has_tag name t ≡ true → take_tag Nothing name ≡ Some t → PartsAgree [] fs ws y vs → PartAgrees (struct name fs deny) (struct_value name ws) record { tag = t; typ = Structure } (struct_value name vs)
-structure named takes parts = record { stored = parts.stored; agrees = λ k. struct_agrees named (struct_encloses takes) (parts.agrees k (finds_none k)) }
+pub structure : {name : List ℕ} {fs : Fields} {deny : Boole} {ws vs : Values} {t : ℕ} {y : Option Head} → has_tag name t ≡ true → take_tag Nothing name ≡ Some t
+    → PartsAgree [] fs ws y vs → PartAgrees (struct name fs deny) (struct_value name ws) record { tag = t; typ = Structure } (struct_value name vs)
+structure named takes parts = record { stored = parts.stored; agrees = λ k. struct_agrees named (struct_encodes takes) (parts.agrees k (finds_none k)) }
 
 -- as a whole message
 pub message : {s : Form} {w v : Value} {x : Head} → PartAgrees s w x v → MessageAgrees s w v
@@ -126,16 +155,24 @@ as_date_time_by_bits z fits =
 -- ---- leaves, units and structures alone, as elements of a sequence and as the content of a variant
 
 -- a leaf in a newtype of the name `Transparent:TAG`
-pub leaf_part : {name inner : List ℕ} {s : Form} {w v : Value} {t : ℕ} → transparent_name name ≡ Some inner → take_tag Nothing inner ≡ Some t → ComesBack s w v → PartAgrees (newtype name s) (newtype_value name w) record { tag = t; typ = leaf_type w } (newtype_value name v)
+pub leaf_part : {name inner : List ℕ} {s : Form} {w v : Value} {t : ℕ} → transparent_name name ≡ Some inner → take_tag Nothing inner ≡ Some t → ComesBack s w v
+    → PartAgrees (newtype name s) (newtype_value name w) record { tag = t; typ = leaf_type w } (newtype_value name v)
 leaf_part wraps takes back = record { stored = _; agrees = λ k. newtype_agrees (inner_agrees (newtype_wraps wraps takes) (leaf_agrees refl back)) }
 
 -- a leaf that is encoded in a wrapper, and decoded without one
-pub wrapped_leaf : {s : Form} {w u v : Value} {h : PendingTag} {t : ℕ} → Wraps Nothing w h u → pending_tag h ≡ Some t → ComesBack s u v → PartAgrees s w record { tag = t; typ = leaf_type u } v
+pub wrapped_leaf : {s : Form} {w u v : Value} {h : PendingTag} {t : ℕ} → Wraps Nothing w h u → pending_tag h ≡ Some t → ComesBack s u v
+    → PartAgrees s w record { tag = t; typ = leaf_type u } v
 wrapped_leaf wraps pending back = record { stored = _; agrees = λ k. inner_agrees wraps (leaf_agrees pending back) }
 
 -- an Enumeration of several numbers, of which this is one
-pub unit_part : {tag vname : List ℕ} {vs : Variants} {t n : ℕ} → take_tag Nothing tag ≡ Some t → number vname ≡ Some n → text_of_number n ≡ vname → ((k : List TagValue) → NamesUnit vs k n) → PartAgrees (enum tag vs) (unit_variant_value tag vname) record { tag = t; typ = Enumeration } (unit_variant_value tag vname)
-unit_part {t = t} {n = n} takes numbered text units = record { stored = λ k. k ++ record { tag = t; text = text_of_number n } ∷ []; agrees = λ k. unit_agrees takes numbered text k (units k) }
+pub unit_part : {tag vname : List ℕ} {vs : Variants} {t n : ℕ} → take_tag Nothing tag ≡ Some t → number vname ≡ Some n → text_of_number n ≡ vname
+    → ((k : List TagValue) → NamesUnit vs k n) → PartAgrees (enum tag vs) (unit_variant_value tag vname) record { tag = t; typ = Enumeration }
+    (unit_variant_value tag vname)
+unit_part {t = t} {n = n} takes numbered text units = record {
+  stored = λ k. k ++ record { tag = t; text = text_of_number n } ∷ [];
+  agrees =
+      λ k. unit_agrees takes numbered text k (units k);
+}
 
 -- the number that a name of an Enumeration says: its text is the name, and it is a unit of these
 pub record IsUnit (vs : Variants) (name : List ℕ) : Type 0 where
@@ -145,18 +182,29 @@ pub record IsUnit (vs : Variants) (name : List ℕ) : Type 0 where
   pub units : (k : List TagValue) → NamesUnit vs k n
 
 -- an Enumeration of listed numbers
-pub enumeration_part : {tag name : List ℕ} {vs : Variants} {t : ℕ} → take_tag Nothing tag ≡ Some t → IsUnit vs name → PartAgrees (enum tag vs) (unit_variant_value tag name) record { tag = t; typ = Enumeration } (unit_variant_value tag name)
+pub enumeration_part : {tag name : List ℕ} {vs : Variants} {t : ℕ} → take_tag Nothing tag ≡ Some t → IsUnit vs name
+    → PartAgrees (enum tag vs) (unit_variant_value tag name) record { tag = t; typ = Enumeration } (unit_variant_value tag name)
 enumeration_part takes u = unit_part takes u.numbered u.text u.units
 
 -- one that is encoded in a wrapper, under any name, and decoded by an enum of another
-pub wrapped_unit : {own name : List ℕ} {vs : Variants} {w u : Value} {h : PendingTag} {t n : ℕ} → Wraps Nothing w h u → IsNumbered h u t n → text_of_number n ≡ name → ((k : List TagValue) → NamesUnit vs k n) → PartAgrees (enum own vs) w record { tag = t; typ = Enumeration } (unit_variant_value own name)
+pub wrapped_unit : {own name : List ℕ} {vs : Variants} {w u : Value} {h : PendingTag} {t n : ℕ} → Wraps Nothing w h u → IsNumbered h u t n
+    → text_of_number n ≡ name → ((k : List TagValue) → NamesUnit vs k n) → PartAgrees (enum own vs) w record { tag = t; typ = Enumeration }
+    (unit_variant_value own name)
 wrapped_unit {own} {name} {vs} {w} {u} {h} {t} {n} wraps numbered text units =
-    let P : List ℕ → List TagValue → Type 0 = λ m k. Agrees (enum own vs) k Nothing w record { tag = t; typ = Enumeration } (unit_variant_value own m) (k ++ record { tag = t; text = text_of_number n } ∷ []) in
-    record { stored = λ k. k ++ record { tag = t; text = text_of_number n } ∷ []; agrees = λ k. subst (λ m. P m k) text (inner_agrees wraps (number_agrees numbered (units k))) }
+    let P : List ℕ → List TagValue → Type 0 = λ m k. Agrees (enum own vs) k Nothing w record { tag = t; typ = Enumeration } (unit_variant_value own m)
+    (k ++ record { tag = t; text = text_of_number n } ∷ []) in
+    record {
+      stored = λ k. k ++ record { tag = t; text = text_of_number n } ∷ [];
+      agrees =
+          λ k. subst (λ m. P m k) text (inner_agrees wraps (number_agrees numbered (units k)));
+    }
 
 -- a structure that is encoded as a newtype which is no wrapper
-pub newtype_structure : {name : List ℕ} {fs : Fields} {deny : Boole} {w : Value} {vs : Values} {t : ℕ} {y : Option Head} → has_tag name t ≡ true → transparent_name name ≡ None → take_tag Nothing name ≡ Some t → PartsAgree [] fs (value w no_values) y vs → PartAgrees (struct name fs deny) (newtype_value name w) record { tag = t; typ = Structure } (struct_value name vs)
-newtype_structure named plain takes parts = record { stored = parts.stored; agrees = λ k. struct_agrees named (newtype_encloses plain takes) (parts.agrees k (finds_none k)) }
+pub newtype_structure : {name : List ℕ} {fs : Fields} {deny : Boole} {w : Value} {vs : Values} {t : ℕ} {y : Option Head} → has_tag name t ≡ true
+    → transparent_name name ≡ None → take_tag Nothing name ≡ Some t → PartsAgree [] fs (value w no_values) y vs
+    → PartAgrees (struct name fs deny) (newtype_value name w) record { tag = t; typ = Structure } (struct_value name vs)
+newtype_structure named plain takes parts =
+    record { stored = parts.stored; agrees = λ k. struct_agrees named (newtype_encodes plain takes) (parts.agrees k (finds_none k)) }
 
 -- ---- options, whether they are there or not
 
@@ -171,8 +219,37 @@ either_head P None there absent = absent
 either_head P (Some z) there absent = there
 
 -- a name that is neither head's
-pub neither_named : {T : Type 0} (name : List ℕ) (o : Option T) (x : Head) (y : Option Head) → is_named name (Some x) ≡ false → is_named name y ≡ false → is_named name (head_or o x y) ≡ false
+pub neither_named : {T : Type 0} (name : List ℕ) (o : Option T) (x : Head) (y : Option Head) → is_named name (Some x) ≡ false → is_named name y ≡ false
+    → is_named name (head_or o x y) ≡ false
 neither_named name o x y there absent = either_head (λ z. is_named name z ≡ false) o there absent
+
+-- what stands behind a part: the head of what comes first, if there is one, and which names the heads have that may come first
+pub record Behind : Type 0 where
+  pub head : Option Head
+  pub has : List ℕ → Boole
+  pub other : (name : List ℕ) → has name ≡ false → is_named name head ≡ false
+
+-- nothing
+abbrev pub nothing_behind : Behind
+nothing_behind = record { head = None; has = λ name. false; other = λ name none. refl }
+
+-- a part that is always there
+abbrev pub part_behind : Head → Behind
+part_behind x = record { head = Some x; has = λ name. is_named name (Some x); other = λ name none. none }
+
+neither : (a b : Boole) → (a || b) ≡ false → (a ≡ false) × (b ≡ false)
+neither true b e = absurd cc
+neither false b e = (refl, e)
+
+pub other_behind : {T : Type 0} (o : Option T) (x : Head) (b : Behind) (name : List ℕ) → (is_named name (Some x) || b.has name) ≡ false
+    → is_named name (head_or o x b.head) ≡ false
+other_behind o x b name none =
+    let both = neither (is_named name (Some x)) (b.has name) none in
+    neither_named name o x b.head both.0 (b.other name both.1)
+
+-- a part that may be absent, and what stands behind it
+abbrev pub option_behind : {T : Type 0} → Option T → Head → Behind → Behind
+option_behind o x b = record { head = head_or o x b.head; has = λ name. is_named name (Some x) || b.has name; other = other_behind o x b }
 
 -- what is there agrees
 abbrev pub PresentAgrees : {T : Type 0} → (T → Value) → (T → Value) → Form → Head → Option T → Type 0
@@ -180,24 +257,37 @@ PresentAgrees f g s x None = Unit {0}
 PresentAgrees f g s x (Some z) = PartAgrees s (f z) x (g z) × (is_run (g z) ≡ false)
 
 -- this follows from what is known of what is there
-pub if_present : {T : Type 0} {P : T → Type 0} {f g : T → Value} {s : Form} {x : Head} → ((t : T) → P t → PartAgrees s (f t) x (g t)) → ((t : T) → is_run (g t) ≡ false) → (o : Option T) → IfSome o P → PresentAgrees f g s x o
+pub if_present : {T : Type 0} {P : T → Type 0} {f g : T → Value} {s : Form} {x : Head} → ((t : T) → P t → PartAgrees s (f t) x (g t))
+    → ((t : T) → is_run (g t) ≡ false) → (o : Option T) → IfSome o P → PresentAgrees f g s x o
 if_present agrees single None is = tt
 if_present agrees single (Some t) is = (agrees t is, single t)
 
 -- the same where nothing has to be known
-pub present : {T : Type 0} {f g : T → Value} {s : Form} {x : Head} → ((t : T) → PartAgrees s (f t) x (g t)) → ((t : T) → is_run (g t) ≡ false) → (o : Option T) → PresentAgrees f g s x o
+pub present : {T : Type 0} {f g : T → Value} {s : Form} {x : Head} → ((t : T) → PartAgrees s (f t) x (g t)) → ((t : T) → is_run (g t) ≡ false) → (o : Option T)
+    → PresentAgrees f g s x o
 present agrees single None = tt
 present agrees single (Some t) = (agrees t, single t)
 
 -- the same where the head is by what is there
-pub present_as : {T : Type 0} {P : T → Type 0} {f g : T → Value} {s : Form} (h : Option T → Head) → ((t : T) → P t → PartAgrees s (f t) (h (Some t)) (g t)) → ((t : T) → is_run (g t) ≡ false) → (o : Option T) → IfSome o P → PresentAgrees f g s (h o) o
+pub present_as : {T : Type 0} {P : T → Type 0} {f g : T → Value} {s : Form} (h : Option T → Head) → ((t : T) → P t → PartAgrees s (f t) (h (Some t)) (g t))
+    → ((t : T) → is_run (g t) ≡ false) → (o : Option T) → IfSome o P → PresentAgrees f g s (h o) o
 present_as h agrees single None is = tt
 present_as h agrees single (Some t) is = (agrees t is, single t)
 
 -- an option, there or left out: the name is that of its own head, and not of the next
-pub optional_then : {T : Type 0} {known : List Known} {name : List ℕ} {s : Form} {fs : Fields} {ws vs : Values} {y : Option Head} (f g : T → Value) (x : Head) (o : Option T) → is_field_of name (option s) x ≡ true → is_named name y ≡ false → PresentAgrees f g s x o → PartsAgree (left known x.tag (option s)) fs ws y vs → PartsAgree known (field name (option s) fs) (joined (optional_field (option_map f o)) ws) (head_or o x y) (value (read_optional g o) vs)
+pub optional_then : {T : Type 0} {known : List Known} {name : List ℕ} {s : Form} {fs : Fields} {ws vs : Values} {y : Option Head} (f g : T → Value) (x : Head)
+    (o : Option T) → is_field_of name (option s) x ≡ true → is_named name y ≡ false → PresentAgrees f g s x o
+    → PartsAgree (left known x.tag (option s)) fs ws y vs → PartsAgree known (field name (option s) fs) (joined (optional_field (option_map f o)) ws)
+    (head_or o x y) (value (read_optional g o) vs)
 optional_then {s = s} f g x None named other p rest = absent_then other (where_more_is_known x.tag (option s) rest)
 optional_then f g x (Some z) named other p rest = present_then named p.1 p.0 rest
+
+-- the same where what is decoded is what was encoded
+pub optional_same_then : {T : Type 0} {known : List Known} {name : List ℕ} {s : Form} {fs : Fields} {ws vs : Values} {y : Option Head} (f : T → Value) (x : Head)
+    (o : Option T) → is_field_of name (option s) x ≡ true → is_named name y ≡ false → PresentAgrees f f s x o
+    → PartsAgree (left known x.tag (option s)) fs ws y vs → PartsAgree known (field name (option s) fs) (joined (optional_field (option_map f o)) ws)
+    (head_or o x y) (value (read_optional f o) vs)
+optional_same_then f = optional_then f f
 
 -- ---- sequences
 
@@ -206,7 +296,8 @@ none_alike true = refl
 none_alike false = refl
 
 -- what is last in a structure; it may be a sequence
-pub last_then : {known : List Known} {name : List ℕ} {s : Form} {w v : Value} {x : Head} → is_field_of name s x ≡ true → PartAgrees s w x v → PartsAgree known (field name s no_fields) (value w no_values) (Some x) (value v no_values)
+pub last_then : {known : List Known} {name : List ℕ} {s : Form} {w v : Value} {x : Head} → is_field_of name s x ≡ true → PartAgrees s w x v
+    → PartsAgree known (field name s no_fields) (value w no_values) (Some x) (value v no_values)
 last_then {v = v} named p = field_then named (none_alike (is_run v)) p nothing_left
 
 -- and a sequence ends before what isn't like its items
@@ -214,7 +305,9 @@ pub run_ends : (v : Value) (x : Head) (y : Option Head) → is_alike x y ≡ fal
 run_ends v x y other = rw other (none_alike (is_run v))
 
 -- a field that may be a sequence: what follows isn't like its items
-pub run_then : {known : List Known} {name : List ℕ} {s : Form} {fs : Fields} {w v : Value} {ws vs : Values} {x : Head} {y : Option Head} → is_field_of name s x ≡ true → is_alike x y ≡ false → PartAgrees s w x v → PartsAgree (left known x.tag s) fs ws y vs → PartsAgree known (field name s fs) (value w ws) (Some x) (value v vs)
+pub run_then : {known : List Known} {name : List ℕ} {s : Form} {fs : Fields} {w v : Value} {ws vs : Values} {x : Head} {y : Option Head}
+    → is_field_of name s x ≡ true → is_alike x y ≡ false → PartAgrees s w x v → PartsAgree (left known x.tag s) fs ws y vs
+    → PartsAgree known (field name s fs) (value w ws) (Some x) (value v vs)
 run_then {v = v} {x = x} {y = y} named other p rest = field_then named (run_ends v x y other) p rest
 
 -- each of these agrees, and none is a sequence itself
@@ -223,34 +316,40 @@ EachAgrees f g s x [] = Unit {0}
 EachAgrees f g s x (t ∷ ts) = PartAgrees s (f t) x (g t) × (is_run (g t) ≡ false) × EachAgrees f g s x ts
 
 -- this follows from what is known of each
-pub each_agrees : {T : Type 0} {P : T → Type 0} {f g : T → Value} {s : Form} {x : Head} → ((t : T) → P t → PartAgrees s (f t) x (g t)) → ((t : T) → is_run (g t) ≡ false) → (ts : List T) → AllByRecursion P ts → EachAgrees f g s x ts
+pub each_agrees : {T : Type 0} {P : T → Type 0} {f g : T → Value} {s : Form} {x : Head} → ((t : T) → P t → PartAgrees s (f t) x (g t))
+    → ((t : T) → is_run (g t) ≡ false) → (ts : List T) → AllByRecursion P ts → EachAgrees f g s x ts
 each_agrees agrees single [] all = tt
 each_agrees agrees single (t ∷ ts) all = (agrees t all.0, single t, each_agrees agrees single ts all.1)
 
 -- the same of what is known of each by its place
-pub every_agrees : {T : Type 0} {P : T → Type 0} {f g : T → Value} {s : Form} {x : Head} → ((t : T) → P t → PartAgrees s (f t) x (g t)) → ((t : T) → is_run (g t) ≡ false) → (ts : List T) → All P ts → EachAgrees f g s x ts
+pub every_agrees : {T : Type 0} {P : T → Type 0} {f g : T → Value} {s : Form} {x : Head} → ((t : T) → P t → PartAgrees s (f t) x (g t))
+    → ((t : T) → is_run (g t) ≡ false) → (ts : List T) → All P ts → EachAgrees f g s x ts
 every_agrees {P = P} agrees single ts all = each_agrees agrees single ts (recursion_from_All P ts all)
 
 -- the same where nothing has to be known
-pub all_agree : {T : Type 0} {f g : T → Value} {s : Form} {x : Head} → ((t : T) → PartAgrees s (f t) x (g t)) → ((t : T) → is_run (g t) ≡ false) → (ts : List T) → EachAgrees f g s x ts
+pub all_agree : {T : Type 0} {f g : T → Value} {s : Form} {x : Head} → ((t : T) → PartAgrees s (f t) x (g t)) → ((t : T) → is_run (g t) ≡ false) → (ts : List T)
+    → EachAgrees f g s x ts
 all_agree agrees single [] = tt
 all_agree agrees single (t ∷ ts) = (agrees t, single t, all_agree agrees single ts)
 
 -- what is kept after one or more of them
-abbrev pub run_kept : {T : Type 0} (f g : T → Value) (s : Form) (x : Head) (t : T) (ts : List T) → EachAgrees f g s x (t ∷ ts) → List TagValue → List TagValue
-run_kept f g s x t [] e k = e.0.stored k
-run_kept f g s x t (u ∷ us) e k = run_kept f g s x u us e.2 (e.0.stored k)
+abbrev pub run_stored : {T : Type 0} (f g : T → Value) (s : Form) (x : Head) (t : T) (ts : List T) → EachAgrees f g s x (t ∷ ts) → List TagValue → List TagValue
+run_stored f g s x t [] e k = e.0.stored k
+run_stored f g s x t (u ∷ us) e k = run_stored f g s x u us e.2 (e.0.stored k)
 
-run_agrees : {T : Type 0} (f g : T → Value) (s : Form) (x : Head) (t : T) (ts : List T) (e : EachAgrees f g s x (t ∷ ts)) (k : List TagValue) → RunAgrees s k Nothing (values_of (map f (t ∷ ts))) x (values_of (map g (t ∷ ts))) (run_kept f g s x t ts e k)
+run_agrees : {T : Type 0} (f g : T → Value) (s : Form) (x : Head) (t : T) (ts : List T) (e : EachAgrees f g s x (t ∷ ts)) (k : List TagValue)
+    → RunAgrees s k Nothing (values_of (map f (t ∷ ts))) x (values_of (map g (t ∷ ts))) (run_stored f g s x t ts e k)
 run_agrees f g s x t [] e k = last_agrees (e.0.agrees k)
 run_agrees f g s x t (u ∷ us) e k = next_agrees (e.0.agrees k) e.1 (run_agrees f g s x u us e.2 (e.0.stored k))
 
 -- a sequence of one or more of them
-pub sequence_agrees : {T : Type 0} (f g : T → Value) (s : Form) (x : Head) (t : T) (ts : List T) → EachAgrees f g s x (t ∷ ts) → PartAgrees (seq s) (seq_value (values_of (map f (t ∷ ts)))) x (seq_value (values_of (map g (t ∷ ts))))
-sequence_agrees f g s x t ts e = record { stored = run_kept f g s x t ts e; agrees = λ k. seq_agrees (run_agrees f g s x t ts e k) }
+pub sequence_agrees : {T : Type 0} (f g : T → Value) (s : Form) (x : Head) (t : T) (ts : List T) → EachAgrees f g s x (t ∷ ts)
+    → PartAgrees (seq s) (seq_value (values_of (map f (t ∷ ts)))) x (seq_value (values_of (map g (t ∷ ts))))
+sequence_agrees f g s x t ts e = record { stored = run_stored f g s x t ts e; agrees = λ k. seq_agrees (run_agrees f g s x t ts e k) }
 
 -- the same for a list that isn't empty
-pub sequence_part : {T : Type 0} {s : Form} {x : Head} (f g : T → Value) (ts : List T) → 0 < length ts → EachAgrees f g s x ts → PartAgrees (seq s) (sequence f ts) x (sequence g ts)
+pub sequence_part : {T : Type 0} {s : Form} {x : Head} (f g : T → Value) (ts : List T) → 0 < length ts → EachAgrees f g s x ts
+    → PartAgrees (seq s) (sequence f ts) x (sequence g ts)
 sequence_part f g [] some e = absurd (omega arith)
 sequence_part {s = s} {x = x} f g (t ∷ ts) some e = sequence_agrees f g s x t ts e
 
@@ -271,11 +370,17 @@ unlike name s x (Some z) named other = by_tag (z.tag == x.tag) refl
     by_tag true same = absurd (false≢true (sym other ∙ ap (has_tag name) (eqb-true z.tag x.tag same) ∙ named))
 
 -- a sequence of one or more, also the last part: the name is that of its items, and not of the next
-pub several_then : {T : Type 0} {known : List Known} {name : List ℕ} {s : Form} {fs : Fields} {ws vs : Values} {y : Option Head} (f g : T → Value) (x : Head) (ts : List T) → is_field_of name (seq s) x ≡ true → is_named name y ≡ false → 0 < length ts → EachAgrees f g s x ts → PartsAgree (left known x.tag (seq s)) fs ws y vs → PartsAgree known (field name (seq s) fs) (value (sequence f ts) ws) (Some x) (value (sequence g ts) vs)
-several_then {name = name} {s = s} {y = y} f g x ts named other filled each rest = run_then named (unlike name (seq s) x y named other) (sequence_part f g ts filled each) rest
+pub several_then : {T : Type 0} {known : List Known} {name : List ℕ} {s : Form} {fs : Fields} {ws vs : Values} {y : Option Head} (f g : T → Value) (x : Head)
+    (ts : List T) → is_field_of name (seq s) x ≡ true → is_named name y ≡ false → 0 < length ts → EachAgrees f g s x ts
+    → PartsAgree (left known x.tag (seq s)) fs ws y vs → PartsAgree known (field name (seq s) fs) (value (sequence f ts) ws) (Some x) (value (sequence g ts) vs)
+several_then {name = name} {s = s} {y = y} f g x ts named other filled each rest = run_then named (unlike name (seq s) x y named other)
+    (sequence_part f g ts filled each) rest
 
 -- a sequence that may be empty: the name is that of its items, and not of the next
-pub any_then : {T : Type 0} {known : List Known} {name : List ℕ} {s : Form} {fs : Fields} {ws vs : Values} {y : Option Head} (f g : T → Value) (x : Head) (ts : List T) → is_field_of name (option (seq s)) x ≡ true → is_named name y ≡ false → EachAgrees f g s x ts → PartsAgree (left known x.tag (option (seq s))) fs ws y vs → PartsAgree known (field name (option (seq s)) fs) (value (sequence f ts) ws) (head_or (first_of ts) x y) (value (optional_sequence g ts) vs)
+pub any_then : {T : Type 0} {known : List Known} {name : List ℕ} {s : Form} {fs : Fields} {ws vs : Values} {y : Option Head} (f g : T → Value) (x : Head)
+    (ts : List T) → is_field_of name (option (seq s)) x ≡ true → is_named name y ≡ false → EachAgrees f g s x ts
+    → PartsAgree (left known x.tag (option (seq s))) fs ws y vs → PartsAgree known (field name (option (seq s)) fs) (value (sequence f ts) ws)
+    (head_or (first_of ts) x y) (value (optional_sequence g ts) vs)
 any_then {s = s} f g x [] named other each rest =
     let absent = absent_then other (where_more_is_known x.tag (option (seq s)) rest) in
     record { stored = absent.stored; agrees = λ k found. nothing_agrees (absent.agrees k found) }

@@ -1,5 +1,6 @@
 -- Parts of messages that a rule chooses by the texts that were kept before, and parts that are kept for such rules.
-use Rattle.std.proofs.Common.{◌≡◌, ◌<◌, ◌^◌, subst, ℕ, Bool as Boole, true, false, List, [], ◌++◌, ◌∷◌, Some, None, Option, option_map, map, length, refl, sym, ◌∙◌, ◌==◌, arith}
+use Rattle.std.proofs.Common.{◌≡◌, ◌<◌, ◌^◌, subst, ℕ, Bool as Boole, true, false, List, [], ◌++◌, ◌∷◌, Some, None, Option, option_map, map, length, refl, sym}
+use Rattle.std.proofs.Common.{◌∙◌, ◌==◌, arith}
 use Rattle.std.specs.Option.{IsSomeAnd}
 use Rattle.std.specs.Prelude.{All, IfSome, ◌||◌, not}
 use Rattle.std.specs.List.{AllByRecursion}
@@ -11,7 +12,8 @@ use Rattle.kmip_ttlv_types.specs.declared.typ.TtlvType.TheVariants.{Structure, E
 use Rattle.kmip_ttlv_types.specs.declared.typ.TtlvType.{TtlvType}
 use Rattle.kmip_ttlv_types.specs.Names.{number, transparent_name}
 use Rattle.kmip_ttlv_base.specs.Forms.{Form, any_number, option, seq, text as text_form, struct, newtype, enum, wrapped, Fields, field, Variants}
-use Rattle.kmip_ttlv_base.specs.Values.{Value, some_value, u32_value, text_value, newtype_value, unit_variant_value, newtype_variant_value, struct_value, Values, value, values_of}
+use Rattle.kmip_ttlv_base.specs.Values.{Value, some_value, u32_value, text_value, newtype_value, unit_variant_value, newtype_variant_value, struct_value}
+use Rattle.kmip_ttlv_base.specs.Values.{Values, value, values_of}
 use Rattle.kmip_ttlv_base.specs.Visits.{joined}
 use Rattle.kmip_ttlv_base.specs.Visits as visits
 use Rattle.kmip_ttlv_messages.specs.MessageParts.{optional, optional_sequence, sequence}
@@ -21,9 +23,11 @@ use Rattle.kmip_ttlv_ser.specs.WrittenItems.{take_tag, pending_tag}
 use Rattle.kmip_ttlv_reader.specs.TagValues.{TagValue, last}
 use Rattle.kmip_ttlv_reader.specs.Reads.{is_struct}
 use Rattle.kmip_ttlv_reader.specs.Rules.{choice, chosen}
-use Rattle.kmip_ttlv_laws.specs.Agreements.{Head, Agrees, HasVariant, RunAgrees, Wraps, absent_agrees, field_agrees, inner_agrees, is_alike, is_field_of, is_named, is_run, last_agrees, leaf_agrees, leaf_type, newtype_agrees, newtype_encloses, newtype_wraps, next_agrees, nothing_agrees, option_agrees, rule_agrees, seq_agrees, struct_agrees, struct_encloses, unit_is_numbered}
+use Rattle.kmip_ttlv_laws.specs.Agreements.{Head, Agrees, HasVariant, RunAgrees, Wraps, absent_agrees, field_agrees, inner_agrees, is_alike, is_field_of}
+use Rattle.kmip_ttlv_laws.specs.Agreements.{is_named, is_run, last_agrees, leaf_agrees, leaf_type, newtype_agrees, newtype_encodes, newtype_wraps, next_agrees}
+use Rattle.kmip_ttlv_laws.specs.Agreements.{nothing_agrees, option_agrees, rule_agrees, seq_agrees, struct_agrees, struct_encodes, unit_is_numbered}
 use Rattle.kmip_ttlv_laws.specs.Returns.{ComesBack, IsNoneOf, as_number, as_text, NamesUnit, text_of_number}
-use Rattle.kmip_ttlv_laws.proofs.Known.{Known, finds_kept, finds_left, finds_less, finds_unknown, is_without, left, said, spared, spares}
+use Rattle.kmip_ttlv_laws.proofs.Known.{Known, finds_stored, finds_left, finds_less, finds_unknown, is_without, left, said, spared, spares}
 use Rattle.kmip_ttlv_laws.proofs.MessageParts.{IsUnit, PartAgrees, PartsAgree, ends, first_of, head_or, run_ends, unit_agrees, unlike, wrapped_unit}
 
 -- ---- what is kept
@@ -33,43 +37,60 @@ pub record PartKeeps (s : Form) (w : Value) (x : Head) (v : Value) (r : TagValue
   pub agrees : (k : List TagValue) → Agrees s k Nothing w x v (k ++ r ∷ [])
 
 -- a Text String in a newtype of the name `Transparent:TAG`
-pub text_kept : {name inner bytes : List ℕ} {t : ℕ} → transparent_name name ≡ Some inner → take_tag Nothing inner ≡ Some t → is_utf8 bytes ≡ true → PartKeeps (newtype name text_form) (newtype_value name (text_value bytes)) record { tag = t; typ = TextString } (newtype_value name (text_value bytes)) record { tag = t; text = bytes }
-text_kept wraps takes valid = record { agrees = λ k. newtype_agrees (inner_agrees (newtype_wraps wraps takes) (leaf_agrees refl (as_text valid))) }
+pub text_stored : {name inner bytes : List ℕ} {t : ℕ} → transparent_name name ≡ Some inner → take_tag Nothing inner ≡ Some t → is_utf8 bytes ≡ true
+    → PartKeeps (newtype name text_form) (newtype_value name (text_value bytes)) record { tag = t; typ = TextString } (newtype_value name (text_value bytes))
+    record { tag = t; text = bytes }
+text_stored wraps takes valid = record { agrees = λ k. newtype_agrees (inner_agrees (newtype_wraps wraps takes) (leaf_agrees refl (as_text valid))) }
 
 -- one that is decoded without its newtype
-pub wrapped_text_kept : {w : Value} {h : PendingTag} {bytes : List ℕ} {t : ℕ} → Wraps Nothing w h (text_value bytes) → pending_tag h ≡ Some t → is_utf8 bytes ≡ true → PartKeeps text_form w record { tag = t; typ = TextString } (text_value bytes) record { tag = t; text = bytes }
-wrapped_text_kept wraps pending valid = record { agrees = λ k. inner_agrees wraps (leaf_agrees pending (as_text valid)) }
+pub wrapped_text_stored : {w : Value} {h : PendingTag} {bytes : List ℕ} {t : ℕ} → Wraps Nothing w h (text_value bytes) → pending_tag h ≡ Some t
+    → is_utf8 bytes ≡ true → PartKeeps text_form w record { tag = t; typ = TextString } (text_value bytes) record { tag = t; text = bytes }
+wrapped_text_stored wraps pending valid = record { agrees = λ k. inner_agrees wraps (leaf_agrees pending (as_text valid)) }
 
 -- the number of an Enumeration of any number, in a newtype of the name `Transparent:TAG`
-pub number_kept : {name inner : List ℕ} {t n : ℕ} → transparent_name name ≡ Some inner → take_tag Nothing inner ≡ Some t → n < 2 ^ 32 → PartKeeps (newtype name any_number) (newtype_value name (u32_value n)) record { tag = t; typ = Enumeration } (newtype_value name (u32_value n)) record { tag = t; text = text_of_number n }
-number_kept wraps takes fits = record { agrees = λ k. newtype_agrees (inner_agrees (newtype_wraps wraps takes) (leaf_agrees refl (as_number fits))) }
+pub number_stored : {name inner : List ℕ} {t n : ℕ} → transparent_name name ≡ Some inner → take_tag Nothing inner ≡ Some t → n < 2 ^ 32
+    → PartKeeps (newtype name any_number) (newtype_value name (u32_value n)) record { tag = t; typ = Enumeration } (newtype_value name (u32_value n)) record
+    { tag = t; text = text_of_number n }
+number_stored wraps takes fits = record { agrees = λ k. newtype_agrees (inner_agrees (newtype_wraps wraps takes) (leaf_agrees refl (as_number fits))) }
 
 -- an Enumeration's number
-pub unit_kept : {tag vname : List ℕ} {vs : Variants} {t n : ℕ} → take_tag Nothing tag ≡ Some t → number vname ≡ Some n → text_of_number n ≡ vname → ((k : List TagValue) → NamesUnit vs k n) → PartKeeps (enum tag vs) (unit_variant_value tag vname) record { tag = t; typ = Enumeration } (unit_variant_value tag vname) record { tag = t; text = text_of_number n }
-unit_kept takes numbered text units = record { agrees = λ k. unit_agrees takes numbered text k (units k) }
+pub unit_stored : {tag vname : List ℕ} {vs : Variants} {t n : ℕ} → take_tag Nothing tag ≡ Some t → number vname ≡ Some n → text_of_number n ≡ vname
+    → ((k : List TagValue) → NamesUnit vs k n) → PartKeeps (enum tag vs) (unit_variant_value tag vname) record { tag = t; typ = Enumeration }
+    (unit_variant_value tag vname) record { tag = t; text = text_of_number n }
+unit_stored takes numbered text units = record { agrees = λ k. unit_agrees takes numbered text k (units k) }
 
 -- the name of an Enumeration, which is its number's text
-pub enumeration_kept : {tag name : List ℕ} {vs : Variants} {t : ℕ} → take_tag Nothing tag ≡ Some t → IsUnit vs name → PartKeeps (enum tag vs) (unit_variant_value tag name) record { tag = t; typ = Enumeration } (unit_variant_value tag name) record { tag = t; text = name }
-enumeration_kept {tag = tag} {name = name} {vs = vs} {t = t} takes u =
-    let P : List ℕ → Type 0 = λ m. PartKeeps (enum tag vs) (unit_variant_value tag name) record { tag = t; typ = Enumeration } (unit_variant_value tag name) record { tag = t; text = m } in
-    subst P u.text (unit_kept takes u.numbered u.text u.units)
+pub enumeration_stored : {tag name : List ℕ} {vs : Variants} {t : ℕ} → take_tag Nothing tag ≡ Some t → IsUnit vs name
+    → PartKeeps (enum tag vs) (unit_variant_value tag name) record { tag = t; typ = Enumeration } (unit_variant_value tag name) record { tag = t; text = name }
+enumeration_stored {tag = tag} {name = name} {vs = vs} {t = t} takes u =
+    let P : List ℕ → Type 0 = λ m. PartKeeps (enum tag vs) (unit_variant_value tag name) record { tag = t; typ = Enumeration } (unit_variant_value tag name)
+    record { tag = t; text = m } in
+    subst P u.text (unit_stored takes u.numbered u.text u.units)
 
 -- a field of which one text is kept, which rules of later fields see
-pub kept_then : {known : List Known} {name : List ℕ} {s : Form} {fs : Fields} {w v : Value} {ws vs : Values} {x : Head} {y : Option Head} {r : TagValue} → is_field_of name s x ≡ true → is_run v ≡ false → PartKeeps s w x v r → PartsAgree (record { tag = r.tag; text = Some r.text } ∷ known) fs ws y vs → PartsAgree known (field name s fs) (value w ws) (Some x) (value v vs)
-kept_then {known} {v = v} {x = x} {y = y} {r = r} named single p rest =
+pub stored_then : {known : List Known} {name : List ℕ} {s : Form} {fs : Fields} {w v : Value} {ws vs : Values} {x : Head} {y : Option Head} {r : TagValue}
+    → is_field_of name s x ≡ true → is_run v ≡ false → PartKeeps s w x v r → PartsAgree (record { tag = r.tag; text = Some r.text } ∷ known) fs ws y vs
+    → PartsAgree known (field name s fs) (value w ws) (Some x) (value v vs)
+stored_then {known} {v = v} {x = x} {y = y} {r = r} named single p rest =
     record {
       stored = λ k. rest.stored (k ++ r ∷ []);
-      agrees = λ k found. field_agrees named (ends v x y single) (p.agrees k) (rest.agrees (k ++ r ∷ []) (finds_kept known k r found));
+      agrees = λ k found. field_agrees named (ends v x y single) (p.agrees k) (rest.agrees (k ++ r ∷ []) (finds_stored known k r found));
     }
 
 -- one that may be absent: then nothing is known of its tag
-pub optional_kept_then : {T : Type 0} {P : T → Type 0} {known : List Known} {name : List ℕ} {s : Form} {fs : Fields} {ws vs : Values} {y : Option Head} (f g : T → Value) (x : Head) (text : T → List ℕ) (o : Option T) → is_field_of name (option s) x ≡ true → is_named name y ≡ false → ((t : T) → P t → PartKeeps s (f t) x (g t) record { tag = x.tag; text = text t }) → ((t : T) → is_run (g t) ≡ false) → IfSome o P → PartsAgree (record { tag = x.tag; text = option_map text o } ∷ known) fs ws y vs → PartsAgree known (field name (option s) fs) (joined (visits.optional_field (option_map f o)) ws) (head_or o x y) (value (optional g o) vs)
-optional_kept_then {known = known} f g x text None named other keeps single is rest = record { stored = rest.stored; agrees = λ k found. absent_agrees other (rest.agrees k (finds_unknown known k x.tag found)) }
-optional_kept_then {known = known} {y = y} f g x text (Some t) named other keeps single is rest =
+pub optional_stored_then : {T : Type 0} {P : T → Type 0} {known : List Known} {name : List ℕ} {s : Form} {fs : Fields} {ws vs : Values} {y : Option Head} (f g : T
+    → Value) (x : Head) (text : T → List ℕ) (o : Option T) → is_field_of name (option s) x ≡ true → is_named name y ≡ false
+    → ((t : T) → P t → PartKeeps s (f t) x (g t) record { tag = x.tag; text = text t }) → ((t : T) → is_run (g t) ≡ false) → IfSome o P
+    → PartsAgree (record { tag = x.tag; text = option_map text o } ∷ known) fs ws y vs
+    → PartsAgree known (field name (option s) fs) (joined (visits.optional_field (option_map f o)) ws) (head_or o x y) (value (optional g o) vs)
+optional_stored_then {known = known} f g x text None named other keeps single is rest =
+    record { stored = rest.stored; agrees = λ k found. absent_agrees other (rest.agrees k (finds_unknown known k x.tag found)) }
+optional_stored_then {known = known} {y = y} f g x text (Some t) named other keeps single is rest =
     let r : TagValue = record { tag = x.tag; text = text t } in
     record {
       stored = λ k. rest.stored (k ++ r ∷ []);
-      agrees = λ k found. field_agrees named (ends (some_value (g t)) x y (single t)) (option_agrees ((keeps t is).agrees k)) (rest.agrees (k ++ r ∷ []) (finds_kept known k r found));
+      agrees = λ k found. field_agrees named (ends (some_value (g t)) x y (single t)) (option_agrees ((keeps t is).agrees k))
+          (rest.agrees (k ++ r ∷ []) (finds_stored known k r found));
     }
 
 -- of what may be absent nothing has to be known
@@ -93,33 +114,50 @@ pub record PartAfter (tag : ℕ) (text : List ℕ) (s : Form) (w : Value) (x : H
   pub agrees : (k : List TagValue) → last k tag ≡ Some text → Agrees s k Nothing w x v (stored k)
 
 -- what a rule chooses by that text
-pub chosen_after : {tag : ℕ} {text : List ℕ} {s : Form} {own name : List ℕ} {vs : Variants} {i : ℕ} {w v : Value} {x : Head} → HasVariant vs i name (wrapped s) → ((k : List TagValue) → last k tag ≡ Some text → choice vs k x.typ ≡ chosen i) → PartAgrees s w x v → PartAfter tag text (enum own vs) w x (newtype_variant_value own name v)
+pub chosen_after : {tag : ℕ} {text : List ℕ} {s : Form} {own name : List ℕ} {vs : Variants} {i : ℕ} {w v : Value} {x : Head} → HasVariant vs i name (wrapped s)
+    → ((k : List TagValue) → last k tag ≡ Some text → choice vs k x.typ ≡ chosen i) → PartAgrees s w x v
+    → PartAfter tag text (enum own vs) w x (newtype_variant_value own name v)
 chosen_after at chooses p = record { stored = p.stored; agrees = λ k found. rule_agrees (chooses k found) at (p.agrees k) }
 
 -- a choice among what a rule chooses by that text
-pub chosen_twice : {tag : ℕ} {text : List ℕ} {s : Form} {own name : List ℕ} {vs : Variants} {i : ℕ} {w v : Value} {x : Head} → HasVariant vs i name (wrapped s) → ((k : List TagValue) → last k tag ≡ Some text → choice vs k x.typ ≡ chosen i) → PartAfter tag text s w x v → PartAfter tag text (enum own vs) w x (newtype_variant_value own name v)
+pub chosen_twice : {tag : ℕ} {text : List ℕ} {s : Form} {own name : List ℕ} {vs : Variants} {i : ℕ} {w v : Value} {x : Head} → HasVariant vs i name (wrapped s)
+    → ((k : List TagValue) → last k tag ≡ Some text → choice vs k x.typ ≡ chosen i) → PartAfter tag text s w x v
+    → PartAfter tag text (enum own vs) w x (newtype_variant_value own name v)
 chosen_twice at chooses p = record { stored = p.stored; agrees = λ k found. rule_agrees (chooses k found) at (p.agrees k found) }
 
 -- what a rule chooses by the item's type, whatever was kept
-pub chosen_by_type : {s : Form} {own name : List ℕ} {vs : Variants} {i : ℕ} {w v : Value} {x : Head} → HasVariant vs i name (wrapped s) → ((k : List TagValue) → choice vs k x.typ ≡ chosen i) → PartAgrees s w x v → PartAgrees (enum own vs) w x (newtype_variant_value own name v)
+pub chosen_by_type : {s : Form} {own name : List ℕ} {vs : Variants} {i : ℕ} {w v : Value} {x : Head} → HasVariant vs i name (wrapped s)
+    → ((k : List TagValue) → choice vs k x.typ ≡ chosen i) → PartAgrees s w x v → PartAgrees (enum own vs) w x (newtype_variant_value own name v)
 chosen_by_type at chooses p = record { stored = p.stored; agrees = λ k. rule_agrees (chooses k) at (p.agrees k) }
 
 -- a field that a rule chooses by a text that is known
-pub choice_then : {known : List Known} {tag : ℕ} {text : List ℕ} {name : List ℕ} {s : Form} {fs : Fields} {w v : Value} {ws vs : Values} {x : Head} {y : Option Head} → said known tag ≡ Some text → is_field_of name s x ≡ true → is_run v ≡ false → PartAfter tag text s w x v → PartsAgree (left known x.tag s) fs ws y vs → PartsAgree known (field name s fs) (value w ws) (Some x) (value v vs)
+pub choice_then : {known : List Known} {tag : ℕ} {text : List ℕ} {name : List ℕ} {s : Form} {fs : Fields} {w v : Value} {ws vs : Values} {x : Head}
+    {y : Option Head} → said known tag ≡ Some text → is_field_of name s x ≡ true → is_run v ≡ false → PartAfter tag text s w x v
+    → PartsAgree (left known x.tag s) fs ws y vs → PartsAgree known (field name s fs) (value w ws) (Some x) (value v vs)
 choice_then {known = all} {tag = tag} {text = text} {v = v} {x = x} {y = y} known named single p rest =
     record {
       stored = λ k. rest.stored (p.stored k);
-      agrees = λ k found. let a = p.agrees k (found tag text known) in field_agrees named (ends v x y single) a (rest.agrees (p.stored k) (finds_left all a found));
+      agrees = λ k found. let a = p.agrees k (found tag text known) in
+          field_agrees named (ends v x y single) a (rest.agrees (p.stored k) (finds_left all a found));
     }
 
 -- one that is chosen by a part that may be absent, where that is there
-pub choice_if_there_then : {S : Type 0} {C : S → Type 0} {known : List Known} {tag : ℕ} {name : List ℕ} {s : Form} {fs : Fields} {w v : Value} {ws vs : Values} {x : Head} {y : Option Head} (text : S → List ℕ) (m : Option S) → said known tag ≡ option_map text m → is_field_of name s x ≡ true → is_run v ≡ false → ((z : S) → C z → PartAfter tag (text z) s w x v) → IsSomeAnd m C → PartsAgree (left known x.tag s) fs ws y vs → PartsAgree known (field name s fs) (value w ws) (Some x) (value v vs)
+pub choice_if_there_then : {S : Type 0} {C : S → Type 0} {known : List Known} {tag : ℕ} {name : List ℕ} {s : Form} {fs : Fields} {w v : Value} {ws vs : Values}
+    {x : Head} {y : Option Head} (text : S → List ℕ) (m : Option S) → said known tag ≡ option_map text m → is_field_of name s x ≡ true → is_run v ≡ false
+    → ((z : S) → C z → PartAfter tag (text z) s w x v) → IsSomeAnd m C → PartsAgree (left known x.tag s) fs ws y vs
+    → PartsAgree known (field name s fs) (value w ws) (Some x) (value v vs)
 choice_if_there_then text None known named single agrees chooses rest = absurd chooses
 choice_if_there_then text (Some z) known named single agrees chooses rest = choice_then known named single (agrees z chooses) rest
 
 -- one that may be absent itself: if it is there, the other part is there, and chooses it
-pub optional_choice_then : {S T : Type 0} {C : S → T → Type 0} {P : T → Type 0} {known : List Known} {tag : ℕ} {name : List ℕ} {s : Form} {fs : Fields} {ws vs : Values} {y : Option Head} (f g : T → Value) (h : Option T → Head) (o : Option T) (text : S → List ℕ) (m : Option S) → said known tag ≡ option_map text m → is_field_of name (option s) (h o) ≡ true → is_named name y ≡ false → ((z : S) (t : T) → C z t → P t → PartAfter tag (text z) s (f t) (h (Some t)) (g t)) → ((t : T) → is_run (g t) ≡ false) → IfSome o (λ t. IsSomeAnd m (λ z. C z t)) → IfSome o P → PartsAgree (left known (h o).tag (option s)) fs ws y vs → PartsAgree known (field name (option s) fs) (joined (visits.optional_field (option_map f o)) ws) (head_or o (h o) y) (value (optional g o) vs)
-optional_choice_then {known = all} {s = s} f g h None text m known named other agrees single chooses is rest = record { stored = rest.stored; agrees = λ k found. absent_agrees other (rest.agrees k (finds_less all k (h None).tag (option s) found)) }
+pub optional_choice_then : {S T : Type 0} {C : S → T → Type 0} {P : T → Type 0} {known : List Known} {tag : ℕ} {name : List ℕ} {s : Form} {fs : Fields}
+    {ws vs : Values} {y : Option Head} (f g : T → Value) (h : Option T → Head) (o : Option T) (text : S → List ℕ) (m : Option S)
+    → said known tag ≡ option_map text m → is_field_of name (option s) (h o) ≡ true → is_named name y ≡ false
+    → ((z : S) (t : T) → C z t → P t → PartAfter tag (text z) s (f t) (h (Some t)) (g t)) → ((t : T) → is_run (g t) ≡ false)
+    → IfSome o (λ t. IsSomeAnd m (λ z. C z t)) → IfSome o P → PartsAgree (left known (h o).tag (option s)) fs ws y vs
+    → PartsAgree known (field name (option s) fs) (joined (visits.optional_field (option_map f o)) ws) (head_or o (h o) y) (value (optional g o) vs)
+optional_choice_then {known = all} {s = s} f g h None text m known named other agrees single chooses is rest =
+    record { stored = rest.stored; agrees = λ k found. absent_agrees other (rest.agrees k (finds_less all k (h None).tag (option s) found)) }
 optional_choice_then f g h (Some t) text None known named other agrees single chooses is rest = absurd chooses
 optional_choice_then f g h (Some t) text (Some z) known named other agrees single chooses is rest =
     let p = agrees z t chooses is in
@@ -137,17 +175,22 @@ abbrev pub EachAfter : {T : Type 0} → ℕ → List ℕ → (T → Value) → (
 EachAfter tag text f g s x [] = Unit {0}
 EachAfter tag text f g s x (t ∷ ts) = PartAfter tag text s (f t) x (g t) × (is_run (g t) ≡ false) × EachAfter tag text f g s x ts
 
-each_after : {T : Type 0} {C P : T → Type 0} {tag : ℕ} {text : List ℕ} {f g : T → Value} {s : Form} {x : Head} → ((t : T) → C t → P t → PartAfter tag text s (f t) x (g t)) → ((t : T) → is_run (g t) ≡ false) → (ts : List T) → AllByRecursion C ts → AllByRecursion P ts → EachAfter tag text f g s x ts
+each_after : {T : Type 0} {C P : T → Type 0} {tag : ℕ} {text : List ℕ} {f g : T → Value} {s : Form} {x : Head}
+    → ((t : T) → C t → P t → PartAfter tag text s (f t) x (g t)) → ((t : T) → is_run (g t) ≡ false) → (ts : List T) → AllByRecursion C ts → AllByRecursion P ts
+    → EachAfter tag text f g s x ts
 each_after agrees single [] chooses all = tt
 each_after agrees single (t ∷ ts) chooses all = (agrees t chooses.0 all.0, single t, each_after agrees single ts chooses.1 all.1)
 
 -- what is kept after one or more of them
-abbrev pub run_after_kept : {T : Type 0} (tag : ℕ) (text : List ℕ) (f g : T → Value) (s : Form) (x : Head) (t : T) (ts : List T) → EachAfter tag text f g s x (t ∷ ts) → List TagValue → List TagValue
-run_after_kept tag text f g s x t [] e k = e.0.stored k
-run_after_kept tag text f g s x t (u ∷ us) e k = run_after_kept tag text f g s x u us e.2 (e.0.stored k)
+abbrev pub run_after_stored : {T : Type 0} (tag : ℕ) (text : List ℕ) (f g : T → Value) (s : Form) (x : Head) (t : T) (ts : List T)
+    → EachAfter tag text f g s x (t ∷ ts) → List TagValue → List TagValue
+run_after_stored tag text f g s x t [] e k = e.0.stored k
+run_after_stored tag text f g s x t (u ∷ us) e k = run_after_stored tag text f g s x u us e.2 (e.0.stored k)
 
 -- none of them keeps another text under the tag
-run_after : {T : Type 0} (tag : ℕ) (text : List ℕ) (f g : T → Value) (s : Form) (x : Head) (t : T) (ts : List T) (e : EachAfter tag text f g s x (t ∷ ts)) (k : List TagValue) → spares tag x.tag s ≡ true → last k tag ≡ Some text → RunAgrees s k Nothing (values_of (map f (t ∷ ts))) x (values_of (map g (t ∷ ts))) (run_after_kept tag text f g s x t ts e k)
+run_after : {T : Type 0} (tag : ℕ) (text : List ℕ) (f g : T → Value) (s : Form) (x : Head) (t : T) (ts : List T) (e : EachAfter tag text f g s x (t ∷ ts))
+    (k : List TagValue) → spares tag x.tag s ≡ true → last k tag ≡ Some text → RunAgrees s k Nothing (values_of (map f (t ∷ ts))) x (values_of (map g (t ∷ ts)))
+    (run_after_stored tag text f g s x t ts e k)
 run_after tag text f g s x t [] e k spare found = last_agrees (e.0.agrees k found)
 run_after tag text f g s x t (u ∷ us) e k spare found =
     let first = e.0.agrees k found in
@@ -155,27 +198,41 @@ run_after tag text f g s x t (u ∷ us) e k spare found =
     next_agrees first e.1 (run_after tag text f g s x u us e.2 (e.0.stored k) spare (spared tag first parts.0 parts.1 ∙ found))
 
 -- a sequence of one or more that are chosen by a text that is known
-sequence_after : {T : Type 0} {C P : T → Type 0} {tag : ℕ} {text : List ℕ} {s : Form} {x : Head} (f g : T → Value) (t : T) (ts : List T) → spares tag x.tag s ≡ true → ((u : T) → C u → P u → PartAfter tag text s (f u) x (g u)) → ((u : T) → is_run (g u) ≡ false) → All C (t ∷ ts) → All P (t ∷ ts) → PartAfter tag text (seq s) (sequence f (t ∷ ts)) x (sequence g (t ∷ ts))
+sequence_after : {T : Type 0} {C P : T → Type 0} {tag : ℕ} {text : List ℕ} {s : Form} {x : Head} (f g : T → Value) (t : T) (ts : List T)
+    → spares tag x.tag s ≡ true → ((u : T) → C u → P u → PartAfter tag text s (f u) x (g u)) → ((u : T) → is_run (g u) ≡ false) → All C (t ∷ ts)
+    → All P (t ∷ ts) → PartAfter tag text (seq s) (sequence f (t ∷ ts)) x (sequence g (t ∷ ts))
 sequence_after {C = C} {P = P} {tag = tag} {text = text} {s = s} {x = x} f g t ts spare agrees single chooses all =
-    let e : EachAfter tag text f g s x (t ∷ ts) = each_after agrees single (t ∷ ts) (recursion_from_All C (t ∷ ts) chooses) (recursion_from_All P (t ∷ ts) all) in
-    record { stored = run_after_kept tag text f g s x t ts e; agrees = λ k found. seq_agrees (run_after tag text f g s x t ts e k spare found) }
+    let e : EachAfter tag text f g s x (t ∷ ts) = each_after agrees single (t ∷ ts) (recursion_from_All C (t ∷ ts) chooses)
+    (recursion_from_All P (t ∷ ts) all) in
+    record { stored = run_after_stored tag text f g s x t ts e; agrees = λ k found. seq_agrees (run_after tag text f g s x t ts e k spare found) }
 
 -- a field of such a sequence: what follows isn't like its items
-run_choice_then : {known : List Known} {tag : ℕ} {text : List ℕ} {name : List ℕ} {s : Form} {fs : Fields} {w v : Value} {ws vs : Values} {x : Head} {y : Option Head} → said known tag ≡ Some text → is_field_of name s x ≡ true → is_alike x y ≡ false → PartAfter tag text s w x v → PartsAgree (left known x.tag s) fs ws y vs → PartsAgree known (field name s fs) (value w ws) (Some x) (value v vs)
+run_choice_then : {known : List Known} {tag : ℕ} {text : List ℕ} {name : List ℕ} {s : Form} {fs : Fields} {w v : Value} {ws vs : Values} {x : Head}
+    {y : Option Head} → said known tag ≡ Some text → is_field_of name s x ≡ true → is_alike x y ≡ false → PartAfter tag text s w x v
+    → PartsAgree (left known x.tag s) fs ws y vs → PartsAgree known (field name s fs) (value w ws) (Some x) (value v vs)
 run_choice_then {known = all} {tag = tag} {text = text} {v = v} {x = x} {y = y} known named other p rest =
     record {
       stored = λ k. rest.stored (p.stored k);
-      agrees = λ k found. let a = p.agrees k (found tag text known) in field_agrees named (run_ends v x y other) a (rest.agrees (p.stored k) (finds_left all a found));
+      agrees = λ k found. let a = p.agrees k (found tag text known) in
+          field_agrees named (run_ends v x y other) a (rest.agrees (p.stored k) (finds_left all a found));
     }
 
 -- one or more that are chosen by a text that is known, also the last part; none keeps another under its tag
-pub several_choice_then : {T : Type 0} {C P : T → Type 0} {known : List Known} {tag : ℕ} {text : List ℕ} {name : List ℕ} {s : Form} {fs : Fields} {ws vs : Values} {y : Option Head} (f g : T → Value) (x : Head) (ts : List T) → said known tag ≡ Some text → spares tag x.tag s ≡ true → is_field_of name (seq s) x ≡ true → is_named name y ≡ false → ((t : T) → C t → P t → PartAfter tag text s (f t) x (g t)) → ((t : T) → is_run (g t) ≡ false) → All C ts → 0 < length ts → All P ts → PartsAgree (left known x.tag (seq s)) fs ws y vs → PartsAgree known (field name (seq s) fs) (value (sequence f ts) ws) (Some x) (value (sequence g ts) vs)
+pub several_choice_then : {T : Type 0} {C P : T → Type 0} {known : List Known} {tag : ℕ} {text : List ℕ} {name : List ℕ} {s : Form} {fs : Fields}
+    {ws vs : Values} {y : Option Head} (f g : T → Value) (x : Head) (ts : List T) → said known tag ≡ Some text → spares tag x.tag s ≡ true
+    → is_field_of name (seq s) x ≡ true → is_named name y ≡ false → ((t : T) → C t → P t → PartAfter tag text s (f t) x (g t))
+    → ((t : T) → is_run (g t) ≡ false) → All C ts → 0 < length ts → All P ts → PartsAgree (left known x.tag (seq s)) fs ws y vs
+    → PartsAgree known (field name (seq s) fs) (value (sequence f ts) ws) (Some x) (value (sequence g ts) vs)
 several_choice_then f g x [] known spare named other agrees single chooses filled all rest = absurd (omega arith)
 several_choice_then {name = name} {s = s} {y = y} f g x (t ∷ ts) known spare named other agrees single chooses filled all rest =
     run_choice_then known named (unlike name (seq s) x y named other) (sequence_after f g t ts spare agrees single chooses all) rest
 
 -- the same of any number of them
-pub any_choice_then : {T : Type 0} {C P : T → Type 0} {known : List Known} {tag : ℕ} {text : List ℕ} {name : List ℕ} {s : Form} {fs : Fields} {ws vs : Values} {y : Option Head} (f g : T → Value) (x : Head) (ts : List T) → said known tag ≡ Some text → spares tag x.tag s ≡ true → is_field_of name (option (seq s)) x ≡ true → is_named name y ≡ false → ((t : T) → C t → P t → PartAfter tag text s (f t) x (g t)) → ((t : T) → is_run (g t) ≡ false) → All C ts → All P ts → PartsAgree (left known x.tag (option (seq s))) fs ws y vs → PartsAgree known (field name (option (seq s)) fs) (value (sequence f ts) ws) (head_or (first_of ts) x y) (value (optional_sequence g ts) vs)
+pub any_choice_then : {T : Type 0} {C P : T → Type 0} {known : List Known} {tag : ℕ} {text : List ℕ} {name : List ℕ} {s : Form} {fs : Fields} {ws vs : Values}
+    {y : Option Head} (f g : T → Value) (x : Head) (ts : List T) → said known tag ≡ Some text → spares tag x.tag s ≡ true
+    → is_field_of name (option (seq s)) x ≡ true → is_named name y ≡ false → ((t : T) → C t → P t → PartAfter tag text s (f t) x (g t))
+    → ((t : T) → is_run (g t) ≡ false) → All C ts → All P ts → PartsAgree (left known x.tag (option (seq s))) fs ws y vs
+    → PartsAgree known (field name (option (seq s)) fs) (value (sequence f ts) ws) (head_or (first_of ts) x y) (value (optional_sequence g ts) vs)
 any_choice_then {known = before} {s = s} f g x [] known spare named other agrees single chooses all rest =
     record { stored = rest.stored; agrees = λ k found. nothing_agrees (absent_agrees other (rest.agrees k (finds_less before k x.tag (option (seq s)) found))) }
 any_choice_then {name = name} {s = s} {y = y} f g x (t ∷ ts) known spare named other agrees single chooses all rest =
@@ -185,11 +242,15 @@ any_choice_then {name = name} {s = s} {y = y} f g x (t ∷ ts) known spare named
 -- ---- what is encoded under another tag
 
 -- a leaf in its own newtype
-pub overridden_leaf : {name inner : List ℕ} {s : Form} {w u v : Value} {h : PendingTag} {t : ℕ} → Wraps Nothing w h (newtype_value name u) → transparent_name name ≡ Some inner → take_tag h inner ≡ Some t → ComesBack s u v → PartAgrees (newtype name s) w record { tag = t; typ = leaf_type u } (newtype_value name v)
-overridden_leaf wraps own takes back = record { stored = _; agrees = λ k. inner_agrees wraps (newtype_agrees (inner_agrees (newtype_wraps own takes) (leaf_agrees refl back))) }
+pub overridden_leaf : {name inner : List ℕ} {s : Form} {w u v : Value} {h : PendingTag} {t : ℕ} → Wraps Nothing w h (newtype_value name u)
+    → transparent_name name ≡ Some inner → take_tag h inner ≡ Some t → ComesBack s u v → PartAgrees (newtype name s) w record { tag = t; typ = leaf_type u }
+    (newtype_value name v)
+overridden_leaf wraps own takes back =
+    record { stored = _; agrees = λ k. inner_agrees wraps (newtype_agrees (inner_agrees (newtype_wraps own takes) (leaf_agrees refl back))) }
 
 -- an Enumeration
-pub overridden_enumeration : {own tag name : List ℕ} {vs : Variants} {w : Value} {h : PendingTag} {t : ℕ} → Wraps Nothing w h (unit_variant_value tag name) → take_tag h tag ≡ Some t → IsUnit vs name → PartAgrees (enum own vs) w record { tag = t; typ = Enumeration } (unit_variant_value own name)
+pub overridden_enumeration : {own tag name : List ℕ} {vs : Variants} {w : Value} {h : PendingTag} {t : ℕ} → Wraps Nothing w h (unit_variant_value tag name)
+    → take_tag h tag ≡ Some t → IsUnit vs name → PartAgrees (enum own vs) w record { tag = t; typ = Enumeration } (unit_variant_value own name)
 overridden_enumeration wraps takes u = wrapped_unit wraps (unit_is_numbered takes u.numbered) u.text u.units
 
 no_leaf : {name : List ℕ} {fs : Fields} {deny : Boole} {w v : Value} → ComesBack (struct name fs deny) w v → ⊥
@@ -199,21 +260,29 @@ no_wrapper : {name : List ℕ} {h i : PendingTag} {ws : Values} {u : Value} → 
 no_wrapper wraps = elim wraps [ ]
 
 -- a structure takes the tag that is held
-held_structure : {own name : List ℕ} {fs : Fields} {deny : Boole} {k k' : List TagValue} {h : PendingTag} {ws : Values} {v : Value} {x : Head} → take_tag h name ≡ Some x.tag → Agrees (struct own fs deny) k Nothing (struct_value name ws) x v k' → Agrees (struct own fs deny) k h (struct_value name ws) x v k'
-held_structure takes (leaf_agrees pending c) = absurd (no_leaf c)
-held_structure takes (inner_agrees wraps a) = absurd (no_wrapper wraps)
-held_structure takes (struct_agrees named (struct_encloses own) parts) = struct_agrees named (struct_encloses takes) parts
+pending_structure : {own name : List ℕ} {fs : Fields} {deny : Boole} {k k' : List TagValue} {h : PendingTag} {ws : Values} {v : Value} {x : Head}
+    → take_tag h name ≡ Some x.tag → Agrees (struct own fs deny) k Nothing (struct_value name ws) x v k'
+    → Agrees (struct own fs deny) k h (struct_value name ws) x v k'
+pending_structure takes (leaf_agrees pending c) = absurd (no_leaf c)
+pending_structure takes (inner_agrees wraps a) = absurd (no_wrapper wraps)
+pending_structure takes (struct_agrees named (struct_encodes own) parts) = struct_agrees named (struct_encodes takes) parts
 
 -- so does one that is encoded as a newtype which is no wrapper
-held_newtype : {own name : List ℕ} {fs : Fields} {deny : Boole} {k k' : List TagValue} {h : PendingTag} {w v : Value} {x : Head} → transparent_name name ≡ None → take_tag h name ≡ Some x.tag → Agrees (struct own fs deny) k Nothing (newtype_value name w) x v k' → Agrees (struct own fs deny) k h (newtype_value name w) x v k'
-held_newtype plain takes (leaf_agrees pending c) = absurd (no_leaf c)
-held_newtype plain takes (inner_agrees (newtype_wraps named own) a) = absurd (none-some _ (sym plain ∙ named))
-held_newtype plain takes (struct_agrees named (newtype_encloses other own) parts) = struct_agrees named (newtype_encloses plain takes) parts
+pending_newtype : {own name : List ℕ} {fs : Fields} {deny : Boole} {k k' : List TagValue} {h : PendingTag} {w v : Value} {x : Head} → transparent_name name ≡ None
+    → take_tag h name ≡ Some x.tag → Agrees (struct own fs deny) k Nothing (newtype_value name w) x v k'
+    → Agrees (struct own fs deny) k h (newtype_value name w) x v k'
+pending_newtype plain takes (leaf_agrees pending c) = absurd (no_leaf c)
+pending_newtype plain takes (inner_agrees (newtype_wraps named own) a) = absurd (none-some _ (sym plain ∙ named))
+pending_newtype plain takes (struct_agrees named (newtype_encodes other own) parts) = struct_agrees named (newtype_encodes plain takes) parts
 
 -- a structure in a wrapper of its own tag
-pub overridden_structure : {own name : List ℕ} {fs : Fields} {deny : Boole} {w : Value} {ws : Values} {v : Value} {h : PendingTag} {x : Head} → Wraps Nothing w h (struct_value name ws) → take_tag h name ≡ Some x.tag → PartAgrees (struct own fs deny) (struct_value name ws) x v → PartAgrees (struct own fs deny) w x v
-overridden_structure wraps takes p = record { stored = p.stored; agrees = λ k. inner_agrees wraps (held_structure takes (p.agrees k)) }
+pub overridden_structure : {own name : List ℕ} {fs : Fields} {deny : Boole} {w : Value} {ws : Values} {v : Value} {h : PendingTag} {x : Head}
+    → Wraps Nothing w h (struct_value name ws) → take_tag h name ≡ Some x.tag → PartAgrees (struct own fs deny) (struct_value name ws) x v
+    → PartAgrees (struct own fs deny) w x v
+overridden_structure wraps takes p = record { stored = p.stored; agrees = λ k. inner_agrees wraps (pending_structure takes (p.agrees k)) }
 
 -- one that is encoded as a newtype
-pub overridden_newtype : {own name : List ℕ} {fs : Fields} {deny : Boole} {w u v : Value} {h : PendingTag} {x : Head} → Wraps Nothing w h (newtype_value name u) → transparent_name name ≡ None → take_tag h name ≡ Some x.tag → PartAgrees (struct own fs deny) (newtype_value name u) x v → PartAgrees (struct own fs deny) w x v
-overridden_newtype wraps plain takes p = record { stored = p.stored; agrees = λ k. inner_agrees wraps (held_newtype plain takes (p.agrees k)) }
+pub overridden_newtype : {own name : List ℕ} {fs : Fields} {deny : Boole} {w u v : Value} {h : PendingTag} {x : Head} → Wraps Nothing w h (newtype_value name u)
+    → transparent_name name ≡ None → take_tag h name ≡ Some x.tag → PartAgrees (struct own fs deny) (newtype_value name u) x v
+    → PartAgrees (struct own fs deny) w x v
+overridden_newtype wraps plain takes p = record { stored = p.stored; agrees = λ k. inner_agrees wraps (pending_newtype plain takes (p.agrees k)) }

@@ -29,8 +29,11 @@ fronts t u a b r s h k e =
     let x = item_of t a h in
     let y = item_of u b k in
     let same : x.0 ≡ y.0 = one_item x.0 y.0 a b r s x.1 y.1 e in
-    let long : length b ≡ length a = text_length y.0 b y.1 ∙ ap (λ (z : Raw). size z.typ (length z.content)) (sym same) ∙ sym (text_length x.0 a x.1) in
-    (sym (take_at a r (length a) refl) ∙ ap (take (length a)) e ∙ take_at b s (length a) long, sym (drop_at a r (length a) refl) ∙ ap (drop (length a)) e ∙ drop_at b s (length a) long)
+    let long : length b ≡ length a = text_length y.0 b y.1 ∙ ap (λ (z : Raw). size z.typ (length z.content)) (sym same) ∙ sym (text_length x.0 a x.1) in (
+      sym (take_at a r (length a) refl) ∙ ap (take (length a)) e ∙ take_at b s (length a) long,
+      sym (drop_at a r (length a) refl) ∙ ap (drop (length a)) e
+          ∙ drop_at b s (length a) long,
+    )
 
 -- at most one tree has this encoding
 mutual
@@ -41,8 +44,20 @@ mutual
       let q : typ ≡ typ' = ap (λ (x : Raw). x.typ) e in
       let r : content ≡ content' = ap (λ (x : Raw). x.content) e in
       cc
-  tree_same (leaf tag typ content) (node tag' below) a h k = absurd (leaf_apart typ content h.0 (ap (λ (x : Raw). x.typ) (one_of_text record { tag = tag; typ = typ; content = content } record { tag = tag'; typ = Structure; content = k.0 } a h.1 k.1)))
-  tree_same (node tag below) (leaf tag' typ content) a h k = absurd (leaf_apart typ content k.0 (ap (λ (x : Raw). x.typ) (one_of_text record { tag = tag'; typ = typ; content = content } record { tag = tag; typ = Structure; content = h.0 } a k.1 h.1)))
+  tree_same (leaf tag typ content) (node tag' below) a h k =
+      absurd (leaf_apart typ content h.0 (ap (λ (x : Raw). x.typ) (one_of_text record { tag = tag; typ = typ; content = content } record {
+        tag = tag';
+        typ =
+            Structure;
+        content = k.0;
+      } a h.1 k.1)))
+  tree_same (node tag below) (leaf tag' typ content) a h k =
+      absurd (leaf_apart typ content k.0 (ap (λ (x : Raw). x.typ) (one_of_text record { tag = tag'; typ = typ; content = content } record {
+        tag = tag;
+        typ =
+            Structure;
+        content = h.0;
+      } a k.1 h.1)))
   tree_same (node tag below) (node tag' below') a h k =
       let e = one_of_text record { tag = tag; typ = Structure; content = h.0 } record { tag = tag'; typ = Structure; content = k.0 } a h.1 k.1 in
       let p : tag ≡ tag' = ap (λ (x : Raw). x.tag) e in

@@ -8,7 +8,9 @@ use Rattle.kmip_ttlv_base.specs.Forms.{Form, Fields, Variants, Content, Forms, s
 use Rattle.kmip_ttlv_base.specs.Values.{Value, Values, seq_value, struct_value, tuple_variant_value, unit_variant_value, value}
 use Rattle.kmip_ttlv_types.proofs.PlaceLemmas.{splits_one}
 use Rattle.kmip_ttlv_reader.specs.TagValues.{TagValue}
-use Rattle.kmip_ttlv_reader.specs.Reads.{Reads, ReadsContent, ReadsField, ReadsFields, ReadsForms, ReadsRun, ReadsVariant, absent, by_number, by_rule, done, ends, here, inner, is_like, leaf, decoded_leaf, may_follow, may_ignore, more, named, names, next, no_part, number_text, part, parts, run, structure, there, whole, stored_after_leaf, wrap, wrap_some}
+use Rattle.kmip_ttlv_reader.specs.Reads.{Reads, ReadsContent, ReadsField, ReadsFields, ReadsForms, ReadsRun, ReadsVariant, absent, by_number, by_rule, done}
+use Rattle.kmip_ttlv_reader.specs.Reads.{ends, here, inner, is_like, leaf, decoded_leaf, may_follow, may_ignore, more, named, names, next, no_part, number_text}
+use Rattle.kmip_ttlv_reader.specs.Reads.{part, parts, run, structure, there, whole, stored_after_leaf, wrap, wrap_some}
 use Rattle.kmip_ttlv_reader.specs.Rules.{choice, chosen}
 use Rattle.kmip_ttlv_laws.specs.Padding.{AllSameButPadding, SameButPadding, both_go_on, both_end, equal_items, split_alike}
 
@@ -28,7 +30,7 @@ mutual
 
 -- ---- what the two have in common
 
-pub tags_same : {x y : Raw} → SameButPadding x y → x.tag ≡ y.tag
+tags_same : {x y : Raw} → SameButPadding x y → x.tag ≡ y.tag
 tags_same equal_items = refl
 tags_same (split_alike t u w a b s) = t
 
@@ -39,7 +41,8 @@ types_same (split_alike t u w a b s) = u ∙ sym w
 -- a leaf has no padding within it
 leaves_same : {x y : Raw} → is_valid x.typ x.content ≡ true → SameButPadding x y → x ≡ y
 leaves_same v equal_items = refl
-leaves_same {x = x} v (split_alike t u w a b s) = let none : is_valid Structure x.content ≡ true = subst (λ (y : TtlvType). is_valid y x.content ≡ true) u v in absurd cc
+leaves_same {x = x} v (split_alike t u w a b s) = let none : is_valid Structure x.content ≡ true = subst (λ (y : TtlvType). is_valid y x.content ≡ true) u v in
+    absurd cc
 
 -- what is the first of the others, if the first item is like this
 record Beside (x : Raw) (xs zs : List Raw) : Type 0 where
@@ -79,7 +82,8 @@ record Parted (x y : Raw) (zs : List Raw) : Type 0 where
 
 parted : {x y : Raw} (zs : List Raw) → Splits zs x.content → SameButPadding x y → Parted x y zs
 parted zs z equal_items = record { parts_of = zs; split = z; alike = all_same zs }
-parted {x = x} zs z (split_alike {xs = xs} {ys = ys} t u w a b s) = record { parts_of = ys; split = b; alike = subst (λ (l : List Raw). AllSameButPadding l ys) (splits_one x.content xs zs a z) s }
+parted {x = x} zs z (split_alike {xs = xs} {ys = ys} t u w a b s) =
+    record { parts_of = ys; split = b; alike = subst (λ (l : List Raw). AllSameButPadding l ys) (splits_one x.content xs zs a z) s }
 
 -- ---- reading from the others
 
@@ -89,7 +93,8 @@ Leaves R ys = (left : List Raw) × R left × AllSameButPadding ys left
 
 -- what the rules read from items, they read from others that are the same but for padding
 mutual
-  pub reads_same : {s : Form} {k k' : List TagValue} {xs ys : List Raw} {v : Value} → Reads s k xs v k' ys → (ws : List Raw) → AllSameButPadding xs ws → Leaves (λ (l : List Raw). Reads s k ws v k' l) ys
+  pub reads_same : {s : Form} {k k' : List TagValue} {xs ys : List Raw} {v : Value} → Reads s k xs v k' ys → (ws : List Raw) → AllSameButPadding xs ws
+      → Leaves (λ (l : List Raw). Reads s k ws v k' l) ys
   reads_same (leaf {s = s} {h = h} {k = k} t v) ws a =
       let b = beside a in
       let e : h ∷ b.others ≡ ws = ap (λ (y : Raw). y ∷ b.others) (leaves_same v b.first) ∙ sym b.are in
@@ -108,8 +113,12 @@ mutual
       let g = fields_same f p.parts_of p.alike in
       let n-is : names name (b.other ∷ []) ≡ true = sym (names_same name (both_go_on b.first both_end)) ∙ n in
       let t-is : b.other.typ ≡ Structure = sym (types_same b.first) ∙ t in
-      let m-is : may_follow fs deny g.0 ≡ true = sym (follow_same fs deny g.2) ∙ m in
-      (b.others, subst (λ (l : List Raw). Reads (struct name fs deny) k l (struct_value name vs) k' b.others) (sym b.are) (structure n-is t-is p.split g.1 m-is), b.rest)
+      let m-is : may_follow fs deny g.0 ≡ true = sym (follow_same fs deny g.2) ∙ m in (
+        b.others,
+        subst (λ (l : List Raw). Reads (struct name fs deny) k l (struct_value name vs) k' b.others) (sym b.are)
+            (structure n-is t-is p.split g.1 m-is),
+        b.rest,
+      )
   reads_same (by_rule {name = name} {vs = vs} {h = h} {k = k} {k' = k'} {v = v} {i = i} e r) ws a =
       let b = beside a in
       let c = variant_same r ws a in
@@ -118,39 +127,53 @@ mutual
       (c.0, subst (λ (l : List Raw). Reads (enum name vs) k l v k' c.0) (sym b.are) (by_rule e-is one), c.2)
   reads_same (by_number {name = name} {vs = vs} {h = h} {k = k} e t v f) ws a =
       let b = beside a in
-      let same-is : h ∷ b.others ≡ ws = ap (λ (y : Raw). y ∷ b.others) (leaves_same v b.first) ∙ sym b.are in
-      (b.others, subst (λ (l : List Raw). Reads (enum name vs) k l (unit_variant_value name (number_text h.content)) (k ++ record { tag = h.tag; text = number_text h.content } ∷ []) b.others) same-is (by_number e t v f), b.rest)
+      let same-is : h ∷ b.others ≡ ws = ap (λ (y : Raw). y ∷ b.others) (leaves_same v b.first) ∙ sym b.are in (
+        b.others,
+        subst (λ (l : List Raw). Reads (enum name vs) k l (unit_variant_value name (number_text h.content))
+            (k ++ record { tag = h.tag; text = number_text h.content } ∷ []) b.others) same-is (by_number e t v f),
+        b.rest,
+      )
 
-  variant_same : {name : List ℕ} {vs : Variants} {i : ℕ} {k k' : List TagValue} {xs ys : List Raw} {v : Value} → ReadsVariant name vs i k xs v k' ys → (ws : List Raw) → AllSameButPadding xs ws → Leaves (λ (l : List Raw). ReadsVariant name vs i k ws v k' l) ys
+  variant_same : {name : List ℕ} {vs : Variants} {i : ℕ} {k k' : List TagValue} {xs ys : List Raw} {v : Value} → ReadsVariant name vs i k xs v k' ys
+      → (ws : List Raw) → AllSameButPadding xs ws → Leaves (λ (l : List Raw). ReadsVariant name vs i k ws v k' l) ys
   variant_same (here r) ws a = let b = content_same r ws a in (b.0, here b.1, b.2)
   variant_same (there r) ws a = let b = variant_same r ws a in (b.0, there b.1, b.2)
 
-  content_same : {name vname : List ℕ} {c : Content} {k k' : List TagValue} {xs ys : List Raw} {v : Value} → ReadsContent name vname c k xs v k' ys → (ws : List Raw) → AllSameButPadding xs ws → Leaves (λ (l : List Raw). ReadsContent name vname c k ws v k' l) ys
+  content_same : {name vname : List ℕ} {c : Content} {k k' : List TagValue} {xs ys : List Raw} {v : Value} → ReadsContent name vname c k xs v k' ys
+      → (ws : List Raw) → AllSameButPadding xs ws → Leaves (λ (l : List Raw). ReadsContent name vname c k ws v k' l) ys
   content_same (whole r) ws a = let b = reads_same r ws a in (b.0, whole b.1, b.2)
   content_same (parts {name = name} {vname = vname} {ss = ss} {h = h} {zs = zs} {k = k} {k' = k'} {vs = vs} t z r) ws a =
       let b = beside a in
       let p = parted zs z b.first in
       let g = forms_same r p.parts_of p.alike in
       let t-is : b.other.typ ≡ Structure = sym (types_same b.first) ∙ t in
-      let used : ReadsForms ss k p.parts_of vs k' [] = subst (λ (l : List Raw). ReadsForms ss k p.parts_of vs k' l) (ended g.2) g.1 in
-      (b.others, subst (λ (l : List Raw). ReadsContent name vname (tuple ss) k l (tuple_variant_value name vname vs) k' b.others) (sym b.are) (parts t-is p.split used), b.rest)
+      let used : ReadsForms ss k p.parts_of vs k' [] = subst (λ (l : List Raw). ReadsForms ss k p.parts_of vs k' l) (ended g.2) g.1 in (
+        b.others,
+        subst (λ (l : List Raw). ReadsContent name vname (tuple ss) k l (tuple_variant_value name vname vs) k' b.others) (sym b.are)
+            (parts t-is p.split used),
+        b.rest,
+      )
 
-  forms_same : {ss : Forms} {k k' : List TagValue} {xs ys : List Raw} {vs : Values} → ReadsForms ss k xs vs k' ys → (ws : List Raw) → AllSameButPadding xs ws → Leaves (λ (l : List Raw). ReadsForms ss k ws vs k' l) ys
+  forms_same : {ss : Forms} {k k' : List TagValue} {xs ys : List Raw} {vs : Values} → ReadsForms ss k xs vs k' ys → (ws : List Raw) → AllSameButPadding xs ws
+      → Leaves (λ (l : List Raw). ReadsForms ss k ws vs k' l) ys
   forms_same no_part ws a = (ws, no_part, a)
   forms_same (part r rs) ws a = let b = reads_same r ws a in let c = forms_same rs b.0 b.2 in (c.0, part b.1 c.1, c.2)
 
-  run_same : {s : Form} {h : Raw} {k k' : List TagValue} {xs ys : List Raw} {vs : Values} → ReadsRun s h k xs vs k' ys → (g : Raw) → h.tag ≡ g.tag → h.typ ≡ g.typ → (ws : List Raw) → AllSameButPadding xs ws → Leaves (λ (l : List Raw). ReadsRun s g k ws vs k' l) ys
+  run_same : {s : Form} {h : Raw} {k k' : List TagValue} {xs ys : List Raw} {vs : Values} → ReadsRun s h k xs vs k' ys → (g : Raw) → h.tag ≡ g.tag
+      → h.typ ≡ g.typ → (ws : List Raw) → AllSameButPadding xs ws → Leaves (λ (l : List Raw). ReadsRun s g k ws vs k' l) ys
   run_same (ends {h = h} e) g t u ws a = (ws, ends (sym (like_same h g t u a) ∙ e), a)
   run_same (more {h = h} e r rs) g t u ws a =
       let b = reads_same r ws a in
       let c = run_same rs g t u b.0 b.2 in
       (c.0, more (sym (like_same h g t u a) ∙ e) b.1 c.1, c.2)
 
-  fields_same : {fs : Fields} {k k' : List TagValue} {xs ys : List Raw} {vs : Values} → ReadsFields fs k xs vs k' ys → (ws : List Raw) → AllSameButPadding xs ws → Leaves (λ (l : List Raw). ReadsFields fs k ws vs k' l) ys
+  fields_same : {fs : Fields} {k k' : List TagValue} {xs ys : List Raw} {vs : Values} → ReadsFields fs k xs vs k' ys → (ws : List Raw) → AllSameButPadding xs ws
+      → Leaves (λ (l : List Raw). ReadsFields fs k ws vs k' l) ys
   fields_same done ws a = (ws, done, a)
   fields_same (next r rs) ws a = let b = field_same r ws a in let c = fields_same rs b.0 b.2 in (c.0, next b.1 c.1, c.2)
 
-  field_same : {name : List ℕ} {s : Form} {k k' : List TagValue} {xs ys : List Raw} {v : Value} → ReadsField name s k xs v k' ys → (ws : List Raw) → AllSameButPadding xs ws → Leaves (λ (l : List Raw). ReadsField name s k ws v k' l) ys
+  field_same : {name : List ℕ} {s : Form} {k k' : List TagValue} {xs ys : List Raw} {v : Value} → ReadsField name s k xs v k' ys → (ws : List Raw)
+      → AllSameButPadding xs ws → Leaves (λ (l : List Raw). ReadsField name s k ws v k' l) ys
   field_same (absent {name = name} o n) ws a = (ws, absent o (sym (names_same name a) ∙ n), a)
   field_same (named {name = name} n o r) ws a = let b = reads_same r ws a in (b.0, named (sym (names_same name a) ∙ n) o b.1, b.2)
   field_same (inner o r) ws a = let b = reads_same r ws a in (b.0, inner o b.1, b.2)

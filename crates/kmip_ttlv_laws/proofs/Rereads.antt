@@ -1,16 +1,12 @@
 -- What decoding says of a message that was encoded.
-use Rattle.std.proofs.Common.{◌≡◌, sym, subst, ℕ, List, [], Some, None, Result, Ok, Err}
+use Rattle.std.proofs.Common.{sym, subst, ℕ, List, [], Result, Ok, Err}
 use Rattle.std.specs.Prelude.{IfOk, IfErr}
 use Rattle.std.proofs.lemmas.List.{append-nil}
-use Rattle.kmip_ttlv_types.specs.Trees.{Tree}
 use Rattle.kmip_ttlv_base.specs.declared.error.Error.{Error}
-use Rattle.kmip_ttlv_base.specs.Errors.{Kind, Location, io_error, exceeds_limit, malformed, mismatch, out_of_memory, length_overflow}
+use Rattle.kmip_ttlv_base.specs.Errors.{Kind, io_error, exceeds_limit, malformed, mismatch, out_of_memory, length_overflow}
 use Rattle.kmip_ttlv_base.specs.Errors.{view_of_kind, kind_of}
 use Rattle.kmip_ttlv_base.specs.Forms.{Form}
 use Rattle.kmip_ttlv_base.specs.Values.{Value}
-use Rattle.kmip_ttlv_ser.specs.declared.pending.PendingTag.TheVariants.{Nothing}
-use Rattle.kmip_ttlv_ser.specs.WrittenItems.{items}
-use Rattle.kmip_ttlv_ser.specs.EncodeResults.{FailsAs, origin}
 use Rattle.kmip_ttlv_reader.specs.Reads.{Begins}
 use Rattle.kmip_ttlv_reader.specs.ReadResults.{ErrorStands, NothingBegins, sort_of_kind}
 use Rattle.kmip_ttlv_laws.specs.Rereads.{IsOfSize}
@@ -25,7 +21,7 @@ if_decoded (Ok y) follows (v, b, is) = follows y v b is
 if_decoded (Err e) follows found = tt
 
 -- where the bytes begin with a value, decoding fails for want of memory alone
-pub decoding_fails : (k : Kind) (s : Form) (bytes : List ℕ) (v : Value) → Begins s bytes v → NothingBegins s bytes (sort_of_kind k) → IsOfSize k
+decoding_fails : (k : Kind) (s : Form) (bytes : List ℕ) (v : Value) → Begins s bytes v → NothingBegins s bytes (sort_of_kind k) → IsOfSize k
 decoding_fails out_of_memory s bytes v b n = tt
 decoding_fails length_overflow s bytes v b n = tt
 decoding_fails (io_error x) s bytes v b n = absurd (n v b)
@@ -40,12 +36,3 @@ pub if_decoding_fails :
     → IfErr r (λ e. IsOfSize (view_of_kind (kind_of e)))
 if_decoding_fails (Ok y) begins stands = tt
 if_decoding_fails {s = s} {bytes = bytes} (Err e) (v, b) stands = decoding_fails (view_of_kind (kind_of e)) s bytes v b stands
-
--- what has items is refused by their size, or for want of memory
-pub refused_by_size : (v : Value) (ts : List Tree) (k : Kind) (l : Location) → items v Nothing ≡ Some ts → FailsAs v origin k l → IsOfSize k
-refused_by_size v ts out_of_memory l are r = tt
-refused_by_size v ts length_overflow l are r = tt
-refused_by_size v ts (malformed x) l are r = let no : items v Nothing ≡ None = r.no_items in absurd cc
-refused_by_size v ts (mismatch x) l are r = let no : items v Nothing ≡ None = r.no_items in absurd cc
-refused_by_size v ts (io_error x) l are r = absurd r
-refused_by_size v ts (exceeds_limit x) l are r = absurd r

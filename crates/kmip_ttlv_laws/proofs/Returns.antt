@@ -9,7 +9,8 @@ use Rattle.kmip_ttlv_types.specs.Leaves.{is_valid}
 use Rattle.kmip_ttlv_types.specs.Items.{Raw}
 use Rattle.kmip_ttlv_types.specs.Trees.{leaf as leaf_tree}
 use Rattle.kmip_ttlv_base.specs.Forms.{Form, int32, int64, boolean, text, octets, date_time, interval, big_integer, any_number}
-use Rattle.kmip_ttlv_base.specs.Values.{Value, boolean_value, i8_value, i16_value, i32_value, u32_value, i64_value, u64_value, date_time_value, interval_value, text_value, bytes_value, big_integer_value, unit_variant_value}
+use Rattle.kmip_ttlv_base.specs.Values.{Value, boolean_value, i8_value, i16_value, i32_value, u32_value, i64_value, u64_value, date_time_value, interval_value}
+use Rattle.kmip_ttlv_base.specs.Values.{text_value, bytes_value, big_integer_value, unit_variant_value}
 use Rattle.kmip_ttlv_ser.specs.declared.pending.PendingTag.{PendingTag}
 use Rattle.kmip_ttlv_ser.specs.declared.pending.PendingTag.TheVariants.{Plain}
 use Rattle.kmip_ttlv_types.specs.Primitives.{sign_extended}
@@ -18,7 +19,8 @@ use Rattle.kmip_ttlv_reader.specs.TagValues.{TagValue}
 use Rattle.kmip_ttlv_reader.specs.Reads.{Reads, leaf, by_number, decoded_leaf, takes, stored_after_leaf}
 use Rattle.kmip_ttlv_laws.specs.Agreements.{is_run, leaf_type, with_value}
 use Rattle.kmip_ttlv_laws.specs.ReadingLaws.{LeavesComeBack, UnitsComeBack}
-use Rattle.kmip_ttlv_laws.specs.Returns.{ComesBack, as_big_integer, as_big_octets, as_boolean, as_date, as_date_time, as_int16, as_int32, as_int64, as_int8, as_interval, as_number, as_octets, as_text}
+use Rattle.kmip_ttlv_laws.specs.Returns.{ComesBack, as_big_integer, as_big_octets, as_boolean, as_date, as_date_time, as_int16, as_int32, as_int64, as_int8}
+use Rattle.kmip_ttlv_laws.specs.Returns.{as_interval, as_number, as_octets, as_text}
 
 -- a value is encoded as one leaf, whose type and content the form takes, and it reads the other value from these
 pub record LeafIs (s : Form) (w v : Value) : Type 0 where
@@ -30,7 +32,9 @@ pub record LeafIs (s : Form) (w v : Value) : Type 0 where
   pub single : is_run v ≡ false
   pub keeps : (t : ℕ) (k : List TagValue) → stored_after_leaf s record { tag = t; typ = leaf_type w; content = content } k ≡ with_value s t w k
 
-leaf_by : (s : Form) (w v : Value) (content : List ℕ) → ((h : PendingTag) → items w h ≡ one_leaf h (leaf_type w) content) → takes s (leaf_type w) ≡ true → is_valid (leaf_type w) content ≡ true → decoded_leaf s content ≡ v → is_run v ≡ false → ((t : ℕ) (k : List TagValue) → stored_after_leaf s record { tag = t; typ = leaf_type w; content = content } k ≡ with_value s t w k) → LeafIs s w v
+leaf_by : (s : Form) (w v : Value) (content : List ℕ) → ((h : PendingTag) → items w h ≡ one_leaf h (leaf_type w) content) → takes s (leaf_type w) ≡ true
+    → is_valid (leaf_type w) content ≡ true → decoded_leaf s content ≡ v → is_run v ≡ false
+    → ((t : ℕ) (k : List TagValue) → stored_after_leaf s record { tag = t; typ = leaf_type w; content = content } k ≡ with_value s t w k) → LeafIs s w v
 leaf_by s w v content are takes_it valid gives single keeps = record {
   content = content;
   written = λ h t e. are h ∙ ap (λ (o : Option ℕ). o >>= λ n. Some (leaf_tree n (leaf_type w) content ∷ [])) e;
@@ -55,19 +59,29 @@ bool_is false = leaf_by boolean (boolean_value false) (boolean_value false) (to_
 
 -- for each rule
 pub leaf_of : (s : Form) (w v : Value) → ComesBack s w v → LeafIs s w v
-leaf_of s w v (as_int8 {z = z} f) = leaf_by int32 (i8_value z) (i32_value z) (to_be_bytes w32 (cast_unsigned w32 z)) (λ h. refl) refl refl (ap i32_value (four_back z f)) refl (λ t k. refl)
-leaf_of s w v (as_int16 {z = z} f) = leaf_by int32 (i16_value z) (i32_value z) (to_be_bytes w32 (cast_unsigned w32 z)) (λ h. refl) refl refl (ap i32_value (four_back z f)) refl (λ t k. refl)
-leaf_of s w v (as_int32 {z = z} f) = leaf_by int32 (i32_value z) (i32_value z) (to_be_bytes w32 (cast_unsigned w32 z)) (λ h. refl) refl refl (ap i32_value (four_back z f)) refl (λ t k. refl)
-leaf_of s w v (as_int64 {z = z} f) = leaf_by int64 (i64_value z) (i64_value z) (to_be_bytes w64 (cast_unsigned w64 z)) (λ h. refl) refl refl (ap i64_value (eight_back z f)) refl (λ t k. refl)
-leaf_of s w v (as_date {n = n} lt) = leaf_by int64 (u64_value n) (i64_value (cast_signed w64 n)) (to_be_bytes w64 n) (λ h. refl) refl refl (ap (λ m. i64_value (cast_signed w64 m)) (from_be_bytes-to_be_bytes_8 n lt)) refl (λ t k. refl)
+leaf_of s w v (as_int8 {z = z} f) = leaf_by int32 (i8_value z) (i32_value z) (to_be_bytes w32 (cast_unsigned w32 z)) (λ h. refl) refl refl
+    (ap i32_value (four_back z f)) refl (λ t k. refl)
+leaf_of s w v (as_int16 {z = z} f) = leaf_by int32 (i16_value z) (i32_value z) (to_be_bytes w32 (cast_unsigned w32 z)) (λ h. refl) refl refl
+    (ap i32_value (four_back z f)) refl (λ t k. refl)
+leaf_of s w v (as_int32 {z = z} f) = leaf_by int32 (i32_value z) (i32_value z) (to_be_bytes w32 (cast_unsigned w32 z)) (λ h. refl) refl refl
+    (ap i32_value (four_back z f)) refl (λ t k. refl)
+leaf_of s w v (as_int64 {z = z} f) = leaf_by int64 (i64_value z) (i64_value z) (to_be_bytes w64 (cast_unsigned w64 z)) (λ h. refl) refl refl
+    (ap i64_value (eight_back z f)) refl (λ t k. refl)
+leaf_of s w v (as_date {n = n} lt) = leaf_by int64 (u64_value n) (i64_value (cast_signed w64 n)) (to_be_bytes w64 n) (λ h. refl) refl refl
+    (ap (λ m. i64_value (cast_signed w64 m)) (from_be_bytes-to_be_bytes_8 n lt)) refl (λ t k. refl)
 leaf_of s w v (as_boolean {b = b}) = bool_is b
 leaf_of s w v (as_text {s = c} u) = leaf_by text (text_value c) (text_value c) c (λ h. refl) refl u refl refl (λ t k. refl)
 leaf_of s w v (as_octets {s = c}) = leaf_by octets (bytes_value c) (bytes_value c) c (λ h. refl) refl refl refl refl (λ t k. refl)
-leaf_of s w v (as_date_time {z = z} f) = leaf_by date_time (date_time_value z) (date_time_value z) (to_be_bytes w64 (cast_unsigned w64 z)) (λ h. refl) refl refl (ap date_time_value (eight_back z f)) refl (λ t k. refl)
-leaf_of s w v (as_interval {n = n} lt) = leaf_by interval (interval_value n) (interval_value n) (to_be_bytes w32 n) (λ h. refl) refl refl (ap interval_value (from_be_bytes-to_be_bytes_4 n lt)) refl (λ t k. refl)
-leaf_of s w v (as_number {n = n} lt) = leaf_by any_number (u32_value n) (u32_value n) (to_be_bytes w32 n) (λ h. refl) refl refl (ap u32_value (from_be_bytes-to_be_bytes_4 n lt)) refl (λ t k. refl)
-leaf_of s w v (as_big_integer {s = c}) = leaf_by big_integer (big_integer_value c) (big_integer_value (sign_extended c)) (sign_extended c) (λ h. refl) refl refl refl refl (λ t k. refl)
-leaf_of s w v (as_big_octets {s = c}) = leaf_by octets (big_integer_value c) (bytes_value (sign_extended c)) (sign_extended c) (λ h. refl) refl refl refl refl (λ t k. refl)
+leaf_of s w v (as_date_time {z = z} f) = leaf_by date_time (date_time_value z) (date_time_value z) (to_be_bytes w64 (cast_unsigned w64 z)) (λ h. refl) refl refl
+    (ap date_time_value (eight_back z f)) refl (λ t k. refl)
+leaf_of s w v (as_interval {n = n} lt) = leaf_by interval (interval_value n) (interval_value n) (to_be_bytes w32 n) (λ h. refl) refl refl
+    (ap interval_value (from_be_bytes-to_be_bytes_4 n lt)) refl (λ t k. refl)
+leaf_of s w v (as_number {n = n} lt) = leaf_by any_number (u32_value n) (u32_value n) (to_be_bytes w32 n) (λ h. refl) refl refl
+    (ap u32_value (from_be_bytes-to_be_bytes_4 n lt)) refl (λ t k. refl)
+leaf_of s w v (as_big_integer {s = c}) = leaf_by big_integer (big_integer_value c) (big_integer_value (sign_extended c)) (sign_extended c)
+    (λ h. refl) refl refl refl refl (λ t k. refl)
+leaf_of s w v (as_big_octets {s = c}) = leaf_by octets (big_integer_value c) (bytes_value (sign_extended c)) (sign_extended c) (λ h. refl) refl refl refl refl
+    (λ t k. refl)
 
 -- it comes back, whatever was kept before and whatever follows
 pub leaves_come_back : LeavesComeBack
@@ -81,6 +95,8 @@ leaves_come_back s v w t k xs c =
 pub units_come_back : UnitsComeBack
 unfolding enumeration
 units_come_back name vname own vs w t n k xs taken number_is names =
-    let written : items (unit_variant_value name vname) w ≡ Some (leaf_tree t Enumeration (to_be_bytes w32 n) ∷ []) = ap (λ (o : Option ℕ). o >>= λ s. enumeration s vname) taken ∙ ap (λ (o : Option ℕ). o >>= λ m. one_leaf (Plain t) Enumeration (to_be_bytes w32 m)) number_is in
+    let written : items (unit_variant_value name vname) w ≡ Some (leaf_tree t Enumeration (to_be_bytes w32 n) ∷ []) =
+    ap (λ (o : Option ℕ). o >>= λ s. enumeration s vname) taken ∙ ap (λ (o : Option ℕ). o >>= λ m. one_leaf (Plain t) Enumeration (to_be_bytes w32 m))
+    number_is in
     let h : Raw = record { tag = t; typ = Enumeration; content = to_be_bytes w32 n } in
     (leaf_tree t Enumeration (to_be_bytes w32 n), written, by_number {h = h} names.no_rule refl refl names.named)

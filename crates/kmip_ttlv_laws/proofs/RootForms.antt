@@ -3,7 +3,8 @@ use Rattle.std.proofs.Common.{◌≡◌, true, List, ◌∷◌}
 use Rattle.kmip_ttlv_types.specs.Items.{Raw}
 use Rattle.kmip_ttlv_types.specs.declared.typ.TtlvType.{TtlvType}
 use Rattle.kmip_ttlv_types.specs.declared.typ.TtlvType.TheVariants.{Structure}
-use Rattle.kmip_ttlv_base.specs.Forms.{Form, struct, option, seq, newtype, enum, int32, int64, boolean, text, octets, date_time, interval, big_integer, any_number}
+use Rattle.kmip_ttlv_base.specs.Forms.{Form, struct, option, seq, newtype, enum, int32, int64, boolean, text, octets, date_time, interval, big_integer}
+use Rattle.kmip_ttlv_base.specs.Forms.{any_number}
 use Rattle.kmip_ttlv_base.specs.Values.{Value}
 use Rattle.kmip_ttlv_reader.specs.TagValues.{TagValue}
 use Rattle.kmip_ttlv_reader.specs.Reads.{Reads, leaf, wrap_some, wrap, run, structure, by_rule, by_number, is_root, takes}
@@ -26,7 +27,8 @@ no_leaf big_integer t e h = absurd cc
 no_leaf any_number t e h = absurd cc
 
 -- what a root form reads from is a Structure
-pub root_structure : {s : Form} {k k' : List TagValue} {x : Raw} {xs ys : List Raw} {v : Value} → is_root s ≡ true → Reads s k (x ∷ xs) v k' ys → x.typ ≡ Structure
+pub root_structure : {s : Form} {k k' : List TagValue} {x : Raw} {xs ys : List Raw} {v : Value} → is_root s ≡ true → Reads s k (x ∷ xs) v k' ys
+    → x.typ ≡ Structure
 root_structure e (leaf {s = s} {h = h} t v) = no_leaf s h.typ e t
 root_structure e (wrap_some r) = root_structure e r
 root_structure e (wrap r) = root_structure e r

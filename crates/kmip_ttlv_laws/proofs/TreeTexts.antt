@@ -25,17 +25,38 @@ record Pairs (a b : List ℕ) : Type 0 where
 -- two encodings of a tree encode items that are the same but for padding
 mutual
   pair_of : (t : Tree) (a b : List ℕ) → IsTreeText t a → IsTreeText t b → Pair a b
-  pair_of (leaf tag typ content) a b h k = record { one = record { tag = tag; typ = typ; content = content }; two = record { tag = tag; typ = typ; content = content }; one_text = h.1; two_text = k.1; alike = equal_items }
+  pair_of (leaf tag typ content) a b h k = record {
+    one = record { tag = tag; typ = typ; content = content };
+    two =
+        record { tag = tag; typ = typ; content = content };
+    one_text = h.1;
+    two_text = k.1;
+    alike = equal_items;
+  }
   pair_of (node tag below) a b h k =
       let p = pairs_of below h.0 k.0 h.2 k.2 in
-      record { one = record { tag = tag; typ = Structure; content = h.0 }; two = record { tag = tag; typ = Structure; content = k.0 }; one_text = h.1; two_text = k.1; alike = split_alike refl refl refl p.ones_split p.twos_split p.all_alike }
+      record {
+        one = record { tag = tag; typ = Structure; content = h.0 };
+        two = record { tag = tag; typ = Structure; content = k.0 };
+        one_text =
+            h.1;
+        two_text = k.1;
+        alike = split_alike refl refl refl p.ones_split p.twos_split p.all_alike;
+      }
 
   pairs_of : (ts : Trees) (a b : List ℕ) → AreTreeTexts ts a → AreTreeTexts ts b → Pairs a b
   pairs_of no_trees a b h k = record { ones = []; twos = []; ones_split = h; twos_split = k; all_alike = both_end }
   pairs_of (tree t ts) a b h k =
       let p = pair_of t h.0 k.0 h.3 k.3 in
       let q = pairs_of ts h.1 k.1 h.4 k.4 in
-      record { ones = p.one ∷ q.ones; twos = p.two ∷ q.twos; ones_split = (h.0, h.1, p.one_text, h.2, q.ones_split); twos_split = (k.0, k.1, p.two_text, k.2, q.twos_split); all_alike = both_go_on p.alike q.all_alike }
+      record {
+        ones = p.one ∷ q.ones;
+        twos = p.two ∷ q.twos;
+        ones_split = (h.0, h.1, p.one_text, h.2, q.ones_split);
+        twos_split =
+            (k.0, k.1, p.two_text, k.2, q.twos_split);
+        all_alike = both_go_on p.alike q.all_alike;
+      }
 
 -- bytes encode at most one item
 pub one_of_text : (x y : Raw) (a : List ℕ) → IsTextOf x a → IsTextOf y a → x ≡ y

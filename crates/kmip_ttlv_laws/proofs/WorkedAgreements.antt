@@ -10,11 +10,14 @@ use Rattle.kmip_ttlv_reader.specs.Rules.{at_least, equal, in_brackets, member, r
 use Rattle.kmip_ttlv_types.specs.declared.typ.TtlvType.TheVariants.{Integer}
 use Rattle.kmip_ttlv_base.specs.Forms.{int32, newtype}
 use Rattle.kmip_ttlv_base.specs.Values.{Value, i32_value, unit_variant_value}
-use Rattle.kmip_ttlv_laws.specs.Agreements.{Head, absent_agrees, field_agrees, first_variant, inner_agrees, later_variant, leaf_agrees, newtype_wraps, no_field_agrees, nothing_agrees, option_agrees, struct_agrees, struct_encloses, unit_is_numbered, variant_wraps}
-use Rattle.kmip_ttlv_laws.proofs.MessageParts.{PartAgrees, a_structure, any_then, each_agrees, first_of, last_then, leaf_part, message, neither_named, newtype_structure, nothing_left, sequence_part, structure, wrapped_leaf, wrapped_unit}
-use Rattle.kmip_ttlv_laws.proofs.MessageRules.{choice_then, chosen_after, kept_then, wrapped_text_kept}
+use Rattle.kmip_ttlv_laws.specs.Agreements.{Head, absent_agrees, field_agrees, first_variant, inner_agrees, later_variant, leaf_agrees, newtype_wraps}
+use Rattle.kmip_ttlv_laws.specs.Agreements.{no_field_agrees, nothing_agrees, option_agrees, struct_agrees, struct_encodes, unit_is_numbered, variant_wraps}
+use Rattle.kmip_ttlv_laws.proofs.MessageParts.{PartAgrees, a_structure, any_then, each_agrees, first_of, last_then, leaf_part, message, neither_named}
+use Rattle.kmip_ttlv_laws.proofs.MessageParts.{newtype_structure, nothing_left, sequence_part, structure, wrapped_leaf, wrapped_unit}
+use Rattle.kmip_ttlv_laws.proofs.MessageRules.{choice_then, chosen_after, stored_then, wrapped_text_stored}
 use Rattle.kmip_ttlv_laws.specs.Returns.{as_int32}
-use Rattle.kmip_ttlv_laws.specs.WorkedAgreements.{AttributesAgree, OptionsAgree, SequencesAgree, attribute_form, number_under, written_attribute, read_attribute}
+use Rattle.kmip_ttlv_laws.specs.WorkedAgreements.{AttributesAgree, OptionsAgree, SequencesAgree, attribute_form, number_under, written_attribute}
+use Rattle.kmip_ttlv_laws.specs.WorkedAgreements.{read_attribute}
 
 three_fits : FitsSigned w32 (pos 3)
 three_fits = record { sfits = lit< tt }
@@ -40,27 +43,32 @@ options_agree =
     let second = inner_agrees (newtype_wraps refl refl) (leaf_agrees refl (as_int32 five_fits)) in (
       _,
       _,
-      struct_agrees refl (struct_encloses refl)
+      struct_agrees refl (struct_encodes refl)
           (nothing_agrees (absent_agrees refl
           (field_agrees refl refl (option_agrees first)
           (field_agrees refl refl second no_field_agrees)))),
     )
 
 -- an attribute whose name chooses an algorithm
-algorithm_agrees : PartAgrees attribute_form (written_attribute (codes "Cryptographic Algorithm") (unit_variant_value (codes "420028") (codes "0x00000003"))) (a_structure 0x420008) (read_attribute (codes "Cryptographic Algorithm") (codes "if 0x42000A==Cryptographic Algorithm") (unit_variant_value (codes "algorithm") (codes "0x00000003")))
-unfolding take_tag tag_of number transparent_name override_name pending_after is_wrapper rule sides equal at_least member in_brackets trim_end chars trim_start encode
+algorithm_agrees : PartAgrees attribute_form (written_attribute (codes "Cryptographic Algorithm") (unit_variant_value (codes "420028") (codes "0x00000003")))
+    (a_structure 0x420008) (read_attribute (codes "Cryptographic Algorithm") (codes "if 0x42000A==Cryptographic Algorithm")
+    (unit_variant_value (codes "algorithm") (codes "0x00000003")))
+unfolding take_tag tag_of number transparent_name override_name pending_after is_wrapper rule sides equal at_least member in_brackets trim_end chars
+    trim_start encode
 algorithm_agrees =
     structure refl refl (
-    kept_then refl refl (wrapped_text_kept (newtype_wraps refl refl) refl algorithm_utf8) (
+    stored_then refl refl (wrapped_text_stored (newtype_wraps refl refl) refl algorithm_utf8) (
     choice_then {tag = 0x42000A} refl refl refl (chosen_after first_variant (λ k found. rw found refl) (
     wrapped_unit (variant_wraps refl refl) (unit_is_numbered refl refl) refl (λ k. record { no_rule = refl; named = refl }))) nothing_left))
 
 -- one whose name chooses a number
-length_agrees : PartAgrees attribute_form (written_attribute (codes "Cryptographic Length") (i32_value (pos 128))) (a_structure 0x420008) (read_attribute (codes "Cryptographic Length") (codes "if 0x42000A in [Cryptographic Length, Cryptographic Usage Mask]") (i32_value (pos 128)))
-unfolding take_tag tag_of number transparent_name override_name pending_after is_wrapper rule sides equal at_least member in_brackets trim_end chars trim_start encode
+length_agrees : PartAgrees attribute_form (written_attribute (codes "Cryptographic Length") (i32_value (pos 128))) (a_structure 0x420008)
+    (read_attribute (codes "Cryptographic Length") (codes "if 0x42000A in [Cryptographic Length, Cryptographic Usage Mask]") (i32_value (pos 128)))
+unfolding take_tag tag_of number transparent_name override_name pending_after is_wrapper rule sides equal at_least member in_brackets trim_end chars
+    trim_start encode
 length_agrees =
     structure refl refl (
-    kept_then refl refl (wrapped_text_kept (newtype_wraps refl refl) refl length_utf8) (
+    stored_then refl refl (wrapped_text_stored (newtype_wraps refl refl) refl length_utf8) (
     choice_then {tag = 0x42000A} refl refl refl (chosen_after (later_variant first_variant) (λ k found. rw found refl) (
     wrapped_leaf (variant_wraps refl refl) refl (as_int32 bits_fit))) nothing_left))
 
@@ -84,11 +92,13 @@ attributes_agree =
     sequence_part (λ p. p.0) (λ p. p.1) both (lit< tt) (algorithm_agrees, refl, (length_agrees, refl, tt)))))
 
 -- an integer under its tag
-number_agrees : (z : ℤ) → FitsSigned w32 z → PartAgrees (newtype (codes "Transparent:0xBBBBBB") int32) (number_under (codes "Transparent:0xBBBBBB") z) record { tag = 0xBBBBBB; typ = Integer } (number_under (codes "Transparent:0xBBBBBB") z)
+number_agrees : (z : ℤ) → FitsSigned w32 z → PartAgrees (newtype (codes "Transparent:0xBBBBBB") int32) (number_under (codes "Transparent:0xBBBBBB") z) record
+    { tag = 0xBBBBBB; typ = Integer } (number_under (codes "Transparent:0xBBBBBB") z)
 unfolding take_tag tag_of number transparent_name
 number_agrees z fits = leaf_part refl refl (as_int32 fits)
 
-next_agrees : (z : ℤ) → FitsSigned w32 z → PartAgrees (newtype (codes "Transparent:0xBBBBBC") int32) (number_under (codes "Transparent:0xBBBBBC") z) record { tag = 0xBBBBBC; typ = Integer } (number_under (codes "Transparent:0xBBBBBC") z)
+next_agrees : (z : ℤ) → FitsSigned w32 z → PartAgrees (newtype (codes "Transparent:0xBBBBBC") int32) (number_under (codes "Transparent:0xBBBBBC") z) record
+    { tag = 0xBBBBBC; typ = Integer } (number_under (codes "Transparent:0xBBBBBC") z)
 unfolding take_tag tag_of number transparent_name
 next_agrees z fits = leaf_part refl refl (as_int32 fits)
 

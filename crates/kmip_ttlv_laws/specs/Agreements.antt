@@ -77,8 +77,8 @@ with_value any_number t (u32_value n) k = k ++ record { tag = t; text = text_of_
 with_value _ t _ k = k
 
 -- no tag is pending, as at the start of a message and of each field
-abbrev pub unheld : PendingTag
-unheld = Nothing
+abbrev pub none_pending : PendingTag
+none_pending = Nothing
 
 -- under the first pending tag the value is encoded as the other is under the second
 pub data Wraps : PendingTag → Value → PendingTag → Value → Type 0 where
@@ -96,21 +96,21 @@ pub data Wraps : PendingTag → Value → PendingTag → Value → Type 0 where
 
 -- under the pending tag the value is encoded as a Structure of this tag, around what these values are encoded as
 pub data EncodesStructure : PendingTag → Value → ℕ → Values → Type 0 where
-  struct_encloses :
+  struct_encodes :
       {h : PendingTag} {name : List ℕ} {t : ℕ} {ws : Values}
       → take_tag h name ≡ Some t
       → EncodesStructure h (struct_value name ws) t ws
-  newtype_encloses :
+  newtype_encodes :
       {h : PendingTag} {name : List ℕ} {t : ℕ} {w : Value}
       → transparent_name name ≡ None
       → take_tag h name ≡ Some t
       → EncodesStructure h (newtype_value name w) t (value w no_values)
-  variant_encloses :
+  variant_encodes :
       {h : PendingTag} {name vname : List ℕ} {t : ℕ} {w : Value}
       → is_wrapper vname ≡ false
       → take_tag h (without_override (without_override name)) ≡ Some t
       → EncodesStructure h (newtype_variant_value name vname w) t (value w no_values)
-  tuple_encloses :
+  tuple_encodes :
       {h : PendingTag} {name vname : List ℕ} {t : ℕ} {ws : Values}
       → take_tag h (without_override name) ≡ Some t
       → EncodesStructure h (tuple_variant_value name vname ws) t ws
@@ -248,4 +248,4 @@ mutual
 
 -- by itself, as a whole message, the one value agrees with the form as the other
 abbrev pub MessageAgrees : Form → Value → Value → Type 0
-MessageAgrees s w v = (x : Head) × (k : List TagValue) × Agrees s [] unheld w x v k
+MessageAgrees s w v = (x : Head) × (k : List TagValue) × Agrees s [] none_pending w x v k
