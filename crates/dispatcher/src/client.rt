@@ -1,11 +1,12 @@
 //! The client's half: a request that is encoded, and what its response says.
 
 use kmip_messages::header::{Operation, ProtocolVersion, RequestHeader};
-use kmip_messages::request::{Request, RequestItem, RequestPayload};
+use kmip_messages::request::{Request, RequestItem};
 use kmip_messages::request_payload::{
-    DiscoverVersionsRequest, ObjectRequest, QueryFunction, QueryRequest,
+    DiscoverVersionsRequest, ObjectRequest, QueryFunction, QueryRequest, RequestPayload,
 };
-use kmip_messages::response::{Response, ResponseItem, ResponsePayload};
+use kmip_messages::response::{Response, ResponseItem};
+use kmip_messages::response_payload::ResponsePayload;
 use kmip_ttlv::error::Error;
 use kmip_ttlv::{from_slice, to_vec};
 use std::alloc::{AllocError, Global};

@@ -6,11 +6,10 @@
 ghost use Rattle.std.specs.Prelude.{◌≡◌, IfOk, length};
 
 use kmip_messages::header::{Operation, ProtocolVersion, ResponseHeader};
-use kmip_messages::request::{Request, RequestItem, RequestPayload};
-use kmip_messages::response::{
-    Response, ResponseItem, ResponsePayload, ResultReason, ResultStatus,
-};
-use kmip_messages::response_payload::{DiscoverVersionsResponse, QueryResponse};
+use kmip_messages::request::{Request, RequestItem};
+use kmip_messages::request_payload::RequestPayload;
+use kmip_messages::response::{Response, ResponseItem, ResultReason, ResultStatus};
+use kmip_messages::response_payload::{DiscoverVersionsResponse, QueryResponse, ResponsePayload};
 use kmip_ttlv::error::{Error, ErrorKind};
 use kmip_ttlv::{Config, PrettyPrinter, from_reader, to_writer};
 use std::alloc::{AllocError, Global};

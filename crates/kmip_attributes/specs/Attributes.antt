@@ -1,13 +1,11 @@
 -- Written by codegen from types.table: change that, and run codegen/codegen.
 -- Forms and values of the types in `attribute`.
-use Rattle.kmip_ttlv.specs.Forms.{Form, Variants, any_number, big_integer, boolean, date_time, enum, field, int32}
-use Rattle.kmip_ttlv.specs.Forms.{int64, interval, newtype, no_fields, no_variants, octets, option, struct, text}
-use Rattle.kmip_ttlv.specs.Forms.{variant, wrapped}
+use Rattle.kmip_ttlv.specs.Forms.{Form, Variants, any_number, big_integer, boolean, date_time, enum, field, int32, int64, interval, newtype, no_fields}
+use Rattle.kmip_ttlv.specs.Forms.{no_variants, octets, option, struct, text, variant, wrapped}
 use Rattle.kmip_ttlv.specs.MessageParts.{optional}
 use Rattle.kmip_ttlv.specs.Returns.{IsNoneOf}
-use Rattle.kmip_ttlv.specs.Values.{Value, big_integer_value, boolean_value, bytes_value, date_time_value, i32_value}
-use Rattle.kmip_ttlv.specs.Values.{i64_value, interval_value, newtype_value, newtype_variant_value, no_values}
-use Rattle.kmip_ttlv.specs.Values.{struct_value, text_value, u32_value, value}
+use Rattle.kmip_ttlv.specs.Values.{Value, big_integer_value, boolean_value, bytes_value, date_time_value, i32_value, i64_value, interval_value, newtype_value}
+use Rattle.kmip_ttlv.specs.Values.{newtype_variant_value, no_values, struct_value, text_value, u32_value, value}
 use Rattle.kmip_ttlv.specs.Visits.{joined}
 use Rattle.std.specs.Prelude.{List, [], codes, option_map, string_bytes, true, ℕ, ◌∷◌, ◌≡◌}
 use Rattle.kmip_ttlv.specs.Visits as visits
@@ -27,21 +25,19 @@ use Rattle.kmip_attributes.specs.declared.attribute.AttributeStructure.TheVarian
 use Rattle.kmip_attributes.specs.declared.attribute.AttributeValue.{AttributeValue}
 use Rattle.kmip_attributes.specs.declared.attribute.AttributeValue.TheVariants as attribute_value
 use Rattle.kmip_attributes.specs.declared.attribute.Attribute.{Attribute}
-use Rattle.kmip_attributes.specs.Values.{object_type_form, written_object_type, read_object_type}
-use Rattle.kmip_attributes.specs.Values.{cryptographic_algorithm_form, written_cryptographic_algorithm, read_cryptographic_algorithm}
-use Rattle.kmip_attributes.specs.Values.{certificate_type_form, written_certificate_type, read_certificate_type}
-use Rattle.kmip_attributes.specs.Values.{state_form, written_state, read_state}
-use Rattle.kmip_attributes.specs.Structures.{name_form, written_name, read_name, returned_name}
-use Rattle.kmip_attributes.specs.Structures.{cryptographic_parameters_form, written_cryptographic_parameters, read_cryptographic_parameters, returned_cryptographic_parameters}
-use Rattle.kmip_attributes.specs.Structures.{cryptographic_domain_parameters_form, written_cryptographic_domain_parameters, read_cryptographic_domain_parameters, returned_cryptographic_domain_parameters}
-use Rattle.kmip_attributes.specs.Structures.{certificate_identifier_form, written_certificate_identifier, read_certificate_identifier}
-use Rattle.kmip_attributes.specs.Structures.{certificate_subject_form, written_certificate_subject, read_certificate_subject}
-use Rattle.kmip_attributes.specs.Structures.{certificate_issuer_form, written_certificate_issuer, read_certificate_issuer}
-use Rattle.kmip_attributes.specs.Structures.{digest_form, written_digest, read_digest, returned_digest}
-use Rattle.kmip_attributes.specs.Structures.{usage_limits_form, written_usage_limits, read_usage_limits, returned_usage_limits}
-use Rattle.kmip_attributes.specs.Structures.{revocation_reason_form, written_revocation_reason, read_revocation_reason, returned_revocation_reason}
-use Rattle.kmip_attributes.specs.Structures.{link_form, written_link, read_link, returned_link}
-use Rattle.kmip_attributes.specs.Structures.{application_specific_information_form, application_specific_information_value}
+use Rattle.kmip_attributes.specs.Values.{object_type_form, written_object_type, read_object_type, cryptographic_algorithm_form, written_cryptographic_algorithm}
+use Rattle.kmip_attributes.specs.Values.{read_cryptographic_algorithm, certificate_type_form, written_certificate_type, read_certificate_type, state_form}
+use Rattle.kmip_attributes.specs.Values.{written_state, read_state}
+use Rattle.kmip_attributes.specs.Structures.{name_form, written_name, read_name, returned_name, cryptographic_parameters_form, written_cryptographic_parameters}
+use Rattle.kmip_attributes.specs.Structures.{read_cryptographic_parameters, returned_cryptographic_parameters, cryptographic_domain_parameters_form}
+use Rattle.kmip_attributes.specs.Structures.{written_cryptographic_domain_parameters, read_cryptographic_domain_parameters}
+use Rattle.kmip_attributes.specs.Structures.{returned_cryptographic_domain_parameters, certificate_identifier_form, written_certificate_identifier}
+use Rattle.kmip_attributes.specs.Structures.{read_certificate_identifier, certificate_subject_form, written_certificate_subject, read_certificate_subject}
+use Rattle.kmip_attributes.specs.Structures.{certificate_issuer_form, written_certificate_issuer, read_certificate_issuer, digest_form, written_digest}
+use Rattle.kmip_attributes.specs.Structures.{read_digest, returned_digest, usage_limits_form, written_usage_limits, read_usage_limits, returned_usage_limits}
+use Rattle.kmip_attributes.specs.Structures.{revocation_reason_form, written_revocation_reason, read_revocation_reason, returned_revocation_reason, link_form}
+use Rattle.kmip_attributes.specs.Structures.{written_link, read_link, returned_link, application_specific_information_form}
+use Rattle.kmip_attributes.specs.Structures.{application_specific_information_value}
 
 -- the form of a `AttributeName`
 abbrev pub attribute_name_form : Form

@@ -37,7 +37,10 @@ use Rattle.kmip_attributes.specs.declared.attribute.AttributeStructure.TheVarian
 use Rattle.kmip_attributes.specs.declared.attribute.AttributeValue.{AttributeValue}
 use Rattle.kmip_attributes.specs.declared.attribute.AttributeValue.TheVariants as attribute_value
 use Rattle.kmip_attributes.specs.declared.attribute.Attribute.{Attribute}
-use Rattle.kmip_attributes.specs.Values.{object_type_number, cryptographic_algorithm_number, certificate_type_number, state_number, name_type_number, block_cipher_mode_number, padding_method_number, hashing_algorithm_number, key_role_type_number, recommended_curve_number, key_format_type_number, usage_limits_unit_number, revocation_reason_code_number, link_type_number}
+use Rattle.kmip_attributes.specs.Values.{object_type_number, cryptographic_algorithm_number, certificate_type_number, state_number, name_type_number}
+use Rattle.kmip_attributes.specs.Values.{block_cipher_mode_number, padding_method_number, hashing_algorithm_number, key_role_type_number}
+use Rattle.kmip_attributes.specs.Values.{recommended_curve_number, key_format_type_number, usage_limits_unit_number, revocation_reason_code_number}
+use Rattle.kmip_attributes.specs.Values.{link_type_number}
 use Rattle.kmip_attributes.specs.Attributes.{ChoosesAttributeValue}
 
 -- which values of `ObjectType` are sound

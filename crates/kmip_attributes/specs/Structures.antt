@@ -2,8 +2,7 @@
 -- Forms and values of the types in `structures`.
 use Rattle.kmip_ttlv.specs.Forms.{Form, field, int32, int64, newtype, no_fields, octets, option, seq, struct, text}
 use Rattle.kmip_ttlv.specs.MessageParts.{optional, optional_sequence, sequence}
-use Rattle.kmip_ttlv.specs.Values.{Value, bytes_value, i32_value, i64_value, newtype_value, no_values, struct_value}
-use Rattle.kmip_ttlv.specs.Values.{text_value, value}
+use Rattle.kmip_ttlv.specs.Values.{Value, bytes_value, i32_value, i64_value, newtype_value, no_values, struct_value, text_value, value}
 use Rattle.kmip_ttlv.specs.Visits.{joined}
 use Rattle.std.specs.Prelude.{codes, option_map, string_bytes, true}
 use Rattle.kmip_ttlv.specs.Visits as visits
@@ -22,15 +21,12 @@ use Rattle.kmip_attributes.specs.declared.structures.UsageLimits.{UsageLimits}
 use Rattle.kmip_attributes.specs.declared.structures.RevocationReason.{RevocationReason}
 use Rattle.kmip_attributes.specs.declared.structures.Link.{Link}
 use Rattle.kmip_attributes.specs.declared.structures.ApplicationSpecificInformation.{ApplicationSpecificInformation}
-use Rattle.kmip_attributes.specs.Values.{name_type_form, written_name_type, read_name_type}
-use Rattle.kmip_attributes.specs.Values.{block_cipher_mode_form, written_block_cipher_mode, read_block_cipher_mode}
-use Rattle.kmip_attributes.specs.Values.{padding_method_form, written_padding_method, read_padding_method}
-use Rattle.kmip_attributes.specs.Values.{hashing_algorithm_form, written_hashing_algorithm, read_hashing_algorithm}
-use Rattle.kmip_attributes.specs.Values.{key_role_type_form, written_key_role_type, read_key_role_type}
-use Rattle.kmip_attributes.specs.Values.{recommended_curve_form, written_recommended_curve, read_recommended_curve}
-use Rattle.kmip_attributes.specs.Values.{key_format_type_form, written_key_format_type, read_key_format_type}
-use Rattle.kmip_attributes.specs.Values.{usage_limits_unit_form, written_usage_limits_unit, read_usage_limits_unit}
-use Rattle.kmip_attributes.specs.Values.{revocation_reason_code_form, written_revocation_reason_code, read_revocation_reason_code}
+use Rattle.kmip_attributes.specs.Values.{name_type_form, written_name_type, read_name_type, block_cipher_mode_form, written_block_cipher_mode}
+use Rattle.kmip_attributes.specs.Values.{read_block_cipher_mode, padding_method_form, written_padding_method, read_padding_method, hashing_algorithm_form}
+use Rattle.kmip_attributes.specs.Values.{written_hashing_algorithm, read_hashing_algorithm, key_role_type_form, written_key_role_type, read_key_role_type}
+use Rattle.kmip_attributes.specs.Values.{recommended_curve_form, written_recommended_curve, read_recommended_curve, key_format_type_form}
+use Rattle.kmip_attributes.specs.Values.{written_key_format_type, read_key_format_type, usage_limits_unit_form, written_usage_limits_unit}
+use Rattle.kmip_attributes.specs.Values.{read_usage_limits_unit, revocation_reason_code_form, written_revocation_reason_code, read_revocation_reason_code}
 use Rattle.kmip_attributes.specs.Values.{link_type_form, written_link_type, read_link_type}
 
 -- the form of a `Name`

@@ -1,10 +1,10 @@
 -- Written by codegen from types.table: change that, and run codegen/codegen.
 -- Forms and values of the types in `header`.
-use Rattle.kmip_ttlv.specs.Forms.{Form, any_number, boolean, date_time, enum, field, int32, newtype, no_fields}
-use Rattle.kmip_ttlv.specs.Forms.{no_variants, option, seq, struct, text, variant, wrapped}
+use Rattle.kmip_ttlv.specs.Forms.{Form, any_number, boolean, date_time, enum, field, int32, newtype, no_fields, no_variants, option, seq, struct, text, variant}
+use Rattle.kmip_ttlv.specs.Forms.{wrapped}
 use Rattle.kmip_ttlv.specs.MessageParts.{numbered_value, optional, other_number, sequence}
-use Rattle.kmip_ttlv.specs.Values.{Value, boolean_value, date_time_value, i32_value, newtype_value}
-use Rattle.kmip_ttlv.specs.Values.{newtype_variant_value, no_values, struct_value, text_value, u32_value, value}
+use Rattle.kmip_ttlv.specs.Values.{Value, boolean_value, date_time_value, i32_value, newtype_value, newtype_variant_value, no_values, struct_value, text_value}
+use Rattle.kmip_ttlv.specs.Values.{u32_value, value}
 use Rattle.kmip_ttlv.specs.Visits.{joined}
 use Rattle.std.specs.Prelude.{List, Option, Some, [], codes, false, option_map, string_bytes, true, ℕ, ◌∷◌, ◌≡◌}
 use Rattle.kmip_ttlv.specs.Visits as visits

@@ -4,9 +4,10 @@ ghost use Rattle.std.specs.Prelude.{◌≡◌, ◌↔◌, IsTrue, None, pos};
 ghost use Rattle.kmip_messages.specs.Soundness.{IsRequest, IsResponse};
 ghost use Rattle.kmip_messages.specs.Batches.{IsConsistentRequest, IsConsistentResponse};
 
-use crate::request::{Request, RequestItem, RequestPayload};
+use crate::request::{Request, RequestItem};
 use crate::response::Response;
 use kmip_headers::header::Operation;
+use kmip_requests::request_payload::RequestPayload;
 use kmip_ttlv::laws::Sound;
 use std::alloc::Allocator;
 

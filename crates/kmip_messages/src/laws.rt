@@ -3,16 +3,16 @@
 
 ghost use Rattle.std.specs.Prelude.{◌≡◌, IfSome, IsTrue, ◌↔◌};
 ghost use Rattle.std.specs.Option.{IsSomeAnd};
-ghost use Rattle.kmip_messages.specs.Responses.{ChoosesResponsePayloadNumber};
+ghost use Rattle.kmip_responses.specs.ResponsePayloads.{ChoosesResponsePayloadNumber};
 ghost use Rattle.kmip_headers.specs.Headers.{operation_number};
 ghost use Rattle.kmip_ttlv.specs.Equal.{ReturnsEqual};
-ghost use Rattle.kmip_messages.specs.Requests.{returned_request_payload, read_request_payload, returned_request_item, read_request_item, returned_request, read_request};
-ghost use Rattle.kmip_messages.specs.Responses.{returned_response_payload, read_response_payload, written_result_status, read_result_status, written_result_reason, read_result_reason, returned_response_item, read_response_item, returned_response, read_response};
-ghost use Rattle.kmip_messages.specs.Soundness.{IsRequestPayload, IsRequestItem, IsRequest, IsResponsePayload, IsResultStatus, IsResultReason, IsResponseItem, IsResponse};
+ghost use Rattle.kmip_messages.specs.Requests.{returned_request_item, read_request_item, returned_request, read_request};
+ghost use Rattle.kmip_messages.specs.Responses.{written_result_status, read_result_status, written_result_reason, read_result_reason, returned_response_item, read_response_item, returned_response, read_response};
+ghost use Rattle.kmip_messages.specs.Soundness.{IsRequestItem, IsRequest, IsResultStatus, IsResultReason, IsResponseItem, IsResponse};
 ghost use Rattle.kmip_messages.specs.Laws.{RequestsComeBack, ResponsesComeBack};
 
-use crate::request::{Request, RequestItem, RequestPayload};
-use crate::response::{Response, ResponseItem, ResponsePayload, ResultReason, ResultStatus};
+use crate::request::{Request, RequestItem};
+use crate::response::{Response, ResponseItem, ResultReason, ResultStatus};
 use kmip_ttlv::laws::{Message, Sound, agreeing_values_come_back};
 use std::alloc::Allocator;
 
@@ -34,10 +34,8 @@ pub fn responses_come_back<A: Allocator>()
 
 /// Values of a type are equal if they stand for the same: no type loses a part of what it is decoded from.
 pub fn equal_values<A: Allocator>()
-    ensures request_payload { ReturnsEqual returned_request_payload read_request_payload ⟦<RequestPayload<A> as PartialEq>⟧.eq }
     ensures request_item { ReturnsEqual returned_request_item read_request_item ⟦<RequestItem<A> as PartialEq>⟧.eq }
     ensures request { ReturnsEqual returned_request read_request ⟦<Request<A> as PartialEq>⟧.eq }
-    ensures response_payload { ReturnsEqual returned_response_payload read_response_payload ⟦<ResponsePayload<A> as PartialEq>⟧.eq }
     ensures result_status { ReturnsEqual written_result_status read_result_status ⟦<ResultStatus as PartialEq>⟧.eq }
     ensures result_reason { ReturnsEqual written_result_reason read_result_reason ⟦<ResultReason as PartialEq>⟧.eq }
     ensures response_item { ReturnsEqual returned_response_item read_response_item ⟦<ResponseItem<A> as PartialEq>⟧.eq }
@@ -46,30 +44,6 @@ pub fn equal_values<A: Allocator>()
     kmip_headers::laws::equal_values::<A>();
     kmip_requests::laws::equal_values::<A>();
     kmip_responses::laws::equal_values::<A>();
-}
-
-impl<A: Allocator> Sound for RequestPayload<A> {
-    ghost IsSound = { IsRequestPayload };
-
-    fn is_sound(&self) -> bool {
-        match self {
-            RequestPayload::Create(inner) => inner.is_sound(),
-            RequestPayload::CreateKeyPair(inner) => inner.is_sound(),
-            RequestPayload::Register(inner) => inner.is_sound(),
-            RequestPayload::Locate(inner) => inner.is_sound(),
-            RequestPayload::Get(inner) => inner.is_sound(),
-            RequestPayload::GetAttributes(_) => true,
-            RequestPayload::GetAttributeList(_) => true,
-            RequestPayload::AddAttribute(inner) => inner.is_sound(),
-            RequestPayload::ModifyAttribute(inner) => inner.is_sound(),
-            RequestPayload::DeleteAttribute(inner) => inner.is_sound(),
-            RequestPayload::Activate(_) => true,
-            RequestPayload::Revoke(inner) => inner.is_sound(),
-            RequestPayload::Destroy(_) => true,
-            RequestPayload::Query(inner) => inner.is_sound(),
-            RequestPayload::DiscoverVersions(inner) => inner.is_sound(),
-        }
-    }
 }
 
 impl<A: Allocator> Sound for RequestItem<A> {
@@ -87,30 +61,6 @@ impl<A: Allocator> Sound for Request<A> {
 
     fn is_sound(&self) -> bool {
         self.header.is_sound() && !self.items.is_empty() && self.items.is_sound()
-    }
-}
-
-impl<A: Allocator> Sound for ResponsePayload<A> {
-    ghost IsSound = { IsResponsePayload };
-
-    fn is_sound(&self) -> bool {
-        match self {
-            ResponsePayload::Create(inner) => inner.is_sound(),
-            ResponsePayload::CreateKeyPair(inner) => inner.is_sound(),
-            ResponsePayload::Register(inner) => inner.is_sound(),
-            ResponsePayload::Locate(_) => true,
-            ResponsePayload::Get(inner) => inner.is_sound(),
-            ResponsePayload::GetAttributes(inner) => inner.is_sound(),
-            ResponsePayload::GetAttributeList(_) => true,
-            ResponsePayload::AddAttribute(inner) => inner.is_sound(),
-            ResponsePayload::ModifyAttribute(inner) => inner.is_sound(),
-            ResponsePayload::DeleteAttribute(inner) => inner.is_sound(),
-            ResponsePayload::Activate(_) => true,
-            ResponsePayload::Revoke(_) => true,
-            ResponsePayload::Destroy(_) => true,
-            ResponsePayload::Query(inner) => inner.is_sound(),
-            ResponsePayload::DiscoverVersions(inner) => inner.is_sound(),
-        }
     }
 }
 

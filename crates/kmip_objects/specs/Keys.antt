@@ -1,10 +1,8 @@
 -- Written by codegen from types.table: change that, and run codegen/codegen.
 -- Forms and values of the types in `key`.
-use Rattle.kmip_ttlv.specs.Forms.{Form, any_number, enum, field, int32, newtype, no_fields, no_variants, octets, option}
-use Rattle.kmip_ttlv.specs.Forms.{seq, struct, text, variant, wrapped}
+use Rattle.kmip_ttlv.specs.Forms.{Form, any_number, enum, field, int32, newtype, no_fields, no_variants, octets, option, seq, struct, text, variant, wrapped}
 use Rattle.kmip_ttlv.specs.MessageParts.{numbered_value, optional, optional_sequence, other_number, sequence}
-use Rattle.kmip_ttlv.specs.Values.{Value, bytes_value, i32_value, newtype_value, newtype_variant_value, no_values}
-use Rattle.kmip_ttlv.specs.Values.{struct_value, text_value, u32_value, value}
+use Rattle.kmip_ttlv.specs.Values.{Value, bytes_value, i32_value, newtype_value, newtype_variant_value, no_values, struct_value, text_value, u32_value, value}
 use Rattle.kmip_ttlv.specs.Visits.{joined}
 use Rattle.std.specs.Prelude.{List, Option, Some, [], codes, option_map, string_bytes, true, ℕ, ◌∷◌}
 use Rattle.kmip_ttlv.specs.Visits as visits
@@ -29,12 +27,10 @@ use Rattle.kmip_objects.specs.declared.key.KeyValue.{KeyValue}
 use Rattle.kmip_objects.specs.declared.key.KeyValue.TheVariants as key_value
 use Rattle.kmip_objects.specs.declared.key.CryptographicLength.{CryptographicLength}
 use Rattle.kmip_objects.specs.declared.key.KeyBlock.{KeyBlock}
-use Rattle.kmip_attributes.specs.Values.{cryptographic_algorithm_form, written_cryptographic_algorithm, read_cryptographic_algorithm}
-use Rattle.kmip_attributes.specs.Values.{block_cipher_mode_form, written_block_cipher_mode, read_block_cipher_mode}
-use Rattle.kmip_attributes.specs.Values.{padding_method_form, written_padding_method, read_padding_method}
-use Rattle.kmip_attributes.specs.Values.{hashing_algorithm_form, written_hashing_algorithm, read_hashing_algorithm}
-use Rattle.kmip_attributes.specs.Values.{key_role_type_form, written_key_role_type, read_key_role_type}
-use Rattle.kmip_attributes.specs.Values.{key_format_type_form, written_key_format_type, read_key_format_type}
+use Rattle.kmip_attributes.specs.Values.{cryptographic_algorithm_form, written_cryptographic_algorithm, read_cryptographic_algorithm, block_cipher_mode_form}
+use Rattle.kmip_attributes.specs.Values.{written_block_cipher_mode, read_block_cipher_mode, padding_method_form, written_padding_method, read_padding_method}
+use Rattle.kmip_attributes.specs.Values.{hashing_algorithm_form, written_hashing_algorithm, read_hashing_algorithm, key_role_type_form, written_key_role_type}
+use Rattle.kmip_attributes.specs.Values.{read_key_role_type, key_format_type_form, written_key_format_type, read_key_format_type}
 use Rattle.kmip_attributes.specs.Attributes.{attribute_form, written_attribute, read_attribute, returned_attribute}
 
 -- the form of a `UniqueIdentifier`

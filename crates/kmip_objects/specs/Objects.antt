@@ -1,10 +1,8 @@
 -- Written by codegen from types.table: change that, and run codegen/codegen.
 -- Forms and values of the types in `object`.
-use Rattle.kmip_ttlv.specs.Forms.{Form, any_number, big_integer, field, int32, newtype, no_fields, octets, option, seq}
-use Rattle.kmip_ttlv.specs.Forms.{struct}
+use Rattle.kmip_ttlv.specs.Forms.{Form, any_number, big_integer, field, int32, newtype, no_fields, octets, option, seq, struct}
 use Rattle.kmip_ttlv.specs.MessageParts.{numbered_value, optional, other_number, sequence}
-use Rattle.kmip_ttlv.specs.Values.{Value, big_integer_value, bytes_value, i32_value, newtype_value, no_values}
-use Rattle.kmip_ttlv.specs.Values.{struct_value, u32_value, value}
+use Rattle.kmip_ttlv.specs.Values.{Value, big_integer_value, bytes_value, i32_value, newtype_value, no_values, struct_value, u32_value, value}
 use Rattle.kmip_ttlv.specs.Visits.{joined}
 use Rattle.std.specs.Prelude.{List, Option, Some, [], codes, option_map, true, ℕ, ◌∷◌}
 use Rattle.kmip_ttlv.specs.Visits as visits

@@ -34,7 +34,8 @@ use Rattle.kmip_objects.specs.declared.template.CommonTemplateAttribute.{CommonT
 use Rattle.kmip_objects.specs.declared.template.PrivateKeyTemplateAttribute.{PrivateKeyTemplateAttribute}
 use Rattle.kmip_objects.specs.declared.template.PublicKeyTemplateAttribute.{PublicKeyTemplateAttribute}
 use Rattle.kmip_objects.specs.Keys.{key_compression_type_number, wrapping_method_number, encoding_option_number}
-use Rattle.kmip_attributes.specs.Soundness.{IsBlockCipherMode, IsPaddingMethod, IsHashingAlgorithm, IsKeyRoleType, IsAttribute, IsKeyFormatType, IsCryptographicAlgorithm, IsCertificateType, IsNameType}
+use Rattle.kmip_attributes.specs.Soundness.{IsBlockCipherMode, IsPaddingMethod, IsHashingAlgorithm, IsKeyRoleType, IsAttribute, IsKeyFormatType}
+use Rattle.kmip_attributes.specs.Soundness.{IsCryptographicAlgorithm, IsCertificateType, IsNameType}
 use Rattle.kmip_objects.specs.Objects.{split_key_method_number, secret_data_type_number, opaque_data_type_number}
 
 -- which values of `KeyCompressionType` are sound

@@ -1,124 +1,98 @@
 -- Written by codegen from types.table: change that, and run codegen/codegen.
 -- The types agree with their forms: one line for each part.
-use Rattle.kmip_ttlv.specs.Names.{number, tag_of, transparent_name}
-use Rattle.kmip_ttlv.specs.Returns.{as_date_time, as_int32, as_number, as_text}
-use Rattle.kmip_ttlv.specs.Rules.{rule}
+use Rattle.kmip_ttlv.specs.Agreements.{first_variant, is_run, later_variant}
+use Rattle.kmip_ttlv.specs.Names.{number, override_name, tag_of, transparent_name}
+use Rattle.kmip_ttlv.specs.Returns.{as_date_time, as_int32, as_number, as_text, text_of_number}
+use Rattle.kmip_ttlv.specs.Rules.{at_least, equal, in_brackets, member, rule, sides}
 use Rattle.kmip_ttlv.specs.Values.{newtype_value, text_value}
-use Rattle.kmip_ttlv.specs.WrittenItems.{take_tag}
-use Rattle.kmip_ttlv_laws.proofs.MessageParts.{PartAgrees, a_structure, all_agree, any_then, every_agrees, first_of}
-use Rattle.kmip_ttlv_laws.proofs.MessageParts.{head_or, if_present, leaf_part, leaf_then, neither_named, nothing_left}
-use Rattle.kmip_ttlv_laws.proofs.MessageParts.{optional_then, part_then, present, several_then, structure, text_is_utf8}
-use Rattle.std.proofs.Common.{refl}
-use Rattle.std.specs.Prelude.{None, codes, string_bytes}
+use Rattle.kmip_ttlv.specs.WrittenItems.{is_wrapper, pending_after, take_tag}
+use Rattle.kmip_ttlv_laws.proofs.MessageParts.{PartAgrees, a_structure, all_agree, any_then, every_agrees, first_of, if_present, leaf_part, leaf_then}
+use Rattle.kmip_ttlv_laws.proofs.MessageParts.{nothing_behind, nothing_left, option_behind, optional_same_then, optional_then, part_then, present, several_then}
+use Rattle.kmip_ttlv_laws.proofs.MessageParts.{structure, text_is_utf8}
+use Rattle.kmip_ttlv_laws.proofs.MessageRules.{PartAfter, chosen_after}
+use Rattle.std.proofs.Common.{ap, refl, ◌∙◌}
+use Rattle.std.specs.Prelude.{List, Some, codes, false, string_bytes, ℕ, ◌≡◌}
+use Rattle.std.specs.Str.{chars, trim_end, trim_start}
+use lib.Utf8.{encode}
 use Rattle.kmip_ttlv.specs.declared.types.TtlvType.{TtlvType}
 use Rattle.kmip_ttlv.specs.declared.types.TtlvType.TheVariants as types
-use Rattle.kmip_attributes.specs.Values.{object_type_form, written_object_type, read_object_type, object_type_number}
-use Rattle.kmip_attributes.proofs.Agreeing.{object_type_agrees}
-use Rattle.kmip_attributes.specs.Values.{key_format_type_form, written_key_format_type, read_key_format_type, key_format_type_number}
-use Rattle.kmip_attributes.proofs.Agreeing.{key_format_type_agrees}
-use Rattle.kmip_attributes.specs.Values.{revocation_reason_code_form, written_revocation_reason_code, read_revocation_reason_code, revocation_reason_code_number}
-use Rattle.kmip_attributes.proofs.Agreeing.{revocation_reason_code_agrees}
-use Rattle.kmip_attributes.specs.Attributes.{attribute_name_form, attribute_name_value}
-use Rattle.kmip_attributes.proofs.Agreeing.{attribute_name_agrees}
+use Rattle.kmip_attributes.specs.Values.{object_type_form, written_object_type, read_object_type, object_type_number, key_format_type_form}
+use Rattle.kmip_attributes.specs.Values.{written_key_format_type, read_key_format_type, key_format_type_number, revocation_reason_code_form}
+use Rattle.kmip_attributes.specs.Values.{written_revocation_reason_code, read_revocation_reason_code, revocation_reason_code_number}
+use Rattle.kmip_attributes.proofs.Agreeing.{object_type_agrees, key_format_type_agrees, revocation_reason_code_agrees, attribute_name_agrees}
+use Rattle.kmip_attributes.proofs.Agreeing.{attribute_index_agrees, attribute_agrees}
+use Rattle.kmip_attributes.specs.Attributes.{attribute_name_form, attribute_name_value, attribute_index_form, attribute_index_value, attribute_form}
+use Rattle.kmip_attributes.specs.Attributes.{written_attribute, read_attribute, returned_attribute}
 use Rattle.kmip_attributes.specs.declared.attribute.AttributeName.{AttributeName}
-use Rattle.kmip_attributes.specs.Attributes.{attribute_index_form, attribute_index_value}
-use Rattle.kmip_attributes.proofs.Agreeing.{attribute_index_agrees}
 use Rattle.kmip_attributes.specs.declared.attribute.AttributeIndex.{AttributeIndex}
-use Rattle.kmip_attributes.specs.Attributes.{attribute_form, written_attribute, read_attribute, returned_attribute}
-use Rattle.kmip_attributes.proofs.Agreeing.{attribute_agrees}
 use Rattle.kmip_objects.specs.Keys.{key_compression_type_form, written_key_compression_type, read_key_compression_type, key_compression_type_number}
-use Rattle.kmip_objects.proofs.Agreeing.{key_compression_type_agrees}
-use Rattle.kmip_objects.specs.Keys.{wrapping_method_form, written_wrapping_method, read_wrapping_method, wrapping_method_number}
-use Rattle.kmip_objects.proofs.Agreeing.{wrapping_method_agrees}
-use Rattle.kmip_objects.specs.Keys.{encoding_option_form, written_encoding_option, read_encoding_option, encoding_option_number}
-use Rattle.kmip_objects.proofs.Agreeing.{encoding_option_agrees}
-use Rattle.kmip_objects.specs.Keys.{encryption_key_information_form, written_encryption_key_information, read_encryption_key_information, returned_encryption_key_information}
-use Rattle.kmip_objects.proofs.Agreeing.{encryption_key_information_agrees}
-use Rattle.kmip_objects.specs.Keys.{mac_signature_key_information_form, written_mac_signature_key_information, read_mac_signature_key_information, returned_mac_signature_key_information}
-use Rattle.kmip_objects.proofs.Agreeing.{mac_signature_key_information_agrees}
-use Rattle.kmip_objects.specs.Objects.{certificate_form, written_certificate, read_certificate, returned_certificate}
-use Rattle.kmip_objects.proofs.Agreeing.{certificate_agrees}
-use Rattle.kmip_objects.specs.Objects.{symmetric_key_form, written_symmetric_key, read_symmetric_key, returned_symmetric_key}
-use Rattle.kmip_objects.proofs.Agreeing.{symmetric_key_agrees}
-use Rattle.kmip_objects.specs.Objects.{public_key_form, written_public_key, read_public_key, returned_public_key}
-use Rattle.kmip_objects.proofs.Agreeing.{public_key_agrees}
-use Rattle.kmip_objects.specs.Objects.{private_key_form, written_private_key, read_private_key, returned_private_key}
-use Rattle.kmip_objects.proofs.Agreeing.{private_key_agrees}
-use Rattle.kmip_objects.specs.Objects.{split_key_form, written_split_key, read_split_key, returned_split_key}
-use Rattle.kmip_objects.proofs.Agreeing.{split_key_agrees}
-use Rattle.kmip_objects.specs.Objects.{template_form, written_template, read_template, returned_template}
-use Rattle.kmip_objects.proofs.Agreeing.{template_agrees}
-use Rattle.kmip_objects.specs.Objects.{secret_data_form, written_secret_data, read_secret_data, returned_secret_data}
-use Rattle.kmip_objects.proofs.Agreeing.{secret_data_agrees}
-use Rattle.kmip_objects.specs.Objects.{opaque_object_form, written_opaque_object, read_opaque_object, returned_opaque_object}
-use Rattle.kmip_objects.proofs.Agreeing.{opaque_object_agrees}
+use Rattle.kmip_objects.specs.Keys.{wrapping_method_form, written_wrapping_method, read_wrapping_method, wrapping_method_number, encoding_option_form}
+use Rattle.kmip_objects.specs.Keys.{written_encoding_option, read_encoding_option, encoding_option_number, encryption_key_information_form}
+use Rattle.kmip_objects.specs.Keys.{written_encryption_key_information, read_encryption_key_information, returned_encryption_key_information}
+use Rattle.kmip_objects.specs.Keys.{mac_signature_key_information_form, written_mac_signature_key_information, read_mac_signature_key_information}
+use Rattle.kmip_objects.specs.Keys.{returned_mac_signature_key_information}
+use Rattle.kmip_objects.proofs.Agreeing.{key_compression_type_agrees, wrapping_method_agrees, encoding_option_agrees, encryption_key_information_agrees}
+use Rattle.kmip_objects.proofs.Agreeing.{mac_signature_key_information_agrees, certificate_agrees, symmetric_key_agrees, public_key_agrees, private_key_agrees}
+use Rattle.kmip_objects.proofs.Agreeing.{split_key_agrees, template_agrees, secret_data_agrees, opaque_object_agrees, template_attribute_agrees}
+use Rattle.kmip_objects.proofs.Agreeing.{common_template_attribute_agrees, private_key_template_attribute_agrees, public_key_template_attribute_agrees}
+use Rattle.kmip_objects.specs.Objects.{certificate_form, written_certificate, read_certificate, returned_certificate, symmetric_key_form, written_symmetric_key}
+use Rattle.kmip_objects.specs.Objects.{read_symmetric_key, returned_symmetric_key, public_key_form, written_public_key, read_public_key, returned_public_key}
+use Rattle.kmip_objects.specs.Objects.{private_key_form, written_private_key, read_private_key, returned_private_key, split_key_form, written_split_key}
+use Rattle.kmip_objects.specs.Objects.{read_split_key, returned_split_key, template_form, written_template, read_template, returned_template, secret_data_form}
+use Rattle.kmip_objects.specs.Objects.{written_secret_data, read_secret_data, returned_secret_data, opaque_object_form, written_opaque_object}
+use Rattle.kmip_objects.specs.Objects.{read_opaque_object, returned_opaque_object}
 use Rattle.kmip_objects.specs.Templates.{template_attribute_form, written_template_attribute, read_template_attribute, returned_template_attribute}
-use Rattle.kmip_objects.proofs.Agreeing.{template_attribute_agrees}
-use Rattle.kmip_objects.specs.Templates.{common_template_attribute_form, written_common_template_attribute, read_common_template_attribute, returned_common_template_attribute}
-use Rattle.kmip_objects.proofs.Agreeing.{common_template_attribute_agrees}
-use Rattle.kmip_objects.specs.Templates.{private_key_template_attribute_form, written_private_key_template_attribute, read_private_key_template_attribute, returned_private_key_template_attribute}
-use Rattle.kmip_objects.proofs.Agreeing.{private_key_template_attribute_agrees}
-use Rattle.kmip_objects.specs.Templates.{public_key_template_attribute_form, written_public_key_template_attribute, read_public_key_template_attribute, returned_public_key_template_attribute}
-use Rattle.kmip_objects.proofs.Agreeing.{public_key_template_attribute_agrees}
+use Rattle.kmip_objects.specs.Templates.{common_template_attribute_form, written_common_template_attribute, read_common_template_attribute}
+use Rattle.kmip_objects.specs.Templates.{returned_common_template_attribute, private_key_template_attribute_form, written_private_key_template_attribute}
+use Rattle.kmip_objects.specs.Templates.{read_private_key_template_attribute, returned_private_key_template_attribute, public_key_template_attribute_form}
+use Rattle.kmip_objects.specs.Templates.{written_public_key_template_attribute, read_public_key_template_attribute, returned_public_key_template_attribute}
 use Rattle.kmip_headers.specs.Headers.{protocol_version_form, protocol_version_value}
 use Rattle.kmip_headers.proofs.Agreeing.{protocol_version_agrees}
 use Rattle.kmip_requests.specs.RequestPayloads.{create_request_form, written_create_request, read_create_request, returned_create_request}
-use Rattle.kmip_requests.specs.Soundness.{IsCreateRequest}
+use Rattle.kmip_requests.specs.RequestPayloads.{create_key_pair_request_form, written_create_key_pair_request, read_create_key_pair_request}
+use Rattle.kmip_requests.specs.RequestPayloads.{returned_create_key_pair_request, register_request_form, written_register_request, read_register_request}
+use Rattle.kmip_requests.specs.RequestPayloads.{returned_register_request, maximum_items_form, maximum_items_value, storage_status_mask_form}
+use Rattle.kmip_requests.specs.RequestPayloads.{storage_status_mask_value, locate_request_form, written_locate_request, read_locate_request}
+use Rattle.kmip_requests.specs.RequestPayloads.{returned_locate_request, key_wrapping_specification_form, written_key_wrapping_specification}
+use Rattle.kmip_requests.specs.RequestPayloads.{read_key_wrapping_specification, returned_key_wrapping_specification, get_request_form, written_get_request}
+use Rattle.kmip_requests.specs.RequestPayloads.{read_get_request, returned_get_request, get_attributes_request_form, written_get_attributes_request}
+use Rattle.kmip_requests.specs.RequestPayloads.{read_get_attributes_request, attribute_request_form, written_attribute_request, read_attribute_request}
+use Rattle.kmip_requests.specs.RequestPayloads.{returned_attribute_request, delete_attribute_request_form, written_delete_attribute_request}
+use Rattle.kmip_requests.specs.RequestPayloads.{read_delete_attribute_request, object_request_form, written_object_request, read_object_request}
+use Rattle.kmip_requests.specs.RequestPayloads.{revocation_reason_given_form, written_revocation_reason_given, read_revocation_reason_given}
+use Rattle.kmip_requests.specs.RequestPayloads.{returned_revocation_reason_given, compromise_occurrence_date_form, compromise_occurrence_date_value}
+use Rattle.kmip_requests.specs.RequestPayloads.{revoke_request_form, written_revoke_request, read_revoke_request, returned_revoke_request, query_function_form}
+use Rattle.kmip_requests.specs.RequestPayloads.{written_query_function, read_query_function, query_function_number, query_request_form, written_query_request}
+use Rattle.kmip_requests.specs.RequestPayloads.{read_query_request, returned_query_request, discover_versions_request_form, written_discover_versions_request}
+use Rattle.kmip_requests.specs.RequestPayloads.{read_discover_versions_request, request_payload_form, written_request_payload, read_request_payload}
+use Rattle.kmip_requests.specs.RequestPayloads.{returned_request_payload, ChoosesRequestPayload, ChoosesRequestPayloadNumber}
+use Rattle.kmip_requests.specs.Soundness.{IsCreateRequest, IsCreateKeyPairRequest, IsRegisterRequest, IsMaximumItems, IsStorageStatusMask, IsLocateRequest}
+use Rattle.kmip_requests.specs.Soundness.{IsKeyWrappingSpecification, IsGetRequest, IsAttributeRequest, IsDeleteAttributeRequest, IsRevocationReasonGiven}
+use Rattle.kmip_requests.specs.Soundness.{IsCompromiseOccurrenceDate, IsRevokeRequest, IsQueryFunction, IsQueryRequest, IsDiscoverVersionsRequest}
+use Rattle.kmip_requests.specs.Soundness.{IsRequestPayload}
 use Rattle.kmip_requests.specs.declared.request_payload.CreateRequest.{CreateRequest}
-use Rattle.kmip_requests.specs.RequestPayloads.{create_key_pair_request_form, written_create_key_pair_request, read_create_key_pair_request, returned_create_key_pair_request}
-use Rattle.kmip_requests.specs.Soundness.{IsCreateKeyPairRequest}
 use Rattle.kmip_requests.specs.declared.request_payload.CreateKeyPairRequest.{CreateKeyPairRequest}
-use Rattle.kmip_requests.specs.RequestPayloads.{register_request_form, written_register_request, read_register_request, returned_register_request}
-use Rattle.kmip_requests.specs.Soundness.{IsRegisterRequest}
 use Rattle.kmip_requests.specs.declared.request_payload.RegisterRequest.{RegisterRequest}
-use Rattle.kmip_requests.specs.RequestPayloads.{maximum_items_form, maximum_items_value}
-use Rattle.kmip_requests.specs.Soundness.{IsMaximumItems}
 use Rattle.kmip_requests.specs.declared.request_payload.MaximumItems.{MaximumItems}
-use Rattle.kmip_requests.specs.RequestPayloads.{storage_status_mask_form, storage_status_mask_value}
-use Rattle.kmip_requests.specs.Soundness.{IsStorageStatusMask}
 use Rattle.kmip_requests.specs.declared.request_payload.StorageStatusMask.{StorageStatusMask}
-use Rattle.kmip_requests.specs.RequestPayloads.{locate_request_form, written_locate_request, read_locate_request, returned_locate_request}
-use Rattle.kmip_requests.specs.Soundness.{IsLocateRequest}
 use Rattle.kmip_requests.specs.declared.request_payload.LocateRequest.{LocateRequest}
-use Rattle.kmip_requests.specs.RequestPayloads.{key_wrapping_specification_form, written_key_wrapping_specification, read_key_wrapping_specification, returned_key_wrapping_specification}
-use Rattle.kmip_requests.specs.Soundness.{IsKeyWrappingSpecification}
 use Rattle.kmip_requests.specs.declared.request_payload.KeyWrappingSpecification.{KeyWrappingSpecification}
-use Rattle.kmip_requests.specs.RequestPayloads.{get_request_form, written_get_request, read_get_request, returned_get_request}
-use Rattle.kmip_requests.specs.Soundness.{IsGetRequest}
 use Rattle.kmip_requests.specs.declared.request_payload.GetRequest.{GetRequest}
-use Rattle.kmip_requests.specs.RequestPayloads.{get_attributes_request_form, written_get_attributes_request, read_get_attributes_request}
 use Rattle.kmip_requests.specs.declared.request_payload.GetAttributesRequest.{GetAttributesRequest}
-use Rattle.kmip_requests.specs.RequestPayloads.{attribute_request_form, written_attribute_request, read_attribute_request, returned_attribute_request}
-use Rattle.kmip_requests.specs.Soundness.{IsAttributeRequest}
 use Rattle.kmip_requests.specs.declared.request_payload.AttributeRequest.{AttributeRequest}
-use Rattle.kmip_requests.specs.RequestPayloads.{delete_attribute_request_form, written_delete_attribute_request, read_delete_attribute_request}
-use Rattle.kmip_requests.specs.Soundness.{IsDeleteAttributeRequest}
 use Rattle.kmip_requests.specs.declared.request_payload.DeleteAttributeRequest.{DeleteAttributeRequest}
-use Rattle.kmip_requests.specs.RequestPayloads.{object_request_form, written_object_request, read_object_request}
 use Rattle.kmip_requests.specs.declared.request_payload.ObjectRequest.{ObjectRequest}
-use Rattle.kmip_requests.specs.RequestPayloads.{revocation_reason_given_form, written_revocation_reason_given, read_revocation_reason_given, returned_revocation_reason_given}
-use Rattle.kmip_requests.specs.Soundness.{IsRevocationReasonGiven}
 use Rattle.kmip_requests.specs.declared.request_payload.RevocationReasonGiven.{RevocationReasonGiven}
-use Rattle.kmip_requests.specs.RequestPayloads.{compromise_occurrence_date_form, compromise_occurrence_date_value}
-use Rattle.kmip_requests.specs.Soundness.{IsCompromiseOccurrenceDate}
 use Rattle.kmip_requests.specs.declared.request_payload.CompromiseOccurrenceDate.{CompromiseOccurrenceDate}
-use Rattle.kmip_requests.specs.RequestPayloads.{revoke_request_form, written_revoke_request, read_revoke_request, returned_revoke_request}
-use Rattle.kmip_requests.specs.Soundness.{IsRevokeRequest}
 use Rattle.kmip_requests.specs.declared.request_payload.RevokeRequest.{RevokeRequest}
-use Rattle.kmip_requests.specs.RequestPayloads.{query_function_form, written_query_function, read_query_function, query_function_number}
-use Rattle.kmip_requests.specs.Soundness.{IsQueryFunction}
 use Rattle.kmip_requests.specs.declared.request_payload.QueryFunction.{QueryFunction}
-use Rattle.kmip_requests.specs.RequestPayloads.{query_request_form, written_query_request, read_query_request, returned_query_request}
-use Rattle.kmip_requests.specs.Soundness.{IsQueryRequest}
 use Rattle.kmip_requests.specs.declared.request_payload.QueryRequest.{QueryRequest}
-use Rattle.kmip_requests.specs.RequestPayloads.{discover_versions_request_form, written_discover_versions_request, read_discover_versions_request}
-use Rattle.kmip_requests.specs.Soundness.{IsDiscoverVersionsRequest}
 use Rattle.kmip_requests.specs.declared.request_payload.DiscoverVersionsRequest.{DiscoverVersionsRequest}
+use Rattle.kmip_requests.specs.declared.request_payload.RequestPayload.{RequestPayload}
+use Rattle.kmip_requests.specs.declared.request_payload.RequestPayload.TheVariants as request_payload
 
 pub create_request_agrees : {A : Type 0} (x : CreateRequest A) → IsCreateRequest x
-    → PartAgrees create_request_form
-    (written_create_request x) (a_structure 0x420079)
-    (returned_create_request x)
+    → PartAgrees create_request_form (written_create_request x) (a_structure 0x420079) (returned_create_request x)
 unfolding take_tag tag_of number transparent_name rule written_create_request returned_create_request written_object_type returned_template_attribute
 create_request_agrees x is =
     structure refl refl (
@@ -126,176 +100,305 @@ create_request_agrees x is =
     part_then refl refl (template_attribute_agrees x.template_attribute is.1) nothing_left))
 
 pub create_key_pair_request_agrees : {A : Type 0} (x : CreateKeyPairRequest A) → IsCreateKeyPairRequest x
-    → PartAgrees create_key_pair_request_form
-    (written_create_key_pair_request x) (a_structure 0x420079)
-    (returned_create_key_pair_request x)
-unfolding take_tag tag_of number transparent_name rule written_create_key_pair_request returned_create_key_pair_request returned_common_template_attribute returned_private_key_template_attribute returned_public_key_template_attribute
+    → PartAgrees create_key_pair_request_form (written_create_key_pair_request x) (a_structure 0x420079) (returned_create_key_pair_request x)
+unfolding take_tag tag_of number transparent_name rule written_create_key_pair_request returned_create_key_pair_request returned_common_template_attribute
+    returned_private_key_template_attribute returned_public_key_template_attribute
 create_key_pair_request_agrees x is =
+    let b1 = option_behind x.public_key (a_structure 0x42006E) nothing_behind in
+    let b2 = option_behind x.private_key (a_structure 0x420065) b1 in
     structure refl refl (
-    optional_then written_common_template_attribute returned_common_template_attribute (a_structure 0x42001F) x.common refl (neither_named (codes "0x42001F") x.private_key (a_structure 0x420065) (head_or x.public_key (a_structure 0x42006E) None) refl (neither_named (codes "0x42001F") x.public_key (a_structure 0x42006E) None refl refl)) (if_present common_template_attribute_agrees (λ y. refl) x.common is.0) (
-    optional_then written_private_key_template_attribute returned_private_key_template_attribute (a_structure 0x420065) x.private_key refl (neither_named (codes "0x420065") x.public_key (a_structure 0x42006E) None refl refl) (if_present private_key_template_attribute_agrees (λ y. refl) x.private_key is.1) (
-    optional_then written_public_key_template_attribute returned_public_key_template_attribute (a_structure 0x42006E) x.public_key refl refl (if_present public_key_template_attribute_agrees (λ y. refl) x.public_key is.2) nothing_left)))
+    optional_then written_common_template_attribute returned_common_template_attribute (a_structure 0x42001F) x.common refl (b2.other (codes "0x42001F") refl)
+    (if_present common_template_attribute_agrees (λ y. refl) x.common is.0) (
+    optional_then written_private_key_template_attribute returned_private_key_template_attribute (a_structure 0x420065) x.private_key refl
+    (b1.other (codes "0x420065") refl) (if_present private_key_template_attribute_agrees (λ y. refl) x.private_key is.1) (
+    optional_then written_public_key_template_attribute returned_public_key_template_attribute (a_structure 0x42006E) x.public_key refl refl
+    (if_present public_key_template_attribute_agrees (λ y. refl) x.public_key is.2) nothing_left)))
 
 pub register_request_agrees : {A : Type 0} (x : RegisterRequest A) → IsRegisterRequest x
-    → PartAgrees register_request_form
-    (written_register_request x) (a_structure 0x420079)
-    (returned_register_request x)
-unfolding take_tag tag_of number transparent_name rule written_register_request returned_register_request written_object_type returned_template_attribute returned_certificate returned_symmetric_key returned_public_key returned_private_key returned_split_key returned_template returned_secret_data returned_opaque_object
+    → PartAgrees register_request_form (written_register_request x) (a_structure 0x420079) (returned_register_request x)
+unfolding take_tag tag_of number transparent_name rule written_register_request returned_register_request written_object_type returned_template_attribute
+    returned_certificate returned_symmetric_key returned_public_key returned_private_key returned_split_key returned_template returned_secret_data
+    returned_opaque_object
 register_request_agrees x is =
+    let b1 = option_behind x.opaque_object (a_structure 0x42005B) nothing_behind in
+    let b2 = option_behind x.secret_data (a_structure 0x420085) b1 in
+    let b3 = option_behind x.template (a_structure 0x420090) b2 in
+    let b4 = option_behind x.split_key (a_structure 0x420089) b3 in
+    let b5 = option_behind x.private_key (a_structure 0x420064) b4 in
+    let b6 = option_behind x.public_key (a_structure 0x42006D) b5 in
+    let b7 = option_behind x.symmetric_key (a_structure 0x42008F) b6 in
     structure refl refl (
     part_then refl refl (object_type_agrees x.object_type is.0) (
     part_then refl refl (template_attribute_agrees x.template_attribute is.1) (
-    optional_then written_certificate returned_certificate (a_structure 0x420013) x.certificate refl (neither_named (codes "0x420013") x.symmetric_key (a_structure 0x42008F) (head_or x.public_key (a_structure 0x42006D) (head_or x.private_key (a_structure 0x420064) (head_or x.split_key (a_structure 0x420089) (head_or x.template (a_structure 0x420090) (head_or x.secret_data (a_structure 0x420085) (head_or x.opaque_object (a_structure 0x42005B) None)))))) refl (neither_named (codes "0x420013") x.public_key (a_structure 0x42006D) (head_or x.private_key (a_structure 0x420064) (head_or x.split_key (a_structure 0x420089) (head_or x.template (a_structure 0x420090) (head_or x.secret_data (a_structure 0x420085) (head_or x.opaque_object (a_structure 0x42005B) None))))) refl (neither_named (codes "0x420013") x.private_key (a_structure 0x420064) (head_or x.split_key (a_structure 0x420089) (head_or x.template (a_structure 0x420090) (head_or x.secret_data (a_structure 0x420085) (head_or x.opaque_object (a_structure 0x42005B) None)))) refl (neither_named (codes "0x420013") x.split_key (a_structure 0x420089) (head_or x.template (a_structure 0x420090) (head_or x.secret_data (a_structure 0x420085) (head_or x.opaque_object (a_structure 0x42005B) None))) refl (neither_named (codes "0x420013") x.template (a_structure 0x420090) (head_or x.secret_data (a_structure 0x420085) (head_or x.opaque_object (a_structure 0x42005B) None)) refl (neither_named (codes "0x420013") x.secret_data (a_structure 0x420085) (head_or x.opaque_object (a_structure 0x42005B) None) refl (neither_named (codes "0x420013") x.opaque_object (a_structure 0x42005B) None refl refl))))))) (if_present certificate_agrees (λ y. refl) x.certificate is.2) (
-    optional_then written_symmetric_key returned_symmetric_key (a_structure 0x42008F) x.symmetric_key refl (neither_named (codes "0x42008F") x.public_key (a_structure 0x42006D) (head_or x.private_key (a_structure 0x420064) (head_or x.split_key (a_structure 0x420089) (head_or x.template (a_structure 0x420090) (head_or x.secret_data (a_structure 0x420085) (head_or x.opaque_object (a_structure 0x42005B) None))))) refl (neither_named (codes "0x42008F") x.private_key (a_structure 0x420064) (head_or x.split_key (a_structure 0x420089) (head_or x.template (a_structure 0x420090) (head_or x.secret_data (a_structure 0x420085) (head_or x.opaque_object (a_structure 0x42005B) None)))) refl (neither_named (codes "0x42008F") x.split_key (a_structure 0x420089) (head_or x.template (a_structure 0x420090) (head_or x.secret_data (a_structure 0x420085) (head_or x.opaque_object (a_structure 0x42005B) None))) refl (neither_named (codes "0x42008F") x.template (a_structure 0x420090) (head_or x.secret_data (a_structure 0x420085) (head_or x.opaque_object (a_structure 0x42005B) None)) refl (neither_named (codes "0x42008F") x.secret_data (a_structure 0x420085) (head_or x.opaque_object (a_structure 0x42005B) None) refl (neither_named (codes "0x42008F") x.opaque_object (a_structure 0x42005B) None refl refl)))))) (if_present symmetric_key_agrees (λ y. refl) x.symmetric_key is.3) (
-    optional_then written_public_key returned_public_key (a_structure 0x42006D) x.public_key refl (neither_named (codes "0x42006D") x.private_key (a_structure 0x420064) (head_or x.split_key (a_structure 0x420089) (head_or x.template (a_structure 0x420090) (head_or x.secret_data (a_structure 0x420085) (head_or x.opaque_object (a_structure 0x42005B) None)))) refl (neither_named (codes "0x42006D") x.split_key (a_structure 0x420089) (head_or x.template (a_structure 0x420090) (head_or x.secret_data (a_structure 0x420085) (head_or x.opaque_object (a_structure 0x42005B) None))) refl (neither_named (codes "0x42006D") x.template (a_structure 0x420090) (head_or x.secret_data (a_structure 0x420085) (head_or x.opaque_object (a_structure 0x42005B) None)) refl (neither_named (codes "0x42006D") x.secret_data (a_structure 0x420085) (head_or x.opaque_object (a_structure 0x42005B) None) refl (neither_named (codes "0x42006D") x.opaque_object (a_structure 0x42005B) None refl refl))))) (if_present public_key_agrees (λ y. refl) x.public_key is.4) (
-    optional_then written_private_key returned_private_key (a_structure 0x420064) x.private_key refl (neither_named (codes "0x420064") x.split_key (a_structure 0x420089) (head_or x.template (a_structure 0x420090) (head_or x.secret_data (a_structure 0x420085) (head_or x.opaque_object (a_structure 0x42005B) None))) refl (neither_named (codes "0x420064") x.template (a_structure 0x420090) (head_or x.secret_data (a_structure 0x420085) (head_or x.opaque_object (a_structure 0x42005B) None)) refl (neither_named (codes "0x420064") x.secret_data (a_structure 0x420085) (head_or x.opaque_object (a_structure 0x42005B) None) refl (neither_named (codes "0x420064") x.opaque_object (a_structure 0x42005B) None refl refl)))) (if_present private_key_agrees (λ y. refl) x.private_key is.5) (
-    optional_then written_split_key returned_split_key (a_structure 0x420089) x.split_key refl (neither_named (codes "0x420089") x.template (a_structure 0x420090) (head_or x.secret_data (a_structure 0x420085) (head_or x.opaque_object (a_structure 0x42005B) None)) refl (neither_named (codes "0x420089") x.secret_data (a_structure 0x420085) (head_or x.opaque_object (a_structure 0x42005B) None) refl (neither_named (codes "0x420089") x.opaque_object (a_structure 0x42005B) None refl refl))) (if_present split_key_agrees (λ y. refl) x.split_key is.6) (
-    optional_then written_template returned_template (a_structure 0x420090) x.template refl (neither_named (codes "0x420090") x.secret_data (a_structure 0x420085) (head_or x.opaque_object (a_structure 0x42005B) None) refl (neither_named (codes "0x420090") x.opaque_object (a_structure 0x42005B) None refl refl)) (if_present template_agrees (λ y. refl) x.template is.7) (
-    optional_then written_secret_data returned_secret_data (a_structure 0x420085) x.secret_data refl (neither_named (codes "0x420085") x.opaque_object (a_structure 0x42005B) None refl refl) (if_present secret_data_agrees (λ y. refl) x.secret_data is.8) (
-    optional_then written_opaque_object returned_opaque_object (a_structure 0x42005B) x.opaque_object refl refl (if_present opaque_object_agrees (λ y. refl) x.opaque_object is.9) nothing_left))))))))))
+    optional_then written_certificate returned_certificate (a_structure 0x420013) x.certificate refl (b7.other (codes "0x420013") refl)
+    (if_present certificate_agrees (λ y. refl) x.certificate is.2) (
+    optional_then written_symmetric_key returned_symmetric_key (a_structure 0x42008F) x.symmetric_key refl (b6.other (codes "0x42008F") refl)
+    (if_present symmetric_key_agrees (λ y. refl) x.symmetric_key is.3) (
+    optional_then written_public_key returned_public_key (a_structure 0x42006D) x.public_key refl (b5.other (codes "0x42006D") refl)
+    (if_present public_key_agrees (λ y. refl) x.public_key is.4) (
+    optional_then written_private_key returned_private_key (a_structure 0x420064) x.private_key refl (b4.other (codes "0x420064") refl)
+    (if_present private_key_agrees (λ y. refl) x.private_key is.5) (
+    optional_then written_split_key returned_split_key (a_structure 0x420089) x.split_key refl (b3.other (codes "0x420089") refl)
+    (if_present split_key_agrees (λ y. refl) x.split_key is.6) (
+    optional_then written_template returned_template (a_structure 0x420090) x.template refl (b2.other (codes "0x420090") refl)
+    (if_present template_agrees (λ y. refl) x.template is.7) (
+    optional_then written_secret_data returned_secret_data (a_structure 0x420085) x.secret_data refl (b1.other (codes "0x420085") refl)
+    (if_present secret_data_agrees (λ y. refl) x.secret_data is.8) (
+    optional_then written_opaque_object returned_opaque_object (a_structure 0x42005B) x.opaque_object refl refl
+    (if_present opaque_object_agrees (λ y. refl) x.opaque_object is.9) nothing_left))))))))))
 
 pub maximum_items_agrees : (x : MaximumItems) → IsMaximumItems x
-    → PartAgrees maximum_items_form
-    (maximum_items_value x) record { tag = 0x42004F; typ = types.Integer }
-    (maximum_items_value x)
+    → PartAgrees maximum_items_form (maximum_items_value x) record { tag = 0x42004F; typ = types.Integer } (maximum_items_value x)
 unfolding take_tag tag_of number transparent_name
 maximum_items_agrees x is =
     leaf_part refl refl (as_int32 is)
 
 pub storage_status_mask_agrees : (x : StorageStatusMask) → IsStorageStatusMask x
-    → PartAgrees storage_status_mask_form
-    (storage_status_mask_value x) record { tag = 0x42008E; typ = types.Integer }
-    (storage_status_mask_value x)
+    → PartAgrees storage_status_mask_form (storage_status_mask_value x) record { tag = 0x42008E; typ = types.Integer } (storage_status_mask_value x)
 unfolding take_tag tag_of number transparent_name
 storage_status_mask_agrees x is =
     leaf_part refl refl (as_int32 is)
 
 pub locate_request_agrees : {A : Type 0} (x : LocateRequest A) → IsLocateRequest x
-    → PartAgrees locate_request_form
-    (written_locate_request x) (a_structure 0x420079)
-    (returned_locate_request x)
+    → PartAgrees locate_request_form (written_locate_request x) (a_structure 0x420079) (returned_locate_request x)
 unfolding take_tag tag_of number transparent_name rule written_locate_request returned_locate_request returned_attribute
 locate_request_agrees x is =
+    let b1 = option_behind (first_of x.attributes.items) (a_structure 0x420008) nothing_behind in
+    let b2 = option_behind x.storage_status_mask record { tag = 0x42008E; typ = types.Integer } b1 in
     structure refl refl (
-    optional_then maximum_items_value maximum_items_value record { tag = 0x42004F; typ = types.Integer } x.maximum_items refl (neither_named (codes "0x42004F") x.storage_status_mask record { tag = 0x42008E; typ = types.Integer } (head_or (first_of x.attributes.items) (a_structure 0x420008) None) refl (neither_named (codes "0x42004F") (first_of x.attributes.items) (a_structure 0x420008) None refl refl)) (if_present maximum_items_agrees (λ y. refl) x.maximum_items is.0) (
-    optional_then storage_status_mask_value storage_status_mask_value record { tag = 0x42008E; typ = types.Integer } x.storage_status_mask refl (neither_named (codes "0x42008E") (first_of x.attributes.items) (a_structure 0x420008) None refl refl) (if_present storage_status_mask_agrees (λ y. refl) x.storage_status_mask is.1) (
-    any_then written_attribute returned_attribute (a_structure 0x420008) x.attributes.items refl refl (every_agrees attribute_agrees (λ y. refl) x.attributes.items is.2) nothing_left)))
+    optional_same_then maximum_items_value record { tag = 0x42004F; typ = types.Integer } x.maximum_items refl (b2.other (codes "0x42004F") refl)
+    (if_present maximum_items_agrees (λ y. refl) x.maximum_items is.0) (
+    optional_same_then storage_status_mask_value record { tag = 0x42008E; typ = types.Integer } x.storage_status_mask refl (b1.other (codes "0x42008E") refl)
+    (if_present storage_status_mask_agrees (λ y. refl) x.storage_status_mask is.1) (
+    any_then written_attribute returned_attribute (a_structure 0x420008) x.attributes.items refl refl
+    (every_agrees attribute_agrees (λ y. refl) x.attributes.items is.2) nothing_left)))
 
 pub key_wrapping_specification_agrees : {A : Type 0} (x : KeyWrappingSpecification A) → IsKeyWrappingSpecification x
-    → PartAgrees key_wrapping_specification_form
-    (written_key_wrapping_specification x) (a_structure 0x420047)
-    (returned_key_wrapping_specification x)
-unfolding take_tag tag_of number transparent_name rule written_key_wrapping_specification returned_key_wrapping_specification written_wrapping_method returned_encryption_key_information returned_mac_signature_key_information written_encoding_option
+    → PartAgrees key_wrapping_specification_form (written_key_wrapping_specification x) (a_structure 0x420047) (returned_key_wrapping_specification x)
+unfolding take_tag tag_of number transparent_name rule written_key_wrapping_specification returned_key_wrapping_specification written_wrapping_method
+    returned_encryption_key_information returned_mac_signature_key_information written_encoding_option
 key_wrapping_specification_agrees x is =
+    let b1 = option_behind x.encoding_option record { tag = 0x4200A3; typ = types.Enumeration } nothing_behind in
+    let b2 = option_behind (first_of x.attribute_names.items) record { tag = 0x42000A; typ = types.TextString } b1 in
+    let b3 = option_behind x.mac_signature_key_information (a_structure 0x42004E) b2 in
     structure refl refl (
     part_then refl refl (wrapping_method_agrees x.wrapping_method is.0) (
-    optional_then written_encryption_key_information returned_encryption_key_information (a_structure 0x420036) x.encryption_key_information refl (neither_named (codes "0x420036") x.mac_signature_key_information (a_structure 0x42004E) (head_or (first_of x.attribute_names.items) record { tag = 0x42000A; typ = types.TextString } (head_or x.encoding_option record { tag = 0x4200A3; typ = types.Enumeration } None)) refl (neither_named (codes "0x420036") (first_of x.attribute_names.items) record { tag = 0x42000A; typ = types.TextString } (head_or x.encoding_option record { tag = 0x4200A3; typ = types.Enumeration } None) refl (neither_named (codes "0x420036") x.encoding_option record { tag = 0x4200A3; typ = types.Enumeration } None refl refl))) (if_present encryption_key_information_agrees (λ y. refl) x.encryption_key_information is.1) (
-    optional_then written_mac_signature_key_information returned_mac_signature_key_information (a_structure 0x42004E) x.mac_signature_key_information refl (neither_named (codes "0x42004E") (first_of x.attribute_names.items) record { tag = 0x42000A; typ = types.TextString } (head_or x.encoding_option record { tag = 0x4200A3; typ = types.Enumeration } None) refl (neither_named (codes "0x42004E") x.encoding_option record { tag = 0x4200A3; typ = types.Enumeration } None refl refl)) (if_present mac_signature_key_information_agrees (λ y. refl) x.mac_signature_key_information is.2) (
-    any_then attribute_name_value attribute_name_value record { tag = 0x42000A; typ = types.TextString } x.attribute_names.items refl (neither_named (codes "0x42000A") x.encoding_option record { tag = 0x4200A3; typ = types.Enumeration } None refl refl) (all_agree attribute_name_agrees (λ y. refl) x.attribute_names.items) (
-    optional_then written_encoding_option written_encoding_option record { tag = 0x4200A3; typ = types.Enumeration } x.encoding_option refl refl (if_present encoding_option_agrees (λ y. refl) x.encoding_option is.3) nothing_left)))))
+    optional_then written_encryption_key_information returned_encryption_key_information (a_structure 0x420036) x.encryption_key_information refl
+    (b3.other (codes "0x420036") refl) (if_present encryption_key_information_agrees (λ y. refl) x.encryption_key_information is.1) (
+    optional_then written_mac_signature_key_information returned_mac_signature_key_information (a_structure 0x42004E) x.mac_signature_key_information refl
+    (b2.other (codes "0x42004E") refl) (if_present mac_signature_key_information_agrees (λ y. refl) x.mac_signature_key_information is.2) (
+    any_then attribute_name_value attribute_name_value record { tag = 0x42000A; typ = types.TextString } x.attribute_names.items refl
+    (b1.other (codes "0x42000A") refl) (all_agree attribute_name_agrees (λ y. refl) x.attribute_names.items) (
+    optional_same_then written_encoding_option record { tag = 0x4200A3; typ = types.Enumeration } x.encoding_option refl refl
+    (if_present encoding_option_agrees (λ y. refl) x.encoding_option is.3) nothing_left)))))
 
 pub get_request_agrees : {A : Type 0} (x : GetRequest A) → IsGetRequest x
-    → PartAgrees get_request_form
-    (written_get_request x) (a_structure 0x420079)
-    (returned_get_request x)
-unfolding take_tag tag_of number transparent_name rule written_get_request returned_get_request written_key_format_type written_key_compression_type returned_key_wrapping_specification
+    → PartAgrees get_request_form (written_get_request x) (a_structure 0x420079) (returned_get_request x)
+unfolding take_tag tag_of number transparent_name rule written_get_request returned_get_request written_key_format_type written_key_compression_type
+    returned_key_wrapping_specification
 get_request_agrees x is =
+    let b1 = option_behind x.key_wrapping_specification (a_structure 0x420047) nothing_behind in
+    let b2 = option_behind x.key_compression_type record { tag = 0x420041; typ = types.Enumeration } b1 in
+    let b3 = option_behind x.key_format_type record { tag = 0x420042; typ = types.Enumeration } b2 in
     structure refl refl (
-    optional_then (λ y. newtype_value (codes "Transparent:0x420094") (text_value (string_bytes y))) (λ y. newtype_value (codes "Transparent:0x420094") (text_value (string_bytes y))) record { tag = 0x420094; typ = types.TextString } x.unique_identifier refl (neither_named (codes "0x420094") x.key_format_type record { tag = 0x420042; typ = types.Enumeration } (head_or x.key_compression_type record { tag = 0x420041; typ = types.Enumeration } (head_or x.key_wrapping_specification (a_structure 0x420047) None)) refl (neither_named (codes "0x420094") x.key_compression_type record { tag = 0x420041; typ = types.Enumeration } (head_or x.key_wrapping_specification (a_structure 0x420047) None) refl (neither_named (codes "0x420094") x.key_wrapping_specification (a_structure 0x420047) None refl refl))) (present (λ y. leaf_part refl refl (as_text (text_is_utf8 y))) (λ y. refl) x.unique_identifier) (
-    optional_then written_key_format_type written_key_format_type record { tag = 0x420042; typ = types.Enumeration } x.key_format_type refl (neither_named (codes "0x420042") x.key_compression_type record { tag = 0x420041; typ = types.Enumeration } (head_or x.key_wrapping_specification (a_structure 0x420047) None) refl (neither_named (codes "0x420042") x.key_wrapping_specification (a_structure 0x420047) None refl refl)) (if_present key_format_type_agrees (λ y. refl) x.key_format_type is.0) (
-    optional_then written_key_compression_type written_key_compression_type record { tag = 0x420041; typ = types.Enumeration } x.key_compression_type refl (neither_named (codes "0x420041") x.key_wrapping_specification (a_structure 0x420047) None refl refl) (if_present key_compression_type_agrees (λ y. refl) x.key_compression_type is.1) (
-    optional_then written_key_wrapping_specification returned_key_wrapping_specification (a_structure 0x420047) x.key_wrapping_specification refl refl (if_present key_wrapping_specification_agrees (λ y. refl) x.key_wrapping_specification is.2) nothing_left))))
+    optional_same_then (λ y. newtype_value (codes "Transparent:0x420094") (text_value (string_bytes y))) record { tag = 0x420094; typ = types.TextString }
+    x.unique_identifier refl (b3.other (codes "0x420094") refl)
+    (present (λ y. leaf_part refl refl (as_text (text_is_utf8 y))) (λ y. refl) x.unique_identifier) (
+    optional_same_then written_key_format_type record { tag = 0x420042; typ = types.Enumeration } x.key_format_type refl (b2.other (codes "0x420042") refl)
+    (if_present key_format_type_agrees (λ y. refl) x.key_format_type is.0) (
+    optional_same_then written_key_compression_type record { tag = 0x420041; typ = types.Enumeration } x.key_compression_type refl
+    (b1.other (codes "0x420041") refl) (if_present key_compression_type_agrees (λ y. refl) x.key_compression_type is.1) (
+    optional_then written_key_wrapping_specification returned_key_wrapping_specification (a_structure 0x420047) x.key_wrapping_specification refl refl
+    (if_present key_wrapping_specification_agrees (λ y. refl) x.key_wrapping_specification is.2) nothing_left))))
 
 pub get_attributes_request_agrees : {A : Type 0} (x : GetAttributesRequest A)
-    → PartAgrees get_attributes_request_form
-    (written_get_attributes_request x) (a_structure 0x420079)
-    (read_get_attributes_request x)
+    → PartAgrees get_attributes_request_form (written_get_attributes_request x) (a_structure 0x420079) (read_get_attributes_request x)
 unfolding take_tag tag_of number transparent_name rule written_get_attributes_request read_get_attributes_request
 get_attributes_request_agrees x =
+    let b1 = option_behind (first_of x.attribute_names.items) record { tag = 0x42000A; typ = types.TextString } nothing_behind in
     structure refl refl (
-    optional_then (λ y. newtype_value (codes "Transparent:0x420094") (text_value (string_bytes y))) (λ y. newtype_value (codes "Transparent:0x420094") (text_value (string_bytes y))) record { tag = 0x420094; typ = types.TextString } x.unique_identifier refl (neither_named (codes "0x420094") (first_of x.attribute_names.items) record { tag = 0x42000A; typ = types.TextString } None refl refl) (present (λ y. leaf_part refl refl (as_text (text_is_utf8 y))) (λ y. refl) x.unique_identifier) (
-    any_then attribute_name_value attribute_name_value record { tag = 0x42000A; typ = types.TextString } x.attribute_names.items refl refl (all_agree attribute_name_agrees (λ y. refl) x.attribute_names.items) nothing_left))
+    optional_same_then (λ y. newtype_value (codes "Transparent:0x420094") (text_value (string_bytes y))) record { tag = 0x420094; typ = types.TextString }
+    x.unique_identifier refl (b1.other (codes "0x420094") refl)
+    (present (λ y. leaf_part refl refl (as_text (text_is_utf8 y))) (λ y. refl) x.unique_identifier) (
+    any_then attribute_name_value attribute_name_value record { tag = 0x42000A; typ = types.TextString } x.attribute_names.items refl refl
+    (all_agree attribute_name_agrees (λ y. refl) x.attribute_names.items) nothing_left))
 
 pub attribute_request_agrees : {A : Type 0} (x : AttributeRequest A) → IsAttributeRequest x
-    → PartAgrees attribute_request_form
-    (written_attribute_request x) (a_structure 0x420079)
-    (returned_attribute_request x)
+    → PartAgrees attribute_request_form (written_attribute_request x) (a_structure 0x420079) (returned_attribute_request x)
 unfolding take_tag tag_of number transparent_name rule written_attribute_request returned_attribute_request returned_attribute
 attribute_request_agrees x is =
     structure refl refl (
-    optional_then (λ y. newtype_value (codes "Transparent:0x420094") (text_value (string_bytes y))) (λ y. newtype_value (codes "Transparent:0x420094") (text_value (string_bytes y))) record { tag = 0x420094; typ = types.TextString } x.unique_identifier refl refl (present (λ y. leaf_part refl refl (as_text (text_is_utf8 y))) (λ y. refl) x.unique_identifier) (
+    optional_same_then (λ y. newtype_value (codes "Transparent:0x420094") (text_value (string_bytes y))) record { tag = 0x420094; typ = types.TextString }
+    x.unique_identifier refl refl (present (λ y. leaf_part refl refl (as_text (text_is_utf8 y))) (λ y. refl) x.unique_identifier) (
     part_then refl refl (attribute_agrees x.attribute is) nothing_left))
 
 pub delete_attribute_request_agrees : {A : Type 0} (x : DeleteAttributeRequest A) → IsDeleteAttributeRequest x
-    → PartAgrees delete_attribute_request_form
-    (written_delete_attribute_request x) (a_structure 0x420079)
-    (read_delete_attribute_request x)
+    → PartAgrees delete_attribute_request_form (written_delete_attribute_request x) (a_structure 0x420079) (read_delete_attribute_request x)
 unfolding take_tag tag_of number transparent_name rule written_delete_attribute_request read_delete_attribute_request
 delete_attribute_request_agrees x is =
     structure refl refl (
-    optional_then (λ y. newtype_value (codes "Transparent:0x420094") (text_value (string_bytes y))) (λ y. newtype_value (codes "Transparent:0x420094") (text_value (string_bytes y))) record { tag = 0x420094; typ = types.TextString } x.unique_identifier refl refl (present (λ y. leaf_part refl refl (as_text (text_is_utf8 y))) (λ y. refl) x.unique_identifier) (
+    optional_same_then (λ y. newtype_value (codes "Transparent:0x420094") (text_value (string_bytes y))) record { tag = 0x420094; typ = types.TextString }
+    x.unique_identifier refl refl (present (λ y. leaf_part refl refl (as_text (text_is_utf8 y))) (λ y. refl) x.unique_identifier) (
     leaf_then refl refl refl refl (as_text (text_is_utf8 x.attribute_name)) (
-    optional_then attribute_index_value attribute_index_value record { tag = 0x420009; typ = types.Integer } x.attribute_index refl refl (if_present attribute_index_agrees (λ y. refl) x.attribute_index is) nothing_left)))
+    optional_same_then attribute_index_value record { tag = 0x420009; typ = types.Integer } x.attribute_index refl refl
+    (if_present attribute_index_agrees (λ y. refl) x.attribute_index is) nothing_left)))
 
 pub object_request_agrees : {A : Type 0} (x : ObjectRequest A)
-    → PartAgrees object_request_form
-    (written_object_request x) (a_structure 0x420079)
-    (read_object_request x)
+    → PartAgrees object_request_form (written_object_request x) (a_structure 0x420079) (read_object_request x)
 unfolding take_tag tag_of number transparent_name rule written_object_request read_object_request
 object_request_agrees x =
     structure refl refl (
-    optional_then (λ y. newtype_value (codes "Transparent:0x420094") (text_value (string_bytes y))) (λ y. newtype_value (codes "Transparent:0x420094") (text_value (string_bytes y))) record { tag = 0x420094; typ = types.TextString } x.unique_identifier refl refl (present (λ y. leaf_part refl refl (as_text (text_is_utf8 y))) (λ y. refl) x.unique_identifier) nothing_left)
+    optional_same_then (λ y. newtype_value (codes "Transparent:0x420094") (text_value (string_bytes y))) record { tag = 0x420094; typ = types.TextString }
+    x.unique_identifier refl refl (present (λ y. leaf_part refl refl (as_text (text_is_utf8 y))) (λ y. refl) x.unique_identifier) nothing_left)
 
 pub revocation_reason_given_agrees : {A : Type 0} (x : RevocationReasonGiven A) → IsRevocationReasonGiven x
-    → PartAgrees revocation_reason_given_form
-    (written_revocation_reason_given x) (a_structure 0x420081)
-    (returned_revocation_reason_given x)
+    → PartAgrees revocation_reason_given_form (written_revocation_reason_given x) (a_structure 0x420081) (returned_revocation_reason_given x)
 unfolding take_tag tag_of number transparent_name rule written_revocation_reason_given returned_revocation_reason_given written_revocation_reason_code
 revocation_reason_given_agrees x is =
     structure refl refl (
     part_then refl refl (revocation_reason_code_agrees x.code is) (
-    optional_then (λ y. newtype_value (codes "Transparent:0x420080") (text_value (string_bytes y))) (λ y. newtype_value (codes "Transparent:0x420080") (text_value (string_bytes y))) record { tag = 0x420080; typ = types.TextString } x.message refl refl (present (λ y. leaf_part refl refl (as_text (text_is_utf8 y))) (λ y. refl) x.message) nothing_left))
+    optional_same_then (λ y. newtype_value (codes "Transparent:0x420080") (text_value (string_bytes y))) record { tag = 0x420080; typ = types.TextString }
+    x.message refl refl (present (λ y. leaf_part refl refl (as_text (text_is_utf8 y))) (λ y. refl) x.message) nothing_left))
 
 pub compromise_occurrence_date_agrees : (x : CompromiseOccurrenceDate) → IsCompromiseOccurrenceDate x
-    → PartAgrees compromise_occurrence_date_form
-    (compromise_occurrence_date_value x) record { tag = 0x420021; typ = types.DateTime }
+    → PartAgrees compromise_occurrence_date_form (compromise_occurrence_date_value x) record { tag = 0x420021; typ = types.DateTime }
     (compromise_occurrence_date_value x)
 unfolding take_tag tag_of number transparent_name
 compromise_occurrence_date_agrees x is =
     leaf_part refl refl (as_date_time is)
 
 pub revoke_request_agrees : {A : Type 0} (x : RevokeRequest A) → IsRevokeRequest x
-    → PartAgrees revoke_request_form
-    (written_revoke_request x) (a_structure 0x420079)
-    (returned_revoke_request x)
+    → PartAgrees revoke_request_form (written_revoke_request x) (a_structure 0x420079) (returned_revoke_request x)
 unfolding take_tag tag_of number transparent_name rule written_revoke_request returned_revoke_request returned_revocation_reason_given
 revoke_request_agrees x is =
     structure refl refl (
-    optional_then (λ y. newtype_value (codes "Transparent:0x420094") (text_value (string_bytes y))) (λ y. newtype_value (codes "Transparent:0x420094") (text_value (string_bytes y))) record { tag = 0x420094; typ = types.TextString } x.unique_identifier refl refl (present (λ y. leaf_part refl refl (as_text (text_is_utf8 y))) (λ y. refl) x.unique_identifier) (
+    optional_same_then (λ y. newtype_value (codes "Transparent:0x420094") (text_value (string_bytes y))) record { tag = 0x420094; typ = types.TextString }
+    x.unique_identifier refl refl (present (λ y. leaf_part refl refl (as_text (text_is_utf8 y))) (λ y. refl) x.unique_identifier) (
     part_then refl refl (revocation_reason_given_agrees x.revocation_reason is.0) (
-    optional_then compromise_occurrence_date_value compromise_occurrence_date_value record { tag = 0x420021; typ = types.DateTime } x.compromise_occurrence_date refl refl (if_present compromise_occurrence_date_agrees (λ y. refl) x.compromise_occurrence_date is.1) nothing_left)))
+    optional_same_then compromise_occurrence_date_value record { tag = 0x420021; typ = types.DateTime } x.compromise_occurrence_date refl refl
+    (if_present compromise_occurrence_date_agrees (λ y. refl) x.compromise_occurrence_date is.1) nothing_left)))
 
 pub query_function_agrees : (x : QueryFunction) → IsQueryFunction x
-    → PartAgrees query_function_form
-    (written_query_function x) record { tag = 0x420074; typ = types.Enumeration }
-    (written_query_function x)
+    → PartAgrees query_function_form (written_query_function x) record { tag = 0x420074; typ = types.Enumeration } (written_query_function x)
 unfolding take_tag tag_of number transparent_name written_query_function
 query_function_agrees x is = leaf_part refl refl (as_number is)
 
 pub query_request_agrees : {A : Type 0} (x : QueryRequest A) → IsQueryRequest x
-    → PartAgrees query_request_form
-    (written_query_request x) (a_structure 0x420079)
-    (returned_query_request x)
+    → PartAgrees query_request_form (written_query_request x) (a_structure 0x420079) (returned_query_request x)
 unfolding take_tag tag_of number transparent_name rule written_query_request returned_query_request written_query_function
 query_request_agrees x is =
     structure refl refl (
-    several_then written_query_function written_query_function record { tag = 0x420074; typ = types.Enumeration } x.functions.items refl refl is.0 (every_agrees query_function_agrees (λ y. refl) x.functions.items is.1) nothing_left)
+    several_then written_query_function written_query_function record { tag = 0x420074; typ = types.Enumeration } x.functions.items refl refl is.0
+    (every_agrees query_function_agrees (λ y. refl) x.functions.items is.1) nothing_left)
 
 pub discover_versions_request_agrees : {A : Type 0} (x : DiscoverVersionsRequest A) → IsDiscoverVersionsRequest x
-    → PartAgrees discover_versions_request_form
-    (written_discover_versions_request x) (a_structure 0x420079)
-    (read_discover_versions_request x)
+    → PartAgrees discover_versions_request_form (written_discover_versions_request x) (a_structure 0x420079) (read_discover_versions_request x)
 unfolding take_tag tag_of number transparent_name rule written_discover_versions_request read_discover_versions_request protocol_version_value
 discover_versions_request_agrees x is =
     structure refl refl (
-    any_then protocol_version_value protocol_version_value (a_structure 0x420069) x.versions.items refl refl (every_agrees protocol_version_agrees (λ y. refl) x.versions.items is) nothing_left)
+    any_then protocol_version_value protocol_version_value (a_structure 0x420069) x.versions.items refl refl
+    (every_agrees protocol_version_agrees (λ y. refl) x.versions.items is) nothing_left)
+
+pub request_payload_single : {A : Type 0} (x : RequestPayload A) → is_run (returned_request_payload x) ≡ false
+unfolding written_request_payload returned_request_payload written_create_request returned_create_request written_create_key_pair_request
+    returned_create_key_pair_request written_register_request returned_register_request written_locate_request returned_locate_request written_get_request
+    returned_get_request written_get_attributes_request read_get_attributes_request written_object_request read_object_request written_attribute_request
+    returned_attribute_request written_delete_attribute_request read_delete_attribute_request written_revoke_request returned_revoke_request
+    written_query_request returned_query_request written_discover_versions_request read_discover_versions_request
+request_payload_single (request_payload.Create x) = refl
+request_payload_single (request_payload.CreateKeyPair x) = refl
+request_payload_single (request_payload.Register x) = refl
+request_payload_single (request_payload.Locate x) = refl
+request_payload_single (request_payload.Get x) = refl
+request_payload_single (request_payload.GetAttributes x) = refl
+request_payload_single (request_payload.GetAttributeList x) = refl
+request_payload_single (request_payload.AddAttribute x) = refl
+request_payload_single (request_payload.ModifyAttribute x) = refl
+request_payload_single (request_payload.DeleteAttribute x) = refl
+request_payload_single (request_payload.Activate x) = refl
+request_payload_single (request_payload.Revoke x) = refl
+request_payload_single (request_payload.Destroy x) = refl
+request_payload_single (request_payload.Query x) = refl
+request_payload_single (request_payload.DiscoverVersions x) = refl
+
+pub request_payload_agrees : {A : Type 0} (said : List ℕ) (x : RequestPayload A) → ChoosesRequestPayload said x → IsRequestPayload x
+    → PartAfter 0x42005C said request_payload_form (written_request_payload x) (a_structure 0x420079) (returned_request_payload x)
+unfolding take_tag tag_of number transparent_name override_name pending_after is_wrapper rule sides equal at_least member in_brackets trim_end chars trim_start
+    encode written_request_payload returned_request_payload written_create_request returned_create_request written_create_key_pair_request
+    returned_create_key_pair_request written_register_request returned_register_request written_locate_request returned_locate_request written_get_request
+    returned_get_request written_get_attributes_request read_get_attributes_request written_object_request read_object_request written_attribute_request
+    returned_attribute_request written_delete_attribute_request read_delete_attribute_request written_revoke_request returned_revoke_request
+    written_query_request returned_query_request written_discover_versions_request read_discover_versions_request
+request_payload_agrees said (request_payload.Create x) chosen is =
+    chosen_after first_variant (λ k found. rw (found ∙ ap Some chosen) refl) (create_request_agrees x is)
+request_payload_agrees said (request_payload.CreateKeyPair x) chosen is =
+    chosen_after (later_variant first_variant) (λ k found. rw (found ∙ ap Some chosen) refl) (create_key_pair_request_agrees x is)
+request_payload_agrees said (request_payload.Register x) chosen is =
+    chosen_after (later_variant (later_variant first_variant)) (λ k found. rw (found ∙ ap Some chosen) refl) (register_request_agrees x is)
+request_payload_agrees said (request_payload.Locate x) chosen is =
+    chosen_after (later_variant (later_variant (later_variant first_variant))) (λ k found. rw (found ∙ ap Some chosen) refl) (locate_request_agrees x is)
+request_payload_agrees said (request_payload.Get x) chosen is =
+    chosen_after (later_variant (later_variant (later_variant (later_variant first_variant)))) (λ k found. rw (found ∙ ap Some chosen) refl)
+    (get_request_agrees x is)
+request_payload_agrees said (request_payload.GetAttributes x) chosen is =
+    chosen_after (later_variant (later_variant (later_variant (later_variant (later_variant first_variant))))) (λ k found. rw (found ∙ ap Some chosen) refl)
+    (get_attributes_request_agrees x)
+request_payload_agrees said (request_payload.GetAttributeList x) chosen is =
+    chosen_after (later_variant (later_variant (later_variant (later_variant (later_variant (later_variant first_variant))))))
+    (λ k found. rw (found ∙ ap Some chosen) refl) (object_request_agrees x)
+request_payload_agrees said (request_payload.AddAttribute x) chosen is =
+    chosen_after (later_variant (later_variant (later_variant (later_variant (later_variant (later_variant (later_variant first_variant)))))))
+    (λ k found. rw (found ∙ ap Some chosen) refl) (attribute_request_agrees x is)
+request_payload_agrees said (request_payload.ModifyAttribute x) chosen is =
+    chosen_after (later_variant (later_variant (later_variant (later_variant (later_variant (later_variant (later_variant (later_variant first_variant))))))))
+    (λ k found. rw (found ∙ ap Some chosen) refl) (attribute_request_agrees x is)
+request_payload_agrees said (request_payload.DeleteAttribute x) chosen is =
+    chosen_after (later_variant
+    (later_variant (later_variant (later_variant (later_variant (later_variant (later_variant (later_variant (later_variant first_variant)))))))))
+    (λ k found. rw (found ∙ ap Some chosen) refl) (delete_attribute_request_agrees x is)
+request_payload_agrees said (request_payload.Activate x) chosen is =
+    chosen_after (later_variant
+    (later_variant (later_variant
+    (later_variant (later_variant (later_variant (later_variant (later_variant (later_variant (later_variant first_variant))))))))))
+    (λ k found. rw (found ∙ ap Some chosen) refl) (object_request_agrees x)
+request_payload_agrees said (request_payload.Revoke x) chosen is =
+    chosen_after (later_variant
+    (later_variant (later_variant
+    (later_variant (later_variant (later_variant (later_variant (later_variant (later_variant (later_variant (later_variant first_variant)))))))))))
+    (λ k found. rw (found ∙ ap Some chosen) refl) (revoke_request_agrees x is)
+request_payload_agrees said (request_payload.Destroy x) chosen is =
+    chosen_after (later_variant
+    (later_variant (later_variant
+    (later_variant (later_variant
+    (later_variant (later_variant (later_variant (later_variant (later_variant (later_variant (later_variant first_variant))))))))))))
+    (λ k found. rw (found ∙ ap Some chosen) refl) (object_request_agrees x)
+request_payload_agrees said (request_payload.Query x) chosen is =
+    chosen_after (later_variant
+    (later_variant (later_variant
+    (later_variant (later_variant
+    (later_variant (later_variant (later_variant (later_variant (later_variant (later_variant (later_variant (later_variant first_variant)))))))))))))
+    (λ k found. rw (found ∙ ap Some chosen) refl) (query_request_agrees x is)
+request_payload_agrees said (request_payload.DiscoverVersions x) chosen is =
+    chosen_after (later_variant
+    (later_variant (later_variant
+    (later_variant (later_variant
+    (later_variant (later_variant
+    (later_variant (later_variant (later_variant (later_variant (later_variant (later_variant (later_variant first_variant))))))))))))))
+    (λ k found. rw (found ∙ ap Some chosen) refl) (discover_versions_request_agrees x is)
+
+pub request_payload_numbered : {A : Type 0} (n : ℕ) (x : RequestPayload A) → ChoosesRequestPayloadNumber n x → ChoosesRequestPayload (text_of_number n) x
+request_payload_numbered n (request_payload.Create x) chooses = (ap text_of_number chooses)
+request_payload_numbered n (request_payload.CreateKeyPair x) chooses = (ap text_of_number chooses)
+request_payload_numbered n (request_payload.Register x) chooses = (ap text_of_number chooses)
+request_payload_numbered n (request_payload.Locate x) chooses = (ap text_of_number chooses)
+request_payload_numbered n (request_payload.Get x) chooses = (ap text_of_number chooses)
+request_payload_numbered n (request_payload.GetAttributes x) chooses = (ap text_of_number chooses)
+request_payload_numbered n (request_payload.GetAttributeList x) chooses = (ap text_of_number chooses)
+request_payload_numbered n (request_payload.AddAttribute x) chooses = (ap text_of_number chooses)
+request_payload_numbered n (request_payload.ModifyAttribute x) chooses = (ap text_of_number chooses)
+request_payload_numbered n (request_payload.DeleteAttribute x) chooses = (ap text_of_number chooses)
+request_payload_numbered n (request_payload.Activate x) chooses = (ap text_of_number chooses)
+request_payload_numbered n (request_payload.Revoke x) chooses = (ap text_of_number chooses)
+request_payload_numbered n (request_payload.Destroy x) chooses = (ap text_of_number chooses)
+request_payload_numbered n (request_payload.Query x) chooses = (ap text_of_number chooses)
+request_payload_numbered n (request_payload.DiscoverVersions x) chooses = (ap text_of_number chooses)

@@ -1,10 +1,10 @@
 -- Written by codegen from types.table: change that, and run codegen/codegen.
 -- Forms and values of the types in `request_payload`.
-use Rattle.kmip_ttlv.specs.Forms.{Form, any_number, date_time, field, int32, newtype, no_fields, option, seq, struct}
-use Rattle.kmip_ttlv.specs.Forms.{text}
+use Rattle.kmip_ttlv.specs.Forms.{Form, Variants, any_number, date_time, enum, field, int32, newtype, no_fields, no_variants, option, seq, struct, text}
+use Rattle.kmip_ttlv.specs.Forms.{variant, wrapped}
 use Rattle.kmip_ttlv.specs.MessageParts.{numbered_value, optional, optional_sequence, other_number, sequence, there}
-use Rattle.kmip_ttlv.specs.Values.{Value, date_time_value, i32_value, newtype_value, no_values, struct_value}
-use Rattle.kmip_ttlv.specs.Values.{text_value, u32_value, value}
+use Rattle.kmip_ttlv.specs.Values.{Value, date_time_value, i32_value, newtype_value, newtype_variant_value, no_values, struct_value, text_value, u32_value}
+use Rattle.kmip_ttlv.specs.Values.{value}
 use Rattle.kmip_ttlv.specs.Visits.{joined}
 use Rattle.std.specs.Prelude.{List, None, Option, Some, [], codes, option_map, string_bytes, true, ℕ, ◌+◌, ◌∷◌, ◌≡◌}
 use Rattle.kmip_ttlv.specs.Visits as visits
@@ -27,31 +27,30 @@ use Rattle.kmip_requests.specs.declared.request_payload.QueryFunction.{QueryFunc
 use Rattle.kmip_requests.specs.declared.request_payload.QueryFunction.TheVariants as query_function
 use Rattle.kmip_requests.specs.declared.request_payload.QueryRequest.{QueryRequest}
 use Rattle.kmip_requests.specs.declared.request_payload.DiscoverVersionsRequest.{DiscoverVersionsRequest}
+use Rattle.kmip_requests.specs.declared.request_payload.RequestPayload.{RequestPayload}
+use Rattle.kmip_requests.specs.declared.request_payload.RequestPayload.TheVariants as request_payload
 use Rattle.kmip_objects.specs.declared.object.ManagedObject.{ManagedObject}
 use Rattle.kmip_objects.specs.declared.object.ManagedObject.TheVariants as managed_object
-use Rattle.kmip_attributes.specs.Values.{object_type_form, written_object_type, read_object_type}
-use Rattle.kmip_attributes.specs.Values.{key_format_type_form, written_key_format_type, read_key_format_type}
-use Rattle.kmip_attributes.specs.Values.{revocation_reason_code_form, written_revocation_reason_code, read_revocation_reason_code}
-use Rattle.kmip_attributes.specs.Attributes.{attribute_name_form, attribute_name_value}
-use Rattle.kmip_attributes.specs.Attributes.{attribute_index_form, attribute_index_value}
-use Rattle.kmip_attributes.specs.Attributes.{attribute_form, written_attribute, read_attribute, returned_attribute}
-use Rattle.kmip_objects.specs.Keys.{key_compression_type_form, written_key_compression_type, read_key_compression_type}
-use Rattle.kmip_objects.specs.Keys.{wrapping_method_form, written_wrapping_method, read_wrapping_method}
-use Rattle.kmip_objects.specs.Keys.{encoding_option_form, written_encoding_option, read_encoding_option}
-use Rattle.kmip_objects.specs.Keys.{encryption_key_information_form, written_encryption_key_information, read_encryption_key_information, returned_encryption_key_information}
-use Rattle.kmip_objects.specs.Keys.{mac_signature_key_information_form, written_mac_signature_key_information, read_mac_signature_key_information, returned_mac_signature_key_information}
-use Rattle.kmip_objects.specs.Objects.{certificate_form, written_certificate, read_certificate, returned_certificate}
-use Rattle.kmip_objects.specs.Objects.{symmetric_key_form, written_symmetric_key, read_symmetric_key, returned_symmetric_key}
-use Rattle.kmip_objects.specs.Objects.{public_key_form, written_public_key, read_public_key, returned_public_key}
-use Rattle.kmip_objects.specs.Objects.{private_key_form, written_private_key, read_private_key, returned_private_key}
-use Rattle.kmip_objects.specs.Objects.{split_key_form, written_split_key, read_split_key, returned_split_key}
-use Rattle.kmip_objects.specs.Objects.{template_form, written_template, read_template, returned_template}
-use Rattle.kmip_objects.specs.Objects.{secret_data_form, written_secret_data, read_secret_data, returned_secret_data}
-use Rattle.kmip_objects.specs.Objects.{opaque_object_form, written_opaque_object, read_opaque_object, returned_opaque_object}
+use Rattle.kmip_attributes.specs.Values.{object_type_form, written_object_type, read_object_type, key_format_type_form, written_key_format_type}
+use Rattle.kmip_attributes.specs.Values.{read_key_format_type, revocation_reason_code_form, written_revocation_reason_code, read_revocation_reason_code}
+use Rattle.kmip_attributes.specs.Attributes.{attribute_name_form, attribute_name_value, attribute_index_form, attribute_index_value, attribute_form}
+use Rattle.kmip_attributes.specs.Attributes.{written_attribute, read_attribute, returned_attribute}
+use Rattle.kmip_objects.specs.Keys.{key_compression_type_form, written_key_compression_type, read_key_compression_type, wrapping_method_form}
+use Rattle.kmip_objects.specs.Keys.{written_wrapping_method, read_wrapping_method, encoding_option_form, written_encoding_option, read_encoding_option}
+use Rattle.kmip_objects.specs.Keys.{encryption_key_information_form, written_encryption_key_information, read_encryption_key_information}
+use Rattle.kmip_objects.specs.Keys.{returned_encryption_key_information, mac_signature_key_information_form, written_mac_signature_key_information}
+use Rattle.kmip_objects.specs.Keys.{read_mac_signature_key_information, returned_mac_signature_key_information}
+use Rattle.kmip_objects.specs.Objects.{certificate_form, written_certificate, read_certificate, returned_certificate, symmetric_key_form, written_symmetric_key}
+use Rattle.kmip_objects.specs.Objects.{read_symmetric_key, returned_symmetric_key, public_key_form, written_public_key, read_public_key, returned_public_key}
+use Rattle.kmip_objects.specs.Objects.{private_key_form, written_private_key, read_private_key, returned_private_key, split_key_form, written_split_key}
+use Rattle.kmip_objects.specs.Objects.{read_split_key, returned_split_key, template_form, written_template, read_template, returned_template, secret_data_form}
+use Rattle.kmip_objects.specs.Objects.{written_secret_data, read_secret_data, returned_secret_data, opaque_object_form, written_opaque_object}
+use Rattle.kmip_objects.specs.Objects.{read_opaque_object, returned_opaque_object}
 use Rattle.kmip_objects.specs.Templates.{template_attribute_form, written_template_attribute, read_template_attribute, returned_template_attribute}
-use Rattle.kmip_objects.specs.Templates.{common_template_attribute_form, written_common_template_attribute, read_common_template_attribute, returned_common_template_attribute}
-use Rattle.kmip_objects.specs.Templates.{private_key_template_attribute_form, written_private_key_template_attribute, read_private_key_template_attribute, returned_private_key_template_attribute}
-use Rattle.kmip_objects.specs.Templates.{public_key_template_attribute_form, written_public_key_template_attribute, read_public_key_template_attribute, returned_public_key_template_attribute}
+use Rattle.kmip_objects.specs.Templates.{common_template_attribute_form, written_common_template_attribute, read_common_template_attribute}
+use Rattle.kmip_objects.specs.Templates.{returned_common_template_attribute, private_key_template_attribute_form, written_private_key_template_attribute}
+use Rattle.kmip_objects.specs.Templates.{read_private_key_template_attribute, returned_private_key_template_attribute, public_key_template_attribute_form}
+use Rattle.kmip_objects.specs.Templates.{written_public_key_template_attribute, read_public_key_template_attribute, returned_public_key_template_attribute}
 use Rattle.kmip_headers.specs.Headers.{protocol_version_form, protocol_version_value}
 
 -- the form of a `CreateRequest`
@@ -131,15 +130,26 @@ register_request_form =
 
 -- which `object` of a `RegisterRequest` is there, if it is exactly one
 abbrev pub IsRegisterRequestObject : {A : Type 0} → RegisterRequest A → Option (ManagedObject A) → Type 0
-IsRegisterRequestObject x None = (there x.certificate + (there x.symmetric_key + (there x.public_key + (there x.private_key + (there x.split_key + (there x.template + (there x.secret_data + there x.opaque_object)))))) ≡ 1) → ⊥
-IsRegisterRequestObject x (Some (managed_object.Certificate inner)) = (x.certificate ≡ Some inner.now) × (x.symmetric_key ≡ None) × (x.public_key ≡ None) × (x.private_key ≡ None) × (x.split_key ≡ None) × (x.template ≡ None) × (x.secret_data ≡ None) × (x.opaque_object ≡ None)
-IsRegisterRequestObject x (Some (managed_object.SymmetricKey inner)) = (x.certificate ≡ None) × (x.symmetric_key ≡ Some inner.now) × (x.public_key ≡ None) × (x.private_key ≡ None) × (x.split_key ≡ None) × (x.template ≡ None) × (x.secret_data ≡ None) × (x.opaque_object ≡ None)
-IsRegisterRequestObject x (Some (managed_object.PublicKey inner)) = (x.certificate ≡ None) × (x.symmetric_key ≡ None) × (x.public_key ≡ Some inner.now) × (x.private_key ≡ None) × (x.split_key ≡ None) × (x.template ≡ None) × (x.secret_data ≡ None) × (x.opaque_object ≡ None)
-IsRegisterRequestObject x (Some (managed_object.PrivateKey inner)) = (x.certificate ≡ None) × (x.symmetric_key ≡ None) × (x.public_key ≡ None) × (x.private_key ≡ Some inner.now) × (x.split_key ≡ None) × (x.template ≡ None) × (x.secret_data ≡ None) × (x.opaque_object ≡ None)
-IsRegisterRequestObject x (Some (managed_object.SplitKey inner)) = (x.certificate ≡ None) × (x.symmetric_key ≡ None) × (x.public_key ≡ None) × (x.private_key ≡ None) × (x.split_key ≡ Some inner.now) × (x.template ≡ None) × (x.secret_data ≡ None) × (x.opaque_object ≡ None)
-IsRegisterRequestObject x (Some (managed_object.Template inner)) = (x.certificate ≡ None) × (x.symmetric_key ≡ None) × (x.public_key ≡ None) × (x.private_key ≡ None) × (x.split_key ≡ None) × (x.template ≡ Some inner.now) × (x.secret_data ≡ None) × (x.opaque_object ≡ None)
-IsRegisterRequestObject x (Some (managed_object.SecretData inner)) = (x.certificate ≡ None) × (x.symmetric_key ≡ None) × (x.public_key ≡ None) × (x.private_key ≡ None) × (x.split_key ≡ None) × (x.template ≡ None) × (x.secret_data ≡ Some inner.now) × (x.opaque_object ≡ None)
-IsRegisterRequestObject x (Some (managed_object.OpaqueObject inner)) = (x.certificate ≡ None) × (x.symmetric_key ≡ None) × (x.public_key ≡ None) × (x.private_key ≡ None) × (x.split_key ≡ None) × (x.template ≡ None) × (x.secret_data ≡ None) × (x.opaque_object ≡ Some inner.now)
+IsRegisterRequestObject x None =
+    (there x.certificate +
+    (there x.symmetric_key +
+    (there x.public_key + (there x.private_key + (there x.split_key + (there x.template + (there x.secret_data + there x.opaque_object)))))) ≡ 1) → ⊥
+IsRegisterRequestObject x (Some (managed_object.Certificate inner)) = (x.certificate ≡ Some inner.now) × (x.symmetric_key ≡ None) × (x.public_key ≡ None)
+    × (x.private_key ≡ None) × (x.split_key ≡ None) × (x.template ≡ None) × (x.secret_data ≡ None) × (x.opaque_object ≡ None)
+IsRegisterRequestObject x (Some (managed_object.SymmetricKey inner)) = (x.certificate ≡ None) × (x.symmetric_key ≡ Some inner.now) × (x.public_key ≡ None)
+    × (x.private_key ≡ None) × (x.split_key ≡ None) × (x.template ≡ None) × (x.secret_data ≡ None) × (x.opaque_object ≡ None)
+IsRegisterRequestObject x (Some (managed_object.PublicKey inner)) = (x.certificate ≡ None) × (x.symmetric_key ≡ None) × (x.public_key ≡ Some inner.now)
+    × (x.private_key ≡ None) × (x.split_key ≡ None) × (x.template ≡ None) × (x.secret_data ≡ None) × (x.opaque_object ≡ None)
+IsRegisterRequestObject x (Some (managed_object.PrivateKey inner)) = (x.certificate ≡ None) × (x.symmetric_key ≡ None) × (x.public_key ≡ None)
+    × (x.private_key ≡ Some inner.now) × (x.split_key ≡ None) × (x.template ≡ None) × (x.secret_data ≡ None) × (x.opaque_object ≡ None)
+IsRegisterRequestObject x (Some (managed_object.SplitKey inner)) = (x.certificate ≡ None) × (x.symmetric_key ≡ None) × (x.public_key ≡ None)
+    × (x.private_key ≡ None) × (x.split_key ≡ Some inner.now) × (x.template ≡ None) × (x.secret_data ≡ None) × (x.opaque_object ≡ None)
+IsRegisterRequestObject x (Some (managed_object.Template inner)) = (x.certificate ≡ None) × (x.symmetric_key ≡ None) × (x.public_key ≡ None)
+    × (x.private_key ≡ None) × (x.split_key ≡ None) × (x.template ≡ Some inner.now) × (x.secret_data ≡ None) × (x.opaque_object ≡ None)
+IsRegisterRequestObject x (Some (managed_object.SecretData inner)) = (x.certificate ≡ None) × (x.symmetric_key ≡ None) × (x.public_key ≡ None)
+    × (x.private_key ≡ None) × (x.split_key ≡ None) × (x.template ≡ None) × (x.secret_data ≡ Some inner.now) × (x.opaque_object ≡ None)
+IsRegisterRequestObject x (Some (managed_object.OpaqueObject inner)) = (x.certificate ≡ None) × (x.symmetric_key ≡ None) × (x.public_key ≡ None)
+    × (x.private_key ≡ None) × (x.split_key ≡ None) × (x.template ≡ None) × (x.secret_data ≡ None) × (x.opaque_object ≡ Some inner.now)
 
 -- what is written of a `RegisterRequest`
 unfoldable pub written_register_request : {A : Type 0} → RegisterRequest A → Value
@@ -562,3 +572,245 @@ unfoldable pub read_discover_versions_request : {A : Type 0} → DiscoverVersion
 read_discover_versions_request x =
     struct_value (codes "0x420079") (
     value (optional_sequence protocol_version_value x.versions.items) no_values)
+
+-- the variants of a `RequestPayload` from `Destroy` on
+abbrev pub request_payload_variants_12 : Variants
+request_payload_variants_12 =
+    variant (codes "if 0x42005C==0x00000014") (wrapped
+    object_request_form) (
+    variant (codes "if 0x42005C==0x00000018") (wrapped
+    query_request_form) (
+    variant (codes "if 0x42005C==0x0000001E") (wrapped
+    discover_versions_request_form) no_variants))
+
+-- the variants of a `RequestPayload` from `ModifyAttribute` on
+abbrev pub request_payload_variants_8 : Variants
+request_payload_variants_8 =
+    variant (codes "if 0x42005C==0x0000000E") (wrapped
+    attribute_request_form) (
+    variant (codes "if 0x42005C==0x0000000F") (wrapped
+    delete_attribute_request_form) (
+    variant (codes "if 0x42005C==0x00000012") (wrapped
+    object_request_form) (
+    variant (codes "if 0x42005C==0x00000013") (wrapped
+    revoke_request_form) request_payload_variants_12)))
+
+-- the variants of a `RequestPayload` from `Get` on
+abbrev pub request_payload_variants_4 : Variants
+request_payload_variants_4 =
+    variant (codes "if 0x42005C==0x0000000A") (wrapped
+    get_request_form) (
+    variant (codes "if 0x42005C==0x0000000B") (wrapped
+    get_attributes_request_form) (
+    variant (codes "if 0x42005C==0x0000000C") (wrapped
+    object_request_form) (
+    variant (codes "if 0x42005C==0x0000000D") (wrapped
+    attribute_request_form) request_payload_variants_8)))
+
+-- the form of a `RequestPayload`
+abbrev pub request_payload_form : Form
+request_payload_form =
+    enum (codes "payload") (
+    variant (codes "if 0x42005C==0x00000001") (wrapped
+    create_request_form) (
+    variant (codes "if 0x42005C==0x00000002") (wrapped
+    create_key_pair_request_form) (
+    variant (codes "if 0x42005C==0x00000003") (wrapped
+    register_request_form) (
+    variant (codes "if 0x42005C==0x00000008") (wrapped
+    locate_request_form) request_payload_variants_4))))
+
+-- what is written of a `RequestPayload`
+unfoldable pub written_request_payload : {A : Type 0} → RequestPayload A → Value
+written_request_payload (request_payload.Create x) =
+    written_create_request x
+written_request_payload (request_payload.CreateKeyPair x) =
+    written_create_key_pair_request x
+written_request_payload (request_payload.Register x) =
+    written_register_request x
+written_request_payload (request_payload.Locate x) =
+    written_locate_request x
+written_request_payload (request_payload.Get x) =
+    written_get_request x
+written_request_payload (request_payload.GetAttributes x) =
+    written_get_attributes_request x
+written_request_payload (request_payload.GetAttributeList x) =
+    written_object_request x
+written_request_payload (request_payload.AddAttribute x) =
+    written_attribute_request x
+written_request_payload (request_payload.ModifyAttribute x) =
+    written_attribute_request x
+written_request_payload (request_payload.DeleteAttribute x) =
+    written_delete_attribute_request x
+written_request_payload (request_payload.Activate x) =
+    written_object_request x
+written_request_payload (request_payload.Revoke x) =
+    written_revoke_request x
+written_request_payload (request_payload.Destroy x) =
+    written_object_request x
+written_request_payload (request_payload.Query x) =
+    written_query_request x
+written_request_payload (request_payload.DiscoverVersions x) =
+    written_discover_versions_request x
+
+-- what is read of a `RequestPayload`
+unfoldable pub read_request_payload : {A : Type 0} → RequestPayload A → Value
+read_request_payload (request_payload.Create x) =
+    newtype_variant_value (codes "payload")
+    (codes "if 0x42005C==0x00000001")
+    (read_create_request x)
+read_request_payload (request_payload.CreateKeyPair x) =
+    newtype_variant_value (codes "payload")
+    (codes "if 0x42005C==0x00000002")
+    (read_create_key_pair_request x)
+read_request_payload (request_payload.Register x) =
+    newtype_variant_value (codes "payload")
+    (codes "if 0x42005C==0x00000003")
+    (read_register_request x)
+read_request_payload (request_payload.Locate x) =
+    newtype_variant_value (codes "payload")
+    (codes "if 0x42005C==0x00000008")
+    (read_locate_request x)
+read_request_payload (request_payload.Get x) =
+    newtype_variant_value (codes "payload")
+    (codes "if 0x42005C==0x0000000A")
+    (read_get_request x)
+read_request_payload (request_payload.GetAttributes x) =
+    newtype_variant_value (codes "payload")
+    (codes "if 0x42005C==0x0000000B")
+    (read_get_attributes_request x)
+read_request_payload (request_payload.GetAttributeList x) =
+    newtype_variant_value (codes "payload")
+    (codes "if 0x42005C==0x0000000C")
+    (read_object_request x)
+read_request_payload (request_payload.AddAttribute x) =
+    newtype_variant_value (codes "payload")
+    (codes "if 0x42005C==0x0000000D")
+    (read_attribute_request x)
+read_request_payload (request_payload.ModifyAttribute x) =
+    newtype_variant_value (codes "payload")
+    (codes "if 0x42005C==0x0000000E")
+    (read_attribute_request x)
+read_request_payload (request_payload.DeleteAttribute x) =
+    newtype_variant_value (codes "payload")
+    (codes "if 0x42005C==0x0000000F")
+    (read_delete_attribute_request x)
+read_request_payload (request_payload.Activate x) =
+    newtype_variant_value (codes "payload")
+    (codes "if 0x42005C==0x00000012")
+    (read_object_request x)
+read_request_payload (request_payload.Revoke x) =
+    newtype_variant_value (codes "payload")
+    (codes "if 0x42005C==0x00000013")
+    (read_revoke_request x)
+read_request_payload (request_payload.Destroy x) =
+    newtype_variant_value (codes "payload")
+    (codes "if 0x42005C==0x00000014")
+    (read_object_request x)
+read_request_payload (request_payload.Query x) =
+    newtype_variant_value (codes "payload")
+    (codes "if 0x42005C==0x00000018")
+    (read_query_request x)
+read_request_payload (request_payload.DiscoverVersions x) =
+    newtype_variant_value (codes "payload")
+    (codes "if 0x42005C==0x0000001E")
+    (read_discover_versions_request x)
+
+-- what is read of the bytes of a `RequestPayload`
+unfoldable pub returned_request_payload : {A : Type 0} → RequestPayload A → Value
+returned_request_payload (request_payload.Create x) =
+    newtype_variant_value (codes "payload")
+    (codes "if 0x42005C==0x00000001")
+    (returned_create_request x)
+returned_request_payload (request_payload.CreateKeyPair x) =
+    newtype_variant_value (codes "payload")
+    (codes "if 0x42005C==0x00000002")
+    (returned_create_key_pair_request x)
+returned_request_payload (request_payload.Register x) =
+    newtype_variant_value (codes "payload")
+    (codes "if 0x42005C==0x00000003")
+    (returned_register_request x)
+returned_request_payload (request_payload.Locate x) =
+    newtype_variant_value (codes "payload")
+    (codes "if 0x42005C==0x00000008")
+    (returned_locate_request x)
+returned_request_payload (request_payload.Get x) =
+    newtype_variant_value (codes "payload")
+    (codes "if 0x42005C==0x0000000A")
+    (returned_get_request x)
+returned_request_payload (request_payload.GetAttributes x) =
+    newtype_variant_value (codes "payload")
+    (codes "if 0x42005C==0x0000000B")
+    (read_get_attributes_request x)
+returned_request_payload (request_payload.GetAttributeList x) =
+    newtype_variant_value (codes "payload")
+    (codes "if 0x42005C==0x0000000C")
+    (read_object_request x)
+returned_request_payload (request_payload.AddAttribute x) =
+    newtype_variant_value (codes "payload")
+    (codes "if 0x42005C==0x0000000D")
+    (returned_attribute_request x)
+returned_request_payload (request_payload.ModifyAttribute x) =
+    newtype_variant_value (codes "payload")
+    (codes "if 0x42005C==0x0000000E")
+    (returned_attribute_request x)
+returned_request_payload (request_payload.DeleteAttribute x) =
+    newtype_variant_value (codes "payload")
+    (codes "if 0x42005C==0x0000000F")
+    (read_delete_attribute_request x)
+returned_request_payload (request_payload.Activate x) =
+    newtype_variant_value (codes "payload")
+    (codes "if 0x42005C==0x00000012")
+    (read_object_request x)
+returned_request_payload (request_payload.Revoke x) =
+    newtype_variant_value (codes "payload")
+    (codes "if 0x42005C==0x00000013")
+    (returned_revoke_request x)
+returned_request_payload (request_payload.Destroy x) =
+    newtype_variant_value (codes "payload")
+    (codes "if 0x42005C==0x00000014")
+    (read_object_request x)
+returned_request_payload (request_payload.Query x) =
+    newtype_variant_value (codes "payload")
+    (codes "if 0x42005C==0x00000018")
+    (returned_query_request x)
+returned_request_payload (request_payload.DiscoverVersions x) =
+    newtype_variant_value (codes "payload")
+    (codes "if 0x42005C==0x0000001E")
+    (read_discover_versions_request x)
+
+-- what is said, if it is the text of 42005C, chooses what is in a `RequestPayload`
+abbrev pub ChoosesRequestPayload : {A : Type 0} → List ℕ → RequestPayload A → Type 0
+ChoosesRequestPayload said (request_payload.Create x) = (said ≡ codes "0x00000001")
+ChoosesRequestPayload said (request_payload.CreateKeyPair x) = (said ≡ codes "0x00000002")
+ChoosesRequestPayload said (request_payload.Register x) = (said ≡ codes "0x00000003")
+ChoosesRequestPayload said (request_payload.Locate x) = (said ≡ codes "0x00000008")
+ChoosesRequestPayload said (request_payload.Get x) = (said ≡ codes "0x0000000A")
+ChoosesRequestPayload said (request_payload.GetAttributes x) = (said ≡ codes "0x0000000B")
+ChoosesRequestPayload said (request_payload.GetAttributeList x) = (said ≡ codes "0x0000000C")
+ChoosesRequestPayload said (request_payload.AddAttribute x) = (said ≡ codes "0x0000000D")
+ChoosesRequestPayload said (request_payload.ModifyAttribute x) = (said ≡ codes "0x0000000E")
+ChoosesRequestPayload said (request_payload.DeleteAttribute x) = (said ≡ codes "0x0000000F")
+ChoosesRequestPayload said (request_payload.Activate x) = (said ≡ codes "0x00000012")
+ChoosesRequestPayload said (request_payload.Revoke x) = (said ≡ codes "0x00000013")
+ChoosesRequestPayload said (request_payload.Destroy x) = (said ≡ codes "0x00000014")
+ChoosesRequestPayload said (request_payload.Query x) = (said ≡ codes "0x00000018")
+ChoosesRequestPayload said (request_payload.DiscoverVersions x) = (said ≡ codes "0x0000001E")
+
+-- the same of an Enumeration's number
+abbrev pub ChoosesRequestPayloadNumber : {A : Type 0} → ℕ → RequestPayload A → Type 0
+ChoosesRequestPayloadNumber n (request_payload.Create x) = (n ≡ 0x00000001)
+ChoosesRequestPayloadNumber n (request_payload.CreateKeyPair x) = (n ≡ 0x00000002)
+ChoosesRequestPayloadNumber n (request_payload.Register x) = (n ≡ 0x00000003)
+ChoosesRequestPayloadNumber n (request_payload.Locate x) = (n ≡ 0x00000008)
+ChoosesRequestPayloadNumber n (request_payload.Get x) = (n ≡ 0x0000000A)
+ChoosesRequestPayloadNumber n (request_payload.GetAttributes x) = (n ≡ 0x0000000B)
+ChoosesRequestPayloadNumber n (request_payload.GetAttributeList x) = (n ≡ 0x0000000C)
+ChoosesRequestPayloadNumber n (request_payload.AddAttribute x) = (n ≡ 0x0000000D)
+ChoosesRequestPayloadNumber n (request_payload.ModifyAttribute x) = (n ≡ 0x0000000E)
+ChoosesRequestPayloadNumber n (request_payload.DeleteAttribute x) = (n ≡ 0x0000000F)
+ChoosesRequestPayloadNumber n (request_payload.Activate x) = (n ≡ 0x00000012)
+ChoosesRequestPayloadNumber n (request_payload.Revoke x) = (n ≡ 0x00000013)
+ChoosesRequestPayloadNumber n (request_payload.Destroy x) = (n ≡ 0x00000014)
+ChoosesRequestPayloadNumber n (request_payload.Query x) = (n ≡ 0x00000018)
+ChoosesRequestPayloadNumber n (request_payload.DiscoverVersions x) = (n ≡ 0x0000001E)

@@ -19,9 +19,13 @@ use Rattle.kmip_requests.specs.declared.request_payload.RevokeRequest.{RevokeReq
 use Rattle.kmip_requests.specs.declared.request_payload.QueryFunction.{QueryFunction}
 use Rattle.kmip_requests.specs.declared.request_payload.QueryRequest.{QueryRequest}
 use Rattle.kmip_requests.specs.declared.request_payload.DiscoverVersionsRequest.{DiscoverVersionsRequest}
+use Rattle.kmip_requests.specs.declared.request_payload.RequestPayload.{RequestPayload}
+use Rattle.kmip_requests.specs.declared.request_payload.RequestPayload.TheVariants as request_payload
 use Rattle.kmip_requests.specs.RequestPayloads.{query_function_number}
 use Rattle.kmip_attributes.specs.Soundness.{IsObjectType, IsAttribute, IsKeyFormatType, IsAttributeIndex, IsRevocationReasonCode}
-use Rattle.kmip_objects.specs.Soundness.{IsTemplateAttribute, IsCommonTemplateAttribute, IsPrivateKeyTemplateAttribute, IsPublicKeyTemplateAttribute, IsCertificate, IsSymmetricKey, IsPublicKey, IsPrivateKey, IsSplitKey, IsTemplate, IsSecretData, IsOpaqueObject, IsWrappingMethod, IsEncryptionKeyInformation, IsMacSignatureKeyInformation, IsEncodingOption, IsKeyCompressionType}
+use Rattle.kmip_objects.specs.Soundness.{IsTemplateAttribute, IsCommonTemplateAttribute, IsPrivateKeyTemplateAttribute, IsPublicKeyTemplateAttribute}
+use Rattle.kmip_objects.specs.Soundness.{IsCertificate, IsSymmetricKey, IsPublicKey, IsPrivateKey, IsSplitKey, IsTemplate, IsSecretData, IsOpaqueObject}
+use Rattle.kmip_objects.specs.Soundness.{IsWrappingMethod, IsEncryptionKeyInformation, IsMacSignatureKeyInformation, IsEncodingOption, IsKeyCompressionType}
 use Rattle.kmip_headers.specs.Soundness.{IsProtocolVersion}
 
 -- which values of `CreateRequest` are sound
@@ -50,7 +54,8 @@ IsRegisterRequest x =
     × IfSome x.template IsTemplate
     × IfSome x.secret_data IsSecretData
     × IfSome x.opaque_object IsOpaqueObject
-    × (there x.certificate + (there x.symmetric_key + (there x.public_key + (there x.private_key + (there x.split_key + (there x.template + (there x.secret_data + there x.opaque_object)))))) ≡ 1)
+    × (there x.certificate + (there x.symmetric_key +
+    (there x.public_key + (there x.private_key + (there x.split_key + (there x.template + (there x.secret_data + there x.opaque_object)))))) ≡ 1)
 
 -- which values of `MaximumItems` are sound
 abbrev pub IsMaximumItems : MaximumItems → Type 0
@@ -125,3 +130,21 @@ IsQueryRequest x =
 abbrev pub IsDiscoverVersionsRequest : {A : Type 0} → DiscoverVersionsRequest A → Type 0
 IsDiscoverVersionsRequest x =
     All IsProtocolVersion x.versions.items
+
+-- which values of `RequestPayload` are sound
+abbrev pub IsRequestPayload : {A : Type 0} → RequestPayload A → Type 0
+IsRequestPayload (request_payload.Create x) = IsCreateRequest x
+IsRequestPayload (request_payload.CreateKeyPair x) = IsCreateKeyPairRequest x
+IsRequestPayload (request_payload.Register x) = IsRegisterRequest x
+IsRequestPayload (request_payload.Locate x) = IsLocateRequest x
+IsRequestPayload (request_payload.Get x) = IsGetRequest x
+IsRequestPayload (request_payload.GetAttributes x) = Unit {0}
+IsRequestPayload (request_payload.GetAttributeList x) = Unit {0}
+IsRequestPayload (request_payload.AddAttribute x) = IsAttributeRequest x
+IsRequestPayload (request_payload.ModifyAttribute x) = IsAttributeRequest x
+IsRequestPayload (request_payload.DeleteAttribute x) = IsDeleteAttributeRequest x
+IsRequestPayload (request_payload.Activate x) = Unit {0}
+IsRequestPayload (request_payload.Revoke x) = IsRevokeRequest x
+IsRequestPayload (request_payload.Destroy x) = Unit {0}
+IsRequestPayload (request_payload.Query x) = IsQueryRequest x
+IsRequestPayload (request_payload.DiscoverVersions x) = IsDiscoverVersionsRequest x

@@ -3,14 +3,15 @@
 
 ghost use Rattle.std.specs.Prelude.{◌≡◌};
 ghost use Rattle.kmip_ttlv.specs.Equal.{AreEqual, ReturnsEqual};
-ghost use Rattle.kmip_requests.specs.RequestPayloads.{returned_create_request, read_create_request, returned_create_key_pair_request, read_create_key_pair_request, returned_register_request, read_register_request, maximum_items_value, storage_status_mask_value, returned_locate_request, read_locate_request, returned_key_wrapping_specification, read_key_wrapping_specification, returned_get_request, read_get_request, read_get_attributes_request, returned_attribute_request, read_attribute_request, read_delete_attribute_request, read_object_request, returned_revocation_reason_given, read_revocation_reason_given, compromise_occurrence_date_value, returned_revoke_request, read_revoke_request, written_query_function, read_query_function, returned_query_request, read_query_request, read_discover_versions_request};
-ghost use Rattle.kmip_requests.specs.Soundness.{IsCreateRequest, IsCreateKeyPairRequest, IsRegisterRequest, IsMaximumItems, IsStorageStatusMask, IsLocateRequest, IsKeyWrappingSpecification, IsGetRequest, IsAttributeRequest, IsDeleteAttributeRequest, IsRevocationReasonGiven, IsCompromiseOccurrenceDate, IsRevokeRequest, IsQueryFunction, IsQueryRequest, IsDiscoverVersionsRequest};
+ghost use Rattle.kmip_requests.specs.RequestPayloads.{returned_create_request, read_create_request, returned_create_key_pair_request, read_create_key_pair_request, returned_register_request, read_register_request, maximum_items_value, storage_status_mask_value, returned_locate_request, read_locate_request, returned_key_wrapping_specification, read_key_wrapping_specification, returned_get_request, read_get_request, read_get_attributes_request, returned_attribute_request, read_attribute_request, read_delete_attribute_request, read_object_request, returned_revocation_reason_given, read_revocation_reason_given, compromise_occurrence_date_value, returned_revoke_request, read_revoke_request, written_query_function, read_query_function, returned_query_request, read_query_request, read_discover_versions_request, returned_request_payload, read_request_payload};
+ghost use Rattle.kmip_requests.specs.Soundness.{IsCreateRequest, IsCreateKeyPairRequest, IsRegisterRequest, IsMaximumItems, IsStorageStatusMask, IsLocateRequest, IsKeyWrappingSpecification, IsGetRequest, IsAttributeRequest, IsDeleteAttributeRequest, IsRevocationReasonGiven, IsCompromiseOccurrenceDate, IsRevokeRequest, IsQueryFunction, IsQueryRequest, IsDiscoverVersionsRequest, IsRequestPayload};
 
 use crate::request_payload::{
     AttributeRequest, CompromiseOccurrenceDate, CreateKeyPairRequest, CreateRequest,
     DeleteAttributeRequest, DiscoverVersionsRequest, GetAttributesRequest, GetRequest,
     KeyWrappingSpecification, LocateRequest, MaximumItems, ObjectRequest, QueryFunction,
-    QueryRequest, RegisterRequest, RevocationReasonGiven, RevokeRequest, StorageStatusMask,
+    QueryRequest, RegisterRequest, RequestPayload, RevocationReasonGiven, RevokeRequest,
+    StorageStatusMask,
 };
 use kmip_ttlv::laws::Sound;
 use std::alloc::Allocator;
@@ -35,6 +36,7 @@ pub fn equal_values<A: Allocator>()
     ensures query_function { ReturnsEqual written_query_function read_query_function ⟦<QueryFunction as PartialEq>⟧.eq }
     ensures query_request { ReturnsEqual returned_query_request read_query_request ⟦<QueryRequest<A> as PartialEq>⟧.eq }
     ensures discover_versions_request { AreEqual read_discover_versions_request ⟦<DiscoverVersionsRequest<A> as PartialEq>⟧.eq }
+    ensures request_payload { ReturnsEqual returned_request_payload read_request_payload ⟦<RequestPayload<A> as PartialEq>⟧.eq }
 {
     kmip_attributes::laws::equal_values::<A>();
     kmip_objects::laws::equal_values::<A>();
@@ -183,5 +185,29 @@ impl<A: Allocator> Sound for DiscoverVersionsRequest<A> {
 
     fn is_sound(&self) -> bool {
         self.versions.is_sound()
+    }
+}
+
+impl<A: Allocator> Sound for RequestPayload<A> {
+    ghost IsSound = { IsRequestPayload };
+
+    fn is_sound(&self) -> bool {
+        match self {
+            RequestPayload::Create(inner) => inner.is_sound(),
+            RequestPayload::CreateKeyPair(inner) => inner.is_sound(),
+            RequestPayload::Register(inner) => inner.is_sound(),
+            RequestPayload::Locate(inner) => inner.is_sound(),
+            RequestPayload::Get(inner) => inner.is_sound(),
+            RequestPayload::GetAttributes(_) => true,
+            RequestPayload::GetAttributeList(_) => true,
+            RequestPayload::AddAttribute(inner) => inner.is_sound(),
+            RequestPayload::ModifyAttribute(inner) => inner.is_sound(),
+            RequestPayload::DeleteAttribute(inner) => inner.is_sound(),
+            RequestPayload::Activate(_) => true,
+            RequestPayload::Revoke(inner) => inner.is_sound(),
+            RequestPayload::Destroy(_) => true,
+            RequestPayload::Query(inner) => inner.is_sound(),
+            RequestPayload::DiscoverVersions(inner) => inner.is_sound(),
+        }
     }
 }

@@ -1,10 +1,10 @@
 -- Written by codegen from types.table: change that, and run codegen/codegen.
 -- Forms and values of the types in `response_payload`.
-use Rattle.kmip_ttlv.specs.Forms.{Form, field, newtype, no_fields, option, seq, struct, text}
+use Rattle.kmip_ttlv.specs.Forms.{Form, Variants, enum, field, newtype, no_fields, no_variants, option, seq, struct, text, variant, wrapped}
 use Rattle.kmip_ttlv.specs.MessageParts.{optional, optional_sequence, sequence, there}
-use Rattle.kmip_ttlv.specs.Values.{Value, newtype_value, no_values, struct_value, text_value, value}
+use Rattle.kmip_ttlv.specs.Values.{Value, newtype_value, newtype_variant_value, no_values, struct_value, text_value, value}
 use Rattle.kmip_ttlv.specs.Visits.{joined}
-use Rattle.std.specs.Prelude.{None, Option, Some, codes, option_map, string_bytes, true, ◌+◌, ◌≡◌}
+use Rattle.std.specs.Prelude.{List, None, Option, Some, codes, option_map, string_bytes, true, ℕ, ◌+◌, ◌≡◌}
 use Rattle.kmip_ttlv.specs.Visits as visits
 use Rattle.kmip_responses.specs.declared.response_payload.CreateResponse.{CreateResponse}
 use Rattle.kmip_responses.specs.declared.response_payload.CreateKeyPairResponse.{CreateKeyPairResponse}
@@ -18,25 +18,24 @@ use Rattle.kmip_responses.specs.declared.response_payload.ObjectResponse.{Object
 use Rattle.kmip_responses.specs.declared.response_payload.ApplicationNamespace.{ApplicationNamespace}
 use Rattle.kmip_responses.specs.declared.response_payload.QueryResponse.{QueryResponse}
 use Rattle.kmip_responses.specs.declared.response_payload.DiscoverVersionsResponse.{DiscoverVersionsResponse}
+use Rattle.kmip_responses.specs.declared.response_payload.ResponsePayload.{ResponsePayload}
+use Rattle.kmip_responses.specs.declared.response_payload.ResponsePayload.TheVariants as response_payload
 use Rattle.kmip_objects.specs.declared.object.ManagedObject.{ManagedObject}
 use Rattle.kmip_objects.specs.declared.object.ManagedObject.TheVariants as managed_object
 use Rattle.kmip_attributes.specs.Values.{object_type_form, written_object_type, read_object_type}
-use Rattle.kmip_attributes.specs.Attributes.{attribute_name_form, attribute_name_value}
-use Rattle.kmip_attributes.specs.Attributes.{attribute_form, written_attribute, read_attribute, returned_attribute}
+use Rattle.kmip_attributes.specs.Attributes.{attribute_name_form, attribute_name_value, attribute_form, written_attribute, read_attribute, returned_attribute}
 use Rattle.kmip_objects.specs.Keys.{unique_identifier_form, unique_identifier_value}
-use Rattle.kmip_objects.specs.Objects.{certificate_form, written_certificate, read_certificate, returned_certificate}
-use Rattle.kmip_objects.specs.Objects.{symmetric_key_form, written_symmetric_key, read_symmetric_key, returned_symmetric_key}
-use Rattle.kmip_objects.specs.Objects.{public_key_form, written_public_key, read_public_key, returned_public_key}
-use Rattle.kmip_objects.specs.Objects.{private_key_form, written_private_key, read_private_key, returned_private_key}
-use Rattle.kmip_objects.specs.Objects.{split_key_form, written_split_key, read_split_key, returned_split_key}
-use Rattle.kmip_objects.specs.Objects.{template_form, written_template, read_template, returned_template}
-use Rattle.kmip_objects.specs.Objects.{secret_data_form, written_secret_data, read_secret_data, returned_secret_data}
-use Rattle.kmip_objects.specs.Objects.{opaque_object_form, written_opaque_object, read_opaque_object, returned_opaque_object}
+use Rattle.kmip_objects.specs.Objects.{certificate_form, written_certificate, read_certificate, returned_certificate, symmetric_key_form, written_symmetric_key}
+use Rattle.kmip_objects.specs.Objects.{read_symmetric_key, returned_symmetric_key, public_key_form, written_public_key, read_public_key, returned_public_key}
+use Rattle.kmip_objects.specs.Objects.{private_key_form, written_private_key, read_private_key, returned_private_key, split_key_form, written_split_key}
+use Rattle.kmip_objects.specs.Objects.{read_split_key, returned_split_key, template_form, written_template, read_template, returned_template, secret_data_form}
+use Rattle.kmip_objects.specs.Objects.{written_secret_data, read_secret_data, returned_secret_data, opaque_object_form, written_opaque_object}
+use Rattle.kmip_objects.specs.Objects.{read_opaque_object, returned_opaque_object}
 use Rattle.kmip_objects.specs.Templates.{template_attribute_form, written_template_attribute, read_template_attribute, returned_template_attribute}
-use Rattle.kmip_objects.specs.Templates.{private_key_template_attribute_form, written_private_key_template_attribute, read_private_key_template_attribute, returned_private_key_template_attribute}
-use Rattle.kmip_objects.specs.Templates.{public_key_template_attribute_form, written_public_key_template_attribute, read_public_key_template_attribute, returned_public_key_template_attribute}
-use Rattle.kmip_headers.specs.Headers.{protocol_version_form, protocol_version_value}
-use Rattle.kmip_headers.specs.Headers.{operation_form, written_operation, read_operation}
+use Rattle.kmip_objects.specs.Templates.{private_key_template_attribute_form, written_private_key_template_attribute, read_private_key_template_attribute}
+use Rattle.kmip_objects.specs.Templates.{returned_private_key_template_attribute, public_key_template_attribute_form, written_public_key_template_attribute}
+use Rattle.kmip_objects.specs.Templates.{read_public_key_template_attribute, returned_public_key_template_attribute}
+use Rattle.kmip_headers.specs.Headers.{protocol_version_form, protocol_version_value, operation_form, written_operation, read_operation}
 
 -- the form of a `CreateResponse`
 abbrev pub create_response_form : Form
@@ -169,15 +168,26 @@ get_response_form =
 
 -- which `object` of a `GetResponse` is there, if it is exactly one
 abbrev pub IsGetResponseObject : {A : Type 0} → GetResponse A → Option (ManagedObject A) → Type 0
-IsGetResponseObject x None = (there x.certificate + (there x.symmetric_key + (there x.public_key + (there x.private_key + (there x.split_key + (there x.template + (there x.secret_data + there x.opaque_object)))))) ≡ 1) → ⊥
-IsGetResponseObject x (Some (managed_object.Certificate inner)) = (x.certificate ≡ Some inner.now) × (x.symmetric_key ≡ None) × (x.public_key ≡ None) × (x.private_key ≡ None) × (x.split_key ≡ None) × (x.template ≡ None) × (x.secret_data ≡ None) × (x.opaque_object ≡ None)
-IsGetResponseObject x (Some (managed_object.SymmetricKey inner)) = (x.certificate ≡ None) × (x.symmetric_key ≡ Some inner.now) × (x.public_key ≡ None) × (x.private_key ≡ None) × (x.split_key ≡ None) × (x.template ≡ None) × (x.secret_data ≡ None) × (x.opaque_object ≡ None)
-IsGetResponseObject x (Some (managed_object.PublicKey inner)) = (x.certificate ≡ None) × (x.symmetric_key ≡ None) × (x.public_key ≡ Some inner.now) × (x.private_key ≡ None) × (x.split_key ≡ None) × (x.template ≡ None) × (x.secret_data ≡ None) × (x.opaque_object ≡ None)
-IsGetResponseObject x (Some (managed_object.PrivateKey inner)) = (x.certificate ≡ None) × (x.symmetric_key ≡ None) × (x.public_key ≡ None) × (x.private_key ≡ Some inner.now) × (x.split_key ≡ None) × (x.template ≡ None) × (x.secret_data ≡ None) × (x.opaque_object ≡ None)
-IsGetResponseObject x (Some (managed_object.SplitKey inner)) = (x.certificate ≡ None) × (x.symmetric_key ≡ None) × (x.public_key ≡ None) × (x.private_key ≡ None) × (x.split_key ≡ Some inner.now) × (x.template ≡ None) × (x.secret_data ≡ None) × (x.opaque_object ≡ None)
-IsGetResponseObject x (Some (managed_object.Template inner)) = (x.certificate ≡ None) × (x.symmetric_key ≡ None) × (x.public_key ≡ None) × (x.private_key ≡ None) × (x.split_key ≡ None) × (x.template ≡ Some inner.now) × (x.secret_data ≡ None) × (x.opaque_object ≡ None)
-IsGetResponseObject x (Some (managed_object.SecretData inner)) = (x.certificate ≡ None) × (x.symmetric_key ≡ None) × (x.public_key ≡ None) × (x.private_key ≡ None) × (x.split_key ≡ None) × (x.template ≡ None) × (x.secret_data ≡ Some inner.now) × (x.opaque_object ≡ None)
-IsGetResponseObject x (Some (managed_object.OpaqueObject inner)) = (x.certificate ≡ None) × (x.symmetric_key ≡ None) × (x.public_key ≡ None) × (x.private_key ≡ None) × (x.split_key ≡ None) × (x.template ≡ None) × (x.secret_data ≡ None) × (x.opaque_object ≡ Some inner.now)
+IsGetResponseObject x None =
+    (there x.certificate +
+    (there x.symmetric_key +
+    (there x.public_key + (there x.private_key + (there x.split_key + (there x.template + (there x.secret_data + there x.opaque_object)))))) ≡ 1) → ⊥
+IsGetResponseObject x (Some (managed_object.Certificate inner)) = (x.certificate ≡ Some inner.now) × (x.symmetric_key ≡ None) × (x.public_key ≡ None)
+    × (x.private_key ≡ None) × (x.split_key ≡ None) × (x.template ≡ None) × (x.secret_data ≡ None) × (x.opaque_object ≡ None)
+IsGetResponseObject x (Some (managed_object.SymmetricKey inner)) = (x.certificate ≡ None) × (x.symmetric_key ≡ Some inner.now) × (x.public_key ≡ None)
+    × (x.private_key ≡ None) × (x.split_key ≡ None) × (x.template ≡ None) × (x.secret_data ≡ None) × (x.opaque_object ≡ None)
+IsGetResponseObject x (Some (managed_object.PublicKey inner)) = (x.certificate ≡ None) × (x.symmetric_key ≡ None) × (x.public_key ≡ Some inner.now)
+    × (x.private_key ≡ None) × (x.split_key ≡ None) × (x.template ≡ None) × (x.secret_data ≡ None) × (x.opaque_object ≡ None)
+IsGetResponseObject x (Some (managed_object.PrivateKey inner)) = (x.certificate ≡ None) × (x.symmetric_key ≡ None) × (x.public_key ≡ None)
+    × (x.private_key ≡ Some inner.now) × (x.split_key ≡ None) × (x.template ≡ None) × (x.secret_data ≡ None) × (x.opaque_object ≡ None)
+IsGetResponseObject x (Some (managed_object.SplitKey inner)) = (x.certificate ≡ None) × (x.symmetric_key ≡ None) × (x.public_key ≡ None)
+    × (x.private_key ≡ None) × (x.split_key ≡ Some inner.now) × (x.template ≡ None) × (x.secret_data ≡ None) × (x.opaque_object ≡ None)
+IsGetResponseObject x (Some (managed_object.Template inner)) = (x.certificate ≡ None) × (x.symmetric_key ≡ None) × (x.public_key ≡ None)
+    × (x.private_key ≡ None) × (x.split_key ≡ None) × (x.template ≡ Some inner.now) × (x.secret_data ≡ None) × (x.opaque_object ≡ None)
+IsGetResponseObject x (Some (managed_object.SecretData inner)) = (x.certificate ≡ None) × (x.symmetric_key ≡ None) × (x.public_key ≡ None)
+    × (x.private_key ≡ None) × (x.split_key ≡ None) × (x.template ≡ None) × (x.secret_data ≡ Some inner.now) × (x.opaque_object ≡ None)
+IsGetResponseObject x (Some (managed_object.OpaqueObject inner)) = (x.certificate ≡ None) × (x.symmetric_key ≡ None) × (x.public_key ≡ None)
+    × (x.private_key ≡ None) × (x.split_key ≡ None) × (x.template ≡ None) × (x.secret_data ≡ None) × (x.opaque_object ≡ Some inner.now)
 
 -- what is written of a `GetResponse`
 unfoldable pub written_get_response : {A : Type 0} → GetResponse A → Value
@@ -377,3 +387,245 @@ unfoldable pub read_discover_versions_response : {A : Type 0} → DiscoverVersio
 read_discover_versions_response x =
     struct_value (codes "0x42007C") (
     value (optional_sequence protocol_version_value x.versions.items) no_values)
+
+-- the variants of a `ResponsePayload` from `Destroy` on
+abbrev pub response_payload_variants_12 : Variants
+response_payload_variants_12 =
+    variant (codes "if 0x42005C==0x00000014") (wrapped
+    object_response_form) (
+    variant (codes "if 0x42005C==0x00000018") (wrapped
+    query_response_form) (
+    variant (codes "if 0x42005C==0x0000001E") (wrapped
+    discover_versions_response_form) no_variants))
+
+-- the variants of a `ResponsePayload` from `ModifyAttribute` on
+abbrev pub response_payload_variants_8 : Variants
+response_payload_variants_8 =
+    variant (codes "if 0x42005C==0x0000000E") (wrapped
+    attribute_response_form) (
+    variant (codes "if 0x42005C==0x0000000F") (wrapped
+    attribute_response_form) (
+    variant (codes "if 0x42005C==0x00000012") (wrapped
+    object_response_form) (
+    variant (codes "if 0x42005C==0x00000013") (wrapped
+    object_response_form) response_payload_variants_12)))
+
+-- the variants of a `ResponsePayload` from `Get` on
+abbrev pub response_payload_variants_4 : Variants
+response_payload_variants_4 =
+    variant (codes "if 0x42005C==0x0000000A") (wrapped
+    get_response_form) (
+    variant (codes "if 0x42005C==0x0000000B") (wrapped
+    get_attributes_response_form) (
+    variant (codes "if 0x42005C==0x0000000C") (wrapped
+    get_attribute_list_response_form) (
+    variant (codes "if 0x42005C==0x0000000D") (wrapped
+    attribute_response_form) response_payload_variants_8)))
+
+-- the form of a `ResponsePayload`
+abbrev pub response_payload_form : Form
+response_payload_form =
+    enum (codes "payload") (
+    variant (codes "if 0x42005C==0x00000001") (wrapped
+    create_response_form) (
+    variant (codes "if 0x42005C==0x00000002") (wrapped
+    create_key_pair_response_form) (
+    variant (codes "if 0x42005C==0x00000003") (wrapped
+    register_response_form) (
+    variant (codes "if 0x42005C==0x00000008") (wrapped
+    locate_response_form) response_payload_variants_4))))
+
+-- what is written of a `ResponsePayload`
+unfoldable pub written_response_payload : {A : Type 0} → ResponsePayload A → Value
+written_response_payload (response_payload.Create x) =
+    written_create_response x
+written_response_payload (response_payload.CreateKeyPair x) =
+    written_create_key_pair_response x
+written_response_payload (response_payload.Register x) =
+    written_register_response x
+written_response_payload (response_payload.Locate x) =
+    written_locate_response x
+written_response_payload (response_payload.Get x) =
+    written_get_response x
+written_response_payload (response_payload.GetAttributes x) =
+    written_get_attributes_response x
+written_response_payload (response_payload.GetAttributeList x) =
+    written_get_attribute_list_response x
+written_response_payload (response_payload.AddAttribute x) =
+    written_attribute_response x
+written_response_payload (response_payload.ModifyAttribute x) =
+    written_attribute_response x
+written_response_payload (response_payload.DeleteAttribute x) =
+    written_attribute_response x
+written_response_payload (response_payload.Activate x) =
+    object_response_value x
+written_response_payload (response_payload.Revoke x) =
+    object_response_value x
+written_response_payload (response_payload.Destroy x) =
+    object_response_value x
+written_response_payload (response_payload.Query x) =
+    written_query_response x
+written_response_payload (response_payload.DiscoverVersions x) =
+    written_discover_versions_response x
+
+-- what is read of a `ResponsePayload`
+unfoldable pub read_response_payload : {A : Type 0} → ResponsePayload A → Value
+read_response_payload (response_payload.Create x) =
+    newtype_variant_value (codes "payload")
+    (codes "if 0x42005C==0x00000001")
+    (read_create_response x)
+read_response_payload (response_payload.CreateKeyPair x) =
+    newtype_variant_value (codes "payload")
+    (codes "if 0x42005C==0x00000002")
+    (read_create_key_pair_response x)
+read_response_payload (response_payload.Register x) =
+    newtype_variant_value (codes "payload")
+    (codes "if 0x42005C==0x00000003")
+    (read_register_response x)
+read_response_payload (response_payload.Locate x) =
+    newtype_variant_value (codes "payload")
+    (codes "if 0x42005C==0x00000008")
+    (read_locate_response x)
+read_response_payload (response_payload.Get x) =
+    newtype_variant_value (codes "payload")
+    (codes "if 0x42005C==0x0000000A")
+    (read_get_response x)
+read_response_payload (response_payload.GetAttributes x) =
+    newtype_variant_value (codes "payload")
+    (codes "if 0x42005C==0x0000000B")
+    (read_get_attributes_response x)
+read_response_payload (response_payload.GetAttributeList x) =
+    newtype_variant_value (codes "payload")
+    (codes "if 0x42005C==0x0000000C")
+    (read_get_attribute_list_response x)
+read_response_payload (response_payload.AddAttribute x) =
+    newtype_variant_value (codes "payload")
+    (codes "if 0x42005C==0x0000000D")
+    (read_attribute_response x)
+read_response_payload (response_payload.ModifyAttribute x) =
+    newtype_variant_value (codes "payload")
+    (codes "if 0x42005C==0x0000000E")
+    (read_attribute_response x)
+read_response_payload (response_payload.DeleteAttribute x) =
+    newtype_variant_value (codes "payload")
+    (codes "if 0x42005C==0x0000000F")
+    (read_attribute_response x)
+read_response_payload (response_payload.Activate x) =
+    newtype_variant_value (codes "payload")
+    (codes "if 0x42005C==0x00000012")
+    (object_response_value x)
+read_response_payload (response_payload.Revoke x) =
+    newtype_variant_value (codes "payload")
+    (codes "if 0x42005C==0x00000013")
+    (object_response_value x)
+read_response_payload (response_payload.Destroy x) =
+    newtype_variant_value (codes "payload")
+    (codes "if 0x42005C==0x00000014")
+    (object_response_value x)
+read_response_payload (response_payload.Query x) =
+    newtype_variant_value (codes "payload")
+    (codes "if 0x42005C==0x00000018")
+    (read_query_response x)
+read_response_payload (response_payload.DiscoverVersions x) =
+    newtype_variant_value (codes "payload")
+    (codes "if 0x42005C==0x0000001E")
+    (read_discover_versions_response x)
+
+-- what is read of the bytes of a `ResponsePayload`
+unfoldable pub returned_response_payload : {A : Type 0} → ResponsePayload A → Value
+returned_response_payload (response_payload.Create x) =
+    newtype_variant_value (codes "payload")
+    (codes "if 0x42005C==0x00000001")
+    (returned_create_response x)
+returned_response_payload (response_payload.CreateKeyPair x) =
+    newtype_variant_value (codes "payload")
+    (codes "if 0x42005C==0x00000002")
+    (returned_create_key_pair_response x)
+returned_response_payload (response_payload.Register x) =
+    newtype_variant_value (codes "payload")
+    (codes "if 0x42005C==0x00000003")
+    (returned_register_response x)
+returned_response_payload (response_payload.Locate x) =
+    newtype_variant_value (codes "payload")
+    (codes "if 0x42005C==0x00000008")
+    (read_locate_response x)
+returned_response_payload (response_payload.Get x) =
+    newtype_variant_value (codes "payload")
+    (codes "if 0x42005C==0x0000000A")
+    (returned_get_response x)
+returned_response_payload (response_payload.GetAttributes x) =
+    newtype_variant_value (codes "payload")
+    (codes "if 0x42005C==0x0000000B")
+    (returned_get_attributes_response x)
+returned_response_payload (response_payload.GetAttributeList x) =
+    newtype_variant_value (codes "payload")
+    (codes "if 0x42005C==0x0000000C")
+    (read_get_attribute_list_response x)
+returned_response_payload (response_payload.AddAttribute x) =
+    newtype_variant_value (codes "payload")
+    (codes "if 0x42005C==0x0000000D")
+    (returned_attribute_response x)
+returned_response_payload (response_payload.ModifyAttribute x) =
+    newtype_variant_value (codes "payload")
+    (codes "if 0x42005C==0x0000000E")
+    (returned_attribute_response x)
+returned_response_payload (response_payload.DeleteAttribute x) =
+    newtype_variant_value (codes "payload")
+    (codes "if 0x42005C==0x0000000F")
+    (returned_attribute_response x)
+returned_response_payload (response_payload.Activate x) =
+    newtype_variant_value (codes "payload")
+    (codes "if 0x42005C==0x00000012")
+    (object_response_value x)
+returned_response_payload (response_payload.Revoke x) =
+    newtype_variant_value (codes "payload")
+    (codes "if 0x42005C==0x00000013")
+    (object_response_value x)
+returned_response_payload (response_payload.Destroy x) =
+    newtype_variant_value (codes "payload")
+    (codes "if 0x42005C==0x00000014")
+    (object_response_value x)
+returned_response_payload (response_payload.Query x) =
+    newtype_variant_value (codes "payload")
+    (codes "if 0x42005C==0x00000018")
+    (returned_query_response x)
+returned_response_payload (response_payload.DiscoverVersions x) =
+    newtype_variant_value (codes "payload")
+    (codes "if 0x42005C==0x0000001E")
+    (read_discover_versions_response x)
+
+-- what is said, if it is the text of 42005C, chooses what is in a `ResponsePayload`
+abbrev pub ChoosesResponsePayload : {A : Type 0} → List ℕ → ResponsePayload A → Type 0
+ChoosesResponsePayload said (response_payload.Create x) = (said ≡ codes "0x00000001")
+ChoosesResponsePayload said (response_payload.CreateKeyPair x) = (said ≡ codes "0x00000002")
+ChoosesResponsePayload said (response_payload.Register x) = (said ≡ codes "0x00000003")
+ChoosesResponsePayload said (response_payload.Locate x) = (said ≡ codes "0x00000008")
+ChoosesResponsePayload said (response_payload.Get x) = (said ≡ codes "0x0000000A")
+ChoosesResponsePayload said (response_payload.GetAttributes x) = (said ≡ codes "0x0000000B")
+ChoosesResponsePayload said (response_payload.GetAttributeList x) = (said ≡ codes "0x0000000C")
+ChoosesResponsePayload said (response_payload.AddAttribute x) = (said ≡ codes "0x0000000D")
+ChoosesResponsePayload said (response_payload.ModifyAttribute x) = (said ≡ codes "0x0000000E")
+ChoosesResponsePayload said (response_payload.DeleteAttribute x) = (said ≡ codes "0x0000000F")
+ChoosesResponsePayload said (response_payload.Activate x) = (said ≡ codes "0x00000012")
+ChoosesResponsePayload said (response_payload.Revoke x) = (said ≡ codes "0x00000013")
+ChoosesResponsePayload said (response_payload.Destroy x) = (said ≡ codes "0x00000014")
+ChoosesResponsePayload said (response_payload.Query x) = (said ≡ codes "0x00000018")
+ChoosesResponsePayload said (response_payload.DiscoverVersions x) = (said ≡ codes "0x0000001E")
+
+-- the same of an Enumeration's number
+abbrev pub ChoosesResponsePayloadNumber : {A : Type 0} → ℕ → ResponsePayload A → Type 0
+ChoosesResponsePayloadNumber n (response_payload.Create x) = (n ≡ 0x00000001)
+ChoosesResponsePayloadNumber n (response_payload.CreateKeyPair x) = (n ≡ 0x00000002)
+ChoosesResponsePayloadNumber n (response_payload.Register x) = (n ≡ 0x00000003)
+ChoosesResponsePayloadNumber n (response_payload.Locate x) = (n ≡ 0x00000008)
+ChoosesResponsePayloadNumber n (response_payload.Get x) = (n ≡ 0x0000000A)
+ChoosesResponsePayloadNumber n (response_payload.GetAttributes x) = (n ≡ 0x0000000B)
+ChoosesResponsePayloadNumber n (response_payload.GetAttributeList x) = (n ≡ 0x0000000C)
+ChoosesResponsePayloadNumber n (response_payload.AddAttribute x) = (n ≡ 0x0000000D)
+ChoosesResponsePayloadNumber n (response_payload.ModifyAttribute x) = (n ≡ 0x0000000E)
+ChoosesResponsePayloadNumber n (response_payload.DeleteAttribute x) = (n ≡ 0x0000000F)
+ChoosesResponsePayloadNumber n (response_payload.Activate x) = (n ≡ 0x00000012)
+ChoosesResponsePayloadNumber n (response_payload.Revoke x) = (n ≡ 0x00000013)
+ChoosesResponsePayloadNumber n (response_payload.Destroy x) = (n ≡ 0x00000014)
+ChoosesResponsePayloadNumber n (response_payload.Query x) = (n ≡ 0x00000018)
+ChoosesResponsePayloadNumber n (response_payload.DiscoverVersions x) = (n ≡ 0x0000001E)

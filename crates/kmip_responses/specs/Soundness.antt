@@ -10,8 +10,11 @@ use Rattle.kmip_responses.specs.declared.response_payload.GetAttributesResponse.
 use Rattle.kmip_responses.specs.declared.response_payload.AttributeResponse.{AttributeResponse}
 use Rattle.kmip_responses.specs.declared.response_payload.QueryResponse.{QueryResponse}
 use Rattle.kmip_responses.specs.declared.response_payload.DiscoverVersionsResponse.{DiscoverVersionsResponse}
+use Rattle.kmip_responses.specs.declared.response_payload.ResponsePayload.{ResponsePayload}
+use Rattle.kmip_responses.specs.declared.response_payload.ResponsePayload.TheVariants as response_payload
 use Rattle.kmip_attributes.specs.Soundness.{IsObjectType, IsAttribute}
-use Rattle.kmip_objects.specs.Soundness.{IsTemplateAttribute, IsPrivateKeyTemplateAttribute, IsPublicKeyTemplateAttribute, IsCertificate, IsSymmetricKey, IsPublicKey, IsPrivateKey, IsSplitKey, IsTemplate, IsSecretData, IsOpaqueObject}
+use Rattle.kmip_objects.specs.Soundness.{IsTemplateAttribute, IsPrivateKeyTemplateAttribute, IsPublicKeyTemplateAttribute, IsCertificate, IsSymmetricKey}
+use Rattle.kmip_objects.specs.Soundness.{IsPublicKey, IsPrivateKey, IsSplitKey, IsTemplate, IsSecretData, IsOpaqueObject}
 use Rattle.kmip_headers.specs.Soundness.{IsOperation, IsProtocolVersion}
 
 -- which values of `CreateResponse` are sound
@@ -43,7 +46,8 @@ IsGetResponse x =
     × IfSome x.template IsTemplate
     × IfSome x.secret_data IsSecretData
     × IfSome x.opaque_object IsOpaqueObject
-    × (there x.certificate + (there x.symmetric_key + (there x.public_key + (there x.private_key + (there x.split_key + (there x.template + (there x.secret_data + there x.opaque_object)))))) ≡ 1)
+    × (there x.certificate + (there x.symmetric_key +
+    (there x.public_key + (there x.private_key + (there x.split_key + (there x.template + (there x.secret_data + there x.opaque_object)))))) ≡ 1)
 
 -- which values of `GetAttributesResponse` are sound
 abbrev pub IsGetAttributesResponse : {A : Type 0} → GetAttributesResponse A → Type 0
@@ -65,3 +69,21 @@ IsQueryResponse x =
 abbrev pub IsDiscoverVersionsResponse : {A : Type 0} → DiscoverVersionsResponse A → Type 0
 IsDiscoverVersionsResponse x =
     All IsProtocolVersion x.versions.items
+
+-- which values of `ResponsePayload` are sound
+abbrev pub IsResponsePayload : {A : Type 0} → ResponsePayload A → Type 0
+IsResponsePayload (response_payload.Create x) = IsCreateResponse x
+IsResponsePayload (response_payload.CreateKeyPair x) = IsCreateKeyPairResponse x
+IsResponsePayload (response_payload.Register x) = IsRegisterResponse x
+IsResponsePayload (response_payload.Locate x) = Unit {0}
+IsResponsePayload (response_payload.Get x) = IsGetResponse x
+IsResponsePayload (response_payload.GetAttributes x) = IsGetAttributesResponse x
+IsResponsePayload (response_payload.GetAttributeList x) = Unit {0}
+IsResponsePayload (response_payload.AddAttribute x) = IsAttributeResponse x
+IsResponsePayload (response_payload.ModifyAttribute x) = IsAttributeResponse x
+IsResponsePayload (response_payload.DeleteAttribute x) = IsAttributeResponse x
+IsResponsePayload (response_payload.Activate x) = Unit {0}
+IsResponsePayload (response_payload.Revoke x) = Unit {0}
+IsResponsePayload (response_payload.Destroy x) = Unit {0}
+IsResponsePayload (response_payload.Query x) = IsQueryResponse x
+IsResponsePayload (response_payload.DiscoverVersions x) = IsDiscoverVersionsResponse x

@@ -3,13 +3,13 @@
 
 ghost use Rattle.std.specs.Prelude.{◌≡◌};
 ghost use Rattle.kmip_ttlv.specs.Equal.{AreEqual, ReturnsEqual};
-ghost use Rattle.kmip_responses.specs.ResponsePayloads.{returned_create_response, read_create_response, returned_create_key_pair_response, read_create_key_pair_response, returned_register_response, read_register_response, read_locate_response, returned_get_response, read_get_response, returned_get_attributes_response, read_get_attributes_response, read_get_attribute_list_response, returned_attribute_response, read_attribute_response, object_response_value, application_namespace_value, returned_query_response, read_query_response, read_discover_versions_response};
-ghost use Rattle.kmip_responses.specs.Soundness.{IsCreateResponse, IsCreateKeyPairResponse, IsRegisterResponse, IsGetResponse, IsGetAttributesResponse, IsAttributeResponse, IsQueryResponse, IsDiscoverVersionsResponse};
+ghost use Rattle.kmip_responses.specs.ResponsePayloads.{returned_create_response, read_create_response, returned_create_key_pair_response, read_create_key_pair_response, returned_register_response, read_register_response, read_locate_response, returned_get_response, read_get_response, returned_get_attributes_response, read_get_attributes_response, read_get_attribute_list_response, returned_attribute_response, read_attribute_response, object_response_value, application_namespace_value, returned_query_response, read_query_response, read_discover_versions_response, returned_response_payload, read_response_payload};
+ghost use Rattle.kmip_responses.specs.Soundness.{IsCreateResponse, IsCreateKeyPairResponse, IsRegisterResponse, IsGetResponse, IsGetAttributesResponse, IsAttributeResponse, IsQueryResponse, IsDiscoverVersionsResponse, IsResponsePayload};
 
 use crate::response_payload::{
     ApplicationNamespace, AttributeResponse, CreateKeyPairResponse, CreateResponse,
     DiscoverVersionsResponse, GetAttributeListResponse, GetAttributesResponse, GetResponse,
-    LocateResponse, ObjectResponse, QueryResponse, RegisterResponse,
+    LocateResponse, ObjectResponse, QueryResponse, RegisterResponse, ResponsePayload,
 };
 use kmip_ttlv::laws::Sound;
 use std::alloc::Allocator;
@@ -28,6 +28,7 @@ pub fn equal_values<A: Allocator>()
     ensures application_namespace { AreEqual application_namespace_value ⟦<ApplicationNamespace<A> as PartialEq>⟧.eq }
     ensures query_response { ReturnsEqual returned_query_response read_query_response ⟦<QueryResponse<A> as PartialEq>⟧.eq }
     ensures discover_versions_response { AreEqual read_discover_versions_response ⟦<DiscoverVersionsResponse<A> as PartialEq>⟧.eq }
+    ensures response_payload { ReturnsEqual returned_response_payload read_response_payload ⟦<ResponsePayload<A> as PartialEq>⟧.eq }
 {
     kmip_attributes::laws::equal_values::<A>();
     kmip_objects::laws::equal_values::<A>();
@@ -104,5 +105,29 @@ impl<A: Allocator> Sound for DiscoverVersionsResponse<A> {
 
     fn is_sound(&self) -> bool {
         self.versions.is_sound()
+    }
+}
+
+impl<A: Allocator> Sound for ResponsePayload<A> {
+    ghost IsSound = { IsResponsePayload };
+
+    fn is_sound(&self) -> bool {
+        match self {
+            ResponsePayload::Create(inner) => inner.is_sound(),
+            ResponsePayload::CreateKeyPair(inner) => inner.is_sound(),
+            ResponsePayload::Register(inner) => inner.is_sound(),
+            ResponsePayload::Locate(_) => true,
+            ResponsePayload::Get(inner) => inner.is_sound(),
+            ResponsePayload::GetAttributes(inner) => inner.is_sound(),
+            ResponsePayload::GetAttributeList(_) => true,
+            ResponsePayload::AddAttribute(inner) => inner.is_sound(),
+            ResponsePayload::ModifyAttribute(inner) => inner.is_sound(),
+            ResponsePayload::DeleteAttribute(inner) => inner.is_sound(),
+            ResponsePayload::Activate(_) => true,
+            ResponsePayload::Revoke(_) => true,
+            ResponsePayload::Destroy(_) => true,
+            ResponsePayload::Query(inner) => inner.is_sound(),
+            ResponsePayload::DiscoverVersions(inner) => inner.is_sound(),
+        }
     }
 }

@@ -1,8 +1,8 @@
 // Written by codegen from types.table: change that, and run codegen/codegen.
 //! What was done (KMIP 1.0, section 4).
 
-ghost use Rattle.std.specs.Prelude.{refl, true};
-ghost use Rattle.kmip_responses.specs.ResponsePayloads.{create_response_form, written_create_response, read_create_response, create_key_pair_response_form, written_create_key_pair_response, read_create_key_pair_response, register_response_form, written_register_response, read_register_response, locate_response_form, written_locate_response, read_locate_response, get_response_form, written_get_response, read_get_response, IsGetResponseObject, get_attributes_response_form, written_get_attributes_response, read_get_attributes_response, get_attribute_list_response_form, written_get_attribute_list_response, read_get_attribute_list_response, attribute_response_form, written_attribute_response, read_attribute_response, object_response_form, object_response_value, application_namespace_form, application_namespace_value, query_response_form, written_query_response, read_query_response, discover_versions_response_form, written_discover_versions_response, read_discover_versions_response};
+ghost use Rattle.std.specs.Prelude.{◌↔◌, refl, IsTrue, codes, true};
+ghost use Rattle.kmip_responses.specs.ResponsePayloads.{create_response_form, written_create_response, read_create_response, create_key_pair_response_form, written_create_key_pair_response, read_create_key_pair_response, register_response_form, written_register_response, read_register_response, locate_response_form, written_locate_response, read_locate_response, get_response_form, written_get_response, read_get_response, IsGetResponseObject, get_attributes_response_form, written_get_attributes_response, read_get_attributes_response, get_attribute_list_response_form, written_get_attribute_list_response, read_get_attribute_list_response, attribute_response_form, written_attribute_response, read_attribute_response, object_response_form, object_response_value, application_namespace_form, application_namespace_value, query_response_form, written_query_response, read_query_response, discover_versions_response_form, written_discover_versions_response, read_discover_versions_response, response_payload_form, written_response_payload, read_response_payload, ChoosesResponsePayload, response_payload_variants_4, response_payload_variants_8, response_payload_variants_12, ChoosesResponsePayloadNumber};
 
 use kmip_attributes::attribute::{Attribute, AttributeName};
 use kmip_attributes::values::ObjectType;
@@ -18,6 +18,7 @@ use kmip_objects::template::{
 use kmip_ttlv::messages::writing;
 use kmip_ttlv::reader;
 use kmip_ttlv::shape::Serialize;
+use kmip_ttlv::types::TtlvType;
 use kmip_ttlv::visit::Visitor;
 use std::alloc::{AllocError, Allocator, Global};
 
@@ -982,5 +983,729 @@ impl<A: Allocator + Copy> reader::ReadNested<A> for DiscoverVersionsResponse<A> 
         cursor: &mut reader::Cursor<'b, A>,
     ) -> reader::Step<Self, A> {
         reader::read_structure(scope, cursor)
+    }
+}
+
+/// What was done.
+#[derive(Drop)]
+#[derive_where(PartialEq)]
+pub enum ResponsePayload<A: Allocator = Global> {
+    /// A symmetric key was made.
+    Create(CreateResponse<A>),
+    /// A public and a private key were made.
+    CreateKeyPair(CreateKeyPairResponse<A>),
+    /// An object is kept.
+    Register(RegisterResponse<A>),
+    /// Which objects were found.
+    Locate(LocateResponse<A>),
+    /// An object.
+    Get(GetResponse<A>),
+    /// What is known of an object.
+    GetAttributes(GetAttributesResponse<A>),
+    /// The names of what is known.
+    GetAttributeList(GetAttributeListResponse<A>),
+    /// An attribute was added.
+    AddAttribute(AttributeResponse<A>),
+    /// An attribute was changed.
+    ModifyAttribute(AttributeResponse<A>),
+    /// An attribute was deleted.
+    DeleteAttribute(AttributeResponse<A>),
+    /// An object is in use.
+    Activate(ObjectResponse<A>),
+    /// An object is no longer used.
+    Revoke(ObjectResponse<A>),
+    /// An object is destroyed.
+    Destroy(ObjectResponse<A>),
+    /// What the server can do.
+    Query(QueryResponse<A>),
+    /// Which versions the server has.
+    DiscoverVersions(DiscoverVersionsResponse<A>),
+}
+
+impl<A: Allocator> ResponsePayload<A> {
+    /// Whether this text, if it is that of 0x42005C, chooses it.
+    pub fn is_chosen_by(&self, text: &str) -> bool
+        ensures { IsTrue result ↔ ChoosesResponsePayload text.now self.now }
+    {
+        match self {
+            ResponsePayload::Create(_) => text == "0x00000001",
+            ResponsePayload::CreateKeyPair(_) => text == "0x00000002",
+            ResponsePayload::Register(_) => text == "0x00000003",
+            ResponsePayload::Locate(_) => text == "0x00000008",
+            ResponsePayload::Get(_) => text == "0x0000000A",
+            ResponsePayload::GetAttributes(_) => text == "0x0000000B",
+            ResponsePayload::GetAttributeList(_) => text == "0x0000000C",
+            ResponsePayload::AddAttribute(_) => text == "0x0000000D",
+            ResponsePayload::ModifyAttribute(_) => text == "0x0000000E",
+            ResponsePayload::DeleteAttribute(_) => text == "0x0000000F",
+            ResponsePayload::Activate(_) => text == "0x00000012",
+            ResponsePayload::Revoke(_) => text == "0x00000013",
+            ResponsePayload::Destroy(_) => text == "0x00000014",
+            ResponsePayload::Query(_) => text == "0x00000018",
+            ResponsePayload::DiscoverVersions(_) => text == "0x0000001E",
+        }
+    }
+
+    /// The same of an Enumeration's number.
+    pub fn is_chosen_by_number(&self, number: u32) -> bool
+        ensures { IsTrue result ↔ ChoosesResponsePayloadNumber number self.now }
+    {
+        match self {
+            ResponsePayload::Create(_) => number == 0x00000001,
+            ResponsePayload::CreateKeyPair(_) => number == 0x00000002,
+            ResponsePayload::Register(_) => number == 0x00000003,
+            ResponsePayload::Locate(_) => number == 0x00000008,
+            ResponsePayload::Get(_) => number == 0x0000000A,
+            ResponsePayload::GetAttributes(_) => number == 0x0000000B,
+            ResponsePayload::GetAttributeList(_) => number == 0x0000000C,
+            ResponsePayload::AddAttribute(_) => number == 0x0000000D,
+            ResponsePayload::ModifyAttribute(_) => number == 0x0000000E,
+            ResponsePayload::DeleteAttribute(_) => number == 0x0000000F,
+            ResponsePayload::Activate(_) => number == 0x00000012,
+            ResponsePayload::Revoke(_) => number == 0x00000013,
+            ResponsePayload::Destroy(_) => number == 0x00000014,
+            ResponsePayload::Query(_) => number == 0x00000018,
+            ResponsePayload::DiscoverVersions(_) => number == 0x0000001E,
+        }
+    }
+}
+
+impl<B: Allocator> Serialize for ResponsePayload<B> {
+    ghost stated = { written_response_payload };
+
+    #[tactic(auto, unfolding(crate::specs::ResponsePayloads::written_response_payload))]
+    fn visit<V: Visitor>(&self, visitor: &mut V) -> Result<(), AllocError> {
+        match self {
+            ResponsePayload::Create(inner) => inner.visit(visitor),
+            ResponsePayload::CreateKeyPair(inner) => inner.visit(visitor),
+            ResponsePayload::Register(inner) => inner.visit(visitor),
+            ResponsePayload::Locate(inner) => inner.visit(visitor),
+            ResponsePayload::Get(inner) => inner.visit(visitor),
+            ResponsePayload::GetAttributes(inner) => inner.visit(visitor),
+            ResponsePayload::GetAttributeList(inner) => inner.visit(visitor),
+            ResponsePayload::AddAttribute(inner) => inner.visit(visitor),
+            ResponsePayload::ModifyAttribute(inner) => inner.visit(visitor),
+            ResponsePayload::DeleteAttribute(inner) => inner.visit(visitor),
+            ResponsePayload::Activate(inner) => inner.visit(visitor),
+            ResponsePayload::Revoke(inner) => inner.visit(visitor),
+            ResponsePayload::Destroy(inner) => inner.visit(visitor),
+            ResponsePayload::Query(inner) => inner.visit(visitor),
+            ResponsePayload::DiscoverVersions(inner) => inner.visit(visitor),
+        }
+    }
+}
+
+/// The rule that chooses `ResponsePayload::Create`.
+pub struct ResponsePayloadCreateRule;
+
+impl reader::Rule for ResponsePayloadCreateRule {
+    ghost condition = { codes "0x42005C==0x00000001" };
+
+    fn name() -> &'static str {
+        "if 0x42005C==0x00000001"
+    }
+
+    #[tactic(auto, unfolding(kmip_ttlv_reader::specs::RuleParts::parts_of))]
+    fn parts() -> Option<reader::RuleParts> {
+        Some(reader::RuleParts::Texts {
+            tag: 0x42005C,
+            texts: &["0x00000001"],
+        })
+    }
+}
+
+impl<A: Allocator + Copy> reader::VariantOf<
+    reader::StructureElement<CreateResponse<A>>,
+    ResponsePayload<A>,
+    A,
+> for ResponsePayloadCreateRule {
+    #[tactic(auto, unfolding(kmip_ttlv_types::specs::Digits::six_digits, crate::specs::ResponsePayloads::read_response_payload))]
+    fn from_content(inner: CreateResponse<A>) -> ResponsePayload<A> {
+        ResponsePayload::Create(inner)
+    }
+}
+
+/// The rule that chooses `ResponsePayload::CreateKeyPair`.
+pub struct ResponsePayloadCreateKeyPairRule;
+
+impl reader::Rule for ResponsePayloadCreateKeyPairRule {
+    ghost condition = { codes "0x42005C==0x00000002" };
+
+    fn name() -> &'static str {
+        "if 0x42005C==0x00000002"
+    }
+
+    #[tactic(auto, unfolding(kmip_ttlv_reader::specs::RuleParts::parts_of))]
+    fn parts() -> Option<reader::RuleParts> {
+        Some(reader::RuleParts::Texts {
+            tag: 0x42005C,
+            texts: &["0x00000002"],
+        })
+    }
+}
+
+impl<A: Allocator + Copy> reader::VariantOf<
+    reader::StructureElement<CreateKeyPairResponse<A>>,
+    ResponsePayload<A>,
+    A,
+> for ResponsePayloadCreateKeyPairRule {
+    #[tactic(auto, unfolding(kmip_ttlv_types::specs::Digits::six_digits, crate::specs::ResponsePayloads::read_response_payload))]
+    fn from_content(inner: CreateKeyPairResponse<A>) -> ResponsePayload<A> {
+        ResponsePayload::CreateKeyPair(inner)
+    }
+}
+
+/// The rule that chooses `ResponsePayload::Register`.
+pub struct ResponsePayloadRegisterRule;
+
+impl reader::Rule for ResponsePayloadRegisterRule {
+    ghost condition = { codes "0x42005C==0x00000003" };
+
+    fn name() -> &'static str {
+        "if 0x42005C==0x00000003"
+    }
+
+    #[tactic(auto, unfolding(kmip_ttlv_reader::specs::RuleParts::parts_of))]
+    fn parts() -> Option<reader::RuleParts> {
+        Some(reader::RuleParts::Texts {
+            tag: 0x42005C,
+            texts: &["0x00000003"],
+        })
+    }
+}
+
+impl<A: Allocator + Copy> reader::VariantOf<
+    reader::StructureElement<RegisterResponse<A>>,
+    ResponsePayload<A>,
+    A,
+> for ResponsePayloadRegisterRule {
+    #[tactic(auto, unfolding(kmip_ttlv_types::specs::Digits::six_digits, crate::specs::ResponsePayloads::read_response_payload))]
+    fn from_content(inner: RegisterResponse<A>) -> ResponsePayload<A> {
+        ResponsePayload::Register(inner)
+    }
+}
+
+/// The rule that chooses `ResponsePayload::Locate`.
+pub struct ResponsePayloadLocateRule;
+
+impl reader::Rule for ResponsePayloadLocateRule {
+    ghost condition = { codes "0x42005C==0x00000008" };
+
+    fn name() -> &'static str {
+        "if 0x42005C==0x00000008"
+    }
+
+    #[tactic(auto, unfolding(kmip_ttlv_reader::specs::RuleParts::parts_of))]
+    fn parts() -> Option<reader::RuleParts> {
+        Some(reader::RuleParts::Texts {
+            tag: 0x42005C,
+            texts: &["0x00000008"],
+        })
+    }
+}
+
+impl<A: Allocator + Copy> reader::VariantOf<
+    reader::StructureElement<LocateResponse<A>>,
+    ResponsePayload<A>,
+    A,
+> for ResponsePayloadLocateRule {
+    #[tactic(auto, unfolding(kmip_ttlv_types::specs::Digits::six_digits, crate::specs::ResponsePayloads::read_response_payload))]
+    fn from_content(inner: LocateResponse<A>) -> ResponsePayload<A> {
+        ResponsePayload::Locate(inner)
+    }
+}
+
+/// The rule that chooses `ResponsePayload::Get`.
+pub struct ResponsePayloadGetRule;
+
+impl reader::Rule for ResponsePayloadGetRule {
+    ghost condition = { codes "0x42005C==0x0000000A" };
+
+    fn name() -> &'static str {
+        "if 0x42005C==0x0000000A"
+    }
+
+    #[tactic(auto, unfolding(kmip_ttlv_reader::specs::RuleParts::parts_of))]
+    fn parts() -> Option<reader::RuleParts> {
+        Some(reader::RuleParts::Texts {
+            tag: 0x42005C,
+            texts: &["0x0000000A"],
+        })
+    }
+}
+
+impl<A: Allocator + Copy> reader::VariantOf<
+    reader::StructureElement<GetResponse<A>>,
+    ResponsePayload<A>,
+    A,
+> for ResponsePayloadGetRule {
+    #[tactic(auto, unfolding(kmip_ttlv_types::specs::Digits::six_digits, crate::specs::ResponsePayloads::read_response_payload))]
+    fn from_content(inner: GetResponse<A>) -> ResponsePayload<A> {
+        ResponsePayload::Get(inner)
+    }
+}
+
+/// The rule that chooses `ResponsePayload::GetAttributes`.
+pub struct ResponsePayloadGetAttributesRule;
+
+impl reader::Rule for ResponsePayloadGetAttributesRule {
+    ghost condition = { codes "0x42005C==0x0000000B" };
+
+    fn name() -> &'static str {
+        "if 0x42005C==0x0000000B"
+    }
+
+    #[tactic(auto, unfolding(kmip_ttlv_reader::specs::RuleParts::parts_of))]
+    fn parts() -> Option<reader::RuleParts> {
+        Some(reader::RuleParts::Texts {
+            tag: 0x42005C,
+            texts: &["0x0000000B"],
+        })
+    }
+}
+
+impl<A: Allocator + Copy> reader::VariantOf<
+    reader::StructureElement<GetAttributesResponse<A>>,
+    ResponsePayload<A>,
+    A,
+> for ResponsePayloadGetAttributesRule {
+    #[tactic(auto, unfolding(kmip_ttlv_types::specs::Digits::six_digits, crate::specs::ResponsePayloads::read_response_payload))]
+    fn from_content(inner: GetAttributesResponse<A>) -> ResponsePayload<A> {
+        ResponsePayload::GetAttributes(inner)
+    }
+}
+
+/// The rule that chooses `ResponsePayload::GetAttributeList`.
+pub struct ResponsePayloadGetAttributeListRule;
+
+impl reader::Rule for ResponsePayloadGetAttributeListRule {
+    ghost condition = { codes "0x42005C==0x0000000C" };
+
+    fn name() -> &'static str {
+        "if 0x42005C==0x0000000C"
+    }
+
+    #[tactic(auto, unfolding(kmip_ttlv_reader::specs::RuleParts::parts_of))]
+    fn parts() -> Option<reader::RuleParts> {
+        Some(reader::RuleParts::Texts {
+            tag: 0x42005C,
+            texts: &["0x0000000C"],
+        })
+    }
+}
+
+impl<A: Allocator + Copy> reader::VariantOf<
+    reader::StructureElement<GetAttributeListResponse<A>>,
+    ResponsePayload<A>,
+    A,
+> for ResponsePayloadGetAttributeListRule {
+    #[tactic(auto, unfolding(kmip_ttlv_types::specs::Digits::six_digits, crate::specs::ResponsePayloads::read_response_payload))]
+    fn from_content(inner: GetAttributeListResponse<A>) -> ResponsePayload<A> {
+        ResponsePayload::GetAttributeList(inner)
+    }
+}
+
+/// The rule that chooses `ResponsePayload::AddAttribute`.
+pub struct ResponsePayloadAddAttributeRule;
+
+impl reader::Rule for ResponsePayloadAddAttributeRule {
+    ghost condition = { codes "0x42005C==0x0000000D" };
+
+    fn name() -> &'static str {
+        "if 0x42005C==0x0000000D"
+    }
+
+    #[tactic(auto, unfolding(kmip_ttlv_reader::specs::RuleParts::parts_of))]
+    fn parts() -> Option<reader::RuleParts> {
+        Some(reader::RuleParts::Texts {
+            tag: 0x42005C,
+            texts: &["0x0000000D"],
+        })
+    }
+}
+
+impl<A: Allocator + Copy> reader::VariantOf<
+    reader::StructureElement<AttributeResponse<A>>,
+    ResponsePayload<A>,
+    A,
+> for ResponsePayloadAddAttributeRule {
+    #[tactic(auto, unfolding(kmip_ttlv_types::specs::Digits::six_digits, crate::specs::ResponsePayloads::read_response_payload))]
+    fn from_content(inner: AttributeResponse<A>) -> ResponsePayload<A> {
+        ResponsePayload::AddAttribute(inner)
+    }
+}
+
+/// The rule that chooses `ResponsePayload::ModifyAttribute`.
+pub struct ResponsePayloadModifyAttributeRule;
+
+impl reader::Rule for ResponsePayloadModifyAttributeRule {
+    ghost condition = { codes "0x42005C==0x0000000E" };
+
+    fn name() -> &'static str {
+        "if 0x42005C==0x0000000E"
+    }
+
+    #[tactic(auto, unfolding(kmip_ttlv_reader::specs::RuleParts::parts_of))]
+    fn parts() -> Option<reader::RuleParts> {
+        Some(reader::RuleParts::Texts {
+            tag: 0x42005C,
+            texts: &["0x0000000E"],
+        })
+    }
+}
+
+impl<A: Allocator + Copy> reader::VariantOf<
+    reader::StructureElement<AttributeResponse<A>>,
+    ResponsePayload<A>,
+    A,
+> for ResponsePayloadModifyAttributeRule {
+    #[tactic(auto, unfolding(kmip_ttlv_types::specs::Digits::six_digits, crate::specs::ResponsePayloads::read_response_payload))]
+    fn from_content(inner: AttributeResponse<A>) -> ResponsePayload<A> {
+        ResponsePayload::ModifyAttribute(inner)
+    }
+}
+
+/// The rule that chooses `ResponsePayload::DeleteAttribute`.
+pub struct ResponsePayloadDeleteAttributeRule;
+
+impl reader::Rule for ResponsePayloadDeleteAttributeRule {
+    ghost condition = { codes "0x42005C==0x0000000F" };
+
+    fn name() -> &'static str {
+        "if 0x42005C==0x0000000F"
+    }
+
+    #[tactic(auto, unfolding(kmip_ttlv_reader::specs::RuleParts::parts_of))]
+    fn parts() -> Option<reader::RuleParts> {
+        Some(reader::RuleParts::Texts {
+            tag: 0x42005C,
+            texts: &["0x0000000F"],
+        })
+    }
+}
+
+impl<A: Allocator + Copy> reader::VariantOf<
+    reader::StructureElement<AttributeResponse<A>>,
+    ResponsePayload<A>,
+    A,
+> for ResponsePayloadDeleteAttributeRule {
+    #[tactic(auto, unfolding(kmip_ttlv_types::specs::Digits::six_digits, crate::specs::ResponsePayloads::read_response_payload))]
+    fn from_content(inner: AttributeResponse<A>) -> ResponsePayload<A> {
+        ResponsePayload::DeleteAttribute(inner)
+    }
+}
+
+/// The rule that chooses `ResponsePayload::Activate`.
+pub struct ResponsePayloadActivateRule;
+
+impl reader::Rule for ResponsePayloadActivateRule {
+    ghost condition = { codes "0x42005C==0x00000012" };
+
+    fn name() -> &'static str {
+        "if 0x42005C==0x00000012"
+    }
+
+    #[tactic(auto, unfolding(kmip_ttlv_reader::specs::RuleParts::parts_of))]
+    fn parts() -> Option<reader::RuleParts> {
+        Some(reader::RuleParts::Texts {
+            tag: 0x42005C,
+            texts: &["0x00000012"],
+        })
+    }
+}
+
+impl<A: Allocator + Copy> reader::VariantOf<
+    reader::StructureElement<ObjectResponse<A>>,
+    ResponsePayload<A>,
+    A,
+> for ResponsePayloadActivateRule {
+    #[tactic(auto, unfolding(kmip_ttlv_types::specs::Digits::six_digits, crate::specs::ResponsePayloads::read_response_payload))]
+    fn from_content(inner: ObjectResponse<A>) -> ResponsePayload<A> {
+        ResponsePayload::Activate(inner)
+    }
+}
+
+/// The rule that chooses `ResponsePayload::Revoke`.
+pub struct ResponsePayloadRevokeRule;
+
+impl reader::Rule for ResponsePayloadRevokeRule {
+    ghost condition = { codes "0x42005C==0x00000013" };
+
+    fn name() -> &'static str {
+        "if 0x42005C==0x00000013"
+    }
+
+    #[tactic(auto, unfolding(kmip_ttlv_reader::specs::RuleParts::parts_of))]
+    fn parts() -> Option<reader::RuleParts> {
+        Some(reader::RuleParts::Texts {
+            tag: 0x42005C,
+            texts: &["0x00000013"],
+        })
+    }
+}
+
+impl<A: Allocator + Copy> reader::VariantOf<
+    reader::StructureElement<ObjectResponse<A>>,
+    ResponsePayload<A>,
+    A,
+> for ResponsePayloadRevokeRule {
+    #[tactic(auto, unfolding(kmip_ttlv_types::specs::Digits::six_digits, crate::specs::ResponsePayloads::read_response_payload))]
+    fn from_content(inner: ObjectResponse<A>) -> ResponsePayload<A> {
+        ResponsePayload::Revoke(inner)
+    }
+}
+
+/// The rule that chooses `ResponsePayload::Destroy`.
+pub struct ResponsePayloadDestroyRule;
+
+impl reader::Rule for ResponsePayloadDestroyRule {
+    ghost condition = { codes "0x42005C==0x00000014" };
+
+    fn name() -> &'static str {
+        "if 0x42005C==0x00000014"
+    }
+
+    #[tactic(auto, unfolding(kmip_ttlv_reader::specs::RuleParts::parts_of))]
+    fn parts() -> Option<reader::RuleParts> {
+        Some(reader::RuleParts::Texts {
+            tag: 0x42005C,
+            texts: &["0x00000014"],
+        })
+    }
+}
+
+impl<A: Allocator + Copy> reader::VariantOf<
+    reader::StructureElement<ObjectResponse<A>>,
+    ResponsePayload<A>,
+    A,
+> for ResponsePayloadDestroyRule {
+    #[tactic(auto, unfolding(kmip_ttlv_types::specs::Digits::six_digits, crate::specs::ResponsePayloads::read_response_payload))]
+    fn from_content(inner: ObjectResponse<A>) -> ResponsePayload<A> {
+        ResponsePayload::Destroy(inner)
+    }
+}
+
+/// The rule that chooses `ResponsePayload::Query`.
+pub struct ResponsePayloadQueryRule;
+
+impl reader::Rule for ResponsePayloadQueryRule {
+    ghost condition = { codes "0x42005C==0x00000018" };
+
+    fn name() -> &'static str {
+        "if 0x42005C==0x00000018"
+    }
+
+    #[tactic(auto, unfolding(kmip_ttlv_reader::specs::RuleParts::parts_of))]
+    fn parts() -> Option<reader::RuleParts> {
+        Some(reader::RuleParts::Texts {
+            tag: 0x42005C,
+            texts: &["0x00000018"],
+        })
+    }
+}
+
+impl<A: Allocator + Copy> reader::VariantOf<
+    reader::StructureElement<QueryResponse<A>>,
+    ResponsePayload<A>,
+    A,
+> for ResponsePayloadQueryRule {
+    #[tactic(auto, unfolding(kmip_ttlv_types::specs::Digits::six_digits, crate::specs::ResponsePayloads::read_response_payload))]
+    fn from_content(inner: QueryResponse<A>) -> ResponsePayload<A> {
+        ResponsePayload::Query(inner)
+    }
+}
+
+/// The rule that chooses `ResponsePayload::DiscoverVersions`.
+pub struct ResponsePayloadDiscoverVersionsRule;
+
+impl reader::Rule for ResponsePayloadDiscoverVersionsRule {
+    ghost condition = { codes "0x42005C==0x0000001E" };
+
+    fn name() -> &'static str {
+        "if 0x42005C==0x0000001E"
+    }
+
+    #[tactic(auto, unfolding(kmip_ttlv_reader::specs::RuleParts::parts_of))]
+    fn parts() -> Option<reader::RuleParts> {
+        Some(reader::RuleParts::Texts {
+            tag: 0x42005C,
+            texts: &["0x0000001E"],
+        })
+    }
+}
+
+impl<A: Allocator + Copy> reader::VariantOf<
+    reader::StructureElement<DiscoverVersionsResponse<A>>,
+    ResponsePayload<A>,
+    A,
+> for ResponsePayloadDiscoverVersionsRule {
+    #[tactic(auto, unfolding(kmip_ttlv_types::specs::Digits::six_digits, crate::specs::ResponsePayloads::read_response_payload))]
+    fn from_content(inner: DiscoverVersionsResponse<A>) -> ResponsePayload<A> {
+        ResponsePayload::DiscoverVersions(inner)
+    }
+}
+
+/// The variants of `ResponsePayload` from `Get` on.
+pub struct ResponsePayloadLater4;
+
+impl<A: Allocator + Copy> reader::VariantList<ResponsePayload<A>, A> for ResponsePayloadLater4 {
+    ghost variants = { response_payload_variants_4 };
+
+    fn read_chosen<'b>(
+        scope: &reader::Scope<'b, A>,
+        cursor: &mut reader::Cursor<'b, A>,
+        typ: TtlvType,
+    ) -> reader::Step<Option<ResponsePayload<A>>, A> {
+        <(
+            reader::Variant<ResponsePayloadGetRule, reader::StructureElement<GetResponse<A>>>,
+            (
+                reader::Variant<
+                    ResponsePayloadGetAttributesRule,
+                    reader::StructureElement<GetAttributesResponse<A>>,
+                >,
+                (
+                    reader::Variant<
+                        ResponsePayloadGetAttributeListRule,
+                        reader::StructureElement<GetAttributeListResponse<A>>,
+                    >,
+                    (
+                        reader::Variant<
+                            ResponsePayloadAddAttributeRule,
+                            reader::StructureElement<AttributeResponse<A>>,
+                        >,
+                        ResponsePayloadLater8,
+                    ),
+                ),
+            ),
+        ) as reader::VariantList<ResponsePayload<A>, A>>::read_chosen(scope, cursor, typ)
+    }
+
+    ghost ruled = { λ content. refl };
+}
+
+/// The variants of `ResponsePayload` from `ModifyAttribute` on.
+pub struct ResponsePayloadLater8;
+
+impl<A: Allocator + Copy> reader::VariantList<ResponsePayload<A>, A> for ResponsePayloadLater8 {
+    ghost variants = { response_payload_variants_8 };
+
+    fn read_chosen<'b>(
+        scope: &reader::Scope<'b, A>,
+        cursor: &mut reader::Cursor<'b, A>,
+        typ: TtlvType,
+    ) -> reader::Step<Option<ResponsePayload<A>>, A> {
+        <(
+            reader::Variant<
+                ResponsePayloadModifyAttributeRule,
+                reader::StructureElement<AttributeResponse<A>>,
+            >,
+            (
+                reader::Variant<
+                    ResponsePayloadDeleteAttributeRule,
+                    reader::StructureElement<AttributeResponse<A>>,
+                >,
+                (
+                    reader::Variant<
+                        ResponsePayloadActivateRule,
+                        reader::StructureElement<ObjectResponse<A>>,
+                    >,
+                    (
+                        reader::Variant<
+                            ResponsePayloadRevokeRule,
+                            reader::StructureElement<ObjectResponse<A>>,
+                        >,
+                        ResponsePayloadLater12,
+                    ),
+                ),
+            ),
+        ) as reader::VariantList<ResponsePayload<A>, A>>::read_chosen(scope, cursor, typ)
+    }
+
+    ghost ruled = { λ content. refl };
+}
+
+/// The variants of `ResponsePayload` from `Destroy` on.
+pub struct ResponsePayloadLater12;
+
+impl<A: Allocator + Copy> reader::VariantList<ResponsePayload<A>, A> for ResponsePayloadLater12 {
+    ghost variants = { response_payload_variants_12 };
+
+    fn read_chosen<'b>(
+        scope: &reader::Scope<'b, A>,
+        cursor: &mut reader::Cursor<'b, A>,
+        typ: TtlvType,
+    ) -> reader::Step<Option<ResponsePayload<A>>, A> {
+        <(
+            reader::Variant<
+                ResponsePayloadDestroyRule,
+                reader::StructureElement<ObjectResponse<A>>,
+            >,
+            (
+                reader::Variant<
+                    ResponsePayloadQueryRule,
+                    reader::StructureElement<QueryResponse<A>>,
+                >,
+                (
+                    reader::Variant<
+                        ResponsePayloadDiscoverVersionsRule,
+                        reader::StructureElement<DiscoverVersionsResponse<A>>,
+                    >,
+                    (),
+                ),
+            ),
+        ) as reader::VariantList<ResponsePayload<A>, A>>::read_chosen(scope, cursor, typ)
+    }
+
+    ghost ruled = { λ content. refl };
+}
+
+impl<A: Allocator> reader::ChoiceValue for ResponsePayload<A> {
+    ghost own = { codes "payload" };
+
+    ghost value = { read_response_payload };
+}
+
+impl<A: Allocator + Copy> reader::Choice<A> for ResponsePayload<A> {
+    ghost form = { response_payload_form };
+
+    type Variants = (
+        reader::Variant<ResponsePayloadCreateRule, reader::StructureElement<CreateResponse<A>>>,
+        (
+            reader::Variant<
+                ResponsePayloadCreateKeyPairRule,
+                reader::StructureElement<CreateKeyPairResponse<A>>,
+            >,
+            (
+                reader::Variant<
+                    ResponsePayloadRegisterRule,
+                    reader::StructureElement<RegisterResponse<A>>,
+                >,
+                (
+                    reader::Variant<
+                        ResponsePayloadLocateRule,
+                        reader::StructureElement<LocateResponse<A>>,
+                    >,
+                    ResponsePayloadLater4,
+                ),
+            ),
+        ),
+    );
+
+    #[tactic(auto, unfolding(kmip_ttlv_types::specs::Digits::six_digits))]
+    fn has_form() {}
+}
+
+impl<A: Allocator + Copy> reader::ReadItem<A> for ResponsePayload<A> {
+    ghost form = { response_payload_form };
+
+    ghost value = { read_response_payload };
+
+    ghost plain = { (refl, refl) };
+
+    fn read_item<'b>(
+        scope: &reader::Scope<'b, A>,
+        cursor: &mut reader::Cursor<'b, A>,
+    ) -> reader::Step<Self, A> {
+        reader::read_choice(scope, cursor)
     }
 }

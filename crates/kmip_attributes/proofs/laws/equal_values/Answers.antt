@@ -1,15 +1,38 @@
 -- Written by codegen from types.table: change that, and run codegen/codegen.
 -- Values of a type are equal if they stand for the same: each part is, and numbers tell apart the variants of an Enumeration.
 use Rattle.kmip_ttlv.specs.Values.{bytes_value, newtype_value, text_value}
-use Rattle.kmip_ttlv_laws.proofs.Equal.{any_equal, apart, booleans_equal, both, bytes_equal, first_same, in_big_integer}
-use Rattle.kmip_ttlv_laws.proofs.Equal.{in_boolean, in_bytes, in_date_time, in_integer, in_interval, in_long_integer}
-use Rattle.kmip_ttlv_laws.proofs.Equal.{in_newtype, in_number, in_structure, in_text, in_variant, later_same}
-use Rattle.kmip_ttlv_laws.proofs.Equal.{options_equal, other_same, signed_equal, texts_equal, unsigned_equal}
+use Rattle.kmip_ttlv_laws.proofs.Equal.{any_equal, apart, booleans_equal, both, bytes_equal, first_same, in_big_integer, in_boolean, in_bytes, in_date_time}
+use Rattle.kmip_ttlv_laws.proofs.Equal.{in_integer, in_interval, in_long_integer, in_newtype, in_number, in_structure, in_text, in_variant, later_same}
+use Rattle.kmip_ttlv_laws.proofs.Equal.{options_equal, options_same, other_same, signed_equal, texts_equal, unsigned_equal}
 use Rattle.std.proofs.Common.{refl}
 use Rattle.std.specs.Prelude.{codes, string_bytes}
-use Rattle.kmip_attributes.specs.Values.{object_type_number, object_type_numbers, object_type_read_number, written_object_type, read_object_type, cryptographic_algorithm_number, cryptographic_algorithm_numbers, cryptographic_algorithm_read_number, written_cryptographic_algorithm, read_cryptographic_algorithm, certificate_type_number, certificate_type_numbers, certificate_type_read_number, written_certificate_type, read_certificate_type, state_number, state_numbers, state_read_number, written_state, read_state, name_type_number, name_type_numbers, name_type_read_number, written_name_type, read_name_type, block_cipher_mode_number, block_cipher_mode_numbers, block_cipher_mode_read_number, written_block_cipher_mode, read_block_cipher_mode, padding_method_number, padding_method_numbers, padding_method_read_number, written_padding_method, read_padding_method, hashing_algorithm_number, hashing_algorithm_numbers, hashing_algorithm_read_number, written_hashing_algorithm, read_hashing_algorithm, key_role_type_number, key_role_type_numbers, key_role_type_read_number, written_key_role_type, read_key_role_type, recommended_curve_number, recommended_curve_numbers, recommended_curve_read_number, written_recommended_curve, read_recommended_curve, key_format_type_number, key_format_type_numbers, key_format_type_read_number, written_key_format_type, read_key_format_type, usage_limits_unit_number, usage_limits_unit_numbers, usage_limits_unit_read_number, written_usage_limits_unit, read_usage_limits_unit, revocation_reason_code_number, revocation_reason_code_numbers, revocation_reason_code_read_number, written_revocation_reason_code, read_revocation_reason_code, link_type_number, link_type_numbers, link_type_read_number, written_link_type, read_link_type}
-use Rattle.kmip_attributes.specs.Structures.{returned_name, read_name, returned_cryptographic_parameters, read_cryptographic_parameters, qlength_value, returned_cryptographic_domain_parameters, read_cryptographic_domain_parameters, read_certificate_identifier, certificate_subject_alternative_name_value, read_certificate_subject, certificate_issuer_alternative_name_value, read_certificate_issuer, returned_digest, read_digest, usage_limits_count_value, returned_usage_limits, read_usage_limits, returned_revocation_reason, read_revocation_reason, returned_link, read_link, application_specific_information_value}
-use Rattle.kmip_attributes.specs.Attributes.{attribute_name_value, attribute_index_value, integer_value_value, long_integer_value_value, big_integer_value_value, enumeration_value_value, boolean_value_value, text_string_value_value, byte_string_value_value, date_time_value_value, interval_value_value, returned_attribute_structure, read_attribute_structure, returned_attribute_value, read_attribute_value, returned_attribute, read_attribute}
+use Rattle.kmip_attributes.specs.Values.{object_type_number, object_type_numbers, object_type_read_number, written_object_type, read_object_type}
+use Rattle.kmip_attributes.specs.Values.{cryptographic_algorithm_number, cryptographic_algorithm_numbers, cryptographic_algorithm_read_number}
+use Rattle.kmip_attributes.specs.Values.{written_cryptographic_algorithm, read_cryptographic_algorithm, certificate_type_number, certificate_type_numbers}
+use Rattle.kmip_attributes.specs.Values.{certificate_type_read_number, written_certificate_type, read_certificate_type, state_number, state_numbers}
+use Rattle.kmip_attributes.specs.Values.{state_read_number, written_state, read_state, name_type_number, name_type_numbers, name_type_read_number}
+use Rattle.kmip_attributes.specs.Values.{written_name_type, read_name_type, block_cipher_mode_number, block_cipher_mode_numbers, block_cipher_mode_read_number}
+use Rattle.kmip_attributes.specs.Values.{written_block_cipher_mode, read_block_cipher_mode, padding_method_number, padding_method_numbers}
+use Rattle.kmip_attributes.specs.Values.{padding_method_read_number, written_padding_method, read_padding_method, hashing_algorithm_number}
+use Rattle.kmip_attributes.specs.Values.{hashing_algorithm_numbers, hashing_algorithm_read_number, written_hashing_algorithm, read_hashing_algorithm}
+use Rattle.kmip_attributes.specs.Values.{key_role_type_number, key_role_type_numbers, key_role_type_read_number, written_key_role_type, read_key_role_type}
+use Rattle.kmip_attributes.specs.Values.{recommended_curve_number, recommended_curve_numbers, recommended_curve_read_number, written_recommended_curve}
+use Rattle.kmip_attributes.specs.Values.{read_recommended_curve, key_format_type_number, key_format_type_numbers, key_format_type_read_number}
+use Rattle.kmip_attributes.specs.Values.{written_key_format_type, read_key_format_type, usage_limits_unit_number, usage_limits_unit_numbers}
+use Rattle.kmip_attributes.specs.Values.{usage_limits_unit_read_number, written_usage_limits_unit, read_usage_limits_unit, revocation_reason_code_number}
+use Rattle.kmip_attributes.specs.Values.{revocation_reason_code_numbers, revocation_reason_code_read_number, written_revocation_reason_code}
+use Rattle.kmip_attributes.specs.Values.{read_revocation_reason_code, link_type_number, link_type_numbers, link_type_read_number, written_link_type}
+use Rattle.kmip_attributes.specs.Values.{read_link_type}
+use Rattle.kmip_attributes.specs.Structures.{returned_name, read_name, returned_cryptographic_parameters, read_cryptographic_parameters, qlength_value}
+use Rattle.kmip_attributes.specs.Structures.{returned_cryptographic_domain_parameters, read_cryptographic_domain_parameters, read_certificate_identifier}
+use Rattle.kmip_attributes.specs.Structures.{certificate_subject_alternative_name_value, read_certificate_subject, certificate_issuer_alternative_name_value}
+use Rattle.kmip_attributes.specs.Structures.{read_certificate_issuer, returned_digest, read_digest, usage_limits_count_value, returned_usage_limits}
+use Rattle.kmip_attributes.specs.Structures.{read_usage_limits, returned_revocation_reason, read_revocation_reason, returned_link, read_link}
+use Rattle.kmip_attributes.specs.Structures.{application_specific_information_value}
+use Rattle.kmip_attributes.specs.Attributes.{attribute_name_value, attribute_index_value, integer_value_value, long_integer_value_value}
+use Rattle.kmip_attributes.specs.Attributes.{big_integer_value_value, enumeration_value_value, boolean_value_value, text_string_value_value}
+use Rattle.kmip_attributes.specs.Attributes.{byte_string_value_value, date_time_value_value, interval_value_value, returned_attribute_structure}
+use Rattle.kmip_attributes.specs.Attributes.{read_attribute_structure, returned_attribute_value, read_attribute_value, returned_attribute, read_attribute}
 use Rattle.kmip_attributes.specs.declared.values.ObjectType.{ObjectType}
 use Rattle.kmip_attributes.specs.declared.values.ObjectType.TheVariants as object_type
 use Rattle.kmip_attributes.specs.declared.values.CryptographicAlgorithm.{CryptographicAlgorithm}
@@ -154,11 +177,13 @@ pub returns-clause-cryptographic_parameters : goal.returns-clause-cryptographic_
 unfolding returned_cryptographic_parameters read_cryptographic_parameters
 returns-clause-cryptographic_parameters g c x y e =
     let e = in_structure e in
-    both (options_equal written_block_cipher_mode read_block_cipher_mode _ (returns-clause-block_cipher_mode g c) x.block_cipher_mode y.block_cipher_mode (first_same e)) (
+    both (options_equal written_block_cipher_mode read_block_cipher_mode _ (returns-clause-block_cipher_mode g c) x.block_cipher_mode y.block_cipher_mode
+    (first_same e)) (
     let e = later_same e in
     both (options_equal written_padding_method read_padding_method _ (returns-clause-padding_method g c) x.padding_method y.padding_method (first_same e)) (
     let e = later_same e in
-    both (options_equal written_hashing_algorithm read_hashing_algorithm _ (returns-clause-hashing_algorithm g c) x.hashing_algorithm y.hashing_algorithm (first_same e)) (
+    both (options_equal written_hashing_algorithm read_hashing_algorithm _ (returns-clause-hashing_algorithm g c) x.hashing_algorithm y.hashing_algorithm
+    (first_same e)) (
     let e = later_same e in
     options_equal written_key_role_type read_key_role_type _ (returns-clause-key_role_type g c) x.key_role_type y.key_role_type (first_same e))))
 
@@ -169,9 +194,10 @@ pub returns-clause-cryptographic_domain_parameters : goal.returns-clause-cryptog
 unfolding returned_cryptographic_domain_parameters read_cryptographic_domain_parameters
 returns-clause-cryptographic_domain_parameters g c x y e =
     let e = in_structure e in
-    both (options_equal qlength_value qlength_value _ (returns-clause-qlength g c) x.qlength y.qlength (first_same e)) (
+    both (options_same qlength_value _ (returns-clause-qlength g c) x.qlength y.qlength (first_same e)) (
     let e = later_same e in
-    options_equal written_recommended_curve read_recommended_curve _ (returns-clause-recommended_curve g c) x.recommended_curve y.recommended_curve (first_same e))
+    options_equal written_recommended_curve read_recommended_curve _ (returns-clause-recommended_curve g c) x.recommended_curve y.recommended_curve
+    (first_same e))
 
 pub returns-clause-certificate_identifier : goal.returns-clause-certificate_identifier
 unfolding read_certificate_identifier
@@ -179,7 +205,8 @@ returns-clause-certificate_identifier g c x y e =
     let e = in_structure e in
     both (texts_equal x.issuer y.issuer (in_text (in_newtype (first_same e)))) (
     let e = later_same e in
-    options_equal (λ y. newtype_value (codes "Transparent:0x420087") (text_value (string_bytes y))) (λ y. newtype_value (codes "Transparent:0x420087") (text_value (string_bytes y))) _ (λ a b e. texts_equal a b (in_text (in_newtype e))) x.serial_number y.serial_number (first_same e))
+    options_same (λ y. newtype_value (codes "Transparent:0x420087") (text_value (string_bytes y))) _ (λ a b e. texts_equal a b (in_text (in_newtype e)))
+    x.serial_number y.serial_number (first_same e))
 
 pub returns-clause-certificate_subject_alternative_name : goal.returns-clause-certificate_subject_alternative_name
 returns-clause-certificate_subject_alternative_name g c x y e = texts_equal x.text y.text (in_text (in_newtype e))
@@ -190,7 +217,8 @@ returns-clause-certificate_subject g c x y e =
     let e = in_structure e in
     both (texts_equal x.distinguished_name y.distinguished_name (in_text (in_newtype (first_same e)))) (
     let e = later_same e in
-    any_equal certificate_subject_alternative_name_value certificate_subject_alternative_name_value _ (returns-clause-certificate_subject_alternative_name g c) x.alternative_names.items y.alternative_names.items (first_same e))
+    any_equal certificate_subject_alternative_name_value certificate_subject_alternative_name_value _ (returns-clause-certificate_subject_alternative_name g c)
+    x.alternative_names.items y.alternative_names.items (first_same e))
 
 pub returns-clause-certificate_issuer_alternative_name : goal.returns-clause-certificate_issuer_alternative_name
 returns-clause-certificate_issuer_alternative_name g c x y e = texts_equal x.text y.text (in_text (in_newtype e))
@@ -201,7 +229,8 @@ returns-clause-certificate_issuer g c x y e =
     let e = in_structure e in
     both (texts_equal x.distinguished_name y.distinguished_name (in_text (in_newtype (first_same e)))) (
     let e = later_same e in
-    any_equal certificate_issuer_alternative_name_value certificate_issuer_alternative_name_value _ (returns-clause-certificate_issuer_alternative_name g c) x.alternative_names.items y.alternative_names.items (first_same e))
+    any_equal certificate_issuer_alternative_name_value certificate_issuer_alternative_name_value _ (returns-clause-certificate_issuer_alternative_name g c)
+    x.alternative_names.items y.alternative_names.items (first_same e))
 
 pub returns-clause-digest : goal.returns-clause-digest
 unfolding returned_digest read_digest
@@ -209,7 +238,8 @@ returns-clause-digest g c x y e =
     let e = in_structure e in
     both (returns-clause-hashing_algorithm g c x.hashing_algorithm y.hashing_algorithm (first_same e)) (
     let e = later_same e in
-    both (options_equal (λ y. newtype_value (codes "Transparent:0x420035") (bytes_value y.items)) (λ y. newtype_value (codes "Transparent:0x420035") (bytes_value y.items)) _ (λ a b e. bytes_equal a.items b.items (in_bytes (in_newtype e))) x.digest_value y.digest_value (first_same e)) (
+    both (options_same (λ y. newtype_value (codes "Transparent:0x420035") (bytes_value y.items)) _
+    (λ a b e. bytes_equal a.items b.items (in_bytes (in_newtype e))) x.digest_value y.digest_value (first_same e)) (
     let e = later_same e in
     options_equal written_key_format_type read_key_format_type _ (returns-clause-key_format_type g c) x.key_format_type y.key_format_type (first_same e)))
 
@@ -222,7 +252,7 @@ returns-clause-usage_limits g c x y e =
     let e = in_structure e in
     both (signed_equal x.total y.total (in_long_integer (in_newtype (first_same e)))) (
     let e = later_same e in
-    both (options_equal usage_limits_count_value usage_limits_count_value _ (returns-clause-usage_limits_count g c) x.count y.count (first_same e)) (
+    both (options_same usage_limits_count_value _ (returns-clause-usage_limits_count g c) x.count y.count (first_same e)) (
     let e = later_same e in
     returns-clause-usage_limits_unit g c x.unit y.unit (first_same e)))
 
@@ -232,7 +262,8 @@ returns-clause-revocation_reason g c x y e =
     let e = in_structure e in
     both (returns-clause-revocation_reason_code g c x.code y.code (first_same e)) (
     let e = later_same e in
-    options_equal (λ y. newtype_value (codes "Transparent:0x420080") (text_value (string_bytes y))) (λ y. newtype_value (codes "Transparent:0x420080") (text_value (string_bytes y))) _ (λ a b e. texts_equal a b (in_text (in_newtype e))) x.message y.message (first_same e))
+    options_same (λ y. newtype_value (codes "Transparent:0x420080") (text_value (string_bytes y))) _ (λ a b e. texts_equal a b (in_text (in_newtype e)))
+    x.message y.message (first_same e))
 
 pub returns-clause-link : goal.returns-clause-link
 unfolding returned_link read_link
@@ -286,23 +317,33 @@ returns-clause-interval_value g c x y e = unsigned_equal x.seconds y.seconds (in
 pub returns-clause-attribute_structure : goal.returns-clause-attribute_structure
 unfolding returned_attribute_structure read_attribute_structure
 returns-clause-attribute_structure g c (attribute_structure.Name x) (attribute_structure.Name y) e = returns-clause-name g c x y (in_variant e)
-returns-clause-attribute_structure g c (attribute_structure.CryptographicParameters x) (attribute_structure.CryptographicParameters y) e = returns-clause-cryptographic_parameters g c x y (in_variant e)
-returns-clause-attribute_structure g c (attribute_structure.CryptographicDomainParameters x) (attribute_structure.CryptographicDomainParameters y) e = returns-clause-cryptographic_domain_parameters g c x y (in_variant e)
-returns-clause-attribute_structure g c (attribute_structure.CertificateIdentifier x) (attribute_structure.CertificateIdentifier y) e = returns-clause-certificate_identifier g c x y (in_variant e)
-returns-clause-attribute_structure g c (attribute_structure.CertificateSubject x) (attribute_structure.CertificateSubject y) e = returns-clause-certificate_subject g c x y (in_variant e)
-returns-clause-attribute_structure g c (attribute_structure.CertificateIssuer x) (attribute_structure.CertificateIssuer y) e = returns-clause-certificate_issuer g c x y (in_variant e)
+returns-clause-attribute_structure g c (attribute_structure.CryptographicParameters x) (attribute_structure.CryptographicParameters y) e =
+    returns-clause-cryptographic_parameters g c x y (in_variant e)
+returns-clause-attribute_structure g c (attribute_structure.CryptographicDomainParameters x) (attribute_structure.CryptographicDomainParameters y) e =
+    returns-clause-cryptographic_domain_parameters g c x y (in_variant e)
+returns-clause-attribute_structure g c (attribute_structure.CertificateIdentifier x) (attribute_structure.CertificateIdentifier y) e =
+    returns-clause-certificate_identifier g c x y (in_variant e)
+returns-clause-attribute_structure g c (attribute_structure.CertificateSubject x) (attribute_structure.CertificateSubject y) e =
+    returns-clause-certificate_subject g c x y (in_variant e)
+returns-clause-attribute_structure g c (attribute_structure.CertificateIssuer x) (attribute_structure.CertificateIssuer y) e =
+    returns-clause-certificate_issuer g c x y (in_variant e)
 returns-clause-attribute_structure g c (attribute_structure.Digest x) (attribute_structure.Digest y) e = returns-clause-digest g c x y (in_variant e)
-returns-clause-attribute_structure g c (attribute_structure.UsageLimits x) (attribute_structure.UsageLimits y) e = returns-clause-usage_limits g c x y (in_variant e)
-returns-clause-attribute_structure g c (attribute_structure.RevocationReason x) (attribute_structure.RevocationReason y) e = returns-clause-revocation_reason g c x y (in_variant e)
+returns-clause-attribute_structure g c (attribute_structure.UsageLimits x) (attribute_structure.UsageLimits y) e =
+    returns-clause-usage_limits g c x y (in_variant e)
+returns-clause-attribute_structure g c (attribute_structure.RevocationReason x) (attribute_structure.RevocationReason y) e =
+    returns-clause-revocation_reason g c x y (in_variant e)
 returns-clause-attribute_structure g c (attribute_structure.Link x) (attribute_structure.Link y) e = returns-clause-link g c x y (in_variant e)
-returns-clause-attribute_structure g c (attribute_structure.ApplicationSpecificInformation x) (attribute_structure.ApplicationSpecificInformation y) e = returns-clause-application_specific_information g c x y (in_variant e)
+returns-clause-attribute_structure g c (attribute_structure.ApplicationSpecificInformation x) (attribute_structure.ApplicationSpecificInformation y) e =
+    returns-clause-application_specific_information g c x y (in_variant e)
 returns-clause-attribute_structure g c x y e = absurd (apart e refl)
 
 pub returns-clause-attribute_value : goal.returns-clause-attribute_value
 unfolding returned_attribute_value read_attribute_value
 returns-clause-attribute_value g c (attribute_value.ObjectType x) (attribute_value.ObjectType y) e = returns-clause-object_type g c x y (in_variant e)
-returns-clause-attribute_value g c (attribute_value.CryptographicAlgorithm x) (attribute_value.CryptographicAlgorithm y) e = returns-clause-cryptographic_algorithm g c x y (in_variant e)
-returns-clause-attribute_value g c (attribute_value.CertificateType x) (attribute_value.CertificateType y) e = returns-clause-certificate_type g c x y (in_variant e)
+returns-clause-attribute_value g c (attribute_value.CryptographicAlgorithm x) (attribute_value.CryptographicAlgorithm y) e =
+    returns-clause-cryptographic_algorithm g c x y (in_variant e)
+returns-clause-attribute_value g c (attribute_value.CertificateType x) (attribute_value.CertificateType y) e =
+    returns-clause-certificate_type g c x y (in_variant e)
 returns-clause-attribute_value g c (attribute_value.State x) (attribute_value.State y) e = returns-clause-state g c x y (in_variant e)
 returns-clause-attribute_value g c (attribute_value.Integer x) (attribute_value.Integer y) e = returns-clause-integer_value g c x y (in_variant e)
 returns-clause-attribute_value g c (attribute_value.LongInteger x) (attribute_value.LongInteger y) e = returns-clause-long_integer_value g c x y (in_variant e)
@@ -322,6 +363,6 @@ returns-clause-attribute g c x y e =
     let e = in_structure e in
     both (texts_equal x.name y.name (in_text (in_newtype (first_same e)))) (
     let e = later_same e in
-    both (options_equal attribute_index_value attribute_index_value _ (returns-clause-attribute_index g c) x.index y.index (first_same e)) (
+    both (options_same attribute_index_value _ (returns-clause-attribute_index g c) x.index y.index (first_same e)) (
     let e = later_same e in
     returns-clause-attribute_value g c x.value y.value (first_same e)))

@@ -1,13 +1,19 @@
 -- Written by codegen from types.table: change that, and run codegen/codegen.
 -- Values of a type are equal if they stand for the same: each part is, and numbers tell apart the variants of an Enumeration.
 use Rattle.kmip_ttlv.specs.Values.{boolean_value, newtype_value, text_value}
-use Rattle.kmip_ttlv_laws.proofs.Equal.{apart, booleans_equal, both, first_same, in_boolean, in_date_time, in_integer}
-use Rattle.kmip_ttlv_laws.proofs.Equal.{in_newtype, in_number, in_structure, in_text, in_variant, later_same}
-use Rattle.kmip_ttlv_laws.proofs.Equal.{options_equal, other_same, several_equal, signed_equal, texts_equal}
+use Rattle.kmip_ttlv_laws.proofs.Equal.{apart, booleans_equal, both, first_same, in_boolean, in_date_time, in_integer, in_newtype, in_number, in_structure}
+use Rattle.kmip_ttlv_laws.proofs.Equal.{in_text, in_variant, later_same, options_equal, options_same, other_same, several_equal, signed_equal, texts_equal}
 use Rattle.kmip_ttlv_laws.proofs.Equal.{unsigned_equal}
 use Rattle.std.proofs.Common.{refl}
 use Rattle.std.specs.Prelude.{codes, string_bytes}
-use Rattle.kmip_headers.specs.Headers.{protocol_version_value, credential_type_number, credential_type_numbers, credential_type_read_number, written_credential_type, read_credential_type, read_username_and_password, read_device, read_credential_value, returned_credential, read_credential, returned_authentication, read_authentication, batch_error_continuation_option_number, batch_error_continuation_option_numbers, batch_error_continuation_option_read_number, written_batch_error_continuation_option, read_batch_error_continuation_option, maximum_response_size_value, time_stamp_value, batch_count_value, returned_request_header, read_request_header, response_header_value, operation_number, operation_numbers, operation_read_number, written_operation, read_operation, message_extension_value}
+use Rattle.kmip_headers.specs.Headers.{protocol_version_value, credential_type_number, credential_type_numbers, credential_type_read_number}
+use Rattle.kmip_headers.specs.Headers.{written_credential_type, read_credential_type, read_username_and_password, read_device, read_credential_value}
+use Rattle.kmip_headers.specs.Headers.{returned_credential, read_credential, returned_authentication, read_authentication}
+use Rattle.kmip_headers.specs.Headers.{batch_error_continuation_option_number, batch_error_continuation_option_numbers}
+use Rattle.kmip_headers.specs.Headers.{batch_error_continuation_option_read_number, written_batch_error_continuation_option}
+use Rattle.kmip_headers.specs.Headers.{read_batch_error_continuation_option, maximum_response_size_value, time_stamp_value, batch_count_value}
+use Rattle.kmip_headers.specs.Headers.{returned_request_header, read_request_header, response_header_value, operation_number, operation_numbers}
+use Rattle.kmip_headers.specs.Headers.{operation_read_number, written_operation, read_operation, message_extension_value}
 use Rattle.kmip_headers.specs.declared.header.CredentialType.{CredentialType}
 use Rattle.kmip_headers.specs.declared.header.CredentialType.TheVariants as credential_type
 use Rattle.kmip_headers.specs.declared.header.CredentialValue.{CredentialValue}
@@ -39,27 +45,35 @@ returns-clause-username_and_password g c x y e =
     let e = in_structure e in
     both (texts_equal x.username y.username (in_text (in_newtype (first_same e)))) (
     let e = later_same e in
-    options_equal (λ y. newtype_value (codes "Transparent:0x4200A1") (text_value (string_bytes y))) (λ y. newtype_value (codes "Transparent:0x4200A1") (text_value (string_bytes y))) _ (λ a b e. texts_equal a b (in_text (in_newtype e))) x.password y.password (first_same e))
+    options_same (λ y. newtype_value (codes "Transparent:0x4200A1") (text_value (string_bytes y))) _ (λ a b e. texts_equal a b (in_text (in_newtype e)))
+    x.password y.password (first_same e))
 
 pub returns-clause-device : goal.returns-clause-device
 unfolding read_device
 returns-clause-device g c x y e =
     let e = in_structure e in
-    both (options_equal (λ y. newtype_value (codes "Transparent:0x4200B0") (text_value (string_bytes y))) (λ y. newtype_value (codes "Transparent:0x4200B0") (text_value (string_bytes y))) _ (λ a b e. texts_equal a b (in_text (in_newtype e))) x.device_serial_number y.device_serial_number (first_same e)) (
+    both (options_same (λ y. newtype_value (codes "Transparent:0x4200B0") (text_value (string_bytes y))) _ (λ a b e. texts_equal a b (in_text (in_newtype e)))
+    x.device_serial_number y.device_serial_number (first_same e)) (
     let e = later_same e in
-    both (options_equal (λ y. newtype_value (codes "Transparent:0x4200A1") (text_value (string_bytes y))) (λ y. newtype_value (codes "Transparent:0x4200A1") (text_value (string_bytes y))) _ (λ a b e. texts_equal a b (in_text (in_newtype e))) x.password y.password (first_same e)) (
+    both (options_same (λ y. newtype_value (codes "Transparent:0x4200A1") (text_value (string_bytes y))) _ (λ a b e. texts_equal a b (in_text (in_newtype e)))
+    x.password y.password (first_same e)) (
     let e = later_same e in
-    both (options_equal (λ y. newtype_value (codes "Transparent:0x4200A2") (text_value (string_bytes y))) (λ y. newtype_value (codes "Transparent:0x4200A2") (text_value (string_bytes y))) _ (λ a b e. texts_equal a b (in_text (in_newtype e))) x.device_identifier y.device_identifier (first_same e)) (
+    both (options_same (λ y. newtype_value (codes "Transparent:0x4200A2") (text_value (string_bytes y))) _ (λ a b e. texts_equal a b (in_text (in_newtype e)))
+    x.device_identifier y.device_identifier (first_same e)) (
     let e = later_same e in
-    both (options_equal (λ y. newtype_value (codes "Transparent:0x4200AB") (text_value (string_bytes y))) (λ y. newtype_value (codes "Transparent:0x4200AB") (text_value (string_bytes y))) _ (λ a b e. texts_equal a b (in_text (in_newtype e))) x.network_identifier y.network_identifier (first_same e)) (
+    both (options_same (λ y. newtype_value (codes "Transparent:0x4200AB") (text_value (string_bytes y))) _ (λ a b e. texts_equal a b (in_text (in_newtype e)))
+    x.network_identifier y.network_identifier (first_same e)) (
     let e = later_same e in
-    both (options_equal (λ y. newtype_value (codes "Transparent:0x4200A9") (text_value (string_bytes y))) (λ y. newtype_value (codes "Transparent:0x4200A9") (text_value (string_bytes y))) _ (λ a b e. texts_equal a b (in_text (in_newtype e))) x.machine_identifier y.machine_identifier (first_same e)) (
+    both (options_same (λ y. newtype_value (codes "Transparent:0x4200A9") (text_value (string_bytes y))) _ (λ a b e. texts_equal a b (in_text (in_newtype e)))
+    x.machine_identifier y.machine_identifier (first_same e)) (
     let e = later_same e in
-    options_equal (λ y. newtype_value (codes "Transparent:0x4200AA") (text_value (string_bytes y))) (λ y. newtype_value (codes "Transparent:0x4200AA") (text_value (string_bytes y))) _ (λ a b e. texts_equal a b (in_text (in_newtype e))) x.media_identifier y.media_identifier (first_same e))))))
+    options_same (λ y. newtype_value (codes "Transparent:0x4200AA") (text_value (string_bytes y))) _ (λ a b e. texts_equal a b (in_text (in_newtype e)))
+    x.media_identifier y.media_identifier (first_same e))))))
 
 pub returns-clause-credential_value : goal.returns-clause-credential_value
 unfolding read_credential_value
-returns-clause-credential_value g c (credential_value.UsernameAndPassword x) (credential_value.UsernameAndPassword y) e = returns-clause-username_and_password g c x y (in_variant e)
+returns-clause-credential_value g c (credential_value.UsernameAndPassword x) (credential_value.UsernameAndPassword y) e =
+    returns-clause-username_and_password g c x y (in_variant e)
 returns-clause-credential_value g c (credential_value.Device x) (credential_value.Device y) e = returns-clause-device g c x y (in_variant e)
 returns-clause-credential_value g c x y e = absurd (apart e refl)
 
@@ -80,7 +94,8 @@ returns-clause-authentication g c x y e =
 pub returns-clause-batch_error_continuation_option : goal.returns-clause-batch_error_continuation_option
 unfolding written_batch_error_continuation_option read_batch_error_continuation_option
 returns-clause-batch_error_continuation_option g c x (batch_error_continuation_option.Other n) e =
-    unsigned_equal (batch_error_continuation_option_number x) n (other_same batch_error_continuation_option_numbers (batch_error_continuation_option_number x) n (in_newtype e))
+    unsigned_equal (batch_error_continuation_option_number x) n
+    (other_same batch_error_continuation_option_numbers (batch_error_continuation_option_number x) n (in_newtype e))
 returns-clause-batch_error_continuation_option g c x y e =
     unsigned_equal (batch_error_continuation_option_number x) (batch_error_continuation_option_number y) (in_number (in_newtype e))
 
@@ -99,17 +114,21 @@ returns-clause-request_header g c x y e =
     let e = in_structure e in
     both (returns-clause-protocol_version g c x.version y.version (first_same e)) (
     let e = later_same e in
-    both (options_equal maximum_response_size_value maximum_response_size_value _ (returns-clause-maximum_response_size g c) x.maximum_response_size y.maximum_response_size (first_same e)) (
+    both (options_same maximum_response_size_value _ (returns-clause-maximum_response_size g c) x.maximum_response_size y.maximum_response_size (first_same e))
+    (
     let e = later_same e in
-    both (options_equal (λ y. newtype_value (codes "Transparent:0x420007") (boolean_value y)) (λ y. newtype_value (codes "Transparent:0x420007") (boolean_value y)) _ (λ a b e. booleans_equal a b (in_boolean (in_newtype e))) x.asynchronous_indicator y.asynchronous_indicator (first_same e)) (
+    both (options_same (λ y. newtype_value (codes "Transparent:0x420007") (boolean_value y)) _ (λ a b e. booleans_equal a b (in_boolean (in_newtype e)))
+    x.asynchronous_indicator y.asynchronous_indicator (first_same e)) (
     let e = later_same e in
     both (options_equal returned_authentication read_authentication _ (returns-clause-authentication g c) x.authentication y.authentication (first_same e)) (
     let e = later_same e in
-    both (options_equal written_batch_error_continuation_option read_batch_error_continuation_option _ (returns-clause-batch_error_continuation_option g c) x.batch_error_continuation_option y.batch_error_continuation_option (first_same e)) (
+    both (options_equal written_batch_error_continuation_option read_batch_error_continuation_option _ (returns-clause-batch_error_continuation_option g c)
+    x.batch_error_continuation_option y.batch_error_continuation_option (first_same e)) (
     let e = later_same e in
-    both (options_equal (λ y. newtype_value (codes "Transparent:0x420010") (boolean_value y)) (λ y. newtype_value (codes "Transparent:0x420010") (boolean_value y)) _ (λ a b e. booleans_equal a b (in_boolean (in_newtype e))) x.batch_order_option y.batch_order_option (first_same e)) (
+    both (options_same (λ y. newtype_value (codes "Transparent:0x420010") (boolean_value y)) _ (λ a b e. booleans_equal a b (in_boolean (in_newtype e)))
+    x.batch_order_option y.batch_order_option (first_same e)) (
     let e = later_same e in
-    both (options_equal time_stamp_value time_stamp_value _ (returns-clause-time_stamp g c) x.time_stamp y.time_stamp (first_same e)) (
+    both (options_same time_stamp_value _ (returns-clause-time_stamp g c) x.time_stamp y.time_stamp (first_same e)) (
     let e = later_same e in
     returns-clause-batch_count g c x.batch_count y.batch_count (first_same e))))))))
 

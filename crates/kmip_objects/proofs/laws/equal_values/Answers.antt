@@ -1,17 +1,35 @@
 -- Written by codegen from types.table: change that, and run codegen/codegen.
 -- Values of a type are equal if they stand for the same: each part is, and numbers tell apart the variants of an Enumeration.
 use Rattle.kmip_ttlv.specs.Values.{big_integer_value, bytes_value, newtype_value}
-use Rattle.kmip_ttlv_laws.proofs.Equal.{any_equal, apart, both, bytes_equal, first_same, in_big_integer, in_bytes}
-use Rattle.kmip_ttlv_laws.proofs.Equal.{in_integer, in_newtype, in_number, in_structure, in_text, in_variant}
-use Rattle.kmip_ttlv_laws.proofs.Equal.{later_same, options_equal, other_same, several_equal, signed_equal, texts_equal}
-use Rattle.kmip_ttlv_laws.proofs.Equal.{unsigned_equal}
+use Rattle.kmip_ttlv_laws.proofs.Equal.{any_equal, apart, both, bytes_equal, first_same, in_big_integer, in_bytes, in_integer, in_newtype, in_number}
+use Rattle.kmip_ttlv_laws.proofs.Equal.{in_structure, in_text, in_variant, later_same, options_equal, options_same, other_same, several_equal, signed_equal}
+use Rattle.kmip_ttlv_laws.proofs.Equal.{texts_equal, unsigned_equal}
 use Rattle.std.proofs.Common.{refl}
 use Rattle.std.specs.Prelude.{codes}
-use Rattle.kmip_objects.specs.Keys.{unique_identifier_value, key_compression_type_number, key_compression_type_numbers, key_compression_type_read_number, written_key_compression_type, read_key_compression_type, wrapping_method_number, wrapping_method_numbers, wrapping_method_read_number, written_wrapping_method, read_wrapping_method, encoding_option_number, encoding_option_numbers, encoding_option_read_number, written_encoding_option, read_encoding_option, returned_wrapping_parameters, read_wrapping_parameters, returned_encryption_key_information, read_encryption_key_information, returned_mac_signature_key_information, read_mac_signature_key_information, returned_key_wrapping_data, read_key_wrapping_data, key_bytes_value, transparent_symmetric_key_value, read_key_material, returned_plain_key_value, read_plain_key_value, wrapped_key_value_value, returned_key_value, read_key_value, cryptographic_length_value, returned_key_block, read_key_block}
-use Rattle.kmip_attributes.specs.Values.{written_block_cipher_mode, read_block_cipher_mode, written_padding_method, read_padding_method, written_hashing_algorithm, read_hashing_algorithm, written_key_role_type, read_key_role_type, written_key_format_type, read_key_format_type, written_cryptographic_algorithm, read_cryptographic_algorithm, written_certificate_type, read_certificate_type, written_name_type, read_name_type}
+use Rattle.kmip_objects.specs.Keys.{unique_identifier_value, key_compression_type_number, key_compression_type_numbers, key_compression_type_read_number}
+use Rattle.kmip_objects.specs.Keys.{written_key_compression_type, read_key_compression_type, wrapping_method_number, wrapping_method_numbers}
+use Rattle.kmip_objects.specs.Keys.{wrapping_method_read_number, written_wrapping_method, read_wrapping_method, encoding_option_number, encoding_option_numbers}
+use Rattle.kmip_objects.specs.Keys.{encoding_option_read_number, written_encoding_option, read_encoding_option, returned_wrapping_parameters}
+use Rattle.kmip_objects.specs.Keys.{read_wrapping_parameters, returned_encryption_key_information, read_encryption_key_information}
+use Rattle.kmip_objects.specs.Keys.{returned_mac_signature_key_information, read_mac_signature_key_information, returned_key_wrapping_data}
+use Rattle.kmip_objects.specs.Keys.{read_key_wrapping_data, key_bytes_value, transparent_symmetric_key_value, read_key_material, returned_plain_key_value}
+use Rattle.kmip_objects.specs.Keys.{read_plain_key_value, wrapped_key_value_value, returned_key_value, read_key_value, cryptographic_length_value}
+use Rattle.kmip_objects.specs.Keys.{returned_key_block, read_key_block}
+use Rattle.kmip_attributes.specs.Values.{written_block_cipher_mode, read_block_cipher_mode, written_padding_method, read_padding_method}
+use Rattle.kmip_attributes.specs.Values.{written_hashing_algorithm, read_hashing_algorithm, written_key_role_type, read_key_role_type, written_key_format_type}
+use Rattle.kmip_attributes.specs.Values.{read_key_format_type, written_cryptographic_algorithm, read_cryptographic_algorithm, written_certificate_type}
+use Rattle.kmip_attributes.specs.Values.{read_certificate_type, written_name_type, read_name_type}
 use Rattle.kmip_attributes.specs.Attributes.{returned_attribute, read_attribute}
-use Rattle.kmip_objects.specs.Objects.{returned_certificate, read_certificate, returned_symmetric_key, read_symmetric_key, returned_public_key, read_public_key, returned_private_key, read_private_key, split_key_method_number, split_key_method_numbers, split_key_method_read_number, written_split_key_method, read_split_key_method, split_key_parts_value, key_part_identifier_value, split_key_threshold_value, returned_split_key, read_split_key, returned_template, read_template, secret_data_type_number, secret_data_type_numbers, secret_data_type_read_number, written_secret_data_type, read_secret_data_type, returned_secret_data, read_secret_data, opaque_data_type_number, opaque_data_type_numbers, opaque_data_type_read_number, written_opaque_data_type, read_opaque_data_type, returned_opaque_object, read_opaque_object}
-use Rattle.kmip_objects.specs.Templates.{returned_template_name, read_template_name, returned_template_attribute, read_template_attribute, returned_common_template_attribute, read_common_template_attribute, returned_private_key_template_attribute, read_private_key_template_attribute, returned_public_key_template_attribute, read_public_key_template_attribute}
+use Rattle.kmip_objects.specs.Objects.{returned_certificate, read_certificate, returned_symmetric_key, read_symmetric_key, returned_public_key, read_public_key}
+use Rattle.kmip_objects.specs.Objects.{returned_private_key, read_private_key, split_key_method_number, split_key_method_numbers, split_key_method_read_number}
+use Rattle.kmip_objects.specs.Objects.{written_split_key_method, read_split_key_method, split_key_parts_value, key_part_identifier_value}
+use Rattle.kmip_objects.specs.Objects.{split_key_threshold_value, returned_split_key, read_split_key, returned_template, read_template, secret_data_type_number}
+use Rattle.kmip_objects.specs.Objects.{secret_data_type_numbers, secret_data_type_read_number, written_secret_data_type, read_secret_data_type}
+use Rattle.kmip_objects.specs.Objects.{returned_secret_data, read_secret_data, opaque_data_type_number, opaque_data_type_numbers, opaque_data_type_read_number}
+use Rattle.kmip_objects.specs.Objects.{written_opaque_data_type, read_opaque_data_type, returned_opaque_object, read_opaque_object}
+use Rattle.kmip_objects.specs.Templates.{returned_template_name, read_template_name, returned_template_attribute, read_template_attribute}
+use Rattle.kmip_objects.specs.Templates.{returned_common_template_attribute, read_common_template_attribute, returned_private_key_template_attribute}
+use Rattle.kmip_objects.specs.Templates.{read_private_key_template_attribute, returned_public_key_template_attribute, read_public_key_template_attribute}
 use Rattle.kmip_objects.specs.declared.key.KeyCompressionType.{KeyCompressionType}
 use Rattle.kmip_objects.specs.declared.key.KeyCompressionType.TheVariants as key_compression_type
 use Rattle.kmip_objects.specs.declared.key.WrappingMethod.{WrappingMethod}
@@ -58,11 +76,13 @@ pub returns-clause-wrapping_parameters : goal.returns-clause-wrapping_parameters
 unfolding returned_wrapping_parameters read_wrapping_parameters
 returns-clause-wrapping_parameters g c x y e =
     let e = in_structure e in
-    both (options_equal written_block_cipher_mode read_block_cipher_mode _ (c.equal_values.ensures.block_cipher_mode) x.block_cipher_mode y.block_cipher_mode (first_same e)) (
+    both (options_equal written_block_cipher_mode read_block_cipher_mode _ (c.equal_values.ensures.block_cipher_mode) x.block_cipher_mode y.block_cipher_mode
+    (first_same e)) (
     let e = later_same e in
     both (options_equal written_padding_method read_padding_method _ (c.equal_values.ensures.padding_method) x.padding_method y.padding_method (first_same e)) (
     let e = later_same e in
-    both (options_equal written_hashing_algorithm read_hashing_algorithm _ (c.equal_values.ensures.hashing_algorithm) x.hashing_algorithm y.hashing_algorithm (first_same e)) (
+    both (options_equal written_hashing_algorithm read_hashing_algorithm _ (c.equal_values.ensures.hashing_algorithm) x.hashing_algorithm y.hashing_algorithm
+    (first_same e)) (
     let e = later_same e in
     options_equal written_key_role_type read_key_role_type _ (c.equal_values.ensures.key_role_type) x.key_role_type y.key_role_type (first_same e))))
 
@@ -72,7 +92,8 @@ returns-clause-encryption_key_information g c x y e =
     let e = in_structure e in
     both (texts_equal x.unique_identifier y.unique_identifier (in_text (in_newtype (first_same e)))) (
     let e = later_same e in
-    options_equal returned_wrapping_parameters read_wrapping_parameters _ (returns-clause-wrapping_parameters g c) x.cryptographic_parameters y.cryptographic_parameters (first_same e))
+    options_equal returned_wrapping_parameters read_wrapping_parameters _ (returns-clause-wrapping_parameters g c) x.cryptographic_parameters
+    y.cryptographic_parameters (first_same e))
 
 pub returns-clause-mac_signature_key_information : goal.returns-clause-mac_signature_key_information
 unfolding returned_mac_signature_key_information read_mac_signature_key_information
@@ -80,7 +101,8 @@ returns-clause-mac_signature_key_information g c x y e =
     let e = in_structure e in
     both (texts_equal x.unique_identifier y.unique_identifier (in_text (in_newtype (first_same e)))) (
     let e = later_same e in
-    options_equal returned_wrapping_parameters read_wrapping_parameters _ (returns-clause-wrapping_parameters g c) x.cryptographic_parameters y.cryptographic_parameters (first_same e))
+    options_equal returned_wrapping_parameters read_wrapping_parameters _ (returns-clause-wrapping_parameters g c) x.cryptographic_parameters
+    y.cryptographic_parameters (first_same e))
 
 pub returns-clause-key_wrapping_data : goal.returns-clause-key_wrapping_data
 unfolding returned_key_wrapping_data read_key_wrapping_data
@@ -88,13 +110,17 @@ returns-clause-key_wrapping_data g c x y e =
     let e = in_structure e in
     both (returns-clause-wrapping_method g c x.wrapping_method y.wrapping_method (first_same e)) (
     let e = later_same e in
-    both (options_equal returned_encryption_key_information read_encryption_key_information _ (returns-clause-encryption_key_information g c) x.encryption_key_information y.encryption_key_information (first_same e)) (
+    both (options_equal returned_encryption_key_information read_encryption_key_information _ (returns-clause-encryption_key_information g c)
+    x.encryption_key_information y.encryption_key_information (first_same e)) (
     let e = later_same e in
-    both (options_equal returned_mac_signature_key_information read_mac_signature_key_information _ (returns-clause-mac_signature_key_information g c) x.mac_signature_key_information y.mac_signature_key_information (first_same e)) (
+    both (options_equal returned_mac_signature_key_information read_mac_signature_key_information _ (returns-clause-mac_signature_key_information g c)
+    x.mac_signature_key_information y.mac_signature_key_information (first_same e)) (
     let e = later_same e in
-    both (options_equal (λ y. newtype_value (codes "Transparent:0x42004D") (bytes_value y.items)) (λ y. newtype_value (codes "Transparent:0x42004D") (bytes_value y.items)) _ (λ a b e. bytes_equal a.items b.items (in_bytes (in_newtype e))) x.mac_signature y.mac_signature (first_same e)) (
+    both (options_same (λ y. newtype_value (codes "Transparent:0x42004D") (bytes_value y.items)) _
+    (λ a b e. bytes_equal a.items b.items (in_bytes (in_newtype e))) x.mac_signature y.mac_signature (first_same e)) (
     let e = later_same e in
-    both (options_equal (λ y. newtype_value (codes "Transparent:0x42003D") (bytes_value y.items)) (λ y. newtype_value (codes "Transparent:0x42003D") (bytes_value y.items)) _ (λ a b e. bytes_equal a.items b.items (in_bytes (in_newtype e))) x.iv_counter_nonce y.iv_counter_nonce (first_same e)) (
+    both (options_same (λ y. newtype_value (codes "Transparent:0x42003D") (bytes_value y.items)) _
+    (λ a b e. bytes_equal a.items b.items (in_bytes (in_newtype e))) x.iv_counter_nonce y.iv_counter_nonce (first_same e)) (
     let e = later_same e in
     options_equal written_encoding_option read_encoding_option _ (returns-clause-encoding_option g c) x.encoding_option y.encoding_option (first_same e))))))
 
@@ -110,7 +136,8 @@ returns-clause-transparent_symmetric_key g c x y e =
 pub returns-clause-key_material : goal.returns-clause-key_material
 unfolding read_key_material
 returns-clause-key_material g c (key_material.Bytes x) (key_material.Bytes y) e = returns-clause-key_bytes g c x y (in_variant e)
-returns-clause-key_material g c (key_material.TransparentSymmetricKey x) (key_material.TransparentSymmetricKey y) e = returns-clause-transparent_symmetric_key g c x y (in_variant e)
+returns-clause-key_material g c (key_material.TransparentSymmetricKey x) (key_material.TransparentSymmetricKey y) e =
+    returns-clause-transparent_symmetric_key g c x y (in_variant e)
 returns-clause-key_material g c x y e = absurd (apart e refl)
 
 pub returns-clause-plain_key_value : goal.returns-clause-plain_key_value
@@ -139,15 +166,18 @@ returns-clause-key_block g c x y e =
     let e = in_structure e in
     both (c.equal_values.ensures.key_format_type x.key_format_type y.key_format_type (first_same e)) (
     let e = later_same e in
-    both (options_equal written_key_compression_type read_key_compression_type _ (returns-clause-key_compression_type g c) x.key_compression_type y.key_compression_type (first_same e)) (
+    both (options_equal written_key_compression_type read_key_compression_type _ (returns-clause-key_compression_type g c) x.key_compression_type
+    y.key_compression_type (first_same e)) (
     let e = later_same e in
     both (returns-clause-key_value g c x.key_value y.key_value (first_same e)) (
     let e = later_same e in
-    both (options_equal written_cryptographic_algorithm read_cryptographic_algorithm _ (c.equal_values.ensures.cryptographic_algorithm) x.cryptographic_algorithm y.cryptographic_algorithm (first_same e)) (
+    both (options_equal written_cryptographic_algorithm read_cryptographic_algorithm _ (c.equal_values.ensures.cryptographic_algorithm)
+    x.cryptographic_algorithm y.cryptographic_algorithm (first_same e)) (
     let e = later_same e in
-    both (options_equal cryptographic_length_value cryptographic_length_value _ (returns-clause-cryptographic_length g c) x.cryptographic_length y.cryptographic_length (first_same e)) (
+    both (options_same cryptographic_length_value _ (returns-clause-cryptographic_length g c) x.cryptographic_length y.cryptographic_length (first_same e)) (
     let e = later_same e in
-    options_equal returned_key_wrapping_data read_key_wrapping_data _ (returns-clause-key_wrapping_data g c) x.key_wrapping_data y.key_wrapping_data (first_same e))))))
+    options_equal returned_key_wrapping_data read_key_wrapping_data _ (returns-clause-key_wrapping_data g c) x.key_wrapping_data y.key_wrapping_data
+    (first_same e))))))
 
 pub returns-clause-certificate : goal.returns-clause-certificate
 unfolding returned_certificate read_certificate
@@ -203,7 +233,8 @@ returns-clause-split_key g c x y e =
     let e = later_same e in
     both (returns-clause-split_key_method g c x.split_key_method y.split_key_method (first_same e)) (
     let e = later_same e in
-    both (options_equal (λ y. newtype_value (codes "Transparent:0x420062") (big_integer_value y.items)) (λ y. newtype_value (codes "Transparent:0x420062") (big_integer_value y.items)) _ (λ a b e. bytes_equal a.items b.items (in_big_integer (in_newtype e))) x.prime_field_size y.prime_field_size (first_same e)) (
+    both (options_same (λ y. newtype_value (codes "Transparent:0x420062") (big_integer_value y.items)) _
+    (λ a b e. bytes_equal a.items b.items (in_big_integer (in_newtype e))) x.prime_field_size y.prime_field_size (first_same e)) (
     let e = later_same e in
     returns-clause-key_block g c x.key_block y.key_block (first_same e))))))
 

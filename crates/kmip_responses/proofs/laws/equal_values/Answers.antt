@@ -1,16 +1,27 @@
 -- Written by codegen from types.table: change that, and run codegen/codegen.
 -- Values of a type are equal if they stand for the same: each part is, and numbers tell apart the variants of an Enumeration.
 use Rattle.kmip_ttlv.specs.Values.{newtype_value, text_value}
-use Rattle.kmip_ttlv_laws.proofs.Equal.{any_equal, both, first_same, in_newtype, in_structure, in_text, later_same}
-use Rattle.kmip_ttlv_laws.proofs.Equal.{options_equal, texts_equal}
+use Rattle.kmip_ttlv_laws.proofs.Equal.{any_equal, apart, both, first_same, in_newtype, in_structure, in_text, in_variant, later_same, options_equal}
+use Rattle.kmip_ttlv_laws.proofs.Equal.{options_same, texts_equal}
+use Rattle.std.proofs.Common.{refl}
 use Rattle.std.specs.Prelude.{codes, string_bytes}
-use Rattle.kmip_responses.specs.ResponsePayloads.{returned_create_response, read_create_response, returned_create_key_pair_response, read_create_key_pair_response, returned_register_response, read_register_response, read_locate_response, returned_get_response, read_get_response, returned_get_attributes_response, read_get_attributes_response, read_get_attribute_list_response, returned_attribute_response, read_attribute_response, object_response_value, application_namespace_value, returned_query_response, read_query_response, read_discover_versions_response}
+use Rattle.kmip_responses.specs.ResponsePayloads.{returned_create_response, read_create_response, returned_create_key_pair_response}
+use Rattle.kmip_responses.specs.ResponsePayloads.{read_create_key_pair_response, returned_register_response, read_register_response, read_locate_response}
+use Rattle.kmip_responses.specs.ResponsePayloads.{returned_get_response, read_get_response, returned_get_attributes_response, read_get_attributes_response}
+use Rattle.kmip_responses.specs.ResponsePayloads.{read_get_attribute_list_response, returned_attribute_response, read_attribute_response, object_response_value}
+use Rattle.kmip_responses.specs.ResponsePayloads.{application_namespace_value, returned_query_response, read_query_response, read_discover_versions_response}
+use Rattle.kmip_responses.specs.ResponsePayloads.{returned_response_payload, read_response_payload}
 use Rattle.kmip_attributes.specs.Values.{written_object_type, read_object_type}
-use Rattle.kmip_objects.specs.Templates.{returned_template_attribute, read_template_attribute, returned_private_key_template_attribute, read_private_key_template_attribute, returned_public_key_template_attribute, read_public_key_template_attribute}
+use Rattle.kmip_objects.specs.Templates.{returned_template_attribute, read_template_attribute, returned_private_key_template_attribute}
+use Rattle.kmip_objects.specs.Templates.{read_private_key_template_attribute, returned_public_key_template_attribute, read_public_key_template_attribute}
 use Rattle.kmip_objects.specs.Keys.{unique_identifier_value}
-use Rattle.kmip_objects.specs.Objects.{returned_certificate, read_certificate, returned_symmetric_key, read_symmetric_key, returned_public_key, read_public_key, returned_private_key, read_private_key, returned_split_key, read_split_key, returned_template, read_template, returned_secret_data, read_secret_data, returned_opaque_object, read_opaque_object}
+use Rattle.kmip_objects.specs.Objects.{returned_certificate, read_certificate, returned_symmetric_key, read_symmetric_key, returned_public_key, read_public_key}
+use Rattle.kmip_objects.specs.Objects.{returned_private_key, read_private_key, returned_split_key, read_split_key, returned_template, read_template}
+use Rattle.kmip_objects.specs.Objects.{returned_secret_data, read_secret_data, returned_opaque_object, read_opaque_object}
 use Rattle.kmip_attributes.specs.Attributes.{returned_attribute, read_attribute, attribute_name_value}
 use Rattle.kmip_headers.specs.Headers.{written_operation, read_operation, protocol_version_value}
+use Rattle.kmip_responses.specs.declared.response_payload.ResponsePayload.{ResponsePayload}
+use Rattle.kmip_responses.specs.declared.response_payload.ResponsePayload.TheVariants as response_payload
 use Rattle.kmip_responses.proofs.laws.equal_values.Goals as goal
 
 pub returns-clause-create_response : goal.returns-clause-create_response
@@ -21,7 +32,8 @@ returns-clause-create_response g c x y e =
     let e = later_same e in
     both (texts_equal x.unique_identifier y.unique_identifier (in_text (in_newtype (first_same e)))) (
     let e = later_same e in
-    options_equal returned_template_attribute read_template_attribute _ (c.equal_values-2.ensures.template_attribute) x.template_attribute y.template_attribute (first_same e)))
+    options_equal returned_template_attribute read_template_attribute _ (c.equal_values-2.ensures.template_attribute) x.template_attribute y.template_attribute
+    (first_same e)))
 
 pub returns-clause-create_key_pair_response : goal.returns-clause-create_key_pair_response
 unfolding returned_create_key_pair_response read_create_key_pair_response
@@ -31,9 +43,11 @@ returns-clause-create_key_pair_response g c x y e =
     let e = later_same e in
     both (texts_equal x.public_key_unique_identifier y.public_key_unique_identifier (in_text (in_newtype (first_same e)))) (
     let e = later_same e in
-    both (options_equal returned_private_key_template_attribute read_private_key_template_attribute _ (c.equal_values-2.ensures.private_key_template_attribute) x.private_key y.private_key (first_same e)) (
+    both (options_equal returned_private_key_template_attribute read_private_key_template_attribute _ (c.equal_values-2.ensures.private_key_template_attribute)
+    x.private_key y.private_key (first_same e)) (
     let e = later_same e in
-    options_equal returned_public_key_template_attribute read_public_key_template_attribute _ (c.equal_values-2.ensures.public_key_template_attribute) x.public_key y.public_key (first_same e))))
+    options_equal returned_public_key_template_attribute read_public_key_template_attribute _ (c.equal_values-2.ensures.public_key_template_attribute)
+    x.public_key y.public_key (first_same e))))
 
 pub returns-clause-register_response : goal.returns-clause-register_response
 unfolding returned_register_response read_register_response
@@ -41,13 +55,15 @@ returns-clause-register_response g c x y e =
     let e = in_structure e in
     both (texts_equal x.unique_identifier y.unique_identifier (in_text (in_newtype (first_same e)))) (
     let e = later_same e in
-    options_equal returned_template_attribute read_template_attribute _ (c.equal_values-2.ensures.template_attribute) x.template_attribute y.template_attribute (first_same e))
+    options_equal returned_template_attribute read_template_attribute _ (c.equal_values-2.ensures.template_attribute) x.template_attribute y.template_attribute
+    (first_same e))
 
 pub returns-clause-locate_response : goal.returns-clause-locate_response
 unfolding read_locate_response
 returns-clause-locate_response g c x y e =
     let e = in_structure e in
-    any_equal unique_identifier_value unique_identifier_value _ (c.equal_values-2.ensures.unique_identifier) x.unique_identifiers.items y.unique_identifiers.items (first_same e)
+    any_equal unique_identifier_value unique_identifier_value _ (c.equal_values-2.ensures.unique_identifier) x.unique_identifiers.items
+    y.unique_identifiers.items (first_same e)
 
 pub returns-clause-get_response : goal.returns-clause-get_response
 unfolding returned_get_response read_get_response
@@ -87,7 +103,8 @@ returns-clause-get_attribute_list_response g c x y e =
     let e = in_structure e in
     both (texts_equal x.unique_identifier y.unique_identifier (in_text (in_newtype (first_same e)))) (
     let e = later_same e in
-    any_equal attribute_name_value attribute_name_value _ (c.equal_values.ensures.attribute_name) x.attribute_names.items y.attribute_names.items (first_same e))
+    any_equal attribute_name_value attribute_name_value _ (c.equal_values.ensures.attribute_name) x.attribute_names.items y.attribute_names.items
+    (first_same e))
 
 pub returns-clause-attribute_response : goal.returns-clause-attribute_response
 unfolding returned_attribute_response read_attribute_response
@@ -114,12 +131,40 @@ returns-clause-query_response g c x y e =
     let e = later_same e in
     both (any_equal written_object_type read_object_type _ (c.equal_values.ensures.object_type) x.object_types.items y.object_types.items (first_same e)) (
     let e = later_same e in
-    both (options_equal (λ y. newtype_value (codes "Transparent:0x42009D") (text_value (string_bytes y))) (λ y. newtype_value (codes "Transparent:0x42009D") (text_value (string_bytes y))) _ (λ a b e. texts_equal a b (in_text (in_newtype e))) x.vendor_identification y.vendor_identification (first_same e)) (
+    both (options_same (λ y. newtype_value (codes "Transparent:0x42009D") (text_value (string_bytes y))) _ (λ a b e. texts_equal a b (in_text (in_newtype e)))
+    x.vendor_identification y.vendor_identification (first_same e)) (
     let e = later_same e in
-    any_equal application_namespace_value application_namespace_value _ (returns-clause-application_namespace g c) x.application_namespaces.items y.application_namespaces.items (first_same e))))
+    any_equal application_namespace_value application_namespace_value _ (returns-clause-application_namespace g c) x.application_namespaces.items
+    y.application_namespaces.items (first_same e))))
 
 pub returns-clause-discover_versions_response : goal.returns-clause-discover_versions_response
 unfolding read_discover_versions_response
 returns-clause-discover_versions_response g c x y e =
     let e = in_structure e in
     any_equal protocol_version_value protocol_version_value _ (c.equal_values-3.ensures.protocol_version) x.versions.items y.versions.items (first_same e)
+
+pub returns-clause-response_payload : goal.returns-clause-response_payload
+unfolding returned_response_payload read_response_payload
+returns-clause-response_payload g c (response_payload.Create x) (response_payload.Create y) e = returns-clause-create_response g c x y (in_variant e)
+returns-clause-response_payload g c (response_payload.CreateKeyPair x) (response_payload.CreateKeyPair y) e =
+    returns-clause-create_key_pair_response g c x y (in_variant e)
+returns-clause-response_payload g c (response_payload.Register x) (response_payload.Register y) e = returns-clause-register_response g c x y (in_variant e)
+returns-clause-response_payload g c (response_payload.Locate x) (response_payload.Locate y) e = returns-clause-locate_response g c x y (in_variant e)
+returns-clause-response_payload g c (response_payload.Get x) (response_payload.Get y) e = returns-clause-get_response g c x y (in_variant e)
+returns-clause-response_payload g c (response_payload.GetAttributes x) (response_payload.GetAttributes y) e =
+    returns-clause-get_attributes_response g c x y (in_variant e)
+returns-clause-response_payload g c (response_payload.GetAttributeList x) (response_payload.GetAttributeList y) e =
+    returns-clause-get_attribute_list_response g c x y (in_variant e)
+returns-clause-response_payload g c (response_payload.AddAttribute x) (response_payload.AddAttribute y) e =
+    returns-clause-attribute_response g c x y (in_variant e)
+returns-clause-response_payload g c (response_payload.ModifyAttribute x) (response_payload.ModifyAttribute y) e =
+    returns-clause-attribute_response g c x y (in_variant e)
+returns-clause-response_payload g c (response_payload.DeleteAttribute x) (response_payload.DeleteAttribute y) e =
+    returns-clause-attribute_response g c x y (in_variant e)
+returns-clause-response_payload g c (response_payload.Activate x) (response_payload.Activate y) e = returns-clause-object_response g c x y (in_variant e)
+returns-clause-response_payload g c (response_payload.Revoke x) (response_payload.Revoke y) e = returns-clause-object_response g c x y (in_variant e)
+returns-clause-response_payload g c (response_payload.Destroy x) (response_payload.Destroy y) e = returns-clause-object_response g c x y (in_variant e)
+returns-clause-response_payload g c (response_payload.Query x) (response_payload.Query y) e = returns-clause-query_response g c x y (in_variant e)
+returns-clause-response_payload g c (response_payload.DiscoverVersions x) (response_payload.DiscoverVersions y) e =
+    returns-clause-discover_versions_response g c x y (in_variant e)
+returns-clause-response_payload g c x y e = absurd (apart e refl)

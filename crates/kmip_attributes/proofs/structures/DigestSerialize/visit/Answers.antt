@@ -1,7 +1,7 @@
 -- Written by codegen from types.table: change that, and run codegen/codegen.
 -- What a visitor receives: a line for each part, by what its call ensures.
 use Rattle.kmip_ttlv.specs.Values.{bytes_value, newtype_value}
-use Rattle.kmip_ttlv_laws.proofs.Telling.{all_told, optional_told, part_told, structure_told}
+use Rattle.kmip_ttlv_laws.proofs.Receiving.{all_received, optional_received, part_received, structure_received}
 use Rattle.std.proofs.Common.{refl}
 use Rattle.std.specs.Prelude.{codes}
 use Rattle.kmip_attributes.specs.Structures.{written_digest}
@@ -12,8 +12,8 @@ pub returns-clause-received : goal.returns-clause-received
 unfolding written_digest
 returns-clause-received g c =
     let x = c.args.self.now in
-    structure_told g.V.Visitor.knows g.V.Visitor.step (written_digest x) refl c.in_ok-begin_struct.ensures.received (
-    part_told c.in_ok-visit.ensures.received (
-    optional_told (λ y. newtype_value (codes "Transparent:0x420035") (bytes_value y.items)) x.digest_value c.in_ok-optional_byte_string.ensures.received (
-    optional_told written_key_format_type x.key_format_type c.in_ok-option.ensures.received (
-    all_told)))) c.in_ok-end_struct.ensures.received
+    structure_received g.V.Visitor.knows g.V.Visitor.step (written_digest x) refl c.in_ok-begin_struct.ensures.received (
+    part_received c.in_ok-visit.ensures.received (
+    optional_received (λ y. newtype_value (codes "Transparent:0x420035") (bytes_value y.items)) x.digest_value c.in_ok-optional_byte_string.ensures.received (
+    optional_received written_key_format_type x.key_format_type c.in_ok-option.ensures.received (
+    all_received)))) c.in_ok-end_struct.ensures.received

@@ -1,6 +1,6 @@
 -- Written by codegen from types.table: change that, and run codegen/codegen.
 -- What a visitor receives: a line for each part, by what its call ensures.
-use Rattle.kmip_ttlv_laws.proofs.Telling.{all_told, optional_told, part_told, structure_told}
+use Rattle.kmip_ttlv_laws.proofs.Receiving.{all_received, optional_received, part_received, structure_received}
 use Rattle.std.proofs.Common.{refl}
 use Rattle.kmip_objects.specs.Keys.{written_key_block, written_key_compression_type, cryptographic_length_value, written_key_wrapping_data}
 use Rattle.kmip_attributes.specs.Values.{written_cryptographic_algorithm}
@@ -10,11 +10,11 @@ pub returns-clause-received : goal.returns-clause-received
 unfolding written_key_block
 returns-clause-received g c =
     let x = c.args.self.now in
-    structure_told g.V.Visitor.knows g.V.Visitor.step (written_key_block x) refl c.in_ok-begin_struct.ensures.received (
-    part_told c.in_ok-visit.ensures.received (
-    optional_told written_key_compression_type x.key_compression_type c.in_ok-option.ensures.received (
-    part_told c.in_ok-visit-2.ensures.received (
-    optional_told written_cryptographic_algorithm x.cryptographic_algorithm c.in_ok-option-2.ensures.received (
-    optional_told cryptographic_length_value x.cryptographic_length c.in_ok-option-3.ensures.received (
-    optional_told written_key_wrapping_data x.key_wrapping_data c.in_ok-option-4.ensures.received (
-    all_told))))))) c.in_ok-end_struct.ensures.received
+    structure_received g.V.Visitor.knows g.V.Visitor.step (written_key_block x) refl c.in_ok-begin_struct.ensures.received (
+    part_received c.in_ok-visit.ensures.received (
+    optional_received written_key_compression_type x.key_compression_type c.in_ok-option.ensures.received (
+    part_received c.in_ok-visit-2.ensures.received (
+    optional_received written_cryptographic_algorithm x.cryptographic_algorithm c.in_ok-option-2.ensures.received (
+    optional_received cryptographic_length_value x.cryptographic_length c.in_ok-option-3.ensures.received (
+    optional_received written_key_wrapping_data x.key_wrapping_data c.in_ok-option-4.ensures.received (
+    all_received))))))) c.in_ok-end_struct.ensures.received
