@@ -1,10 +1,8 @@
 -- Written by codegen from types.table: change that, and run codegen/codegen.
 -- Forms and values of the types in `attribute`.
-use Rattle.kmip_ttlv.specs.Forms.{Form, enum, field, int32, newtype, no_fields, no_variants, seq, struct, text, unit}
-use Rattle.kmip_ttlv.specs.Forms.{variant, wrapped}
+use Rattle.kmip_ttlv.specs.Forms.{Form, enum, field, int32, newtype, no_fields, no_variants, seq, struct, text, unit, variant, wrapped}
 use Rattle.kmip_ttlv.specs.MessageParts.{sequence}
-use Rattle.kmip_ttlv.specs.Values.{Value, i32_value, newtype_value, newtype_variant_value, no_values, struct_value}
-use Rattle.kmip_ttlv.specs.Values.{text_value, unit_variant_value, value}
+use Rattle.kmip_ttlv.specs.Values.{Value, i32_value, newtype_value, newtype_variant_value, no_values, struct_value, text_value, unit_variant_value, value}
 use Rattle.std.specs.Prelude.{List, codes, false, string_bytes, ℕ, ◌≡◌, ◌⊎◌}
 use Rattle.create_destroy.specs.declared.attribute.AttributeValue.{AttributeValue}
 use Rattle.create_destroy.specs.declared.attribute.AttributeValue.TheVariants as attribute_value

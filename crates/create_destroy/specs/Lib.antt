@@ -1,3 +1,4 @@
+pub mod Headers
 pub mod Operations
 pub mod Attributes
 pub mod Requests

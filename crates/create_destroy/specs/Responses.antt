@@ -1,10 +1,8 @@
 -- Written by codegen from types.table: change that, and run codegen/codegen.
 -- Forms and values of the types in `response`.
-use Rattle.kmip_ttlv.specs.Forms.{Form, enum, field, newtype, no_fields, no_variants, seq, struct, text, unit, variant}
-use Rattle.kmip_ttlv.specs.Forms.{wrapped}
+use Rattle.kmip_ttlv.specs.Forms.{Form, enum, field, newtype, no_fields, no_variants, seq, struct, text, unit, variant, wrapped}
 use Rattle.kmip_ttlv.specs.MessageParts.{sequence}
-use Rattle.kmip_ttlv.specs.Values.{Value, newtype_value, newtype_variant_value, no_values, struct_value, text_value}
-use Rattle.kmip_ttlv.specs.Values.{unit_variant_value, value}
+use Rattle.kmip_ttlv.specs.Values.{Value, newtype_value, newtype_variant_value, no_values, struct_value, text_value, unit_variant_value, value}
 use Rattle.std.specs.Prelude.{List, codes, false, string_bytes, ℕ, ◌≡◌}
 use Rattle.create_destroy.specs.declared.response.Created.{Created}
 use Rattle.create_destroy.specs.declared.response.Destroyed.{Destroyed}
@@ -12,8 +10,8 @@ use Rattle.create_destroy.specs.declared.response.ResponsePayload.{ResponsePaylo
 use Rattle.create_destroy.specs.declared.response.ResponsePayload.TheVariants as response_payload
 use Rattle.create_destroy.specs.declared.response.ResponseItem.{ResponseItem}
 use Rattle.create_destroy.specs.declared.response.Response.{Response}
-use Rattle.get_messages.specs.declared.header.ResponseHeader.{ResponseHeader}
-use Rattle.get_messages.specs.Headers.{response_header_form, response_header_value}
+use Rattle.create_destroy.specs.declared.header.ResponseHeader.{ResponseHeader}
+use Rattle.create_destroy.specs.Headers.{response_header_form, response_header_value}
 use Rattle.create_destroy.specs.Operations.{operation_form, operation_value}
 
 -- the form of a `Created`

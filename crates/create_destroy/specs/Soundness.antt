@@ -1,7 +1,10 @@
 -- Written by codegen from types.table: change that, and run codegen/codegen.
 -- Which values of each type are sound: what was encoded of them is decoded again.
-use Rattle.std.specs.Int.{w32}
+use Rattle.std.specs.Int.{w32, w64}
 use Rattle.std.specs.Prelude.{All, FitsSigned, length, string_bytes, ◌<◌}
+use Rattle.create_destroy.specs.declared.header.ProtocolVersion.{ProtocolVersion}
+use Rattle.create_destroy.specs.declared.header.RequestHeader.{RequestHeader}
+use Rattle.create_destroy.specs.declared.header.ResponseHeader.{ResponseHeader}
 use Rattle.create_destroy.specs.declared.attribute.AttributeValue.{AttributeValue}
 use Rattle.create_destroy.specs.declared.attribute.AttributeValue.TheVariants as attribute_value
 use Rattle.create_destroy.specs.declared.attribute.Attribute.{Attribute}
@@ -16,8 +19,26 @@ use Rattle.create_destroy.specs.declared.response.Response.{Response}
 use Rattle.create_destroy.specs.Attributes.{ChoosesAttributeValue}
 use Rattle.create_destroy.specs.Requests.{ChoosesRequestPayload, request_header}
 use Rattle.create_destroy.specs.Operations.{operation_number}
-use Rattle.get_messages.specs.Soundness.{IsRequestHeader, IsResponseHeader}
 use Rattle.create_destroy.specs.Responses.{ChoosesResponsePayload, response_header}
+
+-- which values of `ProtocolVersion` are sound
+abbrev pub IsProtocolVersion : ProtocolVersion → Type 0
+IsProtocolVersion x =
+    FitsSigned w32 x.major
+    × FitsSigned w32 x.minor
+
+-- which values of `RequestHeader` are sound
+abbrev pub IsRequestHeader : RequestHeader → Type 0
+IsRequestHeader x =
+    IsProtocolVersion x.version
+    × FitsSigned w32 x.batch_count
+
+-- which values of `ResponseHeader` are sound
+abbrev pub IsResponseHeader : ResponseHeader → Type 0
+IsResponseHeader x =
+    IsProtocolVersion x.version
+    × FitsSigned w64 x.time_stamp
+    × FitsSigned w32 x.batch_count
 
 -- which values of `AttributeValue` are sound
 abbrev pub IsAttributeValue : AttributeValue → Type 0

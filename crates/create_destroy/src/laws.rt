@@ -3,14 +3,16 @@
 
 ghost use Rattle.std.specs.Prelude.{◌≡◌};
 ghost use Rattle.kmip_ttlv.specs.Equal.{AreEqual};
+ghost use Rattle.create_destroy.specs.Headers.{protocol_version_value, request_header_value, response_header_value};
 ghost use Rattle.create_destroy.specs.Operations.{operation_value};
 ghost use Rattle.create_destroy.specs.Attributes.{read_attribute_value, read_attribute};
 ghost use Rattle.create_destroy.specs.Requests.{read_request_payload, read_request_item, read_request};
 ghost use Rattle.create_destroy.specs.Responses.{read_response_payload, read_response_item, read_response};
-ghost use Rattle.create_destroy.specs.Soundness.{IsAttributeValue, IsAttribute, IsRequestPayload, IsRequestItem, IsRequest, IsResponseItem, IsResponse};
+ghost use Rattle.create_destroy.specs.Soundness.{IsProtocolVersion, IsRequestHeader, IsResponseHeader, IsAttributeValue, IsAttribute, IsRequestPayload, IsRequestItem, IsRequest, IsResponseItem, IsResponse};
 ghost use Rattle.create_destroy.specs.Laws.{RequestsComeBack, ResponsesComeBack};
 
 use crate::attribute::{Attribute, AttributeValue};
+use crate::header::{ProtocolVersion, RequestHeader, ResponseHeader};
 use crate::operation::Operation;
 use crate::request::{Request, RequestItem, RequestPayload};
 use crate::response::{Response, ResponseItem, ResponsePayload};
@@ -35,6 +37,9 @@ pub fn responses_come_back<A: Allocator>()
 
 /// Values of a type are equal if they stand for the same: no type loses a part of what it is decoded from.
 pub fn equal_values<A: Allocator>()
+    ensures protocol_version { AreEqual protocol_version_value ⟦<ProtocolVersion as PartialEq>⟧.eq }
+    ensures request_header { AreEqual request_header_value ⟦<RequestHeader as PartialEq>⟧.eq }
+    ensures response_header { AreEqual response_header_value ⟦<ResponseHeader as PartialEq>⟧.eq }
     ensures operation { AreEqual operation_value ⟦<Operation as PartialEq>⟧.eq }
     ensures attribute_value { AreEqual read_attribute_value ⟦<AttributeValue as PartialEq>⟧.eq }
     ensures attribute { AreEqual read_attribute ⟦<Attribute<A> as PartialEq>⟧.eq }
@@ -44,8 +49,30 @@ pub fn equal_values<A: Allocator>()
     ensures response_payload { AreEqual read_response_payload ⟦<ResponsePayload<A> as PartialEq>⟧.eq }
     ensures response_item { AreEqual read_response_item ⟦<ResponseItem<A> as PartialEq>⟧.eq }
     ensures response { AreEqual read_response ⟦<Response<A> as PartialEq>⟧.eq }
-{
-    get_messages::laws::equal_values::<A>();
+{}
+
+impl Sound for ProtocolVersion {
+    ghost IsSound = { IsProtocolVersion };
+
+    fn is_sound(&self) -> bool {
+        self.major.is_sound() && self.minor.is_sound()
+    }
+}
+
+impl Sound for RequestHeader {
+    ghost IsSound = { IsRequestHeader };
+
+    fn is_sound(&self) -> bool {
+        self.version.is_sound() && self.batch_count.is_sound()
+    }
+}
+
+impl Sound for ResponseHeader {
+    ghost IsSound = { IsResponseHeader };
+
+    fn is_sound(&self) -> bool {
+        self.version.is_sound() && self.time_stamp.is_sound() && self.batch_count.is_sound()
+    }
 }
 
 impl Sound for AttributeValue {

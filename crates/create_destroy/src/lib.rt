@@ -8,6 +8,7 @@
 
 pub mod attribute;
 pub mod calls;
+pub mod header;
 pub mod laws;
 pub mod operation;
 pub mod request;

@@ -5,12 +5,12 @@ ghost use Rattle.std.specs.Prelude.{◌≡◌, ◌↔◌, refl, IsTrue, OnErr, O
 ghost use Rattle.kmip_ttlv.specs.Forms.{enum, no_variants, unit, variant};
 ghost use Rattle.kmip_ttlv.specs.Values.{newtype_value, text_value, unit_variant_value};
 ghost use Rattle.kmip_ttlv.specs.Visits.{Receives};
-ghost use Rattle.get_messages.specs.Headers.{request_header_value};
+ghost use Rattle.create_destroy.specs.Headers.{request_header_value};
 ghost use Rattle.create_destroy.specs.Requests.{create_payload_form, written_create_payload, read_create_payload, destroy_payload_form, written_destroy_payload, read_destroy_payload, request_payload_form, written_request_payload, read_request_payload, ChoosesRequestPayload, request_item_form, written_request_item, read_request_item, request_form, written_request, read_request, request_header};
 
 use crate::attribute::{Attribute, Template};
+use crate::header::{ProtocolVersion, RequestHeader};
 use crate::operation::Operation;
-use get_messages::header::{ProtocolVersion, RequestHeader};
 use kmip_ttlv::messages::writing;
 use kmip_ttlv::shape::{Decode, Serialize};
 use kmip_ttlv::visit::Visitor;
@@ -405,9 +405,9 @@ impl<A: Allocator + Copy> reader::ReadNested<A> for RequestItem<A> {
 #[derive(Drop)]
 #[derive_where(PartialEq)]
 pub struct Request<A: Allocator = Global> {
-    /// The version of the protocol: major versions are not compatible, minor ones are.
+    /// Major versions are not compatible.
     pub major: i32,
-    /// Its minor version.
+    /// Minor ones are.
     pub minor: i32,
     /// How many items follow.
     pub batch_count: i32,

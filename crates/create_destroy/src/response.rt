@@ -5,11 +5,11 @@ ghost use Rattle.std.specs.Prelude.{◌≡◌, ◌↔◌, refl, IsTrue, OnErr, O
 ghost use Rattle.kmip_ttlv.specs.Forms.{enum, no_variants, unit, variant};
 ghost use Rattle.kmip_ttlv.specs.Values.{newtype_value, text_value, unit_variant_value};
 ghost use Rattle.kmip_ttlv.specs.Visits.{Receives};
-ghost use Rattle.get_messages.specs.Headers.{response_header_value};
+ghost use Rattle.create_destroy.specs.Headers.{response_header_value};
 ghost use Rattle.create_destroy.specs.Responses.{created_form, created_value, destroyed_form, destroyed_value, response_payload_form, written_response_payload, read_response_payload, ChoosesResponsePayload, response_item_form, written_response_item, read_response_item, response_form, written_response, read_response, response_header};
 
+use crate::header::{ProtocolVersion, ResponseHeader};
 use crate::operation::Operation;
-use get_messages::header::{ProtocolVersion, ResponseHeader};
 use kmip_ttlv::messages::writing;
 use kmip_ttlv::shape::{Decode, Serialize};
 use kmip_ttlv::visit::Visitor;
@@ -444,9 +444,9 @@ impl<A: Allocator + Copy> reader::ReadItem<A> for ResponseItemResultStatus {
 #[derive(Drop)]
 #[derive_where(PartialEq)]
 pub struct Response<A: Allocator = Global> {
-    /// The version of the protocol: major versions are not compatible, minor ones are.
+    /// Major versions are not compatible.
     pub major: i32,
-    /// Its minor version.
+    /// Minor ones are.
     pub minor: i32,
     /// When it was made, in seconds since 1970.
     pub timestamp: i64,

@@ -1,10 +1,10 @@
 //! What reading answers, as text.
 
-use crate::names::{TagA, TagB};
-use crate::parts::{Number, OneField, Part, Structure};
 use crate::reading::Reading;
 use kmip_ttlv::error::{Error, ErrorKind};
 use kmip_ttlv::from_slice;
+use sample_shapes::names::{TagA, TagB};
+use sample_shapes::parts::{Number, OneField, Part, Structure};
 use std::alloc::Global;
 use std::test::Fail;
 
@@ -52,7 +52,7 @@ pub fn check<P: Part>(alloc: Global, message: &str, wanted: &str) -> Result<(), 
     compare(found.as_str(), message, wanted)
 }
 
-/// Fails unless the message is refused at this place, for another cause, which is said in words of
+/// Fails unless the message is an error at this place, for another cause, which is said in words of
 /// our own.
 pub fn check_place<P: Part>(alloc: Global, message: &str, place: &str) -> Result<(), Fail> {
     let found = answer::<P>(alloc, message)?;

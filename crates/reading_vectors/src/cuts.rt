@@ -1,9 +1,9 @@
 //! Messages that are cut right behind an item's type: what is judged by the tag and the type alone is
-//! refused at once, and only what asks for the length ends too early.
+//! an error at once, and only what asks for the length ends too early.
 
 use crate::answer::{Of, check, check_place, check_rows};
-use crate::names::{IfInteger, IfStructure, IfTypeAtLeast, One, Seven, TagA, TagB, TagC};
-use crate::parts::{
+use sample_shapes::names::{IfInteger, IfStructure, IfTypeAtLeast, One, Seven, TagA, TagB, TagC};
+use sample_shapes::parts::{
     Choice, ClosedStructure, Content, NoContent, NoFields, Number, OneField, OneNumber, OneVariant,
     Structure,
 };
@@ -58,7 +58,7 @@ fn an_item_behind_the_fields(rt: HostRuntime) -> Result<(), Fail> {
 // An enum of one variant under the only field.
 type Alone<N, C> = Structure<TagA, OneField<TagC, Choice<TagC, OneVariant<N, C>>>>;
 
-// Of a tuple's surplus item nothing is read, so it is refused before a byte of it is there.
+// Of a tuple's surplus item nothing is read, so it is an error before a byte of it is there.
 #[test]
 fn an_item_behind_a_tuple(rt: HostRuntime) -> Result<(), Fail> {
     let place = "pos: 32 bytes, parent tags: 0xAAAAAA, tag: 0xAAAAAA, type: Structure (0x01)";
@@ -76,7 +76,7 @@ const NUMBER: &str = "AAAAAA0100000010CCCCCC02";
 
 const TEXT: &str = "AAAAAA0100000010CCCCCC07";
 
-// A rule that chooses what is to be read of the item, or nothing of it, and one that is refused.
+// A rule that chooses what is to be read of the item, or nothing of it, and one that is an error.
 #[test]
 fn an_item_under_a_rule(rt: HostRuntime) -> Result<(), Fail> {
     check::<Alone<IfInteger, Content<Number>>>(rt.alloc(), NUMBER, EARLY)?;

@@ -1,14 +1,14 @@
 //! Enums: rules, numbers that name a variant, and what is stored for the rules.
 
 use crate::answer::{Of, check, check_place, check_rows};
-use crate::names::{
+use sample_shapes::names::{
     IfAtLeastAlone, IfAtLeastOne, IfAtLeastTwo, IfAtLeastWord, IfBigInteger, IfEqualAlone,
-    IfInAlone, IfInNothing, IfInOne, IfInStrange, IfInTwo, IfInteger, IfInterval, IfLargeIn,
+    IfInAlone, IfInNothing, IfInOne, IfInOther, IfInTwo, IfInteger, IfInterval, IfLargeIn,
     IfLargeIs, IfNothing, IfOne, IfOneShort, IfOneSpaced, IfOtherAtLeastWord, IfStructure, IfText,
     IfTextA, IfTextB, IfTypeAtLeast, IfTypeIn, IfWordAtLeastOne, One, Seven, TagA, TagB, TagC,
     TagD, TagE,
 };
-use crate::parts::{
+use sample_shapes::parts::{
     AnyNumber, BigNumber, Choice, Content, NoContent, NoParts, Number, OneField, OneNumber,
     OneVariant, Part, Parts, Sequence, Span, Structure, Text, ThreeNumbers, Tuple, TwoFields,
     TwoNumbers, TwoVariants,
@@ -71,8 +71,8 @@ fn takes_behind_any<P: Part>(alloc: Global, variant: &str) -> Result<(), Fail> {
     check::<P>(alloc, NUMBERS, wanted.as_str())
 }
 
-// Fails unless the numbers are refused by this shape for a name in the rule, at the second of them.
-fn refuses_name<P: Part>(alloc: Global, kind: &str) -> Result<(), Fail> {
+// Fails unless the numbers are an error by this shape, for a name in the rule, at the second of them.
+fn fails_by_name<P: Part>(alloc: Global, kind: &str) -> Result<(), Fail> {
     let wanted = format!(in alloc;
         "SerdeError({kind}); pos: 28 bytes, parent tags: 0xAAAAAA, tag: 0xCCCCCC, type: Integer (0x02)"
     )?;
@@ -88,12 +88,12 @@ fn has_no_variant<P: Part>(alloc: Global) -> Result<(), Fail> {
 
 // A stored number is compared as its text, or as the number, or is one of some texts.
 #[test]
-fn rules_of_a_kept_number(rt: HostRuntime) -> Result<(), Fail> {
+fn rules_of_a_stored_number(rt: HostRuntime) -> Result<(), Fail> {
     let heap = rt.alloc();
     takes::<Either<IfOneShort, IfOne>>(heap, "if 0xBBBBBB==0x00000001")?;
     takes::<Either<IfInOne, IfOneSpaced>>(heap, "if  0xBBBBBB == 0x00000001 ")?;
     takes::<Either<IfAtLeastTwo, IfAtLeastOne>>(heap, "if 0xBBBBBB>=1")?;
-    takes::<Either<IfInStrange, IfInTwo>>(heap, "if 0xBBBBBB in [0x00000002, 0x00000001]")?;
+    takes::<Either<IfInOther, IfInTwo>>(heap, "if 0xBBBBBB in [0x00000002, 0x00000001]")?;
     takes::<Either<IfText, IfInteger>>(heap, "if type==Integer")
 }
 
@@ -103,11 +103,8 @@ fn rules_of_any_number(rt: HostRuntime) -> Result<(), Fail> {
     let heap = rt.alloc();
     takes_behind_any::<AnyOr<IfOneShort, IfOne>>(heap, "if 0xBBBBBB==0x00000001")?;
     takes_behind_any::<AnyOr<IfAtLeastTwo, IfAtLeastOne>>(heap, "if 0xBBBBBB>=1")?;
-    takes_behind_any::<AnyOr<IfInStrange, IfInTwo>>(
-        heap,
-        "if 0xBBBBBB in [0x00000002, 0x00000001]",
-    )?;
-    refuses_name::<AnyOr<IfAtLeastWord, IfOne>>(heap, "InvalidTag(\"zz\")")
+    takes_behind_any::<AnyOr<IfInOther, IfInTwo>>(heap, "if 0xBBBBBB in [0x00000002, 0x00000001]")?;
+    fails_by_name::<AnyOr<IfAtLeastWord, IfOne>>(heap, "InvalidTag(\"zz\")")
 }
 
 #[test]
@@ -128,20 +125,20 @@ fn rules_that_never_hold(rt: HostRuntime) -> Result<(), Fail> {
 
 // Words in the place of numbers or tags, and rules that are none.
 #[test]
-fn rules_that_are_refused(rt: HostRuntime) -> Result<(), Fail> {
+fn rules_that_are_errors(rt: HostRuntime) -> Result<(), Fail> {
     let heap = rt.alloc();
     let word = "InvalidTag(\"zz\")";
-    refuses_name::<Either<IfOtherAtLeastWord, IfAtLeastWord>>(heap, word)?;
-    refuses_name::<Either<IfWordAtLeastOne, IfOne>>(heap, word)?;
+    fails_by_name::<Either<IfOtherAtLeastWord, IfAtLeastWord>>(heap, word)?;
+    fails_by_name::<Either<IfWordAtLeastOne, IfOne>>(heap, word)?;
     let large = "InvalidTag(\"0x1000000\")";
-    refuses_name::<Either<IfLargeIs, IfLargeIn>>(heap, large)?;
+    fails_by_name::<Either<IfLargeIs, IfLargeIn>>(heap, large)?;
     let typ = "InvalidTag(\"type\")";
-    refuses_name::<Only<IfTypeAtLeast, Content<Number>>>(heap, typ)?;
-    refuses_name::<Only<IfTypeIn, Content<Number>>>(heap, typ)?;
+    fails_by_name::<Only<IfTypeAtLeast, Content<Number>>>(heap, typ)?;
+    fails_by_name::<Only<IfTypeIn, Content<Number>>>(heap, typ)?;
     let none = "InvalidTag(\"\")";
-    refuses_name::<Only<IfAtLeastAlone, Content<Number>>>(heap, none)?;
+    fails_by_name::<Only<IfAtLeastAlone, Content<Number>>>(heap, none)?;
     let nothing = "InvalidVariantMatcherSyntax(\"if \")";
-    refuses_name::<Only<IfNothing, Content<Number>>>(heap, nothing)
+    fails_by_name::<Only<IfNothing, Content<Number>>>(heap, nothing)
 }
 
 // A number that names a variant is read whole, so the enum that it is for has no content.
@@ -222,7 +219,7 @@ fn items_that_name_no_variant(rt: HostRuntime) -> Result<(), Fail> {
 
 // The last text under a tag is stored, and none of an item that is ignored.
 #[test]
-fn rules_of_kept_texts(rt: HostRuntime) -> Result<(), Fail> {
+fn rules_of_stored_texts(rt: HostRuntime) -> Result<(), Fail> {
     type Letters = TwoVariants<IfTextA, Content<Number>, IfTextB, Content<Number>>;
     type Texts = Structure<TagA, TwoFields<TagB, Sequence<Text>, TagC, Choice<TagC, Letters>>>;
     type Inner = Structure<TagE, OneField<TagD, Number>>;

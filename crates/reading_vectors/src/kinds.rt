@@ -1,11 +1,11 @@
 //! Each shape at an item of each type that it doesn't read, and each rule that asks for a type.
 
 use crate::answer::{Of, answer, check};
-use crate::names::{
+use sample_shapes::names::{
     IfBigInteger, IfBoolean, IfBytes, IfDateTime, IfEnumeration, IfInteger, IfInterval,
     IfLongInteger, IfStructure, IfText, One, TagB, TagC,
 };
-use crate::parts::{
+use sample_shapes::parts::{
     AnyNumber, BigNumber, Choice, Date, LongNumber, Name, NoContent, Number, Octets, OneField,
     OneVariant, Part, Span, Structure, Text, Truth,
 };
@@ -31,8 +31,13 @@ fn message(alloc: Global, code: &str) -> Result<String, Fail> {
     Ok(format!(in alloc; "AAAAAA0100000010BBBBBB{code}000000080000000000000000")?)
 }
 
-// The refusal of the item for its type, which is of this kind and in these words.
-fn refusal(alloc: Global, kind: &str, expected: &str, typ: (&str, &str)) -> Result<String, Fail> {
+// The error of the item for its type, which is of this kind and in these words.
+fn found_error(
+    alloc: Global,
+    kind: &str,
+    expected: &str,
+    typ: (&str, &str),
+) -> Result<String, Fail> {
     let (code, name) = typ;
     Ok(format!(in alloc;
         "{kind}(UnexpectedType {{ expected: {expected}, actual: {name} }}); pos: 12 bytes, parent tags: 0xAAAAAA, tag: 0xBBBBBB, type: {name} (0x{code})"
@@ -60,7 +65,7 @@ fn takes_only<P: Part>(
             continue;
         }
         let bytes = message(alloc, typ.0)?;
-        let wanted = refusal(alloc, kind, expected, typ)?;
+        let wanted = found_error(alloc, kind, expected, typ)?;
         check::<Of<P>>(alloc, bytes.as_str(), wanted.as_str())?;
     }
     Ok(())

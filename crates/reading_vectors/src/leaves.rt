@@ -1,8 +1,8 @@
 //! Structures of one leaf, and what is behind it.
 
 use crate::answer::{Of, Single, answer, check, check_rows};
-use crate::names::{NoTag, TagA, TagB, TagC, TagD};
-use crate::parts::{
+use sample_shapes::names::{NoTag, TagA, TagB, TagC, TagD};
+use sample_shapes::parts::{
     AnyNumber, BigNumber, ClosedStructure, Date, LongNumber, Maybe, Number, Octets, OneField, Span,
     Structure, Text, ThreeFields, Truth, TwoFields,
 };
@@ -124,7 +124,7 @@ fn a_message_that_is_cut(rt: HostRuntime) -> Result<(), Fail> {
 }
 
 #[test]
-fn refusals_stand_whatever_bytes_follow(rt: HostRuntime) -> Result<(), Fail> {
+fn errors_stand_whatever_bytes_follow(rt: HostRuntime) -> Result<(), Fail> {
     let refused = [
         "AAAAAA0C00000000",
         "AAAAAA0200000004",

@@ -1,10 +1,8 @@
-//! What bytes are read as by shapes made by hand, and how they are refused, as tests of the crate
+//! What bytes are read as by shapes made by hand, and which errors they are, as tests of the crate
 //! `kmip_ttlv`.
 //!
-//! A shape is put together from the types in `parts`, whose names are those in `names`. `Reading`
-//! reads by such a shape, and keeps the data that was read as text; `Run` keeps of a sequence its
-//! length. In `streams`, and the modules whose names begin so, a message comes from a reader. The program `ttlv_times`
-//! reads by such shapes too, so these modules are public.
+//! A shape is put together from the types of `sample_shapes`. `Reading` reads by such a shape, and keeps the data that was read
+//! as text; `Run` keeps of a sequence its length. In `streams`, and the modules whose names begin so, a message comes from a reader.
 #![tactic(auto)]
 
 #[cfg(test)]
@@ -21,17 +19,14 @@ mod kinds;
 mod leaves;
 #[cfg(test)]
 mod many;
-pub mod names;
 #[cfg(test)]
 mod nested;
-pub mod parts;
 #[cfg(test)]
 mod reading;
 #[cfg(test)]
 mod response;
 #[cfg(test)]
 mod roots;
-pub mod run;
 pub mod selves;
 #[cfg(test)]
 mod selves_kinds;

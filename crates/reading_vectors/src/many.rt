@@ -2,17 +2,17 @@
 //! is read of them is what the last stored text says. What such messages cost, `ttlv_times` prints.
 
 use crate::answer::Of;
-use crate::names::{
+use crate::reading::Reading;
+use kmip_ttlv::from_slice;
+use sample_shapes::names::{
     IfAtLeastOne, IfAtLeastTwo, IfInteger, IfOtherAtLeastWord, IfStructure, IfText, IfTextB, TagA,
     TagB, TagC, TagD,
 };
-use crate::parts::{
+use sample_shapes::parts::{
     Choice, Content, Field, FieldList, Maybe, NoFields, NoParts, Number, OneVariant, Part, Parts,
     Repeated, Sequence, Structure, Text, Tuple, TwoFields, TwoVariants,
 };
-use crate::reading::Reading;
-use crate::run::Run;
-use kmip_ttlv::from_slice;
+use sample_shapes::run::Run;
 use std::alloc::{AllocError, Global};
 use std::test::Fail;
 
@@ -103,7 +103,7 @@ fn many_texts_under_many_tags(rt: HostRuntime) -> Result<(), Fail> {
 
 type Many<L> = Repeated<TagB, Maybe<Number>, 100, L>;
 
-// Where a structure is refused that has many items behind its fields, of which the last is as given.
+// Where a structure is an error that has many items behind its fields, of which the last is as given.
 fn place_of<L: FieldList>(alloc: Global, count: u16, last: [u8; 16]) -> Result<String, Fail> {
     let mut message = begun(alloc, u32::from(count) * 16 + 16)?;
     for _ in 0..count {

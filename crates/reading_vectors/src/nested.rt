@@ -1,8 +1,8 @@
 //! Structures in structures, sequences, and shapes that no message has.
 
 use crate::answer::{Of, check, check_place, check_rows};
-use crate::names::{IfStructure, NoTag, TagA, TagB, TagC, TagD, TagE};
-use crate::parts::{
+use sample_shapes::names::{IfStructure, NoTag, TagA, TagB, TagC, TagD, TagE};
+use sample_shapes::parts::{
     Choice, Maybe, NoFields, NoParts, Number, OneField, OneVariant, Parts, Sequence, Structure,
     Tuple, TwoFields, Wrapping,
 };
@@ -37,7 +37,7 @@ fn structures_in_structures(rt: HostRuntime) -> Result<(), Fail> {
 }
 
 #[test]
-fn refusals_in_structures(rt: HostRuntime) -> Result<(), Fail> {
+fn errors_in_structures(rt: HostRuntime) -> Result<(), Fail> {
     type Other = Structure<TagA, OneField<NoTag, Structure<TagD, OneField<TagC, Number>>>>;
     type Innermost = Structure<TagB, OneField<NoTag, Structure<TagC, OneField<TagD, Number>>>>;
     type Deep = Structure<TagA, OneField<NoTag, Innermost>>;
@@ -59,10 +59,10 @@ fn refusals_in_structures(rt: HostRuntime) -> Result<(), Fail> {
     )
 }
 
-// The structures around a refusal, the outermost first: two of one tag, those around an element of a
+// The structures around an error, the outermost first: two of one tag, those around an element of a
 // sequence, and those around a struct in a tuple, which is none of them.
 #[test]
-fn structures_around_a_refusal(rt: HostRuntime) -> Result<(), Fail> {
+fn structures_around_an_error(rt: HostRuntime) -> Result<(), Fail> {
     type Alike = Structure<TagA, OneField<TagA, Structure<TagA, OneField<TagA, Number>>>>;
     type Inner = Structure<TagD, OneField<TagE, Number>>;
     type InTuple = Tuple<Parts<Inner, NoParts>>;
@@ -113,7 +113,7 @@ fn sequences(rt: HostRuntime) -> Result<(), Fail> {
     check_place::<Sequence<Number>>(rt.alloc(), SINGLE, "pos: 0 bytes")
 }
 
-// A root whose name is no tag is refused before a byte is looked at.
+// A root whose name is no tag is an error before a byte is looked at.
 const NO_TAG: [(&str, &str); 2] = [
     (SINGLE, "SerdeError(InvalidTag(\"x\")); pos: 0 bytes"),
     ("", "SerdeError(InvalidTag(\"x\")); pos: 0 bytes"),

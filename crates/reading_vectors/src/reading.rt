@@ -2,8 +2,8 @@
 
 ghost use Rattle.std.specs.Prelude.{◌≡◌};
 
-use crate::parts::Part;
 use kmip_ttlv::shape::{ByShape, Data, Deserialize, Shape};
+use sample_shapes::parts::Part;
 use std::alloc::{AllocError, Allocator, Global};
 use std::marker::PhantomData;
 

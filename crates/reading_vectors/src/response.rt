@@ -1,12 +1,12 @@
 //! The response to a request that created a key (KMIP 1.0, section 4.1).
 
 use crate::answer::check;
-use crate::names::{
+use sample_shapes::names::{
     BatchCount, BatchItem, MajorVersion, MinorVersion, ObjectType, One, Operation, ProtocolVersion,
     ResponseHeader, ResponseMessage, ResponsePayload, ResultStatus, TimeStamp, Two,
     UniqueIdentifier, Zero,
 };
-use crate::parts::{
+use sample_shapes::parts::{
     Choice, LongNumber, NoContent, Number, OneVariant, Structure, Text, ThreeFields, TwoFields,
 };
 use std::test::Fail;

@@ -1,8 +1,8 @@
 //! Roots that no message has, and what may stand around the struct that is one.
 
 use crate::answer::{check, check_place};
-use crate::names::{IfNothing, IfTypeAtLeast, Seven, TagA, TagB};
-use crate::parts::{
+use sample_shapes::names::{IfNothing, IfTypeAtLeast, Seven, TagA, TagB};
+use sample_shapes::parts::{
     AnyNumber, BigNumber, Choice, Content, Date, LongNumber, Maybe, NoContent, Number, Octets,
     OneField, OneVariant, Part, Sequence, Span, Structure, Text, Truth, Wrapping,
 };
@@ -11,7 +11,7 @@ use std::test::Fail;
 
 const SINGLE: &str = "AAAAAA0100000010BBBBBB02000000040000000300000000";
 
-// Fails unless the shape is refused as a leaf, before a byte is looked at.
+// Fails unless the shape is an error as a leaf, before a byte is looked at.
 fn is_leaf<P: Part>(alloc: Global) -> Result<(), Fail> {
     let wanted =
         "MalformedTtlv(UnexpectedTtlvField { expected: Tag, actual: LengthAndValue }); pos: 0 bytes";
@@ -35,13 +35,13 @@ fn roots_that_are_leaves(rt: HostRuntime) -> Result<(), Fail> {
     is_leaf::<Wrapping<TagA, Number>>(heap)
 }
 
-// Fails unless the shape is refused as another that is no struct, before a byte is looked at.
+// Fails unless the shape is an error as another that is no struct, before a byte is looked at.
 fn is_no_struct<P: Part>(alloc: Global) -> Result<(), Fail> {
     check_place::<P>(alloc, SINGLE, "; pos: 0 bytes")?;
     check_place::<P>(alloc, "", "; pos: 0 bytes")
 }
 
-// No rule of an enum is tried, so neither is one refused.
+// No rule of an enum is tried, so neither is one an error.
 #[test]
 fn roots_that_are_no_structs(rt: HostRuntime) -> Result<(), Fail> {
     let heap = rt.alloc();

@@ -1,13 +1,6 @@
 //! What bytes are read as by types that read themselves with items, sequences, an Enumeration and a choice, and with which errors: in
 //! rows, and for bytes that are cut or changed as the shape of the same form reads them.
 
-use crate::names::{
-    IfInteger, IfOne, IfText, IfTextAtLeastTwo, One, Seven, TagA, TagB, TagC, TagD, TagE,
-};
-use crate::parts::{
-    AnyNumber, BigNumber, Choice, Content, Field, Maybe, NoContent, Number, Octets, OneField,
-    Sequence, Span, Structure, Text, Truth, TwoVariants, Variant,
-};
 use crate::selves::{
     Detail, Lists, Mark, Maybes, Order, Point, Sorts, Task, read_lists, read_maybes, read_sorts,
     read_task,
@@ -15,6 +8,13 @@ use crate::selves::{
 use crate::selves_rows::{NUMBER, POINT, PointShape, TEXT, agree_nearby, check_rows};
 use kmip_ttlv::error::{Error, ErrorKind};
 use kmip_ttlv_memory::BoundedAllocator;
+use sample_shapes::names::{
+    IfInteger, IfOne, IfText, IfTextAtLeastTwo, One, Seven, TagA, TagB, TagC, TagD, TagE,
+};
+use sample_shapes::parts::{
+    AnyNumber, BigNumber, Choice, Content, Field, Maybe, NoContent, Number, Octets, OneField,
+    Sequence, Span, Structure, Text, Truth, TwoVariants, Variant,
+};
 use std::alloc::{Allocator, Global};
 use std::test::Fail;
 

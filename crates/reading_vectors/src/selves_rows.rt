@@ -1,10 +1,6 @@
 //! What bytes are read as by types that read themselves, and with which errors: in rows, and for bytes that are cut or changed
 //! as the shape of the same form reads them.
 
-use crate::names::{TagA, TagB, TagC, TagD, TagE};
-use crate::parts::{
-    ClosedStructure, Field, LongNumber, Maybe, Number, OneField, Part, Sequence, Structure, Text,
-};
 use crate::reading::Reading;
 use crate::selves::{Closed, Moment, Point, Whole, read_whole};
 use kmip_ttlv::error::{Error, ErrorKind};
@@ -12,6 +8,10 @@ use kmip_ttlv::reader::{ReadStructure, read_message};
 use kmip_ttlv::shape::Decode;
 use kmip_ttlv::{Config, from_reader, from_slice};
 use kmip_ttlv_memory::BoundedAllocator;
+use sample_shapes::names::{TagA, TagB, TagC, TagD, TagE};
+use sample_shapes::parts::{
+    ClosedStructure, Field, LongNumber, Maybe, Number, OneField, Part, Sequence, Structure, Text,
+};
 use std::alloc::{Allocator, Global};
 use std::test::Fail;
 

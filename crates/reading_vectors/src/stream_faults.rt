@@ -1,6 +1,7 @@
 //! Each read of a stream fails in turn.
 
-use crate::stream_samples::{MESSAGE, Single, SlowReader, Wanted, is_wanted};
+use crate::selves::Closed;
+use crate::stream_samples::{MESSAGE, SlowReader, Wanted, is_wanted};
 use kmip_ttlv::{Config, from_reader};
 use std::alloc::Global;
 use std::io::ErrorKind;
@@ -20,7 +21,7 @@ fn is_read_or_failed(alloc: Global, kind: ErrorKind, count: usize) -> Result<boo
         kind,
     };
     let mut config = Config::new(alloc).with_read_buf();
-    let found = from_reader::<Single, _, _>(alloc, &mut reader, &mut config);
+    let found = from_reader::<Closed, _, _>(alloc, &mut reader, &mut config);
     if count < stream.len() && kind != ErrorKind::Interrupted {
         return Ok(
             is_wanted(&found, Wanted::Fault(kind)) && reader.bytes == &stream.as_slice()[count..],

@@ -1,7 +1,8 @@
-//! Each growth refused in turn: want of memory, or the answer that comes with ample memory. And how
+//! Each growth failing in turn: out of memory, or the answer that comes with ample memory. And how
 //! much is asked for.
 
-use crate::stream_samples::{MESSAGE, Single, Wanted, is_kept, is_memory, is_wanted, slow};
+use crate::selves::Closed;
+use crate::stream_samples::{MESSAGE, Wanted, is_kept, is_memory, is_wanted, slow};
 use kmip_ttlv::types::stream::MemorySource;
 use kmip_ttlv::{Config, from_reader};
 use kmip_ttlv_memory::BoundedAllocator;
@@ -9,16 +10,16 @@ use std::alloc::Global;
 use std::io::ErrorKind;
 use std::test::Fail;
 
-// What one refused growth comes to.
+// What one failed growth comes to.
 #[derive(Clone, Copy, PartialEq, Eq)]
 enum Outcome {
-    Refused,
+    OutOfMemory,
     Ample,
     Wrong,
 }
 
-// A message, where the growth after the first `before` is refused.
-fn with_refused_growth(alloc: Global, keeps: bool, before: u64) -> Result<Outcome, Fail> {
+// A message, where the growth after the first `before` fails.
+fn with_failed_growth(alloc: Global, keeps: bool, before: u64) -> Result<Outcome, Fail> {
     let stream = hex::decode(alloc, MESSAGE)?;
     let heap = BoundedAllocator::failing_after(alloc, before);
     let mut config = Config::new(&heap);
@@ -26,25 +27,25 @@ fn with_refused_growth(alloc: Global, keeps: bool, before: u64) -> Result<Outcom
         config = config.with_read_buf();
     }
     let mut reader = slow(stream.as_slice());
-    let found = from_reader::<Single, _, _>(&heap, &mut reader, &mut config);
+    let found = from_reader::<Closed, _, _>(&heap, &mut reader, &mut config);
     let is_same = is_wanted(&found, Wanted::Number(3)) && reader.bytes.is_empty();
     if config.has_buf() != keeps || !(is_same || heap.has_failed() && is_memory(&found)) {
         return Ok(Outcome::Wrong);
     }
     if heap.has_failed() {
-        Ok(Outcome::Refused)
+        Ok(Outcome::OutOfMemory)
     } else {
         Ok(Outcome::Ample)
     }
 }
 
 #[test]
-fn each_growth_is_refused(rt: HostRuntime) -> Result<(), Fail> {
+fn each_growth_fails(rt: HostRuntime) -> Result<(), Fail> {
     for keeps in [false, true] {
-        let mut last = Outcome::Refused;
+        let mut last = Outcome::OutOfMemory;
         for before in 0..1000u64 {
-            last = with_refused_growth(rt.alloc(), keeps, before)?;
-            if last != Outcome::Refused {
+            last = with_failed_growth(rt.alloc(), keeps, before)?;
+            if last != Outcome::OutOfMemory {
                 break;
             }
         }
@@ -53,8 +54,8 @@ fn each_growth_is_refused(rt: HostRuntime) -> Result<(), Fail> {
     Ok(())
 }
 
-// Two messages, one after the other, into a buffer of which the growth after the first `before` is
-// refused: after the first message took all that was granted, the second takes none.
+// Two messages, one after the other, into a buffer of which the growth after the first `before`
+// fails: after the first message took all that was granted, the second takes none.
 fn second_after(alloc: Global, before: u64) -> Result<Outcome, Fail> {
     let one = hex::decode(alloc, MESSAGE)?;
     let mut two = hex::decode(alloc, MESSAGE)?;
@@ -63,12 +64,12 @@ fn second_after(alloc: Global, before: u64) -> Result<Outcome, Fail> {
     let ample = BoundedAllocator::failing_after(alloc, 1_000_000);
     let mut config = Config::new(&heap).with_read_buf();
     let mut reader = slow(two.as_slice());
-    let first = from_reader::<Single, _, _>(&ample, &mut reader, &mut config);
+    let first = from_reader::<Closed, _, _>(&ample, &mut reader, &mut config);
     if heap.has_failed() {
-        return Ok(Outcome::Refused);
+        return Ok(Outcome::OutOfMemory);
     }
     let is_first = is_wanted(&first, Wanted::Number(3)) && is_kept(&config, one.as_slice());
-    let second = from_reader::<Single, _, _>(&ample, &mut reader, &mut config);
+    let second = from_reader::<Closed, _, _>(&ample, &mut reader, &mut config);
     let is_second = is_wanted(&second, Wanted::Number(3)) && is_kept(&config, one.as_slice());
     if is_first && is_second && reader.bytes.is_empty() && !heap.has_failed() {
         Ok(Outcome::Ample)
@@ -79,10 +80,10 @@ fn second_after(alloc: Global, before: u64) -> Result<Outcome, Fail> {
 
 #[test]
 fn a_second_message_takes_no_growth(rt: HostRuntime) -> Result<(), Fail> {
-    let mut last = Outcome::Refused;
+    let mut last = Outcome::OutOfMemory;
     for before in 0..1000u64 {
         last = second_after(rt.alloc(), before)?;
-        if last != Outcome::Refused {
+        if last != Outcome::OutOfMemory {
             break;
         }
     }
@@ -96,7 +97,7 @@ fn is_taken_by_pieces(alloc: Global) -> bool {
     let heap = BoundedAllocator::in_blocks(alloc, 8 + 65_536);
     let mut config = Config::new(&heap).with_read_buf();
     let mut source = MemorySource(&[0xAA, 0xAA, 0xAA, 1, 0xFF, 0xFF, 0xFF, 0xFF]);
-    let found = from_reader::<Single, _, _>(&heap, &mut source, &mut config);
+    let found = from_reader::<Closed, _, _>(&heap, &mut source, &mut config);
     is_wanted(&found, Wanted::Fault(ErrorKind::UnexpectedEof))
 }
 

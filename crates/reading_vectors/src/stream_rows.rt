@@ -1,6 +1,7 @@
 //! Streams, and what is read of them.
 
-use crate::stream_samples::{MESSAGE, Single, Wanted, is_kept, is_wanted, slow};
+use crate::selves::Closed;
+use crate::stream_samples::{MESSAGE, Wanted, is_kept, is_wanted, slow};
 use kmip_ttlv::types::stream::MemorySource;
 use kmip_ttlv::{Config, from_reader};
 use std::alloc::Global;
@@ -161,7 +162,7 @@ fn is_read_slowly(alloc: Global, row: &Row) -> Result<bool, Fail> {
     let left = hex::decode(alloc, row.left)?;
     let mut config = settings(alloc, row);
     let mut reader = slow(stream.as_slice());
-    let found = from_reader::<Single, _, _>(alloc, &mut reader, &mut config);
+    let found = from_reader::<Closed, _, _>(alloc, &mut reader, &mut config);
     let kept = hex::decode(alloc, row.kept.unwrap_or(""))?;
     Ok(
         is_wanted(&found, row.wanted)
@@ -179,7 +180,7 @@ fn is_read_at_once(alloc: Global, row: &Row) -> Result<bool, Fail> {
         config = config.with_max_bytes(limit);
     }
     let mut source = MemorySource(stream.as_slice());
-    let found = from_reader::<Single, _, _>(alloc, &mut source, &mut config);
+    let found = from_reader::<Closed, _, _>(alloc, &mut source, &mut config);
     Ok(is_wanted(&found, row.wanted) && !config.has_buf() && config.max_bytes() == row.limit)
 }
 

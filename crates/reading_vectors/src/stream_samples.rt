@@ -1,67 +1,17 @@
-//! A small type, a slow reader, and what a message is to be read as.
+//! A message, a slow reader, and what a message is to be read as.
 
-ghost use Rattle.std.specs.Prelude.{◌≡◌, Some};
-ghost use Rattle.kmip_ttlv_base.specs.Values.{view, i32_value};
-ghost use Rattle.kmip_ttlv_base.specs.Gives.{IsI32};
-ghost use Rattle.reading_vectors.specs.StreamSamples.{single_form, read_single};
+ghost use Rattle.std.specs.Prelude.{Some};
 
+use crate::selves::Closed;
 use kmip_ttlv::Config;
-use kmip_ttlv::shape::{ByShape, Data, Deserialize, FieldShape, Shape};
 use kmip_ttlv_base::error::{Error, ErrorKind, ErrorLocation, MalformedTtlvError, SerdeError};
 use kmip_ttlv_base::types::{ByteOffset, TtlvType};
-use std::alloc::{AllocError, Allocator};
+use std::alloc::Allocator;
 use std::io;
 use std::io::Read;
 
 /// A Structure AAAAAA of one Integer BBBBBB, of 3.
 pub const MESSAGE: &str = "AAAAAA0100000010BBBBBB02000000040000000300000000";
-
-/// Structure AAAAAA of one Integer BBBBBB.
-#[derive(Clone, Copy)]
-pub struct Single {
-    pub number: i32,
-}
-
-impl ByShape for Single {}
-
-impl<A: Allocator + Copy> Deserialize<A> for Single {
-    ghost form = { single_form };
-
-    ghost is_value = { λ v s. v ≡ read_single s.number };
-
-    fn shape(alloc: A) -> Result<Shape<A>, AllocError> {
-        let mut fields = Vec::new(alloc);
-        fields.push(FieldShape {
-            name: "0xBBBBBB",
-            shape: Shape::I32,
-        })?;
-        Ok(Shape::Struct {
-            name: "0xAAAAAA",
-            fields,
-            deny_unknown: false,
-        })
-    }
-
-    fn from_data(_alloc: A, value: &mut Data<A>) -> Result<Single, AllocError> {
-        let Data::Struct { name: _, fields } = &*value else {
-            unreachable!()
-        };
-        Ok(Single {
-            number: number_of(&fields[0]),
-        })
-    }
-}
-
-// The number that data is.
-fn number_of<A: Allocator>(value: &Data<A>) -> i32
-    requires { IsI32 (view value.now) }
-    ensures { view value.now ≡ i32_value result }
-{
-    match value {
-        Data::I32(number) => *number,
-        _ => unreachable!(),
-    }
-}
 
 /// Gives one byte a call, and at one call, counted from 0, fails with a kind instead.
 #[derive(Drop)]
@@ -99,11 +49,11 @@ pub fn slow(bytes: &[u8]) -> SlowReader<'_> {
 pub enum Wanted {
     /// This number.
     Number(i32),
-    /// A refusal of this size, behind the header of a Structure AAAAAA.
+    /// An error of this size, behind the header of a Structure AAAAAA.
     TooLarge(usize),
-    /// A refusal of this type's code.
+    /// An error of this type's code.
     NoType(u8),
-    /// A refusal of the tag CCCCCC where BBBBBB is due, behind its type.
+    /// An error of the tag CCCCCC where BBBBBB is due, behind its type.
     OtherTag,
     /// An IoError of this kind, at an unknown place.
     Fault(io::ErrorKind),
@@ -122,7 +72,7 @@ fn is_at<A: Allocator>(
         && place.parent_tags().len() == depth
 }
 
-fn is_refusal<A: Allocator>(error: &Error<A>, wanted: Wanted) -> bool {
+fn is_error<A: Allocator>(error: &Error<A>, wanted: Wanted) -> bool {
     let place = error.location();
     match error.kind() {
         ErrorKind::ResponseSizeExceedsLimit(size) => {
@@ -146,15 +96,15 @@ fn is_refusal<A: Allocator>(error: &Error<A>, wanted: Wanted) -> bool {
 }
 
 /// Whether this is the wanted answer.
-pub fn is_wanted<A: Allocator>(found: &Result<Single, Error<A>>, wanted: Wanted) -> bool {
+pub fn is_wanted<A: Allocator>(found: &Result<Closed, Error<A>>, wanted: Wanted) -> bool {
     match found {
         Ok(single) => matches!(wanted, Wanted::Number(n) if n == single.number),
-        Err(error) => is_refusal(error, wanted),
+        Err(error) => is_error(error, wanted),
     }
 }
 
-/// Whether this is want of memory, at an unknown place.
-pub fn is_memory<A: Allocator>(found: &Result<Single, Error<A>>) -> bool {
+/// Whether this is out of memory, at an unknown place.
+pub fn is_memory<A: Allocator>(found: &Result<Closed, Error<A>>) -> bool {
     match found {
         Ok(_) => false,
         Err(error) => {

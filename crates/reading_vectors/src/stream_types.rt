@@ -1,13 +1,13 @@
 //! Headers with the code of no type, of which neither the shape nor the limit is judged; and long messages.
 
 use crate::answer::{Of, compare, text_of};
-use crate::names::{NoTag, Seven, TagA, TagB};
-use crate::parts::{
-    Choice, NoContent, Number, OneField, OneVariant, Part, Sequence, Structure, Wrapping,
-};
-use crate::run::Run;
 use kmip_ttlv::types::stream::MemorySource;
 use kmip_ttlv::{Config, from_reader};
+use sample_shapes::names::{NoTag, Seven, TagA, TagB};
+use sample_shapes::parts::{
+    Choice, NoContent, Number, OneField, OneVariant, Part, Sequence, Structure, Wrapping,
+};
+use sample_shapes::run::Run;
 use std::alloc::{AllocError, Global};
 use std::test::Fail;
 
@@ -24,7 +24,7 @@ fn read_within<P: Part>(alloc: Global, limit: Option<u32>) -> Result<String, Fai
     text_of::<P>(alloc, from_reader(alloc, &mut source, &mut config))
 }
 
-// Fails unless the header is refused for its code, whatever the limit.
+// Fails unless the header is an error for its code, whatever the limit.
 fn is_of_no_type<P: Part>(alloc: Global) -> Result<(), Fail> {
     let wanted = "MalformedTtlv(InvalidType(12)); pos: 3 bytes, tag: 0xAAAAAA";
     for limit in [None, Some(0), Some(7), Some(8)] {

@@ -1,4 +1,4 @@
-//! The response read from a stream: by reads of one byte, with each growth refused in turn, and with each
+//! The response read from a stream: by reads of one byte, with each growth failing in turn, and with each
 //! read failing in turn.
 
 use crate::answer::answer;
@@ -45,7 +45,7 @@ enum Outcome {
     Other,
 }
 
-fn refusal<A: Allocator>(error: &Error<A>) -> Outcome {
+fn found_error<A: Allocator>(error: &Error<A>) -> Outcome {
     if !error.location().is_unknown() {
         return Outcome::Other;
     }
@@ -60,7 +60,7 @@ fn outcome_of<A: Allocator>(read: &Result<Reading<Response, A>, Error<A>>, text:
     match read {
         Ok(found) if found.text.as_str() == text => Outcome::Whole,
         Ok(_) => Outcome::Other,
-        Err(error) => refusal(error),
+        Err(error) => found_error(error),
     }
 }
 
@@ -78,8 +78,8 @@ fn read_by<A: Allocator + Copy>(
     outcome_of(&from_reader(alloc, reader, &mut config), text)
 }
 
-// Whether the refusal of the growth after so many is answered as want of memory or by the response; and
-// where no growth is refused, `None`.
+// Whether the failure of the growth after so many is returned as out of memory or by the response; and
+// where no growth fails, `None`.
 fn is_right_or_short(
     alloc: Global,
     bytes: &[u8],
@@ -103,7 +103,7 @@ fn is_right_or_short(
     }
 }
 
-// The number of growths that reading asks for, where each of them may be refused.
+// The number of growths that reading asks for, where each of them may fail.
 fn growths_of(alloc: Global, bytes: &[u8], keeps: bool, text: &str) -> Option<u64> {
     for before in 0..1000u64 {
         match is_right_or_short(alloc, bytes, keeps, text, before) {
@@ -116,7 +116,7 @@ fn growths_of(alloc: Global, bytes: &[u8], keeps: bool, text: &str) -> Option<u6
 }
 
 #[test]
-fn each_growth_may_be_refused(rt: HostRuntime) -> Result<(), Fail> {
+fn each_growth_may_fail(rt: HostRuntime) -> Result<(), Fail> {
     let text = answer::<Response>(rt.alloc(), RESPONSE)?;
     let bytes = hex::decode(rt.alloc(), RESPONSE)?;
     for keeps in [false, true] {

@@ -19,7 +19,7 @@ use crate::times::{
     bare_times, checking, printing, reading, reading_back, show, taking, taking_by_copies, telling,
 };
 use kmip_ttlv::PrettyPrinter;
-use reading_vectors::parts::Part;
+use sample_shapes::parts::Part;
 use std::time::Clock;
 use std::{env, io};
 

@@ -1,10 +1,10 @@
-//! The shapes that the inputs are decoded by, built from the types of `reading_vectors` that stand for
+//! The shapes that the inputs are decoded by, built from the types of `sample_shapes` that stand for
 //! shapes.
 
-use reading_vectors::names::{
+use sample_shapes::names::{
     IfAtLeastOne, IfInteger, IfOtherAtLeastWord, IfStructure, IfText, TagA, TagB, TagC,
 };
-use reading_vectors::parts::{
+use sample_shapes::parts::{
     Choice, Content, Maybe, NoFields, NoParts, Number, Octets, OneField, OneVariant, Parts,
     Repeated, Sequence, Structure, Text, Tuple, TwoFields, TwoVariants,
 };

@@ -1,8 +1,8 @@
 //! Decoding by a shape that stands for a type, of which nothing is kept. It uses the shapes of
-//! `reading_vectors`.
+//! `sample_shapes`.
 
 use kmip_ttlv::shape::{ByShape, Data, Deserialize, Shape};
-use reading_vectors::parts::Part;
+use sample_shapes::parts::Part;
 use std::alloc::{AllocError, Allocator};
 use std::marker::PhantomData;
 

@@ -28,18 +28,21 @@ pub is_one : {A : Type 0} (d : Data A) (name : Bor (List ℕ)) (v : Vec (Data A)
 is_one d name v is given = ap length (one_of d name v is given).are
 
 -- which is a number
-pub first_is_number : {A : Type 0} (d : Data A) (name : Bor (List ℕ)) (v : Vec (Data A) A) (x : Data A) → d ≡ Struct name v → Gives single_form (view d) → x ≡ slice_index_or v.items 0 x → IsI32 (view x)
+pub first_is_number : {A : Type 0} (d : Data A) (name : Bor (List ℕ)) (v : Vec (Data A) A) (x : Data A) → d ≡ Struct name v → Gives single_form (view d)
+    → x ≡ slice_index_or v.items 0 x → IsI32 (view x)
 first_is_number d name v x is given at =
     let t = one_of d name v is given in
     let P : Data _ → Type 0 = λ y. IsI32 (view y) in
     subst P (sym (at ∙ ap (λ ds. slice_index_or ds 0 x) t.are)) t.first_is
 
 -- and it is read as this number
-pub is_read : {A : Type 0} (d : Data A) (name : Bor (List ℕ)) (v : Vec (Data A) A) (x : Data A) (n : ℤ) → d ≡ Struct name v → Gives single_form (view d) → x ≡ slice_index_or v.items 0 x → view x ≡ i32_value n → view d ≡ read_single n
+pub is_read : {A : Type 0} (d : Data A) (name : Bor (List ℕ)) (v : Vec (Data A) A) (x : Data A) (n : ℤ) → d ≡ Struct name v → Gives single_form (view d)
+    → x ≡ slice_index_or v.items 0 x → view x ≡ i32_value n → view d ≡ read_single n
 is_read d name v x n is given x_at x_is =
     let t = one_of d name v is given in
     let seen = ap view is ∙ view-Struct name v in
     let G : Value → Type 0 = λ w. Gives single_form w in
     let named = (subst G seen given).0 in
     let first = ap view (sym (x_at ∙ ap (λ ds. slice_index_or ds 0 x) t.are)) ∙ x_is in
-    seen ∙ ap (λ m. struct_value m (views v.items)) named ∙ ap (λ ds. struct_value (codes "0xAAAAAA") (views ds)) t.are ∙ ap (λ w. struct_value (codes "0xAAAAAA") (value w no_values)) first
+    seen ∙ ap (λ m. struct_value m (views v.items)) named ∙ ap (λ ds. struct_value (codes "0xAAAAAA") (views ds)) t.are
+    ∙ ap (λ w. struct_value (codes "0xAAAAAA") (value w no_values)) first

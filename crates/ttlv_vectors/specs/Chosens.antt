@@ -1,10 +1,8 @@
 -- Written by codegen from types.table: change that, and run codegen/codegen.
 -- Forms and values of the types in `chosen`.
-use Rattle.kmip_ttlv.specs.Forms.{Form, enum, field, int32, newtype, no_fields, no_variants, option, seq, struct, text}
-use Rattle.kmip_ttlv.specs.Forms.{variant, wrapped}
+use Rattle.kmip_ttlv.specs.Forms.{Form, enum, field, int32, newtype, no_fields, no_variants, option, seq, struct, text, variant, wrapped}
 use Rattle.kmip_ttlv.specs.MessageParts.{optional, optional_sequence, sequence}
-use Rattle.kmip_ttlv.specs.Values.{Value, i32_value, newtype_value, newtype_variant_value, no_values, struct_value}
-use Rattle.kmip_ttlv.specs.Values.{text_value, value}
+use Rattle.kmip_ttlv.specs.Values.{Value, i32_value, newtype_value, newtype_variant_value, no_values, struct_value, text_value, value}
 use Rattle.kmip_ttlv.specs.Visits.{joined}
 use Rattle.std.specs.Prelude.{List, codes, false, option_map, string_bytes, ℕ, ◌≡◌, ◌⊎◌}
 use Rattle.kmip_ttlv.specs.Visits as visits

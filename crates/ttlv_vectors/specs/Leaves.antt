@@ -1,11 +1,10 @@
 -- Written by codegen from types.table: change that, and run codegen/codegen.
 -- Forms and values of the types in `leaves`.
-use Rattle.kmip_ttlv.specs.Forms.{Form, Variants, big_integer, boolean, date_time, enum, field, int32, int64, interval}
-use Rattle.kmip_ttlv.specs.Forms.{newtype, no_fields, no_variants, octets, option, struct, text, unit, variant}
+use Rattle.kmip_ttlv.specs.Forms.{Form, Variants, big_integer, boolean, date_time, enum, field, int32, int64, interval, newtype, no_fields, no_variants, octets}
+use Rattle.kmip_ttlv.specs.Forms.{option, struct, text, unit, variant}
 use Rattle.kmip_ttlv.specs.MessageParts.{optional}
-use Rattle.kmip_ttlv.specs.Values.{Value, big_integer_value, boolean_value, bytes_value, date_time_value, i32_value}
-use Rattle.kmip_ttlv.specs.Values.{i64_value, interval_value, newtype_value, no_values, struct_value, text_value}
-use Rattle.kmip_ttlv.specs.Values.{unit_variant_value, value}
+use Rattle.kmip_ttlv.specs.Values.{Value, big_integer_value, boolean_value, bytes_value, date_time_value, i32_value, i64_value, interval_value, newtype_value}
+use Rattle.kmip_ttlv.specs.Values.{no_values, struct_value, text_value, unit_variant_value, value}
 use Rattle.kmip_ttlv.specs.Visits.{joined}
 use Rattle.std.specs.Prelude.{List, codes, false, option_map, string_bytes, ℕ}
 use Rattle.kmip_ttlv.specs.Visits as visits

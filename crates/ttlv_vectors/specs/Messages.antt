@@ -7,13 +7,9 @@ use Rattle.kmip_ttlv.specs.Visits.{joined}
 use Rattle.std.specs.Prelude.{codes, false, option_map}
 use Rattle.kmip_ttlv.specs.Visits as visits
 use Rattle.ttlv_vectors.specs.declared.message.Every.{Every}
-use Rattle.ttlv_vectors.specs.Leaves.{numbers_form, numbers_value}
-use Rattle.ttlv_vectors.specs.Leaves.{moments_form, moments_value}
-use Rattle.ttlv_vectors.specs.Leaves.{contents_form, contents_value}
-use Rattle.ttlv_vectors.specs.Leaves.{optional_contents_form, written_optional_contents, read_optional_contents}
-use Rattle.ttlv_vectors.specs.Leaves.{kind_form, kind_value}
-use Rattle.ttlv_vectors.specs.Numbers.{optional_numbers_form, written_optional_numbers, read_optional_numbers}
-use Rattle.ttlv_vectors.specs.Numbers.{reasons_form, written_reasons, read_reasons}
+use Rattle.ttlv_vectors.specs.Leaves.{numbers_form, numbers_value, moments_form, moments_value, contents_form, contents_value, optional_contents_form}
+use Rattle.ttlv_vectors.specs.Leaves.{written_optional_contents, read_optional_contents, kind_form, kind_value}
+use Rattle.ttlv_vectors.specs.Numbers.{optional_numbers_form, written_optional_numbers, read_optional_numbers, reasons_form, written_reasons, read_reasons}
 
 -- the form of a `Every`
 abbrev pub every_form : Form

@@ -1,10 +1,8 @@
 -- Written by codegen from types.table: change that, and run codegen/codegen.
 -- Forms and values of the types in `query`.
-use Rattle.kmip_ttlv.specs.Forms.{Form, Variants, any_number, enum, field, int32, newtype, no_fields, no_variants}
-use Rattle.kmip_ttlv.specs.Forms.{option, seq, struct, text, unit, variant}
+use Rattle.kmip_ttlv.specs.Forms.{Form, Variants, any_number, enum, field, int32, newtype, no_fields, no_variants, option, seq, struct, text, unit, variant}
 use Rattle.kmip_ttlv.specs.MessageParts.{numbered_value, optional, optional_sequence, other_number, sequence}
-use Rattle.kmip_ttlv.specs.Values.{Value, i32_value, newtype_value, no_values, struct_value, text_value, u32_value}
-use Rattle.kmip_ttlv.specs.Values.{unit_variant_value, value}
+use Rattle.kmip_ttlv.specs.Values.{Value, i32_value, newtype_value, no_values, struct_value, text_value, u32_value, unit_variant_value, value}
 use Rattle.kmip_ttlv.specs.Visits.{joined}
 use Rattle.std.specs.Prelude.{List, Option, Some, [], codes, false, option_map, string_bytes, ℕ, ◌∷◌}
 use Rattle.kmip_ttlv.specs.Visits as visits

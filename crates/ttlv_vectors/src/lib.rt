@@ -6,7 +6,7 @@
 //! `message` has a part of every kind, `leaves` the leaves, `chosen` choices, and `query` sequences that may be empty and open
 //! Enumerations: these are what `codegen/codegen` writes of `types.table`.
 //! `numbers` has the parts that are written by hand, `choice` and `samples` types with a shape. `key_gets`, `key_messages`,
-//! `object_rereads` and `registering` are tests of the crates get_messages, create_destroy and kmip_messages.
+//! `object_rereads` and `registering` are tests of the crates create_destroy and kmip_messages.
 #![tactic(auto)]
 
 #[cfg(test)]

@@ -27,7 +27,7 @@ fn integer_is_written(heap: Global, number: i32, wanted: &str) -> bool {
     TtlvInteger(number).write(&mut written).is_ok() && are_bytes(heap, &written, wanted)
 }
 
-// Whether the name is that of a tag of this number, or where none is given, is refused.
+// Whether the name is that of a tag of this number, or where none is given, is an error.
 fn names_tag(heap: Global, name: &str, number: Option<u32>) -> bool {
     match &TtlvTag::from_str(heap, name) {
         Ok(tag) => number == Some(**tag),

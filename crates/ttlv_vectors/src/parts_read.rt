@@ -247,12 +247,12 @@ fn messages_that_are_refused(rt: HostRuntime) -> Result<(), Fail> {
     Ok(())
 }
 
-// What was chosen, as text; "refused" if nothing was.
+// What was chosen, as text; "an error" if nothing was.
 fn chosen(alloc: Global, text: &str) -> Result<String, Fail> {
     let bytes = joined(alloc, &[text])?;
     let read: kmip_ttlv::error::Result<Choice> = from_slice(alloc, bytes.as_slice());
     let Ok(choice) = read else {
-        return Ok(String::from_str(alloc, "refused")?);
+        return Ok(String::from_str(alloc, "an error")?);
     };
     let Data::Struct { fields, .. } = &choice.data else {
         return Err(Fail::new("it is no struct"));
@@ -275,7 +275,7 @@ const CHOSEN: [(&str, &str); 4] = [
     (THREE, "none: 0x00000003"),
     (
         "54005001000000205400420700000004466F75720000000054004107000000034142430000000000",
-        "refused",
+        "an error",
     ),
 ];
 
@@ -288,34 +288,34 @@ fn a_name_chooses(rt: HostRuntime) -> Result<(), Fail> {
     Ok(())
 }
 
-// What one refused growth comes to.
+// What one failed growth comes to.
 #[derive(Clone, Copy, PartialEq, Eq)]
 enum Outcome {
-    Refused,
+    OutOfMemory,
     Ample,
     Wrong,
 }
 
-// Reads where the growth after the first `before` is refused.
-fn with_refused_growth(alloc: Global, before: u64) -> Result<Outcome, Fail> {
+// Reads where the growth after the first `before` fails.
+fn with_failed_growth(alloc: Global, before: u64) -> Result<Outcome, Fail> {
     let bytes = joined(alloc, &ALL)?;
     let heap = BoundedAllocator::failing_after(alloc, before);
     let read: kmip_ttlv::error::Result<Every<_>, _> = from_slice(&heap, bytes.as_slice());
     match &read {
         Ok(every) if is_whole(every) && !heap.has_failed() => Ok(Outcome::Ample),
         Err(e) if matches!(e.kind(), ErrorKind::OutOfMemory) && heap.has_failed() => {
-            Ok(Outcome::Refused)
+            Ok(Outcome::OutOfMemory)
         }
         _ => Ok(Outcome::Wrong),
     }
 }
 
 #[test]
-fn each_growth_is_refused(rt: HostRuntime) -> Result<(), Fail> {
-    let mut last = Outcome::Refused;
+fn each_growth_fails(rt: HostRuntime) -> Result<(), Fail> {
+    let mut last = Outcome::OutOfMemory;
     for before in 0..1000u64 {
-        last = with_refused_growth(rt.alloc(), before)?;
-        if last != Outcome::Refused {
+        last = with_failed_growth(rt.alloc(), before)?;
+        if last != Outcome::OutOfMemory {
             break;
         }
     }

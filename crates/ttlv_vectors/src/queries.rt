@@ -305,7 +305,7 @@ fn names_of_numbers(rt: HostRuntime) -> Result<(), Fail> {
 
 // Fails unless reading and writing this search runs out of memory at each growth that fails.
 #[test]
-fn each_growth_is_refused(rt: HostRuntime) -> Result<(), Fail> {
+fn each_growth_fails(rt: HostRuntime) -> Result<(), Fail> {
     let bytes = joined(rt.alloc(), &["42007901000000A0", TEN, GROUP, GROUP, GROUP])?;
     for before in 0..100u64 {
         let heap = BoundedAllocator::failing_after(rt.alloc(), before);

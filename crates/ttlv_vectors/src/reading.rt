@@ -1,4 +1,4 @@
-//! Bytes that a structure of one number is read from, and bytes that are refused with their places.
+//! Bytes that a structure of one number is read from, and bytes that are errors with their places.
 
 use crate::low_level::is_text;
 use crate::samples::Single;
@@ -9,7 +9,7 @@ use std::test::Fail;
 
 const MESSAGE: &str = "AAAAAA0100000010BBBBBB02000000040000000300000000";
 
-// A message, and the number in it or why it is refused and where.
+// A message, and the number in it or why it is an error and where.
 const ROWS: [(&str, &str); 9] = [
     (MESSAGE, "3"),
     // Padding is of any value, and bytes behind the message are not read.
@@ -42,8 +42,8 @@ const ROWS: [(&str, &str); 9] = [
     ),
 ];
 
-// Whether a refusal is printed so, with its place. Of an early end no place is said.
-fn is_refused_as(alloc: Global, error: &Error, text: &str) -> bool {
+// Whether an error is printed so, with its place. Of an early end no place is said.
+fn is_error_of(alloc: Global, error: &Error, text: &str) -> bool {
     let place = error.location();
     match error.kind() {
         ErrorKind::IoError(cause) => {
@@ -54,14 +54,14 @@ fn is_refused_as(alloc: Global, error: &Error, text: &str) -> bool {
     }
 }
 
-// Whether what is read is this number, or the refusal that is printed so.
+// Whether what is read is this number, or the error that is printed so.
 fn is_answered(alloc: Global, read: &Result<Single>, text: &str) -> bool {
     match read {
         Ok(single) => {
             let number = single.number;
             is_text(&format!(in alloc; "{number}"), text)
         }
-        Err(error) => is_refused_as(alloc, error, text),
+        Err(error) => is_error_of(alloc, error, text),
     }
 }
 
@@ -74,7 +74,7 @@ fn is_read_as(alloc: Global, message: &str, text: &str) -> bool {
 }
 
 #[test]
-fn a_number_is_read_or_refused(rt: HostRuntime) -> std::result::Result<(), Fail> {
+fn a_number_is_read_or_an_error(rt: HostRuntime) -> std::result::Result<(), Fail> {
     for (message, text) in ROWS {
         assert!(rt; is_read_as(rt.alloc(), message, text), "{message}");
     }

@@ -1,5 +1,5 @@
 //! The request to create a key: in pieces on one serializer, over writers that fail, and with each growth
-//! refused in turn. And how many growths a serializer asks for.
+//! failing in turn. And how many growths a serializer asks for.
 
 use crate::data::tagged_number;
 use crate::request::CreateRequest;
@@ -137,7 +137,7 @@ fn to_writer_answer(heap: Global, memory: &BoundedAllocator<Global>, expected: &
     }
 }
 
-// Whether the serializer refuses all that follows.
+// Whether the serializer returns an error for all that follows.
 fn stays_closed<A: Allocator + Copy>(mut serializer: TtlvSerializer<A>, request: &Data) -> bool {
     is_closed(&serializer.serialize(request)) && is_closed(&serializer.into_vec())
 }
@@ -156,7 +156,7 @@ fn serializer_answer(memory: &BoundedAllocator<Global>, request: &Data, expected
     }
 }
 
-// Whether the call answers OutOfMemory only where a growth was refused, and else the whole request, for
+// Whether the call answers OutOfMemory only where a growth failed, and else the whole request, for
 // each of its growths in turn.
 fn grows(heap: Global, call: Call, request: &Data, expected: &[u8]) -> bool {
     for before in 0..200u64 {

@@ -1,4 +1,4 @@
-//! What values are written as, and their first refusals.
+//! What values are written as, and their first errors.
 
 use crate::data::{newtype, tagged_number, variant};
 use crate::low_level::{are_bytes, is_text};
@@ -51,12 +51,12 @@ fn is_written_to(alloc: Global, data: &Data, text: &str) -> bool {
     to_writer(alloc, data, &mut writer).is_ok() && are_bytes(alloc, writer.as_slice(), text)
 }
 
-// Whether a refusal is of this kind, as it is printed.
+// Whether an error is of this kind, as it is printed.
 fn is_of_kind(alloc: Global, kind: &ErrorKind, text: &str) -> bool {
     is_text(&format!(in alloc; "{kind:?}"), text)
 }
 
-// Whether the place of a refusal is known by this offset alone.
+// Whether the place of an error is known by this offset alone.
 fn is_at(error: &Error, offset: u64) -> bool {
     let place = error.location();
     matches!(place.offset(), Some(at) if at.0 == offset)
@@ -65,28 +65,28 @@ fn is_at(error: &Error, offset: u64) -> bool {
         && place.parent_tags().is_empty()
 }
 
-// Whether the answer is a refusal at this offset; the text is that of its kind.
-fn is_refusal<T>(alloc: Global, answer: &Result<T, Error>, offset: u64, text: &str) -> bool {
+// Whether the answer is an error at this offset; the text is that of its kind.
+fn is_error<T>(alloc: Global, answer: &Result<T, Error>, offset: u64, text: &str) -> bool {
     match answer {
         Ok(_) => false,
         Err(error) => is_at(error, offset) && is_of_kind(alloc, error.kind(), text),
     }
 }
 
-// Whether the data is refused at this offset: by a serializer, by itself, and to a writer, which gets nothing.
-fn is_refused(alloc: Global, data: &Data, offset: u64, text: &str) -> bool {
+// Whether the data is an error at this offset: by a serializer, by itself, and to a writer, which gets nothing.
+fn is_no_value(alloc: Global, data: &Data, offset: u64, text: &str) -> bool {
     let mut serializer = TtlvSerializer::new(alloc);
     let mut writer = Vec::new(alloc);
-    is_refusal(alloc, &serializer.serialize(data), offset, text)
-        && is_refusal(alloc, &to_vec(alloc, data), offset, text)
-        && is_refusal(alloc, &to_writer(alloc, data, &mut writer), offset, text)
+    is_error(alloc, &serializer.serialize(data), offset, text)
+        && is_error(alloc, &to_vec(alloc, data), offset, text)
+        && is_error(alloc, &to_writer(alloc, data, &mut writer), offset, text)
         && writer.is_empty()
 }
 
-// Whether the data, where memory was there for it, is refused so.
-fn refuses(alloc: Global, data: Result<Data, AllocError>, offset: u64, text: &str) -> bool {
+// Whether the data, where memory was there for it, is this error.
+fn returns_error(alloc: Global, data: Result<Data, AllocError>, offset: u64, text: &str) -> bool {
     match &data {
-        Ok(data) => is_refused(alloc, data, offset, text) && is_made_again(alloc, data),
+        Ok(data) => is_no_value(alloc, data, offset, text) && is_made_again(alloc, data),
         Err(_) => false,
     }
 }
@@ -249,7 +249,7 @@ fn a_doubled_prefix_is_stripped_twice(rt: HostRuntime) -> Result<(), Fail> {
         Data::I32(3),
     );
     let text = "SerdeError(InvalidTag(\"Override:0xAABBCC\"))";
-    assert!(rt; refuses(alloc, once, 0, text));
+    assert!(rt; returns_error(alloc, once, 0, text));
     Ok(())
 }
 
@@ -263,10 +263,10 @@ fn items_without_a_tag(rt: HostRuntime) -> Result<(), Fail> {
     let alloc = rt.alloc();
     let text =
         "MalformedTtlv(UnexpectedTtlvField { expected: Value, actual: TypeAndLengthAndValue })";
-    assert!(rt; refuses(alloc, structure_of_number(alloc, "0xAABBCC", 3), 8, text));
+    assert!(rt; returns_error(alloc, structure_of_number(alloc, "0xAABBCC", 3), 8, text));
     let text =
         "MalformedTtlv(UnexpectedTtlvField { expected: Tag, actual: TypeAndLengthAndValue })";
-    assert!(rt; refuses(alloc, Ok(Data::I32(3)), 0, text));
+    assert!(rt; returns_error(alloc, Ok(Data::I32(3)), 0, text));
     Ok(())
 }
 
@@ -288,24 +288,24 @@ fn tags_without_an_item(rt: HostRuntime) -> Result<(), Fail> {
     let alloc = rt.alloc();
     let text = "MalformedTtlv(UnexpectedTtlvField { expected: Typ, actual: Tag })";
     let empty = tagged(alloc, Data::Seq(Vec::new(alloc)));
-    assert!(rt; refuses(alloc, empty, 3, text));
-    assert!(rt; refuses(alloc, tag_without_an_item(alloc), 27, text));
+    assert!(rt; returns_error(alloc, empty, 3, text));
+    assert!(rt; returns_error(alloc, tag_without_an_item(alloc), 27, text));
     Ok(())
 }
 
 #[test]
-fn names_and_types_that_are_refused(rt: HostRuntime) -> Result<(), Fail> {
+fn names_and_types_that_are_errors(rt: HostRuntime) -> Result<(), Fail> {
     let alloc = rt.alloc();
     let create = unit("0x42005C", "Create");
     let text = "SerdeError(InvalidVariant(\"Create\"))";
-    assert!(rt; refuses(alloc, Ok(create), 3, text));
+    assert!(rt; returns_error(alloc, Ok(create), 3, text));
     let text = "SerdeError(UnsupportedRustType(\"None\"))";
-    assert!(rt; refuses(alloc, tagged(alloc, Data::None), 3, text));
+    assert!(rt; returns_error(alloc, tagged(alloc, Data::None), 3, text));
     let text = "SerdeError(UnsupportedRustType(\"f32\"))";
-    assert!(rt; refuses(alloc, tagged(alloc, Data::Unsupported("f32")), 3, text));
+    assert!(rt; returns_error(alloc, tagged(alloc, Data::Unsupported("f32")), 3, text));
     let text = "SerdeError(InvalidTag(\"Transparent:0xAABBCC\"))";
     let one = structure_of_number(alloc, "Transparent:0xAABBCC", 1);
-    assert!(rt; refuses(alloc, one, 0, text));
+    assert!(rt; returns_error(alloc, one, 0, text));
     Ok(())
 }
 
@@ -314,18 +314,18 @@ fn takes(serializer: &mut TtlvSerializer<Global>, data: Data) -> bool {
     serializer.serialize(&data).is_ok()
 }
 
-// Whether the serializer refuses the data at this offset; the text is that of the kind.
-fn refuses_next(
+// Whether the serializer returns an error for the data at this offset; the text is that of the kind.
+fn fails_next(
     alloc: Global,
     serializer: &mut TtlvSerializer<Global>,
     data: Data,
     offset: u64,
     text: &str,
 ) -> bool {
-    is_refusal(alloc, &serializer.serialize(&data), offset, text)
+    is_error(alloc, &serializer.serialize(&data), offset, text)
 }
 
-// Whether the answer is that of a serializer which refused a call before.
+// Whether the answer is that of a serializer which failed at a call before.
 fn is_closed<T>(alloc: Global, answer: &Result<T, Error>) -> bool {
     match answer {
         Ok(_) => false,
@@ -343,7 +343,7 @@ fn has_reached(serializer: &mut TtlvSerializer<Global>, offset: u64) -> bool {
 }
 
 #[test]
-fn a_serializer_that_refused_refuses_on(rt: HostRuntime) -> Result<(), Fail> {
+fn a_serializer_that_failed_fails_again(rt: HostRuntime) -> Result<(), Fail> {
     let alloc = rt.alloc();
     let mut serializer = TtlvSerializer::new(alloc);
     assert!(rt; has_reached(&mut serializer, 0));
@@ -351,7 +351,7 @@ fn a_serializer_that_refused_refuses_on(rt: HostRuntime) -> Result<(), Fail> {
     assert!(rt; has_reached(&mut serializer, 8));
     let text =
         "MalformedTtlv(UnexpectedTtlvField { expected: Value, actual: TypeAndLengthAndValue })";
-    assert!(rt; refuses_next(alloc, &mut serializer, Data::I32(3), 8, text));
+    assert!(rt; fails_next(alloc, &mut serializer, Data::I32(3), 8, text));
     for _ in 0..2 {
         let empty = structure("0xAABBCC", Vec::new(alloc));
         assert!(rt; is_closed(alloc, &serializer.serialize(&empty)));

@@ -1,15 +1,14 @@
 -- Written by codegen from types.table: change that, and run codegen/codegen.
 -- Values of a type are equal if they stand for the same: each part is, and numbers tell apart the variants of an Enumeration.
-use Rattle.kmip_ttlv_laws.proofs.Equal.{apart, both, first_same, found_same, in_date_time, in_integer, in_newtype}
-use Rattle.kmip_ttlv_laws.proofs.Equal.{in_structure, in_text, in_unit, in_variant, later_same, row_of, several_equal}
-use Rattle.kmip_ttlv_laws.proofs.Equal.{signed_equal, texts_equal}
+use Rattle.kmip_ttlv_laws.proofs.Equal.{apart, both, first_same, found_same, in_date_time, in_integer, in_newtype, in_structure, in_text, in_unit, in_variant}
+use Rattle.kmip_ttlv_laws.proofs.Equal.{later_same, row_of, several_equal, signed_equal, texts_equal}
 use Rattle.std.proofs.Common.{refl}
 use Rattle.std.specs.Prelude.{List, Some, [], codes, ℕ, ◌∷◌, ◌≡◌}
 use denote.Enum.Bare.{true_same}
+use Rattle.create_destroy.specs.Headers.{protocol_version_value, request_header_value, response_header_value}
 use Rattle.create_destroy.specs.Operations.{operation_number, operation_value}
 use Rattle.create_destroy.specs.Attributes.{read_attribute_value, read_attribute, read_template}
 use Rattle.create_destroy.specs.Requests.{read_request_payload, read_create_payload, read_destroy_payload, read_request_item, request_header, read_request}
-use Rattle.get_messages.specs.Headers.{request_header_value, protocol_version_value, response_header_value}
 use Rattle.create_destroy.specs.Responses.{read_response_payload, created_value, destroyed_value, read_response_item, response_header, read_response}
 use Rattle.create_destroy.specs.declared.operation.Operation.{Operation}
 use Rattle.create_destroy.specs.declared.operation.Operation.TheVariants as operation
@@ -21,6 +20,32 @@ use Rattle.create_destroy.specs.declared.request.RequestPayload.TheVariants as r
 use Rattle.create_destroy.specs.declared.response.ResponsePayload.{ResponsePayload}
 use Rattle.create_destroy.specs.declared.response.ResponsePayload.TheVariants as response_payload
 use Rattle.create_destroy.proofs.laws.equal_values.Goals as goal
+
+pub returns-clause-protocol_version : goal.returns-clause-protocol_version
+unfolding protocol_version_value
+returns-clause-protocol_version g c x y e =
+    let e = in_structure e in
+    both (signed_equal x.major y.major (in_integer (in_newtype (first_same e)))) (
+    let e = later_same e in
+    signed_equal x.minor y.minor (in_integer (in_newtype (first_same e))))
+
+pub returns-clause-request_header : goal.returns-clause-request_header
+unfolding request_header_value
+returns-clause-request_header g c x y e =
+    let e = in_structure e in
+    both (returns-clause-protocol_version g c x.version y.version (first_same e)) (
+    let e = later_same e in
+    signed_equal x.batch_count y.batch_count (in_integer (in_newtype (first_same e))))
+
+pub returns-clause-response_header : goal.returns-clause-response_header
+unfolding response_header_value
+returns-clause-response_header g c x y e =
+    let e = in_structure e in
+    both (returns-clause-protocol_version g c x.version y.version (first_same e)) (
+    let e = later_same e in
+    both (signed_equal x.time_stamp y.time_stamp (in_date_time (in_newtype (first_same e)))) (
+    let e = later_same e in
+    signed_equal x.batch_count y.batch_count (in_integer (in_newtype (first_same e)))))
 
 abbrev operation_rows : List (List ℕ × Operation)
 operation_rows =
@@ -53,8 +78,11 @@ returns-clause-attribute g c x y e =
 
 pub returns-clause-request_payload : goal.returns-clause-request_payload
 unfolding read_request_payload read_create_payload read_destroy_payload read_template
-returns-clause-request_payload g c (request_payload.Create x) (request_payload.Create y) e = several_equal read_attribute read_attribute _ (returns-clause-attribute g c) x.items y.items (first_same (in_structure (first_same (later_same (in_structure (in_variant e))))))
-returns-clause-request_payload g c (request_payload.Destroy x) (request_payload.Destroy y) e = texts_equal x y (in_text (in_newtype (first_same (in_structure (in_variant e)))))
+returns-clause-request_payload g c (request_payload.Create x) (request_payload.Create y) e =
+    several_equal read_attribute read_attribute _ (returns-clause-attribute g c) x.items y.items
+    (first_same (in_structure (first_same (later_same (in_structure (in_variant e))))))
+returns-clause-request_payload g c (request_payload.Destroy x) (request_payload.Destroy y) e =
+    texts_equal x y (in_text (in_newtype (first_same (in_structure (in_variant e)))))
 returns-clause-request_payload g c x y e = absurd (apart e refl)
 
 pub returns-clause-request_item : goal.returns-clause-request_item
@@ -77,8 +105,10 @@ returns-clause-request g c x y e =
 
 pub returns-clause-response_payload : goal.returns-clause-response_payload
 unfolding read_response_payload created_value destroyed_value
-returns-clause-response_payload g c (response_payload.Create x) (response_payload.Create y) e = texts_equal x y (in_text (in_newtype (first_same (later_same (in_structure (in_variant e))))))
-returns-clause-response_payload g c (response_payload.Destroy x) (response_payload.Destroy y) e = texts_equal x y (in_text (in_newtype (first_same (in_structure (in_variant e)))))
+returns-clause-response_payload g c (response_payload.Create x) (response_payload.Create y) e =
+    texts_equal x y (in_text (in_newtype (first_same (later_same (in_structure (in_variant e))))))
+returns-clause-response_payload g c (response_payload.Destroy x) (response_payload.Destroy y) e =
+    texts_equal x y (in_text (in_newtype (first_same (in_structure (in_variant e)))))
 returns-clause-response_payload g c x y e = absurd (apart e refl)
 
 pub returns-clause-response_item : goal.returns-clause-response_item

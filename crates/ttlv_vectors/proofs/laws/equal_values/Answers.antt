@@ -1,18 +1,19 @@
 -- Written by codegen from types.table: change that, and run codegen/codegen.
 -- Values of a type are equal if they stand for the same: each part is, and numbers tell apart the variants of an Enumeration.
-use Rattle.kmip_ttlv.specs.Values.{big_integer_value, boolean_value, bytes_value, interval_value, newtype_value}
-use Rattle.kmip_ttlv.specs.Values.{text_value}
-use Rattle.kmip_ttlv_laws.proofs.Equal.{any_equal, apart, booleans_equal, both, bytes_equal, first_same, found_same}
-use Rattle.kmip_ttlv_laws.proofs.Equal.{in_big_integer, in_boolean, in_bytes, in_date_time, in_integer, in_interval}
-use Rattle.kmip_ttlv_laws.proofs.Equal.{in_long_integer, in_newtype, in_number, in_structure, in_text, in_unit}
-use Rattle.kmip_ttlv_laws.proofs.Equal.{in_variant, later_same, options_equal, other_same, row_of, signed_equal}
-use Rattle.kmip_ttlv_laws.proofs.Equal.{texts_equal, unsigned_equal}
+use Rattle.kmip_ttlv.specs.Values.{big_integer_value, boolean_value, bytes_value, interval_value, newtype_value, text_value}
+use Rattle.kmip_ttlv_laws.proofs.Equal.{any_equal, apart, booleans_equal, both, bytes_equal, first_same, found_same, in_big_integer, in_boolean, in_bytes}
+use Rattle.kmip_ttlv_laws.proofs.Equal.{in_date_time, in_integer, in_interval, in_long_integer, in_newtype, in_number, in_structure, in_text, in_unit}
+use Rattle.kmip_ttlv_laws.proofs.Equal.{in_variant, later_same, options_equal, options_same, other_same, row_of, signed_equal, texts_equal, unsigned_equal}
 use Rattle.std.proofs.Common.{refl}
 use Rattle.std.specs.Prelude.{List, Some, [], codes, string_bytes, ℕ, ◌∷◌, ◌≡◌}
 use denote.Enum.Bare.{true_same}
 use Rattle.ttlv_vectors.specs.Leaves.{numbers_value, moments_value, contents_value, read_optional_contents, kind_number, kind_value}
 use Rattle.ttlv_vectors.specs.Chosens.{word_value, line_value, count_value, read_said, read_named, label_value, address_value, read_place, read_chosen}
-use Rattle.ttlv_vectors.specs.Queries.{maximum_items_value, text_attribute_value, read_locate_request_payload, operation_number, operation_numbers, operation_read_number, written_operation, read_operation, object_type_number, object_type_value, application_namespace_value, returned_query_response_payload, read_query_response_payload, result_reason_number, result_reason_numbers, result_reason_read_number, written_result_reason, read_result_reason, result_status_number, result_status_value, returned_failed_item, read_failed_item}
+use Rattle.ttlv_vectors.specs.Queries.{maximum_items_value, text_attribute_value, read_locate_request_payload, operation_number, operation_numbers}
+use Rattle.ttlv_vectors.specs.Queries.{operation_read_number, written_operation, read_operation, object_type_number, object_type_value}
+use Rattle.ttlv_vectors.specs.Queries.{application_namespace_value, returned_query_response_payload, read_query_response_payload, result_reason_number}
+use Rattle.ttlv_vectors.specs.Queries.{result_reason_numbers, result_reason_read_number, written_result_reason, read_result_reason, result_status_number}
+use Rattle.ttlv_vectors.specs.Queries.{result_status_value, returned_failed_item, read_failed_item}
 use Rattle.ttlv_vectors.specs.declared.leaves.Kind.{Kind}
 use Rattle.ttlv_vectors.specs.declared.leaves.Kind.TheVariants as kind
 use Rattle.ttlv_vectors.specs.contracts.leaves.Kind as kind_contract
@@ -66,15 +67,20 @@ pub returns-clause-optional_contents : goal.returns-clause-optional_contents
 unfolding read_optional_contents
 returns-clause-optional_contents g c x y e =
     let e = in_structure e in
-    both (options_equal (λ y. newtype_value (codes "Transparent:0x540005") (boolean_value y)) (λ y. newtype_value (codes "Transparent:0x540005") (boolean_value y)) _ (λ a b e. booleans_equal a b (in_boolean (in_newtype e))) x.truth y.truth (first_same e)) (
+    both (options_same (λ y. newtype_value (codes "Transparent:0x540005") (boolean_value y)) _ (λ a b e. booleans_equal a b (in_boolean (in_newtype e))) x.truth
+    y.truth (first_same e)) (
     let e = later_same e in
-    both (options_equal (λ y. newtype_value (codes "Transparent:0x540006") (interval_value y)) (λ y. newtype_value (codes "Transparent:0x540006") (interval_value y)) _ (λ a b e. unsigned_equal a b (in_interval (in_newtype e))) x.seconds y.seconds (first_same e)) (
+    both (options_same (λ y. newtype_value (codes "Transparent:0x540006") (interval_value y)) _ (λ a b e. unsigned_equal a b (in_interval (in_newtype e)))
+    x.seconds y.seconds (first_same e)) (
     let e = later_same e in
-    both (options_equal (λ y. newtype_value (codes "Transparent:0x540021") (text_value (string_bytes y))) (λ y. newtype_value (codes "Transparent:0x540021") (text_value (string_bytes y))) _ (λ a b e. texts_equal a b (in_text (in_newtype e))) x.text y.text (first_same e)) (
+    both (options_same (λ y. newtype_value (codes "Transparent:0x540021") (text_value (string_bytes y))) _ (λ a b e. texts_equal a b (in_text (in_newtype e)))
+    x.text y.text (first_same e)) (
     let e = later_same e in
-    both (options_equal (λ y. newtype_value (codes "Transparent:0x540022") (bytes_value y.items)) (λ y. newtype_value (codes "Transparent:0x540022") (bytes_value y.items)) _ (λ a b e. bytes_equal a.items b.items (in_bytes (in_newtype e))) x.bytes y.bytes (first_same e)) (
+    both (options_same (λ y. newtype_value (codes "Transparent:0x540022") (bytes_value y.items)) _
+    (λ a b e. bytes_equal a.items b.items (in_bytes (in_newtype e))) x.bytes y.bytes (first_same e)) (
     let e = later_same e in
-    options_equal (λ y. newtype_value (codes "Transparent:0x540023") (big_integer_value y.items)) (λ y. newtype_value (codes "Transparent:0x540023") (big_integer_value y.items)) _ (λ a b e. bytes_equal a.items b.items (in_big_integer (in_newtype e))) x.big y.big (first_same e)))))
+    options_same (λ y. newtype_value (codes "Transparent:0x540023") (big_integer_value y.items)) _
+    (λ a b e. bytes_equal a.items b.items (in_big_integer (in_newtype e))) x.big y.big (first_same e)))))
 
 abbrev kind_rows : List (List ℕ × Kind)
 kind_rows =
@@ -132,9 +138,9 @@ returns-clause-chosen g c x y e =
     let e = later_same e in
     both (returns-clause-said g c x.said y.said (first_same e)) (
     let e = later_same e in
-    both (options_equal read_named read_named _ (returns-clause-named g c) x.named y.named (first_same e)) (
+    both (options_same read_named _ (returns-clause-named g c) x.named y.named (first_same e)) (
     let e = later_same e in
-    both (options_equal read_said read_said _ (returns-clause-said g c) x.more y.more (first_same e)) (
+    both (options_same read_said _ (returns-clause-said g c) x.more y.more (first_same e)) (
     let e = later_same e in
     any_equal read_place read_place _ (returns-clause-place g c) x.places.items y.places.items (first_same e)))))
 
@@ -153,7 +159,7 @@ pub returns-clause-locate_request_payload : goal.returns-clause-locate_request_p
 unfolding read_locate_request_payload
 returns-clause-locate_request_payload g c x y e =
     let e = in_structure e in
-    both (options_equal maximum_items_value maximum_items_value _ (returns-clause-maximum_items g c) x.maximum_items y.maximum_items (first_same e)) (
+    both (options_same maximum_items_value _ (returns-clause-maximum_items g c) x.maximum_items y.maximum_items (first_same e)) (
     let e = later_same e in
     any_equal text_attribute_value text_attribute_value _ (returns-clause-text_attribute g c) x.attributes.items y.attributes.items (first_same e))
 
@@ -190,9 +196,11 @@ returns-clause-query_response_payload g c x y e =
     let e = later_same e in
     both (any_equal object_type_value object_type_value _ (returns-clause-object_type g c) x.object_types.items y.object_types.items (first_same e)) (
     let e = later_same e in
-    both (options_equal (λ y. newtype_value (codes "Transparent:0x42009D") (text_value (string_bytes y))) (λ y. newtype_value (codes "Transparent:0x42009D") (text_value (string_bytes y))) _ (λ a b e. texts_equal a b (in_text (in_newtype e))) x.vendor y.vendor (first_same e)) (
+    both (options_same (λ y. newtype_value (codes "Transparent:0x42009D") (text_value (string_bytes y))) _ (λ a b e. texts_equal a b (in_text (in_newtype e)))
+    x.vendor y.vendor (first_same e)) (
     let e = later_same e in
-    any_equal application_namespace_value application_namespace_value _ (returns-clause-application_namespace g c) x.namespaces.items y.namespaces.items (first_same e))))
+    any_equal application_namespace_value application_namespace_value _ (returns-clause-application_namespace g c) x.namespaces.items y.namespaces.items
+    (first_same e))))
 
 pub returns-clause-result_reason : goal.returns-clause-result_reason
 unfolding written_result_reason read_result_reason
@@ -228,4 +236,5 @@ returns-clause-failed_item g c x y e =
     let e = later_same e in
     both (options_equal written_result_reason read_result_reason _ (returns-clause-result_reason g c) x.reason y.reason (first_same e)) (
     let e = later_same e in
-    options_equal (λ y. newtype_value (codes "Transparent:0x42007D") (text_value (string_bytes y))) (λ y. newtype_value (codes "Transparent:0x42007D") (text_value (string_bytes y))) _ (λ a b e. texts_equal a b (in_text (in_newtype e))) x.message y.message (first_same e))))
+    options_same (λ y. newtype_value (codes "Transparent:0x42007D") (text_value (string_bytes y))) _ (λ a b e. texts_equal a b (in_text (in_newtype e)))
+    x.message y.message (first_same e))))

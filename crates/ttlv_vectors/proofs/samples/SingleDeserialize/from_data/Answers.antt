@@ -14,4 +14,5 @@ number_of-requires g c = first_is_number c.args.value.now c.in-Struct.name c.in-
 pub returns : goal.returns
 returns g c =
     let n = c.number_of.result in
-    is_read c.args.value.now c.in-Struct.name c.in-Struct.fields c.index.result.now n c.in-Struct.is c.requires c.index.ensures c.number_of.ensures ∙ ap read_single (sym (to_z-of_z w32 n (sfits_of c.number_of.type_inv)))
+    is_read c.args.value.now c.in-Struct.name c.in-Struct.fields c.index.result.now n c.in-Struct.is c.requires c.index.ensures c.number_of.ensures
+    ∙ ap read_single (sym (to_z-of_z w32 n (sfits_of c.number_of.type_inv)))

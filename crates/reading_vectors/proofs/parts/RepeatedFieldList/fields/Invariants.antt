@@ -1,7 +1,0 @@
-use Rattle.std.proofs.Common.{◌≡◌}
-use Rattle.kmip_ttlv_base.specs.Forms.{fields_of}
-use Rattle.reading_vectors.specs.ManyFields.{many}
-use Rattle.reading_vectors.proofs.parts.RepeatedFieldList.fields.Given as goal
-
-abbrev pub invariant-loop-i : goal.invariant-loop-i
-invariant-loop-i g l = fields_of l.fields.items ≡ many g.N.Name.letters g.P.Part.part l._i g.L.FieldList.all
